@@ -1,0 +1,4 @@
+pub mod Causes
+pub mod Faults
+pub mod Ids
+pub mod Keys

@@ -1,0 +1,22 @@
+//! Limits. Clauses name these constants, so that a change stands in one place.
+
+/// The longest key, in bytes. On the disk: an index page keeps a key padded to this length.
+pub const KEY_MAX: usize = 64;
+/// The longest value, in bytes: with the longest key a row still fits a page of 1,024 bytes.
+pub const VALUE_MAX: usize = 900;
+/// The longest line of a script, in bytes, its newline not counted.
+pub const LINE_MAX: usize = 4_096;
+/// The most lines of a script: their numbers fit `u32`, and so do those of every batch.
+pub const LINES_MAX: u64 = 4_000_000;
+/// The most bytes of a script, newlines counted: `LINES_MAX` lines of more than `LINE_MAX` bytes fit.
+pub const SCRIPT_BYTES_MAX: u64 = 17_179_869_184;
+/// The most pages that one operation touches.
+pub const OP_PAGES: u32 = 32;
+/// The bytes of outbox that one operation needs beside its pages: its own record fits.
+pub const OP_EXTRA: usize = 1_000;
+/// The bytes of a worker's outbox.
+pub const OUTBOX: usize = 1_048_576;
+/// The slots of a worker's ring to the log writer.
+pub const RING_SLOTS: usize = 4_096;
+/// The newest version of the store's files. On the disk: do not change without a reader for the old one.
+pub const LAST_VERSION: u16 = 1;
