@@ -1,0 +1,52 @@
+-- One file: what a read finds, and what was changed since it was last forced.
+use Rattle.std.specs.Prelude.{◌+◌, ℕ, List, [], ◌∷◌, ◌++◌, length, take, drop, Option, Some, None}
+
+-- One change of a file.
+pub data Change : Type 0 where
+  -- these bytes were written from this offset on; a gap before it belongs to the bytes
+  Write : (at : ℕ) (bytes : List ℕ) → Change
+  -- the file was cut to this length
+  Cut : (len : ℕ) → Change
+  -- the file was removed
+  Drop : Change
+
+-- the bytes that a read finds: an absent file has none
+abbrev pub bytes_of : Option (List ℕ) → List ℕ
+bytes_of None = []
+bytes_of (Some bytes) = bytes
+
+-- the file after a change, or none where it is absent then
+abbrev pub changed : Change → Option (List ℕ) → Option (List ℕ)
+changed (Write at bytes) file = Some (take at (bytes_of file) ++ bytes ++ drop (at + length bytes) (bytes_of file))
+changed (Cut len) file = Some (take len (bytes_of file))
+changed Drop file = None
+
+-- the file after these changes, the first of them first
+abbrev pub after : List Change → Option (List ℕ) → Option (List ℕ)
+after [] file = file
+after (change ∷ changes) file = after changes (changed change file)
+
+-- A file's value: its content when it was last forced (none where it was absent), and the changes since, oldest first.
+pub record File : Type 0 where
+  pub forced : Option (List ℕ)
+  pub since : List Change
+
+-- what a read finds
+abbrev pub content : File → Option (List ℕ)
+content file = after file.since file.forced
+
+-- the file so many changes after its last force
+abbrev pub at_change : File → ℕ → Option (List ℕ)
+at_change file k = after (take k file.since) file.forced
+
+-- the file after one change more
+abbrev pub with_change : File → Change → File
+with_change file change = record { forced = file.forced; since = file.since ++ change ∷ [] }
+
+-- the file as it is, all of it lasting
+abbrev pub all_forced : File → File
+all_forced file = record { forced = content file; since = [] }
+
+-- a file that isn't there
+abbrev pub absent : File
+absent = record { forced = None; since = [] }

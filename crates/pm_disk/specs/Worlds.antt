@@ -1,0 +1,68 @@
+-- What the disk and the console hold at one moment.
+use Rattle.std.specs.Prelude.{ℕ, List, [], ◌++◌, drop, ◌==◌, if◌then◌else◌}
+use Rattle.pm_disk.specs.Files.{File, Change, with_change, all_forced, absent}
+
+-- The disk's files, the bytes said and the input that is left.
+pub record World : Type 0 where
+  -- the log's segments, by number
+  pub log : ℕ → File
+  -- the partitions' files, by partition
+  pub pages : ℕ → File
+  -- the file of checkpoints' start markers
+  pub starts : File
+  -- the file of checkpoints' end markers
+  pub ends : File
+  -- the bytes of the configuration, none where it is absent
+  pub config : List ℕ
+  -- the bytes said so far
+  pub said : List ℕ
+  -- what is left of the input
+  pub input : List ℕ
+
+-- the files with another one under this number
+abbrev pub with_file : (ℕ → File) → ℕ → File → ℕ → File
+with_file files at file n = if n == at then file else files n
+
+-- a segment of the log was changed
+abbrev pub log_changed : ℕ → Change → World → World
+log_changed seg change world = record world { log = with_file world.log seg (with_change (world.log seg) change) }
+
+-- a segment of the log was forced
+abbrev pub log_forced : ℕ → World → World
+log_forced seg world = record world { log = with_file world.log seg (all_forced (world.log seg)) }
+
+-- a partition's file was changed
+abbrev pub pages_changed : ℕ → Change → World → World
+pages_changed part change world = record world { pages = with_file world.pages part (with_change (world.pages part) change) }
+
+-- a partition's file was forced
+abbrev pub pages_forced : ℕ → World → World
+pages_forced part world = record world { pages = with_file world.pages part (all_forced (world.pages part)) }
+
+-- the file of start markers was changed
+abbrev pub starts_changed : Change → World → World
+starts_changed change world = record world { starts = with_change world.starts change }
+
+-- the file of start markers was forced
+abbrev pub starts_forced : World → World
+starts_forced world = record world { starts = all_forced world.starts }
+
+-- the file of end markers was changed
+abbrev pub ends_changed : Change → World → World
+ends_changed change world = record world { ends = with_change world.ends change }
+
+-- the file of end markers was forced
+abbrev pub ends_forced : World → World
+ends_forced world = record world { ends = all_forced world.ends }
+
+-- these bytes were said
+abbrev pub with_said : List ℕ → World → World
+with_said bytes world = record world { said = world.said ++ bytes }
+
+-- so many bytes of the input were taken
+abbrev pub with_taken : ℕ → World → World
+with_taken n world = record world { input = drop n world.input }
+
+-- a disk without a file, and a console on which nothing was said and that has no input
+abbrev pub empty_world : World
+empty_world = record { log = λ _. absent; pages = λ _. absent; starts = absent; ends = absent; config = []; said = []; input = [] }
