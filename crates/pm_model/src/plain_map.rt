@@ -43,6 +43,7 @@ impl PlainMap {
     }
 
     /// Sets the value of a key, in place of any that it had.
+    #[tactic(auto, using(crate::proofs::CacheKeys::one_put))]
     pub fn put(&mut self, cache: u8, key: Key, value: Value) -> Result<(), AllocError>
         ensures inserted { OnOk result (self.new ≡ map.insert self.old (cache_key cache key) value) }
         ensures unchanged { OnErr result (self.new ≡ self.old) }
@@ -52,6 +53,7 @@ impl PlainMap {
     }
 
     /// The value of a key, or none where it has none.
+    #[tactic(auto, using(crate::proofs::CacheKeys::get_value))]
     pub fn get(&self, at: &CacheKey) -> Option<&Value>
         ensures value { option_copied result ≡ map.get self.now at.now }
     {
