@@ -45,7 +45,8 @@ impl PlainMap {
     /// Sets the value of a key, in place of any that it had.
     #[tactic(auto, using(crate::proofs::CacheKeys::one_put))]
     pub fn put(&mut self, cache: u8, key: Key, value: Value) -> Result<(), AllocError>
-        ensures inserted { OnOk result (self.new ≡ map.insert self.old (cache_key cache key) value) }
+        ensures inserted { OnOk result
+            (self.new ≡ map.insert self.old (cache_key cache key) value) }
         ensures unchanged { OnErr result (self.new ≡ self.old) }
     {
         self.pairs.insert(CacheKey { cache, key }, value)?;

@@ -1,10 +1,9 @@
 -- The first line is the first of the lines, and a long line is known by its first bytes.
-use Rattle.std.proofs.Common.{◌≡◌, ℕ, ◌+◌, ◌<◌, ◌≤◌, Bool, true, false, List, [], ◌∷◌, length, take, map, cond, refl, ap, sym, ◌∙◌, inl, inr, eqb, ltb, arith}
+use Rattle.std.proofs.Common.{◌≡◌, ℕ, ◌+◌, ◌<◌, Bool, true, false, List, [], ◌∷◌, length, take, map, cond, refl, ap, sym, ◌∙◌, inl, inr, eqb, arith}
 use Rattle.std.proofs.lemmas.Bool.{cases_lt, lt-ltb}
 use Rattle.std.proofs.lemmas.List.{length-take-le, take_all}
 use Rattle.std.specs.List.{onto_first}
 use Rattle.pm_types.specs.declared.limits.TheConstants.{LINE_MAX}
-use Rattle.pm_model.specs.declared.line.Line.{Line}
 use Rattle.pm_model.specs.declared.line.Line.TheVariants.{Bad}
 use Rattle.pm_script.specs.Lines.{lines_of, first_line, after_line}
 use Rattle.pm_script.specs.Grammar.{line_of, line_of_words, words_of, script_of}

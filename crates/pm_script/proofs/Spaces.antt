@@ -1,5 +1,5 @@
 -- The words of a line: what stands between its spaces.
-use Rattle.std.proofs.Common.{◌≡◌, ℕ, ◌+◌, ◌<◌, ◌≤◌, Bool, true, false, List, [], ◌∷◌, length, take, drop, cond, Some, None, refl, ap, subst, ltb, eqb, arith}
+use Rattle.std.proofs.Common.{◌≡◌, ℕ, ◌+◌, ◌≤◌, Bool, true, false, List, [], ◌∷◌, length, take, drop, cond, Some, None, refl, ap, subst, ltb, eqb, arith}
 use Rattle.std.specs.List.{slice_split, onto_first, position, position_or_len}
 use Rattle.std.proofs.lemmas.List.Splits.{slice_split_first, slice_split_none}
 use Rattle.std.proofs.lemmas.List.Sums.{fails_before_first}

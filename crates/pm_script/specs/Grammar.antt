@@ -11,7 +11,6 @@ use Rattle.std.specs.List.{slice_split, list_all, starts_with}
 use Rattle.std.specs.Bool.{nat_eq}
 use Rattle.std.specs.Str.{bytes_eq}
 use Rattle.pm_types.specs.declared.limits.TheConstants.{LINE_MAX, KEY_MAX, VALUE_MAX}
-use Rattle.pm_model.specs.declared.line.Cmd.{Cmd}
 use Rattle.pm_model.specs.declared.line.Cmd.TheVariants.{Put, Get}
 use Rattle.pm_model.specs.declared.line.Line.{Line}
 use Rattle.pm_model.specs.declared.line.Line.TheVariants.{Good, Bad}
@@ -38,7 +37,8 @@ is_graphic b = nat_le 0x21 b && nat_le b 0x7E
 
 -- a word that stands for itself
 abbrev pub is_plain : List ℕ → Bool
-is_plain word = nat_lt 0 (length word) && list_all is_graphic word && not (starts_with nat_eq word (codes "x:"))
+is_plain word =
+    nat_lt 0 (length word) && list_all is_graphic word && not (starts_with nat_eq word (codes "x:"))
 
 -- a word that is a key
 abbrev pub is_key : List ℕ → Bool
@@ -51,12 +51,18 @@ is_value word = is_plain word && nat_le (length word) VALUE_MAX
 -- what three words say
 abbrev pub get_of : List ℕ → Option ℕ → List ℕ → Line
 get_of name None key = Bad
-get_of name (Some cache) key = if bytes_eq name (codes "get") && is_key key then Good (Get cache key) else Bad
+get_of name (Some cache) key =
+    if bytes_eq name (codes "get") && is_key key
+    then Good (Get cache key)
+    else Bad
 
 -- what four words say
 abbrev pub put_of : List ℕ → Option ℕ → List ℕ → List ℕ → Line
 put_of name None key value = Bad
-put_of name (Some cache) key value = if bytes_eq name (codes "put") && is_key key && is_value value then Good (Put cache key value) else Bad
+put_of name (Some cache) key value =
+    if bytes_eq name (codes "put") && is_key key && is_value value
+    then Good (Put cache key value)
+    else Bad
 
 -- what words say
 abbrev pub line_of_words : List (List ℕ) → Line

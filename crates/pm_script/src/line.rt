@@ -11,7 +11,7 @@ use std::alloc::{AllocError, Global};
 
 /// Reads a line, given without its newline. Only its key and its value are copied.
 ///
-/// A line of more than `LINE_MAX` bytes is bad, so the first `LINE_MAX + 1` of its bytes are enough.
+/// A line of more than `LINE_MAX` bytes is bad, so its first `LINE_MAX + 1` bytes say what all do.
 #[tactic(auto, using(crate::proofs::Spaces::too_many))]
 pub fn read_line(alloc: Global, bytes: &[u8]) -> Result<Line, AllocError>
     ensures { IfOk result (λ line. line ≡ line_of bytes.now) }

@@ -22,7 +22,8 @@ pub fn print_reply(reply: &Reply, into: &mut Vec<u8>) -> Result<(), AllocError>
 
 // Appends the text that tells a value.
 fn print_value(value: &Value, into: &mut Vec<u8>) -> Result<(), AllocError>
-    ensures appended { OnOk result (into.new.items ≡ into.old.items ++ text_of (Reply.Found value.now)) }
+    ensures appended { OnOk result
+        (into.new.items ≡ into.old.items ++ text_of (Reply.Found value.now)) }
     ensures unchanged { OnErr result (into.new.items ≡ into.old.items) }
 {
     let bytes = value.bytes();
@@ -44,23 +45,22 @@ mod tests {
     use std::alloc::Global;
     use std::test::Fail;
 
+    // Whether this is the text that the call appends.
+    fn is_text(alloc: Global, reply: &Reply, text: &[u8]) -> Result<bool, AllocError> {
+        let mut out = Vec::from_slice(alloc, b"ok\n")?;
+        print_reply(reply, &mut out)?;
+        Ok(out.get(..3) == Some(b"ok\n".as_slice()) && out.get(3..) == Some(text))
+    }
+
     #[test]
     fn each_reply_has_its_text(rt: HostRuntime) -> Result<(), Fail> {
         let alloc = rt.alloc();
         each_reply_has_text();
-        let value = Value::of(alloc, b"v1")?;
-        let texts = [
-            (Reply::Done, b"ok\n".as_slice()),
-            (Reply::Found(value), b"value v1\n"),
-            (Reply::Absent, b"none\n"),
-            (Reply::BadLine, b"error line\n"),
-        ];
-        for (reply, text) in &texts {
-            let mut out = Vec::from_slice(alloc, b"none\n")?;
-            print_reply(reply, &mut out)?;
-            assert_eq!(rt; out.get(..5), Some(b"none\n".as_slice()));
-            assert_eq!(rt; out.get(5..), Some(*text));
-        }
+        let found = Reply::Found(Value::of(alloc, b"v1")?);
+        assert!(rt; is_text(alloc, &Reply::Done, b"ok\n")?);
+        assert!(rt; is_text(alloc, &found, b"value v1\n")?);
+        assert!(rt; is_text(alloc, &Reply::Absent, b"none\n")?);
+        assert!(rt; is_text(alloc, &Reply::BadLine, b"error line\n")?);
         Ok(())
     }
 }
