@@ -1,2 +1,2 @@
-pub mod FirstLine
+pub mod ScriptLines
 pub mod Spaces

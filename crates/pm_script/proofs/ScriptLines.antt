@@ -1,4 +1,4 @@
--- The first line is the first of the lines, and a long line is known by its first bytes.
+-- A script is its first line and the script behind it, and a long line is known by its first bytes.
 use Rattle.std.proofs.Common.{◌≡◌, ℕ, ◌+◌, ◌<◌, Bool, true, false, List, [], ◌∷◌, length, take, map, cond, refl, ap, sym, ◌∙◌, inl, inr, eqb, arith}
 use Rattle.std.proofs.lemmas.Bool.{cases_lt, lt-ltb}
 use Rattle.std.proofs.lemmas.List.{length-take-le, take_all}
