@@ -1,0 +1,7 @@
+pub mod Apart
+pub mod Cuts
+pub mod Joins
+pub mod Lodging
+pub mod Shells
+pub mod Spans
+pub mod Written

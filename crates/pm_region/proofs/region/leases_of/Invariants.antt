@@ -1,0 +1,9 @@
+use Rattle.std.proofs.Common.{◌≤◌, vec_capacity}
+use Rattle.pm_region.proofs.Cuts.{IsCut}
+use Rattle.pm_region.proofs.region.leases_of.Given as goal
+
+abbrev pub invariant-cuts : goal.invariant-cuts
+invariant-cuts l = record {
+  cut : IsCut l.fn.rest.place l.frames l.size l.number l.leases.items l.rest.place l.rest.bytes;
+  room : l.frames ≤ vec_capacity l.leases;
+}

@@ -1,0 +1,5 @@
+pub mod Lease
+pub mod LeaseLends
+pub mod Memory
+pub mod Region
+pub mod Spans

@@ -1,0 +1,163 @@
+//! A region: the block that is cut into leases.
+
+ghost use Rattle.std.specs.Prelude.{◌≡◌, ◌*◌, ◌≤◌, ◌<◌, ◌^◌, All, IfOk, length, replicate, vec_capacity, []};
+ghost use Rattle.pm_region.specs.Memory.{extent_at};
+ghost use Rattle.pm_region.specs.Region.{Extent, AreLeasesOf, AreFresh};
+ghost use denote.RawPtr.{InBlock};
+
+use crate::lease::Lease;
+use crate::memory::{Rest, Shell, Span, close};
+use std::alloc::{AllocError, Global};
+use std::marker::Model;
+
+/// The most bytes of a region, 1 GiB: 65,536 frames of the largest page.
+pub const REGION_BYTES_MAX: u32 = 1_073_741_824;
+
+/// A block of memory that is cut into leases. Contracts see it as the block, the place where it
+/// begins there, and how many leases it has, of so many bytes each. Dropping it gives no memory
+/// back: `close` does.
+pub struct Region {
+    shell: Shell,
+    frames: u32,
+    size: u32,
+}
+
+impl Model for Region {
+    ghost use Rattle.std.specs.Prelude.{◌≡◌, ◌*◌, ◌<◌};
+    ghost use Rattle.pm_region.specs.Region.{Extent};
+    ghost use Rattle.pm_region.specs.Memory.{extent_at};
+    ghost use denote.RawPtr.{InBlock};
+
+    ghost Value = { Extent };
+
+    ghost view = { λ r. extent_at r.shell.place r.frames r.size };
+
+    ghost invariant = { λ r. (r.shell.len ≡ r.frames * r.size) × (0 < r.frames)
+        × InBlock r.shell.place };
+}
+
+impl Region {
+    ghost use Rattle.pm_region.specs.Lease.{ShareNoByte};
+    ghost use Rattle.pm_region.specs.Region.{AreLeasesOf};
+
+    /// A block of zeros, cut into `frames` leases of `size` bytes each. Fails where memory runs
+    /// out, and then keeps none.
+    pub fn new(alloc: Global, frames: u32, size: u32) -> Result<(Region, Vec<Lease>), AllocError>
+        requires frames { 1 ≤ frames }
+        requires size { 1 ≤ size }
+        requires total { frames * size ≤ REGION_BYTES_MAX }
+        ensures shape { IfOk result (λ r. (r.0.frames ≡ frames) × (r.0.size ≡ size)) }
+        ensures leases { IfOk result (λ r. AreLeasesOf r.0 r.1.items) }
+        ensures zero { IfOk result (λ r. All (λ l. l.bytes ≡ replicate size 0) r.1.items) }
+        ensures apart { IfOk result (λ r. ShareNoByte r.1.items) }
+    {
+        let total = frames as usize * size as usize;
+        let leases = Vec::with_capacity(alloc, frames as usize)?;
+        let mut block = Vec::with_capacity(alloc, total)?;
+        block.resize(total, 0)?;
+        let (rest, shell) = Rest::of(block);
+        let leases = leases_of(rest, frames, size as usize, leases);
+        Ok((
+            Region {
+                shell,
+                frames,
+                size,
+            },
+            leases,
+        ))
+    }
+
+    /// Gives the block's memory back, and needs all of its leases for that.
+    pub fn close(self, leases: Vec<Lease>)
+        requires { AreLeasesOf self leases.items }
+    {
+        let bytes = self.joined(leases);
+        let Region {
+            shell,
+            frames: _,
+            size: _,
+        } = self;
+        drop(close(bytes, shell));
+    }
+
+    // The bytes of all leases.
+    fn joined(&self, mut leases: Vec<Lease>) -> Span
+        requires { AreLeasesOf self.now leases.items }
+        ensures { (extent_at result.place self.now.frames self.now.size ≡ self.now)
+            × InBlock result.place
+            × (length result.bytes ≡ self.now.frames * self.now.size) }
+    {
+        prove!(self.frames > 0);
+        let Some(last) = leases.pop() else {
+            unreachable!();
+        };
+        let mut bytes = last.into_span();
+        'joins: while let Some(lease) = leases.pop() {
+            bytes = lease.into_span().join(bytes);
+        }
+        bytes
+    }
+}
+
+// Where a lease may be out still, its memory has to stay.
+impl Drop for Region {
+    fn drop(self) {
+        let Region {
+            shell,
+            frames: _,
+            size: _,
+        } = self;
+        shell.forget();
+    }
+}
+
+// The leases of a block of zeros, in order.
+fn leases_of(rest: Rest, frames: u32, size: usize, mut leases: Vec<Lease>) -> Vec<Lease>
+    requires leases { (leases.items ≡ []) × (frames ≤ vec_capacity leases) }
+    requires size { (0 < size) × (size < 2 ^ 32) }
+    requires bytes { rest.bytes ≡ replicate (frames * size) 0 }
+    ensures { AreFresh (extent_at rest.place frames size) result.items }
+{
+    let mut rest = rest;
+    'cuts: for number in 0..frames {
+        let (memory, others) = rest.take(size);
+        leases.push_reserved(Lease::new(number, memory));
+        rest = others;
+    }
+    leases
+}
+
+#[cfg(test)]
+mod tests {
+    use super::*;
+    use std::test::Fail;
+    use std::thread;
+
+    #[test]
+    fn two_threads_write_two_leases(rt: HostRuntime) -> Result<(), Fail> {
+        let (_region, mut leases) = Region::new(rt.alloc(), 2, 1024)?;
+        let (first, second) = leases.split_at_mut(1);
+        thread::join_mut(
+            &rt,
+            &mut || first[0].bytes_mut().fill(7),
+            &mut || second[0].bytes_mut().fill(9),
+        );
+        assert_eq!(rt; leases.len(), 2);
+        let shared = &leases;
+        let (sevens, nines) = thread::join(
+            &rt,
+            || shared[0].bytes().iter().filter(|byte| **byte == 7).count(),
+            || shared[1].bytes().iter().filter(|byte| **byte == 9).count(),
+        );
+        assert_eq!(rt; (sevens, nines), (1024, 1024));
+        Ok(())
+    }
+
+    #[test]
+    fn another_thread_closes_a_region(rt: HostRuntime) -> Result<(), Fail> {
+        let (region, leases) = Region::new(rt.alloc(), 3, 512)?;
+        let closer = thread::spawn(&rt, move || region.close(leases))?;
+        closer.join(&rt);
+        Ok(())
+    }
+}
