@@ -1,0 +1,4 @@
+pub mod Gaps
+pub mod Lookups
+pub mod Places
+pub mod Rows

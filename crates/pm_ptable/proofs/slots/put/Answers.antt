@@ -1,0 +1,9 @@
+use Rattle.pm_ptable.proofs.Rows.{IsRow-put, map_of-put, room_left}
+use Rattle.pm_ptable.proofs.slots.put.Goals as goal
+
+pub returns-clause-row : goal.returns-clause-row
+returns-clause-row c =
+    IsRow-put c.args.homes c.args.slots.now c.args.entry c.place_of-at.result c.requires.row c.place_of-at.ensures.place (room_left c.place_of-at.ensures.found c.requires.room)
+
+pub returns-clause-entries : goal.returns-clause-entries
+returns-clause-entries c = map_of-put c.args.homes c.args.slots.now c.args.entry c.place_of-at.result c.requires.row c.place_of-at.ensures.place
