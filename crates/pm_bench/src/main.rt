@@ -1,0 +1,49 @@
+//! Work to be timed, a command for each: it does its work so many times, and prints a sum that
+//! tells that it was done.
+#![tactic(auto)]
+
+mod block;
+mod command;
+mod hash_map;
+mod lookups;
+mod page_table;
+mod region;
+
+use command::{COMMANDS, Command};
+use std::process::ExitCode;
+use std::{env, io};
+
+const USAGE: &str = "usage: pm_bench all|page_table|hash_map|region|block COUNT";
+
+fn main(rt: HostRuntime) -> io::Result<ExitCode> {
+    let mut words = env::args(&rt)?;
+    let (Some(_), Some(name), Some(count)) = (words.next(), words.next(), words.next()) else {
+        return refused(&rt);
+    };
+    let Ok(count) = count.as_str().parse::<u32>() else {
+        return refused(&rt);
+    };
+    if name.as_str() == "all" {
+        for command in COMMANDS {
+            report(&rt, command, count)?;
+        }
+        return Ok(ExitCode::SUCCESS);
+    }
+    let Some(command) = Command::named(name.as_str()) else {
+        return refused(&rt);
+    };
+    report(&rt, command, count)?;
+    Ok(ExitCode::SUCCESS)
+}
+
+fn refused(rt: &impl Eprint) -> io::Result<ExitCode> {
+    eprintln!(rt; "{USAGE}")?;
+    Ok(ExitCode::from(2))
+}
+
+// Runs a command and prints its sum.
+fn report<R: Print + AllocGlobal>(rt: &R, command: Command, count: u32) -> io::Result<()> {
+    let sum = command.run(rt.alloc(), count)?;
+    let name = command.name();
+    println!(rt; "{name} {sum}")
+}
