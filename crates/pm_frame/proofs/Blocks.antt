@@ -1,24 +1,12 @@
 -- Several bytes can be shifted out at once, each by its own distance from the end.
 use Rattle.std.proofs.Common.{◌≡◌, ℕ, zero, suc, ◌+◌, ◌*◌, ◌/◌, ◌^◌, ◌<◌, List, [], ◌∷◌, length, get_or, refl, sym, ap, subst, ◌∙◌, arith}
 use Rattle.std.specs.Prelude.{bit_xor, fold}
-use Rattle.std.specs.Int.{w64, byte_at, bytes_low_first, to_le_bytes, from_le_bytes}
+use Rattle.std.specs.Int.{w64, to_le_bytes, from_le_bytes}
 use Rattle.std.specs.Int.Bits.{xor_assoc, xor_lt, xor_zero_r}
-use Rattle.std.proofs.lemmas.Nat.{xor_comm, mod_below, le_bytes_8, from_le_bytes-to_le_bytes_8}
+use Rattle.std.proofs.lemmas.Nat.{xor_comm, le_bytes_8, from_le_bytes-to_le_bytes_8}
 use Rattle.pm_frame.specs.Crc.{shifted_by, with_byte}
+use Rattle.pm_frame.proofs.Bytes.{AreBytes, AreBytes-bytes_low_first}
 use Rattle.pm_frame.proofs.Division.{joined, shifted_by-xor, shifted_by-add, shifted_by-front, shifted_by-low}
-
--- each element is a byte
-abbrev pub AreBytes : List ℕ → Type 0
-AreBytes bytes = (i : ℕ) → get_or bytes i 0 < 2 ^ 8
-
-byte_at-lt : (i n : ℕ) → byte_at i n < 2 ^ 8
-byte_at-lt zero n = omega arith
-byte_at-lt (suc i) n = mod_below (n / 256 ^ suc i) 256 (omega arith)
-
-AreBytes-bytes_low_first : (count from n : ℕ) → AreBytes (bytes_low_first from count n)
-AreBytes-bytes_low_first zero from n i = omega arith
-AreBytes-bytes_low_first (suc count) from n zero = byte_at-lt from n
-AreBytes-bytes_low_first (suc count) from n (suc i) = AreBytes-bytes_low_first count (suc from) n i
 
 -- the number that these bytes stand for, the lowest first
 abbrev pub number : List ℕ → ℕ
