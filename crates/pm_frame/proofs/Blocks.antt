@@ -1,5 +1,5 @@
 -- Several bytes can be shifted out at once, each by its own distance from the end.
-use Rattle.std.proofs.Common.{◌≡◌, ℕ, zero, suc, ◌+◌, ◌*◌, ◌/◌, ◌^◌, ◌<◌, List, [], ◌∷◌, length, get_or, refl, sym, ap, subst, ◌∙◌, arith}
+use Rattle.std.proofs.Common.{◌≡◌, ℕ, suc, ◌+◌, ◌*◌, ◌^◌, ◌<◌, List, [], ◌∷◌, length, get_or, refl, sym, ap, ◌∙◌, arith}
 use Rattle.std.specs.Prelude.{bit_xor, fold}
 use Rattle.std.specs.Int.{w64, to_le_bytes, from_le_bytes}
 use Rattle.std.specs.Int.Bits.{xor_assoc, xor_lt, xor_zero_r}
@@ -24,10 +24,10 @@ fold-number [] register h = sym (xor_zero_r register)
 fold-number (b ∷ bs) register h =
     let count : 8 * length (b ∷ bs) ≡ 8 * length bs + 8 = omega arith in
     let whole : bit_xor register (number bs * 2 ^ 8 + b) ≡ bit_xor (bit_xor register b) (number bs * 2 ^ 8) =
-      ap (bit_xor register) (joined 8 (number bs) b (h 0)) ∙ sym (xor_assoc register b (number bs * 2 ^ 8))
+    ap (bit_xor register) (joined 8 (number bs) b (h 0)) ∙ sym (xor_assoc register b (number bs * 2 ^ 8))
     in
     let first : shifted_by 8 (bit_xor register (number bs * 2 ^ 8 + b)) ≡ bit_xor (with_byte register b) (number bs) =
-      rw (whole, shifted_by-xor 8 (bit_xor register b) (number bs * 2 ^ 8), shifted_by-front 8 (number bs)) refl
+    rw (whole, shifted_by-xor 8 (bit_xor register b) (number bs * 2 ^ 8), shifted_by-front 8 (number bs)) refl
     in
     fold-number bs (with_byte register b) (λ i. h (suc i))
     ∙ sym (rw (count, shifted_by-add 8 (8 * length bs) (bit_xor register (number bs * 2 ^ 8 + b)), first) refl)

@@ -1,8 +1,8 @@
 -- The division is linear: the register of a sum without carries is the sum of the registers, and so eight bytes can be
 -- shifted out at once.
-use Rattle.std.proofs.Common.{◌≡◌, ℕ, zero, suc, ◌+◌, ◌*◌, ◌/◌, ◌%◌, ◌^◌, ◌<◌, Bool, true, false, cond, eqb, List, [], ◌∷◌, length, refl, sym, ap, ◌∙◌, arith, inl, inr, add-zero}
-use Rattle.std.specs.Prelude.{◌⊎◌, bit_xor, fold}
-use Rattle.std.specs.Int.Bits.{xor_shr, xor_mod, xor_assoc, xor_zero_l, xor_zero_r, xor_shifted, xor_block, xor_lt}
+use Rattle.std.proofs.Common.{◌≡◌, ℕ, zero, suc, ◌+◌, ◌*◌, ◌/◌, ◌%◌, ◌^◌, ◌<◌, Bool, true, false, cond, eqb, refl, sym, ap, ◌∙◌, arith, inl, inr, add-zero}
+use Rattle.std.specs.Prelude.{◌⊎◌, bit_xor}
+use Rattle.std.specs.Int.Bits.{xor_shr, xor_mod, xor_assoc, xor_zero_r, xor_shifted, xor_block, xor_lt}
 use Rattle.std.proofs.Math.Nat.{pow-suc, mul_assoc}
 use Rattle.std.proofs.lemmas.Nat.{xor_comm, div-add-mod'}
 use Rattle.pm_frame.specs.Crc.{polynomial, shifted_once, shifted_by, with_byte}
@@ -42,9 +42,15 @@ xor_four a b c d =
 
 shifted_once-xor : (a b : ℕ) → shifted_once (bit_xor a b) ≡ bit_xor (shifted_once a) (shifted_once b)
 shifted_once-xor a b =
-    rw (shifted_once-is (bit_xor a b), shifted_once-is a, shifted_once-is b, xor_shr a b 1, xor_mod a b 1,
-        brought-xor (a % 2) (b % 2) (bit_cases a) (bit_cases b))
-      (xor_four (a / 2) (b / 2) (brought (a % 2)) (brought (b % 2)))
+    rw (
+      shifted_once-is (bit_xor a b),
+      shifted_once-is a,
+      shifted_once-is b,
+      xor_shr a b 1,
+      xor_mod a b 1,
+      brought-xor (a % 2) (b % 2) (bit_cases a) (bit_cases b),
+    )
+    (xor_four (a / 2) (b / 2) (brought (a % 2)) (brought (b % 2)))
 
 pub shifted_by-xor : (bits a b : ℕ) → shifted_by bits (bit_xor a b) ≡ bit_xor (shifted_by bits a) (shifted_by bits b)
 unfolding shifted_by
@@ -97,6 +103,6 @@ pub with_byte-is : (register byte : ℕ) → byte < 256 → with_byte register b
 unfolding with_byte
 with_byte-is register byte h =
     let whole : bit_xor register byte ≡ register / 2 ^ 8 * 2 ^ 8 + bit_xor (register % 2 ^ 8) byte =
-      ap (λ (x : ℕ). bit_xor x byte) (sym (div-add-mod' register (2 ^ 8))) ∙ (low_byte (register / 2 ^ 8) (register % 2 ^ 8) byte (omega arith) h)
+    ap (λ (x : ℕ). bit_xor x byte) (sym (div-add-mod' register (2 ^ 8))) ∙ (low_byte (register / 2 ^ 8) (register % 2 ^ 8) byte (omega arith) h)
     in
     rw (whole, shifted_by-low 8 (register / 2 ^ 8) (bit_xor (register % 2 ^ 8) byte) (xor_lt 8 (register % 2 ^ 8) byte (omega arith) h)) refl

@@ -1,9 +1,9 @@
 -- The frame at the front of bytes: whatever frame is spelled there and no other, whatever follows it.
-use Rattle.std.proofs.Common.{◌≡◌, ℕ, ◌+◌, ◌-◌, ◌≤◌, ◌<◌, ◌^◌, Bool, true, false, cond, leb, ltb, eqb, List, [], ◌∷◌, ◌++◌, length, take, drop, get_or, Option, Some, None, refl, sym, ap, subst, ◌∙◌, append_assoc, arith}
-use Rattle.std.specs.Prelude.{◌&&◌, nat_eq, slice_index, slice_range}
+use Rattle.std.proofs.Common.{◌≡◌, ℕ, ◌+◌, ◌-◌, ◌≤◌, ◌<◌, ◌^◌, true, leb, ltb, List, [], ◌++◌, length, take, drop, Option, Some, None, refl, sym, ap, subst, ◌∙◌, append_assoc, arith}
+use Rattle.std.specs.Prelude.{◌&&◌, nat_eq}
 use Rattle.std.specs.List.{starts_with}
 use Rattle.std.specs.Int.{w32, to_le_bytes, from_le_bytes}
-use Rattle.std.proofs.lemmas.Bool.{and_parts, and_from, leb-true, le-leb, ltb-true, lt-ltb, cases_Bool}
+use Rattle.std.proofs.lemmas.Bool.{and_parts, and_from, leb-true, le-leb, ltb-true, lt-ltb}
 use Rattle.std.proofs.lemmas.Bool.Decides.{Decides-eqb}
 use Rattle.std.proofs.lemmas.List.{append-nil, length-append, length-take, take_at, take-append-drop}
 use Rattle.std.proofs.lemmas.Nat.{from_le_bytes-to_le_bytes_4}
@@ -14,7 +14,7 @@ use Rattle.pm_types.specs.declared.place.Place.{Place}
 use Rattle.pm_frame.specs.declared.kinds.TheConstants.{LOGICAL, SEAL}
 use Rattle.pm_frame.specs.declared.limits.TheConstants.{HEAD_LEN, FRAME_EXTRA, PAYLOAD_MAX}
 use Rattle.pm_frame.specs.Crc.{crc_of}
-use Rattle.pm_frame.specs.Frames.{Frame, frame_len, head_bytes, summed_bytes, frame_bytes, end_max, IsHead, IsFrame, is_frame, named_frame, frame_at}
+use Rattle.pm_frame.specs.Frames.{Frame, frame_len, head_bytes, summed_bytes, frame_bytes, end_max, IsFrame, is_frame, named_frame, frame_at}
 use Rattle.pm_frame.proofs.HeadBytes.{length-head_bytes}
 
 pub length-summed_bytes : (place : Place) (frame : Frame) → length (summed_bytes place frame) ≡ length frame.payload + HEAD_LEN
@@ -66,10 +66,10 @@ named_frame-bytes place frame rest short =
     let len : from_le_bytes w32 (to_le_bytes w32 n) ≡ n = from_le_bytes-to_le_bytes_4 n short in
     let count : HEAD_LEN + n - HEAD_LEN ≡ n = omega arith in
     let payload : take (HEAD_LEN + from_le_bytes w32 (to_le_bytes w32 n) - HEAD_LEN) behind ≡ frame.payload =
-      ap (λ k. take (HEAD_LEN + k - HEAD_LEN) behind) len
-      ∙ ap (λ k. take k behind) count
-      ∙ ap (take n) (append_assoc frame.payload sum rest)
-      ∙ take_at frame.payload (sum ++ rest) n refl
+    ap (λ k. take (HEAD_LEN + k - HEAD_LEN) behind) len
+    ∙ ap (λ k. take k behind) count
+    ∙ ap (take n) (append_assoc frame.payload sum rest)
+    ∙ take_at frame.payload (sum ++ rest) n refl
     in
     λ i. record { kind = frame.kind; payload = payload i }
 
@@ -89,7 +89,7 @@ frame_at-some place bytes frame e =
     let t = cond_some (is_frame place named && starts_with nat_eq bytes (frame_bytes place named)) named frame e in
     let p = and_parts (is_frame place named) (starts_with nat_eq bytes (frame_bytes place named)) t.0 in
     let spelled : bytes ≡ frame_bytes place named ++ drop (frame_len named) bytes =
-      rw (← length-frame_bytes place named) ((starts_is Decides-eqb bytes (frame_bytes place named) _ refl).0 p.1)
+    rw (← length-frame_bytes place named) ((starts_is Decides-eqb bytes (frame_bytes place named) _ refl).0 p.1)
     in
     subst (λ f. IsFrame place f × (bytes ≡ frame_bytes place f ++ drop (frame_len f) bytes)) t.1 (IsFrame-from place named p.0, spelled)
 
@@ -98,10 +98,10 @@ pub frame_at-none : (place : Place) (bytes : List ℕ) → ((frame : Frame) (res
 frame_at-none place bytes h =
     let P : Option Frame → Type 0 = λ found. frame_at place bytes ≡ found → found ≡ None in
     let found : P (frame_at place bytes) =
-      elim (frame_at place bytes) as P [
-        | None ↦ λ e. refl
-        | Some frame ↦ λ e. let s = frame_at-some place bytes frame e in absurd (h frame (drop (frame_len frame) bytes) s.0 s.1)
-      ]
+    elim (frame_at place bytes) as P [
+      | None ↦ λ e. refl
+      | Some frame ↦ λ e. let s = frame_at-some place bytes frame e in absurd (h frame (drop (frame_len frame) bytes) s.0 s.1)
+    ]
     in
     found refl
 
@@ -142,16 +142,16 @@ frame_at-same place old new frame e same =
 pub frame_at-short : (place : Place) (frame : Frame) (n : ℕ) → IsFrame place frame → n < frame_len frame → frame_at place (take n (frame_bytes place frame)) ≡ None
 frame_at-short place frame n h short =
     frame_at-none place (take n (frame_bytes place frame)) (λ other rest p e.
-      let whole = frame_bytes place frame in
-      let again : frame_bytes place frame ++ [] ≡ frame_bytes place other ++ (rest ++ drop n whole) =
-        append-nil whole ∙ sym (take-append-drop n whole) ∙ ap (λ front. front ++ drop n whole) e ∙ append_assoc (frame_bytes place other) rest (drop n whole)
-      in
-      let same = one_frame place frame other [] (rest ++ drop n whole) h p again in
-      let long : frame_len other ≤ n = omega (arith, length-frame_bytes place other, front_fits (take n whole) (frame_bytes place other) rest e, length-take n whole) in
-      omega (arith, long, short, ap frame_len same))
+    let whole = frame_bytes place frame in
+    let again : frame_bytes place frame ++ [] ≡ frame_bytes place other ++ (rest ++ drop n whole) =
+    append-nil whole ∙ sym (take-append-drop n whole) ∙ ap (λ front. front ++ drop n whole) e ∙ append_assoc (frame_bytes place other) rest (drop n whole)
+    in
+    let same = one_frame place frame other [] (rest ++ drop n whole) h p again in
+    let long : frame_len other ≤ n = omega (arith, length-frame_bytes place other, front_fits (take n whole) (frame_bytes place other) rest e, length-take n whole) in
+    omega (arith, long, short, ap frame_len same))
 
 -- too few bytes hold none
 pub frame_at-few : (place : Place) (bytes : List ℕ) → length bytes < FRAME_EXTRA → frame_at place bytes ≡ None
 frame_at-few place bytes few =
     frame_at-none place bytes (λ frame rest h e.
-      omega (arith, few, length-frame_bytes place frame, front_fits bytes (frame_bytes place frame) rest e))
+    omega (arith, few, length-frame_bytes place frame, front_fits bytes (frame_bytes place frame) rest e))

@@ -1,15 +1,15 @@
 -- What each test of a reader rules out, and what is read where all tests pass.
-use Rattle.std.proofs.Common.{◌≡◌, ℕ, ◌+◌, ◌^◌, ◌<◌, ◌≤◌, eqb, List, ◌∷◌, ◌++◌, length, take, drop, get_or, refl, sym, ap, subst, ◌∙◌, append_assoc, arith}
+use Rattle.std.proofs.Common.{◌≡◌, ℕ, ◌+◌, ◌^◌, ◌<◌, ◌≤◌, eqb, List, ◌++◌, length, take, drop, sym, ap, subst, ◌∙◌, append_assoc, arith}
 use Rattle.std.specs.Int.{w32, to_le_bytes, from_le_bytes}
 use Rattle.std.proofs.lemmas.Bool.{cond_both}
-use Rattle.std.proofs.lemmas.List.{length-append, length-take, length-drop, take_at, drop_at, take-take, take-append-drop, drop-drop, drop-take}
+use Rattle.std.proofs.lemmas.List.{length-take, length-drop, take_at, drop_at, take-take, take-append-drop, drop-drop}
 use Rattle.std.proofs.lemmas.List.Prefix.{front_fits}
 use Rattle.std.proofs.lemmas.Nat.{from_le_bytes-to_le_bytes_4, le_bytes_4}
 use Rattle.pm_types.specs.declared.place.Place.{Place}
 use Rattle.pm_frame.specs.declared.kinds.TheConstants.{SEAL}
 use Rattle.pm_frame.specs.declared.limits.TheConstants.{HEAD_LEN, FRAME_EXTRA, SUM_LEN, FRAME_END_MAX, SEGMENT_END_MAX}
 use Rattle.pm_frame.specs.Crc.{crc_of}
-use Rattle.pm_frame.specs.Frames.{Frame, frame_len, head_bytes, summed_bytes, frame_bytes, end_max, IsHead, IsFrame}
+use Rattle.pm_frame.specs.Frames.{Frame, head_bytes, summed_bytes, frame_bytes, end_max, IsHead, IsFrame}
 use Rattle.pm_frame.proofs.Bytes.{AreBytes, AreBytes-take, AreBytes-drop}
 use Rattle.pm_frame.proofs.HeadBytes.{Fits, length-head_bytes, head_bytes-same}
 use Rattle.pm_frame.proofs.FrameAt.{length-summed_bytes, length-frame_bytes}
@@ -100,7 +100,7 @@ unfolding frame_bytes summed_bytes
 read_spelled place bytes kind len summed stored payload are b enough s t right p =
     let count : length payload ≡ len = omega (arith, ap length p, length-drop HEAD_LEN summed, ap length s, length-take (HEAD_LEN + len) bytes) in
     let front : take HEAD_LEN summed ≡ head_bytes kind place (length payload) =
-      ap (take HEAD_LEN) s ∙ take-take HEAD_LEN (HEAD_LEN + len) bytes (omega arith) ∙ b.front ∙ ap (head_bytes kind place) (sym count)
+    ap (take HEAD_LEN) s ∙ take-take HEAD_LEN (HEAD_LEN + len) bytes (omega arith) ∙ b.front ∙ ap (head_bytes kind place) (sym count)
     in
     let whole : summed ≡ head_bytes kind place (length payload) ++ payload = sym (take-append-drop HEAD_LEN summed) ∙ (λ i. front i ++ sym p i) in
     let stored_are : AreBytes stored = subst AreBytes (sym t) (AreBytes-take SUM_LEN _ (AreBytes-drop (HEAD_LEN + len) bytes are)) in
@@ -108,9 +108,9 @@ read_spelled place bytes kind len summed stored payload are b enough s t right p
     let sum : stored ≡ to_le_bytes w32 (crc_of summed) = sym (le_bytes_4 stored (crc_of summed) stored_len stored_are (sym right)) in
     let end : HEAD_LEN + len + SUM_LEN ≡ len + FRAME_EXTRA = omega arith in
     let behind : drop (HEAD_LEN + len) bytes ≡ stored ++ drop (len + FRAME_EXTRA) bytes =
-      sym (take-append-drop SUM_LEN (drop (HEAD_LEN + len) bytes))
-      ∙ (λ i. sym t i ++ drop-drop SUM_LEN (HEAD_LEN + len) bytes i)
-      ∙ ap (λ k. stored ++ drop k bytes) end
+    sym (take-append-drop SUM_LEN (drop (HEAD_LEN + len) bytes))
+    ∙ (λ i. sym t i ++ drop-drop SUM_LEN (HEAD_LEN + len) bytes i)
+    ∙ ap (λ k. stored ++ drop k bytes) end
     in
     let rest = drop (len + FRAME_EXTRA) bytes in
     sym (take-append-drop (HEAD_LEN + len) bytes)

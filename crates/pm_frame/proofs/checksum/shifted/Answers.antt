@@ -1,4 +1,4 @@
-use Rattle.std.proofs.Common.{◌≡◌, ◌<◌, ap, ◌∙◌, arith}
+use Rattle.std.proofs.Common.{◌≡◌, ◌<◌, arith}
 use Rattle.pm_frame.proofs.TableRule.{TABLES-entry}
 use Rattle.pm_frame.proofs.checksum.shifted.Goals as goal
 

@@ -1,4 +1,4 @@
-use Rattle.std.proofs.Common.{◌≡◌, ◌-◌, ◌^◌, ap, ◌∙◌}
+use Rattle.std.proofs.Common.{◌-◌, ◌^◌, ap, ◌∙◌}
 use Rattle.pm_frame.specs.Crc.{crc_of}
 use Rattle.pm_frame.proofs.checksum.sum.Goals as goal
 

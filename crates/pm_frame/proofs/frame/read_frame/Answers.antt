@@ -1,12 +1,12 @@
-use Rattle.std.proofs.Common.{◌≡◌, ◌+◌, ◌-◌, ◌≤◌, ◌<◌, Some, None, drop, take, length, refl, subst, sym, ap, ◌∙◌, arith}
+use Rattle.std.proofs.Common.{◌≡◌, ◌+◌, ◌-◌, ◌≤◌, ◌<◌, drop, take, length, refl, subst, sym, ap, ◌∙◌, arith}
 use Rattle.std.proofs.lemmas.Bool.{false≢true}
 use Rattle.std.specs.Int.{w32, from_le_bytes}
 use Rattle.std.proofs.lemmas.List.{take_rest, length-drop}
 use Rattle.pm_frame.specs.declared.limits.TheConstants.{HEAD_LEN, SUM_LEN}
 use Rattle.pm_frame.specs.Crc.{crc_of}
-use Rattle.pm_frame.specs.Frames.{IsHead, frame_at}
-use Rattle.pm_frame.specs.Views.{frame_of, seen}
-use Rattle.pm_frame.proofs.FrameAt.{frame_at-none, frame_at-bytes, found-spelled}
+use Rattle.pm_frame.specs.Frames.{IsHead}
+use Rattle.pm_frame.specs.Views.{seen}
+use Rattle.pm_frame.proofs.FrameAt.{frame_at-none, found-spelled}
 use Rattle.pm_frame.proofs.FrameRead.{Begins, begins, none-few_for_head, none-other_head, none-few_for_payload, none-few_for_sum, none-other_sum, read_spelled}
 use Rattle.pm_frame.proofs.frame.read_frame.Goals as goal
 
