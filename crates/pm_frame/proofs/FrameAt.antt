@@ -57,7 +57,8 @@ IsFrame-from place frame t =
 -- ---- both ways
 
 -- what is spelled names itself
-named_frame-bytes : (place : Place) (frame : Frame) (rest : List ℕ) → length frame.payload < 2 ^ 32 → named_frame (frame_bytes place frame ++ rest) ≡ frame
+named_frame-bytes : (place : Place) (frame : Frame) (rest : List ℕ) → length frame.payload < 2 ^ 32
+    → named_frame (frame_bytes place frame ++ rest) ≡ frame
 unfolding named_frame frame_bytes summed_bytes head_bytes
 named_frame-bytes place frame rest short =
     let n = length frame.payload in
@@ -73,7 +74,8 @@ named_frame-bytes place frame rest short =
     in
     λ i. record { kind = frame.kind; payload = payload i }
 
-pub frame_at-bytes : (place : Place) (frame : Frame) (rest : List ℕ) → IsFrame place frame → frame_at place (frame_bytes place frame ++ rest) ≡ Some frame
+pub frame_at-bytes : (place : Place) (frame : Frame) (rest : List ℕ) → IsFrame place frame
+    → frame_at place (frame_bytes place frame ++ rest) ≡ Some frame
 unfolding frame_at
 frame_at-bytes place frame rest h =
     let bytes = frame_bytes place frame ++ rest in
@@ -94,7 +96,8 @@ frame_at-some place bytes frame e =
     subst (λ f. IsFrame place f × (bytes ≡ frame_bytes place f ++ drop (frame_len f) bytes)) t.1 (IsFrame-from place named p.0, spelled)
 
 -- where no frame is spelled, none is found
-pub frame_at-none : (place : Place) (bytes : List ℕ) → ((frame : Frame) (rest : List ℕ) → IsFrame place frame → bytes ≡ frame_bytes place frame ++ rest → ⊥) → frame_at place bytes ≡ None
+pub frame_at-none : (place : Place) (bytes : List ℕ)
+    → ((frame : Frame) (rest : List ℕ) → IsFrame place frame → bytes ≡ frame_bytes place frame ++ rest → ⊥) → frame_at place bytes ≡ None
 frame_at-none place bytes h =
     let P : Option Frame → Type 0 = λ found. frame_at place bytes ≡ found → found ≡ None in
     let found : P (frame_at place bytes) =
@@ -111,17 +114,20 @@ pub found-spelled : (place : Place) (bytes : List ℕ) (found : Option Frame) �
 found-spelled place bytes found e frame rest h spelled = e ∙ ap (frame_at place) spelled ∙ frame_at-bytes place frame rest h
 
 -- one frame at most is spelled at the front of bytes
-pub one_frame : (place : Place) (a b : Frame) (x y : List ℕ) → IsFrame place a → IsFrame place b → frame_bytes place a ++ x ≡ frame_bytes place b ++ y → a ≡ b
+pub one_frame : (place : Place) (a b : Frame) (x y : List ℕ)
+    → IsFrame place a → IsFrame place b → frame_bytes place a ++ x ≡ frame_bytes place b ++ y → a ≡ b
 one_frame place a b x y p q e = same_Some a b (sym (frame_at-bytes place a x p) ∙ ap (frame_at place) e ∙ frame_at-bytes place b y q)
 
 -- a frame that is found is there as a whole
-pub frame_at-within : (place : Place) (bytes : List ℕ) (frame : Frame) → frame_at place bytes ≡ Some frame → frame_len frame ≤ length bytes
+pub frame_at-within : (place : Place) (bytes : List ℕ) (frame : Frame) → frame_at place bytes ≡ Some frame
+    → frame_len frame ≤ length bytes
 frame_at-within place bytes frame e =
     let s = frame_at-some place bytes frame e in
     omega (arith, length-frame_bytes place frame, front_fits bytes (frame_bytes place frame) (drop (frame_len frame) bytes) s.1)
 
 -- what follows changes nothing
-pub frame_at-append : (place : Place) (bytes more : List ℕ) (frame : Frame) → frame_at place bytes ≡ Some frame → frame_at place (bytes ++ more) ≡ Some frame
+pub frame_at-append : (place : Place) (bytes more : List ℕ) (frame : Frame) → frame_at place bytes ≡ Some frame
+    → frame_at place (bytes ++ more) ≡ Some frame
 frame_at-append place bytes more frame e =
     let s = frame_at-some place bytes frame e in
     let behind = drop (frame_len frame) bytes in
@@ -130,7 +136,8 @@ frame_at-append place bytes more frame e =
     ∙ frame_at-bytes place frame (behind ++ more) s.0
 
 -- a frame is decided by its own bytes
-pub frame_at-same : (place : Place) (old new : List ℕ) (frame : Frame) → frame_at place old ≡ Some frame → take (frame_len frame) new ≡ take (frame_len frame) old → frame_at place new ≡ Some frame
+pub frame_at-same : (place : Place) (old new : List ℕ) (frame : Frame)
+    → frame_at place old ≡ Some frame → take (frame_len frame) new ≡ take (frame_len frame) old → frame_at place new ≡ Some frame
 frame_at-same place old new frame e same =
     let s = frame_at-some place old frame e in
     let n = frame_len frame in
@@ -139,7 +146,8 @@ frame_at-same place old new frame e same =
     ap (frame_at place) parts ∙ frame_at-bytes place frame (drop n new) s.0
 
 -- a frame that is cut short is none
-pub frame_at-short : (place : Place) (frame : Frame) (n : ℕ) → IsFrame place frame → n < frame_len frame → frame_at place (take n (frame_bytes place frame)) ≡ None
+pub frame_at-short : (place : Place) (frame : Frame) (n : ℕ) → IsFrame place frame → n < frame_len frame
+    → frame_at place (take n (frame_bytes place frame)) ≡ None
 frame_at-short place frame n h short =
     frame_at-none place (take n (frame_bytes place frame)) (λ other rest p e.
     let whole = frame_bytes place frame in

@@ -31,11 +31,13 @@ end_max-le : (kind : ℕ) → end_max kind ≤ SEGMENT_END_MAX
 end_max-le kind = cond_both (eqb kind SEAL) SEGMENT_END_MAX FRAME_END_MAX (λ x. x ≤ SEGMENT_END_MAX) (λ e. omega arith) (λ e. omega arith)
 
 -- what is spelled, in its parts
-parted : (place : Place) (bytes : List ℕ) (frame : Frame) (rest : List ℕ) → bytes ≡ frame_bytes place frame ++ rest → bytes ≡ summed_bytes place frame ++ (to_le_bytes w32 (crc_of (summed_bytes place frame)) ++ rest)
+parted : (place : Place) (bytes : List ℕ) (frame : Frame) (rest : List ℕ) → bytes ≡ frame_bytes place frame ++ rest
+    → bytes ≡ summed_bytes place frame ++ (to_le_bytes w32 (crc_of (summed_bytes place frame)) ++ rest)
 unfolding frame_bytes
 parted place bytes frame rest e = e ∙ append_assoc (summed_bytes place frame) (to_le_bytes w32 (crc_of (summed_bytes place frame))) rest
 
-headed : (place : Place) (bytes : List ℕ) (frame : Frame) (rest : List ℕ) → bytes ≡ frame_bytes place frame ++ rest → take HEAD_LEN bytes ≡ head_bytes frame.kind place (length frame.payload)
+headed : (place : Place) (bytes : List ℕ) (frame : Frame) (rest : List ℕ) → bytes ≡ frame_bytes place frame ++ rest
+    → take HEAD_LEN bytes ≡ head_bytes frame.kind place (length frame.payload)
 unfolding summed_bytes
 headed place bytes frame rest e =
     let head = head_bytes frame.kind place (length frame.payload) in
@@ -44,7 +46,8 @@ headed place bytes frame rest e =
     ∙ take_at head (frame.payload ++ behind) HEAD_LEN (length-head_bytes frame.kind place (length frame.payload))
 
 -- the head of a frame that is spelled there is that frame's
-named : (place : Place) (bytes : List ℕ) (kind : ℕ) (at : Place) (len : ℕ) (frame : Frame) (rest : List ℕ) → Begins bytes kind at len → IsFrame place frame → bytes ≡ frame_bytes place frame ++ rest
+named : (place : Place) (bytes : List ℕ) (kind : ℕ) (at : Place) (len : ℕ) (frame : Frame) (rest : List ℕ)
+    → Begins bytes kind at len → IsFrame place frame → bytes ≡ frame_bytes place frame ++ rest
     → (kind ≡ frame.kind) × (at ≡ place) × (len ≡ length frame.payload)
 named place bytes kind at len frame rest b h e =
     let fits : Fits place (length frame.payload) = record {
@@ -55,23 +58,27 @@ named place bytes kind at len frame rest b h e =
     in
     head_bytes-same kind frame.kind at place len (length frame.payload) b.fits fits (sym b.front ∙ headed place bytes frame rest e)
 
-long : (place : Place) (bytes : List ℕ) (frame : Frame) (rest : List ℕ) → bytes ≡ frame_bytes place frame ++ rest → length frame.payload + FRAME_EXTRA ≤ length bytes
+long : (place : Place) (bytes : List ℕ) (frame : Frame) (rest : List ℕ) → bytes ≡ frame_bytes place frame ++ rest
+    → length frame.payload + FRAME_EXTRA ≤ length bytes
 long place bytes frame rest e = omega (arith, length-frame_bytes place frame, front_fits bytes (frame_bytes place frame) rest e)
 
 pub none-few_for_head : (place : Place) (bytes : List ℕ) → length bytes < HEAD_LEN → HoldsNone place bytes
 none-few_for_head place bytes few frame rest h e = omega (arith, long place bytes frame rest e)
 
-pub none-other_head : (place : Place) (bytes : List ℕ) (kind : ℕ) (at : Place) (len : ℕ) → Begins bytes kind at len → ((at ≡ place) × IsHead place kind len → ⊥) → HoldsNone place bytes
+pub none-other_head : (place : Place) (bytes : List ℕ) (kind : ℕ) (at : Place) (len : ℕ) → Begins bytes kind at len
+    → ((at ≡ place) × IsHead place kind len → ⊥) → HoldsNone place bytes
 none-other_head place bytes kind at len b other frame rest h e =
     let n = named place bytes kind at len frame rest b h e in
     other (n.1, subst (λ (x : ℕ × ℕ). IsHead place x.0 x.1) (λ i. (sym n.0 i, sym n.2 i)) h)
 
-pub none-few_for_payload : (place : Place) (bytes : List ℕ) (kind : ℕ) (at : Place) (len : ℕ) → Begins bytes kind at len → length bytes < HEAD_LEN + len → HoldsNone place bytes
+pub none-few_for_payload : (place : Place) (bytes : List ℕ) (kind : ℕ) (at : Place) (len : ℕ) → Begins bytes kind at len
+    → length bytes < HEAD_LEN + len → HoldsNone place bytes
 none-few_for_payload place bytes kind at len b few frame rest h e =
     let n = named place bytes kind at len frame rest b h e in
     omega (arith, n.2, long place bytes frame rest e)
 
-pub none-few_for_sum : (place : Place) (bytes : List ℕ) (kind : ℕ) (at : Place) (len : ℕ) → Begins bytes kind at len → length bytes < HEAD_LEN + len + SUM_LEN → HoldsNone place bytes
+pub none-few_for_sum : (place : Place) (bytes : List ℕ) (kind : ℕ) (at : Place) (len : ℕ) → Begins bytes kind at len
+    → length bytes < HEAD_LEN + len + SUM_LEN → HoldsNone place bytes
 none-few_for_sum place bytes kind at len b few frame rest h e =
     let n = named place bytes kind at len frame rest b h e in
     omega (arith, n.2, long place bytes frame rest e)
@@ -80,8 +87,9 @@ crc_of-lt : (bytes : List ℕ) → crc_of bytes < 2 ^ 32
 unfolding crc_of
 crc_of-lt bytes = omega arith
 
-pub none-other_sum : (place : Place) (bytes : List ℕ) (kind : ℕ) (at : Place) (len : ℕ) (summed stored : List ℕ) → Begins bytes kind at len
-    → summed ≡ take (HEAD_LEN + len) bytes → stored ≡ take SUM_LEN (drop (HEAD_LEN + len) bytes) → (from_le_bytes w32 stored ≡ crc_of summed → ⊥) → HoldsNone place bytes
+pub none-other_sum : (place : Place) (bytes : List ℕ) (kind : ℕ) (at : Place) (len : ℕ) (summed stored : List ℕ)
+    → Begins bytes kind at len → summed ≡ take (HEAD_LEN + len) bytes → stored ≡ take SUM_LEN (drop (HEAD_LEN + len) bytes)
+    → (from_le_bytes w32 stored ≡ crc_of summed → ⊥) → HoldsNone place bytes
 none-other_sum place bytes kind at len summed stored b s t other frame rest h e =
     let n = named place bytes kind at len frame rest b h e in
     let whole = summed_bytes place frame in
@@ -93,8 +101,10 @@ none-other_sum place bytes kind at len summed stored b s t other frame rest h e 
     other (ap (from_le_bytes w32) stored_is ∙ from_le_bytes-to_le_bytes_4 (crc_of whole) (crc_of-lt whole) ∙ sym (ap crc_of summed_is))
 
 -- what is read where head and sum are right
-pub read_spelled : (place : Place) (bytes : List ℕ) (kind len : ℕ) (summed stored payload : List ℕ) → AreBytes bytes → Begins bytes kind place len → HEAD_LEN + len + SUM_LEN ≤ length bytes
-    → summed ≡ take (HEAD_LEN + len) bytes → stored ≡ take SUM_LEN (drop (HEAD_LEN + len) bytes) → from_le_bytes w32 stored ≡ crc_of summed → payload ≡ drop HEAD_LEN summed
+pub read_spelled : (place : Place) (bytes : List ℕ) (kind len : ℕ) (summed stored payload : List ℕ)
+    → AreBytes bytes → Begins bytes kind place len → HEAD_LEN + len + SUM_LEN ≤ length bytes
+    → summed ≡ take (HEAD_LEN + len) bytes → stored ≡ take SUM_LEN (drop (HEAD_LEN + len) bytes)
+    → from_le_bytes w32 stored ≡ crc_of summed → payload ≡ drop HEAD_LEN summed
     → bytes ≡ frame_bytes place (record { kind = kind; payload = payload }) ++ drop (len + FRAME_EXTRA) bytes
 unfolding frame_bytes summed_bytes
 read_spelled place bytes kind len summed stored payload are b enough s t right p =

@@ -6,6 +6,7 @@ ghost use Rattle.pm_frame.specs.Crc.{shifted_by, with_byte, crc_of};
 use crate::tables::TABLES;
 
 /// The CRC-32 of the bytes, as Ethernet, gzip and PNG have it: of no bytes it is 0.
+#[tactic(auto, unfolding(crate::specs::Crc::crc_of))]
 pub fn sum(bytes: &[u8]) -> u32
     ensures { result ≡ crc_of bytes.now }
 {
