@@ -1,0 +1,4 @@
+pub mod AddedSpans
+pub mod Changes
+pub mod Coverages
+pub mod PageSizeBounds

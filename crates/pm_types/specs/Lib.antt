@@ -2,3 +2,6 @@ pub mod Causes
 pub mod Faults
 pub mod Ids
 pub mod Keys
+pub mod PageSizes
+pub mod Pages
+pub mod Spans

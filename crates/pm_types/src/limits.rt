@@ -20,3 +20,9 @@ pub const OUTBOX: usize = 1_048_576;
 pub const RING_SLOTS: usize = 4_096;
 /// The newest version of the store's files. On the disk: do not change without a reader for the old one.
 pub const LAST_VERSION: u16 = 1;
+/// The smallest page, in bytes.
+pub const PAGE_SIZE_MIN: usize = 1_024;
+/// The largest page, in bytes: each offset in a page fits `u16`.
+pub const PAGE_SIZE_MAX: usize = 16_384;
+/// The most ranges of a patch. On the disk: a record that changes a page has as many.
+pub const PATCH_SPANS_MAX: usize = 8;

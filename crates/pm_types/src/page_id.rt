@@ -67,9 +67,70 @@ impl Link {
     }
 }
 
+/// A page's name gives back its partition and index, and a row's name its page and item.
+pub fn packing_agrees(part: u16, index: u32, item: u8)
+    ensures part { part_of_id (page_id part index) ≡ part }
+    ensures index { index_of_id (page_id part index) ≡ index }
+    ensures page { page_of_link (link (page_id part index) item) ≡ page_id part index }
+    ensures item { item_of_link (link (page_id part index) item) ≡ item }
+{}
+
 impl fmt::Display for PageId {
     fn fmt<W: fmt::Write>(&self, f: &mut fmt::Formatter<W>) -> fmt::Result {
         let id = self.0;
         write!(f, "{id:016x}")
+    }
+}
+
+#[cfg(test)]
+mod tests {
+    use super::*;
+    use std::test::Fail;
+
+    #[test]
+    fn names_are_packed_as_the_format_says(rt: HostRuntime) -> Result<(), Fail> {
+        let rows = [
+            (
+                0,
+                0,
+                0,
+                0x0001_0000_0000_0000,
+                0x0001_0000_0000_0000,
+                "0001000000000000",
+            ),
+            (
+                2,
+                5,
+                3,
+                0x0001_0002_0000_0005,
+                0x0301_0002_0000_0005,
+                "0001000200000005",
+            ),
+            (
+                63,
+                0xffff_ffff,
+                253,
+                0x0001_003f_ffff_ffff,
+                0xfd01_003f_ffff_ffff,
+                "0001003fffffffff",
+            ),
+        ];
+        for (part, index, item, id, row, text) in rows {
+            let page = PageId::new(part, index);
+            let link = Link::new(page, item);
+            assert_eq!(rt; page, PageId(id), "the page of {part} and {index}");
+            assert_eq!(rt; link, Link(row), "item {item} of {page}");
+            assert_eq!(rt; (page.part(), page.index()), (part, index));
+            assert_eq!(rt; (link.page(), link.item()), (page, item));
+            assert_eq!(rt; format!(in rt.alloc(); "{page}")?.as_str(), text);
+        }
+        let page = PageId::new(2, 5);
+        assert_eq!(rt; page.0.to_le_bytes(), [5, 0, 0, 0, 2, 0, 1, 0]);
+        assert_eq!(rt;
+            Link::new(page, 3).0.to_le_bytes(),
+            [5, 0, 0, 0, 2, 0, 1, 3]
+        );
+        packing_agrees(2, 5, 3);
+        Ok(())
     }
 }

@@ -1,0 +1,2 @@
+pub mod CacheKeys
+pub mod Runs

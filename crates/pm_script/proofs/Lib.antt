@@ -1,0 +1,7 @@
+pub mod Newlines
+pub mod OnTheWay
+pub mod Parts
+pub mod ScriptLines
+pub mod Spaces
+pub mod Taking
+pub mod Unbroken

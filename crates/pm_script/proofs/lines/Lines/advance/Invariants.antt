@@ -1,0 +1,21 @@
+use Rattle.std.proofs.Common.{◌≡◌, ◌⊎◌, ◌<◌, ◌≤◌, ◌-◌, [], true}
+use Rattle.pm_types.specs.declared.limits.TheConstants.{SCRIPT_BYTES_MAX, LINES_MAX}
+use Rattle.pm_disk.specs.Moments.{AllMoments}
+use Rattle.pm_script.specs.Reading.{OnlyTakes, Going, rest_of}
+use Rattle.pm_script.proofs.lines.Lines.advance.Given as goal
+
+abbrev pub invariant-pieces : goal.invariant-pieces
+invariant-pieces g l =
+    let faults = g.H.Device.faults in
+    let history = g.H.Device.history in
+    record {
+      same_lines : l.self.lines ≡ l.fn.self.lines;
+      is_open : l.self.is_open ≡ true;
+      counted : (l.self.line ≡ []) ⊎ (l.self.lines < LINES_MAX);
+      later : faults l.fn.host ≤ faults l.host;
+      takes : g.H.Device.tells → AllMoments (history l.fn.host) (history l.host) (OnlyTakes (history l.fn.host).world);
+      going : g.H.Device.tells → Going l.fn.self l.self (rest_of l.fn.self (history l.fn.host).world) (rest_of l.self (history l.host).world);
+    }
+
+abbrev pub decreases-pieces : goal.decreases-pieces
+decreases-pieces g l = SCRIPT_BYTES_MAX - l.self.bytes

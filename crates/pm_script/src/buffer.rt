@@ -1,0 +1,51 @@
+//! The buffer of a reader.
+
+ghost use Rattle.std.specs.Prelude.{◌≡◌, ◌≤◌, ◌<◌, ◌+◌, ◌-◌, ℕ, length, take, drop, IfOk, OnOk, OnErr, Option};
+ghost use Rattle.pm_types.specs.Causes.{HasCause};
+ghost use Rattle.pm_disk.specs.Moments.{Does, AllMoments};
+ghost use Rattle.pm_script.specs.Reading.{cut, FindsNewline, OnlyTakes, ReadsBehind};
+
+use memchr::memchr;
+use pm_disk::{Failed, Host};
+use pm_types::LINE_MAX;
+
+// Where the first newline stands.
+pub fn newline_position(bytes: &[u8]) -> Option<usize>
+    ensures { FindsNewline bytes.now result }
+{
+    memchr(b'\n', bytes)
+}
+
+// Moves a part of the buffer to its front, at most one byte more than a line may have, and says how much.
+pub fn keep_front(buffer: &mut Vec<u8>, from: usize, to: usize) -> usize
+    requires ordered { from ≤ to }
+    requires within { to ≤ length buffer.old.items }
+    ensures kept { take result buffer.new.items ≡ cut (take (to - from) (drop from
+        buffer.old.items)) }
+    ensures short { result ≤ LINE_MAX + 1 }
+    ensures within { result ≤ length buffer.new.items }
+    ensures same_length { length buffer.new.items ≡ length buffer.old.items }
+{
+    let len = (to - from).min(LINE_MAX + 1);
+    buffer.copy_within(from..from + len, 0);
+    len
+}
+
+// Reads the next piece of the input into the buffer behind its first `kept` bytes.
+pub fn read_behind<H: Host>(
+    host: &mut H,
+    buffer: &mut Vec<u8>,
+    kept: usize,
+) -> Result<usize, Failed>
+    requires { kept < length buffer.old.items }
+    ensures front { take kept buffer.new.items ≡ take kept buffer.old.items }
+    ensures same_length { length buffer.new.items ≡ length buffer.old.items }
+    ensures bound { IfOk result (λ n. kept + n ≤ length buffer.new.items) }
+    ensures read { H.tells → IfOk result (ReadsBehind (H.history host.old).world.input
+        (H.history host.new).world.input (drop kept buffer.new.items)) }
+    ensures takes { H.tells → AllMoments (H.history host.old) (H.history host.new) (OnlyTakes
+        (H.history host.old).world) }
+    ensures cause { HasCause (H.faults host.old) (H.faults host.new) result }
+{
+    host.read(&mut buffer[kept..])
+}

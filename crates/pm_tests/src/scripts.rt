@@ -1,0 +1,223 @@
+//! Scripts through the top call.
+
+ghost use Rattle.std.specs.Prelude.{◌<◌};
+
+use crate::host::ScriptHost;
+use pm_top::{Report, top};
+use std::test::Fail;
+
+/// How a host gives its input, and from which call on it refuses reads and prints.
+#[derive(Clone, Copy)]
+struct Manner {
+    piece: usize,
+    reads: usize,
+    prints: usize,
+    ghost some: { 0 < piece },
+}
+
+impl Manner {
+    /// Nothing is refused.
+    fn pieces_of(piece: usize) -> Manner
+        requires { 0 < piece }
+    {
+        Manner {
+            piece,
+            reads: usize::MAX,
+            prints: usize::MAX,
+        }
+    }
+}
+
+fn run(
+    rt: &HostRuntime,
+    words: &[&str],
+    input: &[u8],
+    manner: Manner,
+) -> Result<(Report, Vec<u8>), Fail> {
+    let mut owned = Vec::new(rt.alloc());
+    for word in words {
+        owned.push(String::from_str(rt.alloc(), word)?)?;
+    }
+    let mut host = ScriptHost {
+        input: Vec::from_slice(rt.alloc(), input)?,
+        at: 0,
+        piece: manner.piece,
+        said: Vec::new(rt.alloc()),
+        reads_left: manner.reads,
+        prints_left: manner.prints,
+        faults: 0,
+    };
+    let report = top(rt, &owned, &mut host);
+    let ScriptHost {
+        input: _,
+        at: _,
+        piece: _,
+        said,
+        reads_left: _,
+        prints_left: _,
+        faults: _,
+    } = host;
+    Ok((report, said))
+}
+
+#[test]
+fn a_put_is_answered_and_found(rt: HostRuntime) -> Result<(), Fail> {
+    for piece in [1, 65_536] {
+        let script = b"put 0 a 1\nget 0 a\n";
+        let (report, said) = run(&rt, &["run", "d"], script, Manner::pieces_of(piece))?;
+        assert_eq!(rt; report.status, 0);
+        assert_eq!(rt; report.lines, 2);
+        assert_eq!(rt; report.order.as_slice(), [1].as_slice());
+        assert_eq!(rt; said.as_slice(), b"ok\nvalue 1\n".as_slice());
+    }
+    Ok(())
+}
+
+#[test]
+fn each_line_has_its_reply(rt: HostRuntime) -> Result<(), Fail> {
+    let cases = [
+        (b"".as_slice(), b"".as_slice(), 0),
+        (b"\n", b"error line\n", 1),
+        (b"\n\n", b"error line\nerror line\n", 2),
+        (b"get 0 a", b"none\n", 1),
+        (b"put 0 a 1\nput 0 a 2\nget 0 a", b"ok\nok\nvalue 2\n", 3),
+        (b"put 0 a 1\nget 1 a\n", b"ok\nnone\n", 2),
+        (b"put 15 a 1\nget 15 a\n", b"ok\nvalue 1\n", 2),
+        (b"put 16 a 1\nput 00 a 1\n", b"error line\nerror line\n", 2),
+        (
+            b"get  0 a\n get 0 a\nget 0 a \n",
+            b"error line\nerror line\nerror line\n",
+            3,
+        ),
+        (
+            b"put 0 a x:31\nput 0 x:61 1\n",
+            b"error line\nerror line\n",
+            2,
+        ),
+        (b"put 0 a xx:31\nget 0 a\n", b"ok\nvalue xx:31\n", 2),
+        (b"put 0 a 1\r\nget 0 a\n", b"error line\nnone\n", 2),
+        (
+            b"remove 0 a\nscan 0\ncheckpoint\n",
+            b"error line\nerror line\nerror line\n",
+            3,
+        ),
+    ];
+    for (script, wanted, lines) in cases {
+        for piece in [1, 3, 65_536] {
+            let (report, said) = run(&rt, &["run", "d"], script, Manner::pieces_of(piece))?;
+            assert_eq!(rt; report.status, 0, "{script:?}");
+            assert_eq!(rt; report.lines, lines, "{script:?}");
+            assert_eq!(rt; said.as_slice(), wanted, "{script:?}");
+        }
+    }
+    Ok(())
+}
+
+/// `put 0 k V` with so many bytes in all, the value as long as it takes.
+fn put_of_length(rt: &HostRuntime, length: usize) -> Result<Vec<u8>, Fail> {
+    let mut line = Vec::from_slice(rt.alloc(), b"put 0 k ")?;
+    for _ in 0..length.saturating_sub(8) {
+        line.push(b'v')?;
+    }
+    Ok(line)
+}
+
+#[test]
+fn lines_are_measured_to_the_byte(rt: HostRuntime) -> Result<(), Fail> {
+    let cases = [
+        (908, b"ok\nvalue ".as_slice()),
+        (909, b"error line\nnone\n"),
+        (4_096, b"error line\nnone\n"),
+        (4_097, b"error line\nnone\n"),
+        (70_000, b"error line\nnone\n"),
+    ];
+    for (length, wanted) in cases {
+        for piece in [1_000, 65_536] {
+            let mut script = put_of_length(&rt, length)?;
+            script.extend_from_slice(b"\nget 0 k\n")?;
+            let (report, said) = run(&rt, &["run", "d"], &script, Manner::pieces_of(piece))?;
+            assert_eq!(rt; report.status, 0, "{length}");
+            assert_eq!(rt; report.lines, 2, "{length}");
+            assert!(rt; said.starts_with(wanted), "{length}");
+        }
+    }
+    Ok(())
+}
+
+#[test]
+fn other_words_are_refused(rt: HostRuntime) -> Result<(), Fail> {
+    let cases = [
+        [].as_slice(),
+        &["run"],
+        &["run", "d", "e"],
+        &["run", "-x"],
+        &["run", ""],
+        &["go", "d"],
+        &["--help"],
+    ];
+    for words in cases {
+        let manner = Manner::pieces_of(100);
+        let (report, said) = run(&rt, words, b"put 0 a 1\n", manner)?;
+        assert_eq!(rt; report.status, 1, "{words:?}");
+        assert_eq!(rt; report.lines, 0, "{words:?}");
+        assert_eq!(rt; said.as_slice(), b"fault usage\n".as_slice(), "{words:?}");
+        let silent = Manner {
+            piece: 100,
+            reads: 9,
+            prints: 0,
+        };
+        let (report, said) = run(&rt, words, b"put 0 a 1\n", silent)?;
+        assert_eq!(rt; report.status, 3, "{words:?}");
+        assert!(rt; said.is_empty(), "{words:?}");
+    }
+    Ok(())
+}
+
+#[test]
+fn after_a_refused_call_nothing_more_is_said(rt: HostRuntime) -> Result<(), Fail> {
+    let script = b"put 0 a 1\nput 0 b 2\nget 0 a\n";
+    // (reads, prints, lines answered, accepted, said)
+    let cases = [
+        (0, 9, 0, [].as_slice(), b"".as_slice()),
+        (1, 9, 1, &[1], b"ok\n"),
+        (2, 9, 2, &[1, 2], b"ok\nok\n"),
+        (9, 0, 0, &[1], b""),
+        (9, 1, 1, &[1, 2], b"ok\n"),
+        (9, 2, 2, &[1, 2], b"ok\nok\n"),
+    ];
+    for (reads, prints, lines, order, wanted) in cases {
+        let manner = Manner {
+            piece: 10,
+            reads,
+            prints,
+        };
+        let (report, said) = run(&rt, &["run", "d"], script, manner)?;
+        assert_eq!(rt; report.status, 3);
+        assert_eq!(rt; report.lines, lines);
+        assert_eq!(rt; report.order.as_slice(), order);
+        assert_eq!(rt; said.as_slice(), wanted);
+    }
+    let (report, said) = run(&rt, &["run", "refused"], script, Manner::pieces_of(10))?;
+    assert_eq!(rt; report.status, 3);
+    assert!(rt; said.is_empty());
+    Ok(())
+}
+
+/// So many empty lines.
+fn empty_lines(rt: &HostRuntime, count: usize) -> Result<Vec<u8>, Fail> {
+    Ok(vec![in rt.alloc(); b'\n'; count]?)
+}
+
+#[test]
+fn a_script_of_too_many_lines_is_answered_up_to_the_limit(rt: HostRuntime) -> Result<(), Fail> {
+    let last = b"error line\n".as_slice();
+    for (lines, status, tail) in [(4_000_000, 0, last), (4_000_001, 6, b"fault long\n")] {
+        let script = empty_lines(&rt, lines)?;
+        let (report, said) = run(&rt, &["run", "d"], &script, Manner::pieces_of(65_536))?;
+        assert_eq!(rt; report.status, status);
+        assert_eq!(rt; report.lines, 4_000_000);
+        assert_eq!(rt; said.len(), lines * 11);
+        assert!(rt; said.ends_with(tail));
+    }
+    Ok(())
+}

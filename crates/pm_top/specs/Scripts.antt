@@ -1,0 +1,46 @@
+-- Whole scripts: their limits, and how their lines are taken one by one.
+use Rattle.std.specs.Prelude.{◌≡◌, ◌⊎◌, ℕ, zero, suc, ◌+◌, ◌≤◌, ◌<◌, List, length}
+use Rattle.pm_types.specs.declared.limits.TheConstants.{SCRIPT_BYTES_MAX, LINES_MAX}
+use Rattle.pm_script.specs.Lines.{lines_of, first_line, after_line}
+use Rattle.pm_script.specs.Grammar.{line_of}
+use Rattle.pm_script.specs.Reading.{Unread, TakesLine, IsAtEnd, IsOver, CountsLine}
+use Rattle.pm_model.specs.declared.line.Line.{Line}
+use Rattle.pm_top.specs.declared.run.Next.{Next}
+use Rattle.pm_top.specs.declared.run.Next.TheVariants as next
+
+-- a script that is within both limits
+pub record IsWithinLimits (input : List ℕ) : Type 0 where
+  pub bytes : length input ≤ SCRIPT_BYTES_MAX
+  pub lines : length (lines_of input) ≤ LINES_MAX
+
+-- a script that passes a limit
+abbrev pub PassesLimit : List ℕ → Type 0
+PassesLimit input = (SCRIPT_BYTES_MAX < length input) ⊎ (LINES_MAX < length (lines_of input))
+
+-- what stands behind the first lines
+abbrev pub after_lines : ℕ → List ℕ → List ℕ
+after_lines zero bytes = bytes
+after_lines (suc n) bytes = after_lines n (after_line bytes)
+
+-- so many lines are ended within both limits, and the next one isn't
+pub record AreWithin (input : List ℕ) (lines : ℕ) : Type 0 where
+  pub few : lines ≤ LINES_MAX
+  pub short : length input ≤ SCRIPT_BYTES_MAX + length (after_lines lines input)
+  pub no_more : (lines ≡ LINES_MAX) ⊎ (SCRIPT_BYTES_MAX + length (after_lines (suc lines) input) < length input)
+
+-- the first line was taken, and says this
+pub record ReadsLine (old new : Unread) (rest now_rest : List ℕ) (line : Line) : Type 0 where
+  pub takes : TakesLine old new rest now_rest
+  pub says : line ≡ line_of (first_line rest)
+
+-- how a script goes on
+abbrev pub Reads : Unread → Unread → List ℕ → List ℕ → Next → Type 0
+Reads old new rest now_rest (next.Line line) = ReadsLine old new rest now_rest line
+Reads old new rest now_rest next.End = IsAtEnd old new rest now_rest
+Reads old new rest now_rest next.Over = IsOver old rest
+
+-- a line that was taken is counted
+abbrev pub Counts : Unread → Unread → Next → Type 0
+Counts old new (next.Line line) = CountsLine old new
+Counts old new next.End = Unit {0}
+Counts old new next.Over = Unit {0}

@@ -1,0 +1,13 @@
+//! What a call did.
+
+/// What a call of `top` did.
+#[derive(Debug, Drop)]
+pub struct Report {
+    /// How the call ended, as the process tells it: 0 done, 1 usage, 3 disk or console, 4 memory,
+    /// 6 a script that is too long.
+    pub status: u8,
+    /// The number of lines whose reply was printed whole.
+    pub lines: u64,
+    /// The numbers of the accepted lines, from 1, in the order in which they were done.
+    pub order: Vec<u32>,
+}

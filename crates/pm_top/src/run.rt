@@ -1,0 +1,107 @@
+//! A whole run over a script.
+
+ghost use Rattle.std.specs.Prelude.{◌≡◌, ◌≢◌, ◌⊎◌, ◌≤◌, [], codes, IfOk, IsErrOf};
+ghost use Rattle.std.specs.FinMap.{empty};
+ghost use Rattle.pm_types.specs.Causes.{Rose};
+ghost use Rattle.pm_disk.specs.Worlds.{with_said};
+ghost use Rattle.pm_script.specs.Reading.{rest_of, OnlyTakes};
+ghost use Rattle.pm_top.specs.Faults.{HasFault};
+ghost use Rattle.pm_top.specs.Promises.{Ends, Stops, IsBroken, IsShort, SaysPart};
+ghost use Rattle.pm_top.specs.Scripts.{Reads, Counts};
+
+use crate::fault::Fault;
+use crate::session::Session;
+use crate::status::Status;
+use pm_disk::Host;
+use pm_model::Line;
+use pm_script::{Item, Lines, read_line};
+use std::alloc::Global;
+
+/// How a script goes on.
+#[derive(Drop)]
+pub enum Next {
+    /// With a line.
+    Line(Line),
+    /// It ends.
+    End,
+    /// With a line that isn't ended within the limits.
+    Over,
+}
+
+/// Answers the script of the input, up to its end or to a limit, and tells a limit.
+pub fn run<H: Host>(alloc: Global, host: &mut H, session: &mut Session) -> Status
+    requires pairs { session.old.pairs ≡ empty }
+    requires order { session.old.order.items ≡ [] }
+    requires lines { session.old.lines ≡ 0 }
+    ensures ends { H.tells → Ends result (H.history host.old).world
+        (H.history host.new).world session.new.lines session.new.order.items }
+    ensures known { result ≢ Status.Usage }
+    ensures failed { result ≡ Status.Failed → Rose (H.faults host.old) (H.faults host.new) }
+    ensures later { H.faults host.old ≤ H.faults host.new }
+{
+    match run_lines(alloc, host, session) {
+        Ok(Status::Long) => tell_limit(host),
+        Ok(_) => Status::Done,
+        Err(Fault::Failed) => Status::Failed,
+        Err(Fault::Memory) => Status::Memory,
+    }
+}
+
+// Answers the lines of the script, up to its end or to a limit.
+fn run_lines<H: Host>(alloc: Global, host: &mut H, session: &mut Session) -> Result<Status, Fault>
+    requires pairs { session.old.pairs ≡ empty }
+    requires order { session.old.order.items ≡ [] }
+    requires lines { session.old.lines ≡ 0 }
+    ensures stops { H.tells → IfOk result (λ status.
+        Stops status (H.history host.old).world
+        (H.history host.new).world session.new.lines session.new.order.items) }
+    ensures broken { H.tells → IsErrOf result Fault.Failed →
+        IsBroken (H.history host.old).world
+        (H.history host.new).world session.new.lines session.new.order.items }
+    ensures short { H.tells → IsErrOf result Fault.Memory →
+        IsShort (H.history host.old).world
+        (H.history host.new).world session.new.lines session.new.order.items }
+    ensures cause { HasFault (H.faults host.old) (H.faults host.new) result }
+{
+    let mut input = Lines::new(alloc)?;
+    'script: loop {
+        match next_line(alloc, &mut input, host)? {
+            Next::Line(line) => session.answer(alloc, host, line)?,
+            Next::End => return Ok(Status::Done),
+            Next::Over => return Ok(Status::Long),
+        }
+    }
+}
+
+// Takes the next line off the script, and reads it.
+fn next_line<H: Host>(alloc: Global, input: &mut Lines, host: &mut H) -> Result<Next, Fault>
+    ensures reads { H.tells → IfOk result (Reads input.old input.new
+        (rest_of input.old (H.history host.old).world) (rest_of input.new
+        (H.history host.new).world)) }
+    ensures counts { IfOk result (Counts input.old input.new) }
+    ensures takes { H.tells → OnlyTakes (H.history host.old).world (H.history host.new).world }
+    ensures cause { HasFault (H.faults host.old) (H.faults host.new) result }
+{
+    match input.next(host)? {
+        Item::Text(bytes) => Ok(Next::Line(read_line(alloc, bytes)?)),
+        Item::Long => Ok(Next::Line(Line::Bad)),
+        Item::End => Ok(Next::End),
+        Item::Over => Ok(Next::Over),
+    }
+}
+
+// Prints the line that says that a limit is passed.
+fn tell_limit<H: Host>(host: &mut H) -> Status
+    ensures long { H.tells → result ≡ Status.Long →
+        (H.history host.new).world ≡ with_said (codes "fault long\n") (H.history host.old).world }
+    ensures part { H.tells → result ≡ Status.Failed →
+        SaysPart (codes "fault long\n") (H.history host.old).world (H.history host.new).world }
+    ensures cases { (result ≡ Status.Long) ⊎ (result ≡ Status.Failed) }
+    ensures failed { result ≡ Status.Failed → Rose (H.faults host.old) (H.faults host.new) }
+    ensures later { H.faults host.old ≤ H.faults host.new }
+{
+    match host.print(b"fault long\n") {
+        Ok(()) => Status::Long,
+        Err(_) => Status::Failed,
+    }
+}
