@@ -7,6 +7,6 @@ use Rattle.pm_frame.specs.Frames.{Frame}
 abbrev pub frame_of : FrameView → Frame
 frame_of view = record { kind = view.kind; payload = view.payload.now }
 
--- the same of an answer
-abbrev pub seen : Option FrameView → Option Frame
-seen = option_map frame_of
+-- the frame in an answer
+abbrev pub frame_in : Option FrameView → Option Frame
+frame_in = option_map frame_of

@@ -2,7 +2,7 @@
 
 ghost use Rattle.std.specs.Prelude.{◌≡◌, ◌+◌, ◌≤◌, ◌++◌, List, ℕ, length, drop, IfSome, Some};
 ghost use Rattle.pm_frame.specs.Frames.{Frame, IsFrame, frame_bytes, frame_len, frame_at};
-ghost use Rattle.pm_frame.specs.Views.{frame_of, seen};
+ghost use Rattle.pm_frame.specs.Views.{frame_of, frame_in};
 
 use crate::checksum::sum;
 use crate::head::Head;
@@ -25,7 +25,7 @@ pub struct FrameView<'a> {
 /// `None` comes exactly where there is none: the bytes end too early, the kind or the length is none of a frame here, the
 /// frame names another place, or its sum is wrong. The sum is taken only where all else is right.
 pub fn read_frame(bytes: &[u8], place: Place) -> Option<FrameView<'_>>
-    ensures frame { seen result ≡ frame_at place bytes.now }
+    ensures frame { frame_in result ≡ frame_at place bytes.now }
     ensures len { IfSome result (λ view. view.len ≡ frame_len (frame_of view)) }
     ensures within { IfSome result (λ view. view.len ≤ length bytes.now) }
 
@@ -36,7 +36,7 @@ pub fn read_frame(bytes: &[u8], place: Place) -> Option<FrameView<'_>>
 
     // Whatever frame is spelled there is read.
     ensures read { (frame : Frame) (rest : List ℕ) → IsFrame place frame
-        → bytes.now ≡ frame_bytes place frame ++ rest → seen result ≡ Some frame }
+        → bytes.now ≡ frame_bytes place frame ++ rest → frame_in result ≡ Some frame }
 {
     let (front, _) = bytes.split_first_chunk::<HEAD_LEN>()?;
     let head = Head::of(front);

@@ -5,14 +5,14 @@ use Rattle.std.proofs.lemmas.List.{take_rest, length-drop}
 use Rattle.pm_frame.specs.declared.limits.TheConstants.{HEAD_LEN, SUM_LEN}
 use Rattle.pm_frame.specs.Crc.{crc_of}
 use Rattle.pm_frame.specs.Frames.{IsHead}
-use Rattle.pm_frame.specs.Views.{seen}
+use Rattle.pm_frame.specs.Views.{frame_in}
 use Rattle.pm_frame.proofs.FrameAt.{frame_at-none, found-spelled}
 use Rattle.pm_frame.proofs.FrameRead.{Begins, begins, none-few_for_head, none-other_head, none-few_for_payload, none-few_for_sum, none-other_sum, read_spelled}
 use Rattle.pm_frame.proofs.frame.read_frame.Goals as goal
 
 pub returns-in_err-front-clause-frame : goal.returns-in_err-front-clause-frame
 returns-in_err-front-clause-frame c =
-    ap seen c.from_residual.ensures ∙ sym (frame_at-none _ _ (none-few_for_head _ c.args.bytes.now c.in_err-front.ensures.cases))
+    ap frame_in c.from_residual.ensures ∙ sym (frame_at-none _ _ (none-few_for_head _ c.args.bytes.now c.in_err-front.ensures.cases))
 
 pub returns-in_err-front-clause-read : goal.returns-in_err-front-clause-read
 returns-in_err-front-clause-read c = found-spelled _ _ _ (returns-in_err-front-clause-frame c)
@@ -28,7 +28,7 @@ returns-then-not-is_of-clause-read c = found-spelled _ _ _ (returns-then-not-is_
 pub returns-in_err-summed-clause-frame : goal.returns-in_err-summed-clause-frame
 returns-in_err-summed-clause-frame c =
     let head = begins c.args.bytes.now _ _ _ _ c.in_ok-front.ensures.cases.0 c.of-head.ensures (omega arith) (omega arith) (omega arith) in
-    ap seen c.from_residual-in_err-summed.ensures ∙ sym (frame_at-none _ _ (none-few_for_payload c.args.place _ _ _ _ head c.in_err-summed.ensures.cases))
+    ap frame_in c.from_residual-in_err-summed.ensures ∙ sym (frame_at-none _ _ (none-few_for_payload c.args.place _ _ _ _ head c.in_err-summed.ensures.cases))
 
 pub returns-in_err-summed-clause-read : goal.returns-in_err-summed-clause-read
 returns-in_err-summed-clause-read c = found-spelled _ _ _ (returns-in_err-summed-clause-frame c)
@@ -39,7 +39,7 @@ returns-in_err-stored-clause-frame c =
     let few : length c.args.bytes.now < HEAD_LEN + c.of-head.result.payload_len + SUM_LEN =
     omega (arith, c.in_err-stored.ensures.cases, c.in_ok-summed.ensures.cases.4)
     in
-    ap seen c.from_residual-in_err-stored.ensures ∙ sym (frame_at-none _ _ (none-few_for_sum c.args.place _ _ _ _ head few))
+    ap frame_in c.from_residual-in_err-stored.ensures ∙ sym (frame_at-none _ _ (none-few_for_sum c.args.place _ _ _ _ head few))
 
 pub returns-in_err-stored-clause-read : goal.returns-in_err-stored-clause-read
 returns-in_err-stored-clause-read c = found-spelled _ _ _ (returns-in_err-stored-clause-frame c)
