@@ -7,7 +7,7 @@ use Rattle.std.proofs.lemmas.List.FromFn.{fill_by_all}
 use Rattle.std.proofs.lemmas.Nat.{le_bytes_4, le_bytes_8, from_le_bytes-to_le_bytes_4, from_le_bytes-to_le_bytes_8}
 use Rattle.pm_types.specs.declared.place.Place.{Place}
 use Rattle.pm_frame.specs.Frames.{head_bytes}
-use Rattle.pm_frame.proofs.Bytes.{AreBytes, AreBytes-take, AreBytes-drop}
+use Rattle.pm_frame.proofs.Bytes.{AreBytes, cells, written_out, four_back, eight_back}
 
 -- the numbers fit their fields
 pub record Fits (place : Place) (payload_len : ℕ) : Type 0 where
@@ -19,25 +19,16 @@ pub length-head_bytes : (kind : ℕ) (place : Place) (payload_len : ℕ) → len
 unfolding head_bytes
 length-head_bytes kind place payload_len = refl
 
--- so many bytes from one on, written out
-abbrev cells : ℕ → ℕ → List ℕ → List ℕ
-cells from count bytes = map (λ i. get_or bytes i 0) (range_with_len from count)
-
-written_out : (bytes : List ℕ) → length bytes ≡ 17 → bytes ≡ cells 0 17 bytes
-written_out bytes long = fill_by_all (λ i. get_or bytes i 0) bytes 17 0 long (λ k lt. refl)
-
 -- numbers read from seventeen bytes are said by these bytes
 pub head_bytes-said : (bytes : List ℕ) (seg off len : ℕ) → length bytes ≡ 17 → AreBytes bytes
     → seg ≡ from_le_bytes w64 (cells 1 8 bytes) → off ≡ from_le_bytes w32 (cells 9 4 bytes) → len ≡ from_le_bytes w32 (cells 13 4 bytes)
     → bytes ≡ head_bytes (get_or bytes 0 0) (record { seg = seg; off = off }) len
 unfolding head_bytes
 head_bytes-said bytes seg off len long fits s o n =
-    let w = written_out bytes long in
-    let part : (from count : ℕ) → AreBytes (take count (drop from bytes)) = λ from count. AreBytes-take count (drop from bytes) (AreBytes-drop from bytes fits) in
-    let seg_back = le_bytes_8 (cells 1 8 bytes) seg refl (subst AreBytes (ap (λ b. take 8 (drop 1 b)) w) (part 1 8)) s in
-    let off_back = le_bytes_4 (cells 9 4 bytes) off refl (subst AreBytes (ap (λ b. take 4 (drop 9 b)) w) (part 9 4)) o in
-    let len_back = le_bytes_4 (cells 13 4 bytes) len refl (subst AreBytes (ap (λ b. take 4 (drop 13 b)) w) (part 13 4)) n in
-    w ∙ sym (λ i. get_or bytes 0 0 ∷ (seg_back i ++ (off_back i ++ len_back i)))
+    let seg_back = eight_back bytes 1 seg fits s in
+    let off_back = four_back bytes 9 off fits o in
+    let len_back = four_back bytes 13 len fits n in
+    written_out 17 bytes long ∙ sym (λ i. get_or bytes 0 0 ∷ (seg_back i ++ (off_back i ++ len_back i)))
 
 -- heads with the same bytes are the same
 pub head_bytes-same : (a b : ℕ) (p q : Place) (m n : ℕ) → Fits p m → Fits q n → head_bytes a p m ≡ head_bytes b q n → (a ≡ b) × (p ≡ q) × (m ≡ n)

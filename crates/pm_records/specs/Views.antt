@@ -16,5 +16,5 @@ record_view log.Seal = Seal
 
 -- the record in an answer
 abbrev pub record_in : Result LogRecord BadPayload → Option Record
-record_in (Ok record) = Some (record_view record)
+record_in (Ok rec) = Some (record_view rec)
 record_in (Err refusal) = None

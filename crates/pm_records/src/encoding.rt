@@ -1,20 +1,22 @@
 //! Records, written as payloads.
 
-ghost use Rattle.std.specs.Prelude.{◌≡◌, ◌+◌, length};
+ghost use Rattle.std.specs.Prelude.{◌≡◌, ◌+◌, ◌≤◌, length};
 ghost use Rattle.pm_records.specs.Records.{Logical, IsRecord, IsLogical, payload_of, logical_head};
 ghost use Rattle.pm_records.specs.Views.{record_view};
 
 use crate::limits::{LOGICAL_HEAD_LEN, SHAPE_LEN};
 use crate::record::LogRecord;
 use crate::shape::shape_bytes;
+use pm_frame::PAYLOAD_MAX;
 
 /// How many bytes the record's payload has.
 #[tactic(auto, unfolding(crate::specs::Records::payload_of, crate::specs::Shapes::shape_bytes))]
-pub fn encoded_len(record: &LogRecord<'_>) -> usize
-    requires { IsRecord (record_view record.now) }
-    ensures { result ≡ length (payload_of (record_view record.now)) }
+pub fn encoded_len(rec: &LogRecord<'_>) -> usize
+    requires { IsRecord (record_view rec.now) }
+    ensures len { result ≡ length (payload_of (record_view rec.now)) }
+    ensures short { result ≤ PAYLOAD_MAX }
 {
-    match record {
+    match rec {
         LogRecord::Logical { key, value, .. } => LOGICAL_HEAD_LEN + key.len() + value.len(),
         LogRecord::Restart { .. } => SHAPE_LEN,
         LogRecord::Seal => 0,
@@ -26,12 +28,12 @@ pub fn encoded_len(record: &LogRecord<'_>) -> usize
 
 /// Writes the record's payload over all of `into`.
 #[tactic(auto, unfolding(crate::specs::Records::payload_of))]
-pub fn encode(record: &LogRecord<'_>, into: &mut [u8])
-    requires fits { IsRecord (record_view record.now) }
-    requires room { length into.old ≡ length (payload_of (record_view record.now)) }
-    ensures { into.new ≡ payload_of (record_view record.now) }
+pub fn encode(rec: &LogRecord<'_>, into: &mut [u8])
+    requires fits { IsRecord (record_view rec.now) }
+    requires room { length into.old ≡ length (payload_of (record_view rec.now)) }
+    ensures { into.new ≡ payload_of (record_view rec.now) }
 {
-    match record {
+    match rec {
         LogRecord::Logical {
             op,
             cache,

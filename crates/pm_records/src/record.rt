@@ -32,10 +32,10 @@ pub enum LogRecord<'a> {
 }
 
 /// The kind of the frame in which the record stands.
-pub fn kind_of(record: &LogRecord<'_>) -> u8
-    ensures { result ≡ kind_of (record_view record.now) }
+pub fn kind_of(rec: &LogRecord<'_>) -> u8
+    ensures { result ≡ kind_of (record_view rec.now) }
 {
-    match record {
+    match rec {
         LogRecord::Logical { .. } => LOGICAL,
         LogRecord::Snapshot { .. } => SNAPSHOT,
         LogRecord::Delta { .. } => DELTA,

@@ -1,0 +1,3 @@
+pub mod RecordOf
+pub mod ShapeBytes
+pub mod GrammarTests
