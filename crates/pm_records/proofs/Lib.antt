@@ -1,3 +1,5 @@
+pub mod Decoded
+pub mod GrammarTests
+pub mod LogicalBytes
 pub mod RecordOf
 pub mod ShapeBytes
-pub mod GrammarTests

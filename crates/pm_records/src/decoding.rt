@@ -72,7 +72,7 @@ fn is_logical(op: u8, cache: u8, key: &[u8], value: &[u8]) -> bool
 fn restart_of(payload: &[u8]) -> Result<LogRecord<'_>, BadPayload>
     ensures { record_in result ≡ record_of RESTART payload.now }
 {
-    let Some((bytes, [])) = payload.split_first_chunk::<SHAPE_LEN>() else {
+    let Ok(bytes) = <&[u8; SHAPE_LEN]>::try_from(payload) else {
         return Err(BadPayload);
     };
     let shape = shape_of(bytes);
