@@ -29,6 +29,10 @@ pub record Splits (payload head rest : List ℕ) (key_len value_len : ℕ) : Typ
   pub key_len_is : key_len ≡ get_or head 2 0
   pub value_len_is : value_len ≡ from_le_bytes w32 (cells 3 4 head)
 
+pub splits : (payload head rest : List ℕ) (key_len value_len : ℕ) → head ≡ take LOGICAL_HEAD_LEN payload → rest ≡ drop LOGICAL_HEAD_LEN payload
+    → key_len ≡ get_or head 2 0 → value_len ≡ from_le_bytes w32 (cells 3 4 head) → Splits payload head rest key_len value_len
+splits payload head rest key_len value_len h r k v = record { head_is = h; rest_is = r; key_len_is = k; value_len_is = v }
+
 -- the parts of a logical record that is spelled
 pub record Named (head rest : List ℕ) (key_len value_len op cache : ℕ) (key value : List ℕ) : Type 0 where
   pub op_is : get_or head 0 0 ≡ op

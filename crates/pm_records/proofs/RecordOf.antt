@@ -2,16 +2,13 @@
 use Rattle.std.proofs.Common.{◌≡◌, ℕ, ◌+◌, ◌-◌, ◌≤◌, ◌<◌, ◌^◌, Bool, true, false, cond, eqb, List, [], ◌∷◌, ◌++◌, length, take, drop, Option, Some, None, refl, sym, ap, subst, ◌∙◌, append_assoc, inl, inr, arith}
 use Rattle.std.specs.Prelude.{◌⊎◌, ◌&&◌, nat_eq, slice_index, slice_range}
 use Rattle.std.specs.Cmp.Lexicographic.{pointwise}
-use Rattle.std.specs.Int.{w16, w32, to_le_bytes, from_le_bytes}
 use Rattle.std.proofs.lemmas.Bool.{and_parts, and_from, eqb-true, eq-eqb}
 use Rattle.std.proofs.lemmas.Bool.Decides.{Decides-eqb}
 use Rattle.std.proofs.lemmas.List.{length-append, take_at, drop_at}
-use Rattle.std.proofs.lemmas.Nat.{from_le_bytes-to_le_bytes_2, from_le_bytes-to_le_bytes_4}
 use Rattle.std.proofs.lemmas.Option.{cond_some, same_Some}
 use Rattle.std.proofs.lemmas.Slice.Eq.{slice_eq-Decides}
 use Rattle.pm_types.specs.declared.place.Place.{Place}
 use Rattle.pm_types.specs.declared.shape.Shape.{Shape}
-use Rattle.pm_types.proofs.PageSizeBounds.{page_size_bounds}
 use Rattle.pm_frame.specs.declared.kinds.TheConstants.{LOGICAL, RESTART, SEAL}
 use Rattle.pm_frame.specs.declared.limits.TheConstants.{PAYLOAD_MAX, FRAME_EXTRA}
 use Rattle.pm_frame.specs.Frames.{Frame, IsFrame, end_max}
@@ -19,19 +16,9 @@ use Rattle.pm_records.specs.declared.limits.TheConstants.{LOGICAL_HEAD_LEN}
 use Rattle.pm_records.specs.Shapes.{IsShape, shape_bytes, named_shape}
 use Rattle.pm_records.specs.Records.{Record, Logical, Snapshot, Delta, CpBegin, Restart, Seal, kind_of, logical_head, payload_of, IsLogical, IsRecord, is_record, named_record, record_of}
 use Rattle.pm_records.proofs.GrammarTests.{record_passes, IsRecord-from}
+use Rattle.pm_records.proofs.ShapeBytes.{ShapeFits-from, named_shape-bytes}
 
 -- ---- what is spelled names itself
-
-named_shape-bytes : (shape : Shape) → IsShape shape → named_shape (shape_bytes shape) ≡ shape
-unfolding named_shape shape_bytes
-named_shape-bytes shape h =
-    let bounds = page_size_bounds shape.page_size h.page_size in
-    let size = from_le_bytes-to_le_bytes_4 shape.page_size (omega (arith, bounds.1)) in
-    let partitions = from_le_bytes-to_le_bytes_2 shape.partitions (omega (arith, h.partitions_to)) in
-    let version = from_le_bytes-to_le_bytes_2 shape.version (omega (arith, h.version_to)) in
-    let rows = from_le_bytes-to_le_bytes_4 shape.max_rows (omega (arith, h.max_rows_to)) in
-    let segment = from_le_bytes-to_le_bytes_4 shape.segment_bytes (omega (arith, h.segment_bytes_to)) in
-    λ i. record { page_size = size i; partitions = partitions i; version = version i; max_rows = rows i; segment_bytes = segment i }
 
 named_logical-bytes : (op cache : ℕ) (key value : List ℕ)
     → named_record LOGICAL (payload_of (Logical op cache key value)) ≡ Logical op cache key value
@@ -55,7 +42,7 @@ named_record-payload (Logical op cache key value) h = named_logical-bytes op cac
 named_record-payload (Snapshot page bytes) h = absurd h
 named_record-payload (Delta page ranges) h = absurd h
 named_record-payload (CpBegin number replay) h = absurd h
-named_record-payload (Restart shape) h = ap Restart (named_shape-bytes shape h)
+named_record-payload (Restart shape) h = ap Restart (named_shape-bytes shape (ShapeFits-from shape h))
 named_record-payload Seal h = refl
 
 -- ---- both ways

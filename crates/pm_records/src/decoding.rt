@@ -30,7 +30,7 @@ pub fn decode(kind: u8, payload: &[u8]) -> Result<LogRecord<'_>, BadPayload>
     match kind {
         LOGICAL => logical_of(payload),
         RESTART => restart_of(payload),
-        SEAL if payload.is_empty() => Ok(LogRecord::Seal),
+        SEAL => seal_of(payload),
         _ => Err(BadPayload),
     }
 }
@@ -80,4 +80,13 @@ fn restart_of(payload: &[u8]) -> Result<LogRecord<'_>, BadPayload>
         return Err(BadPayload);
     }
     Ok(LogRecord::Restart { shape })
+}
+
+fn seal_of(payload: &[u8]) -> Result<LogRecord<'_>, BadPayload>
+    ensures { record_in result ≡ record_of SEAL payload.now }
+{
+    if !payload.is_empty() {
+        return Err(BadPayload);
+    }
+    Ok(LogRecord::Seal)
 }
