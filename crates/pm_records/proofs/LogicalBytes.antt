@@ -58,25 +58,25 @@ pub none-few : (payload : List ℕ) → length payload < LOGICAL_HEAD_LEN → re
 unfolding payload_of
 none-few payload few =
     none-logical payload (λ op cache key value h e.
-      let head = logical_head op cache (length key) (length value) in
-      omega (arith, few, ap length e, length-append head (key ++ value)))
+    let head = logical_head op cache (length key) (length value) in
+    omega (arith, few, ap length e, length-append head (key ++ value)))
 
 pub none-other_length : (payload head rest : List ℕ) (key_len value_len : ℕ) → Splits payload head rest key_len value_len
     → (length rest ≡ key_len + value_len → ⊥) → record_of LOGICAL payload ≡ None
 none-other_length payload head rest key_len value_len s other =
     none-logical payload (λ op cache key value h e.
-      let n = named payload head rest key_len value_len op cache key value s h e in
-      other (omega (arith, n.key_long, n.value_long, ap length n.rest_is, length-append key value)))
+    let n = named payload head rest key_len value_len op cache key value s h e in
+    other (omega (arith, n.key_long, n.value_long, ap length n.rest_is, length-append key value)))
 
 pub none-other_fields : (payload head rest : List ℕ) (key_len value_len : ℕ) (key value : List ℕ) → Splits payload head rest key_len value_len
     → key ≡ take key_len rest → value ≡ drop key_len rest → (IsLogical (get_or head 0 0) (get_or head 1 0) key value → ⊥) → record_of LOGICAL payload ≡ None
 none-other_fields payload head rest key_len value_len key value s k v other =
     none-logical payload (λ op cache a b h e.
-      let n = named payload head rest key_len value_len op cache a b s h e in
-      let key_is : key ≡ a = k ∙ ap (take key_len) n.rest_is ∙ take_at a b key_len (sym n.key_long) in
-      let value_is : value ≡ b = v ∙ ap (drop key_len) n.rest_is ∙ drop_at a b key_len (sym n.key_long) in
-      other (subst (λ (x : (ℕ × ℕ) × (List ℕ × List ℕ)). IsLogical x.0.0 x.0.1 x.1.0 x.1.1)
-        (λ i. ((sym n.op_is i, sym n.cache_is i), (sym key_is i, sym value_is i))) h))
+    let n = named payload head rest key_len value_len op cache a b s h e in
+    let key_is : key ≡ a = k ∙ ap (take key_len) n.rest_is ∙ take_at a b key_len (sym n.key_long) in
+    let value_is : value ≡ b = v ∙ ap (drop key_len) n.rest_is ∙ drop_at a b key_len (sym n.key_long) in
+    other (subst (λ (x : (ℕ × ℕ) × (List ℕ × List ℕ)). IsLogical x.0.0 x.0.1 x.1.0 x.1.1)
+    (λ i. ((sym n.op_is i, sym n.cache_is i), (sym key_is i, sym value_is i))) h))
 
 pub logical_spelled : (payload head rest : List ℕ) (key_len value_len : ℕ) (key value : List ℕ) → Splits payload head rest key_len value_len
     → AreBytes payload → LOGICAL_HEAD_LEN ≤ length payload → length rest ≡ key_len + value_len → key ≡ take key_len rest → value ≡ drop key_len rest
@@ -89,8 +89,8 @@ logical_spelled payload head rest key_len value_len key value s are enough long 
     let value_long : length value ≡ value_len = omega (arith, ap length v, length-drop key_len rest) in
     let named_len : length value ≡ from_le_bytes w32 (cells 3 4 head) = value_long ∙ s.value_len_is in
     let head_said : head ≡ logical_head (get_or head 0 0) (get_or head 1 0) (length key) (length value) =
-      written_out LOGICAL_HEAD_LEN head head_len
-      ∙ sym (λ i. get_or head 0 0 ∷ get_or head 1 0 ∷ (key_long ∙ s.key_len_is) i ∷ four_back head 3 (length value) head_are named_len i)
+    written_out LOGICAL_HEAD_LEN head head_len
+    ∙ sym (λ i. get_or head 0 0 ∷ get_or head 1 0 ∷ (key_long ∙ s.key_len_is) i ∷ four_back head 3 (length value) head_are named_len i)
     in
     let rest_said : rest ≡ key ++ value = sym (take-append-drop key_len rest) ∙ (λ i. sym k i ++ sym v i) in
     sym (take-append-drop LOGICAL_HEAD_LEN payload)

@@ -26,7 +26,7 @@ none-other_length payload other = none-restart payload (λ shape h e. other (ap 
 pub none-other_shape : (payload : List ℕ) (shape : Shape) → ShapeFits shape → payload ≡ shape_bytes shape → (IsShape shape → ⊥) → record_of RESTART payload ≡ None
 none-other_shape payload shape fits said other =
     none-restart payload (λ found h e.
-      other (subst IsShape (shape_bytes-same found shape (ShapeFits-from found h) fits (sym e ∙ said)) h))
+    other (subst IsShape (shape_bytes-same found shape (ShapeFits-from found h) fits (sym e ∙ said)) h))
 
 pub none-seal : (payload : List ℕ) → (payload ≡ [] → ⊥) → record_of SEAL payload ≡ None
 unfolding payload_of

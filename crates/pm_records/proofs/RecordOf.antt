@@ -28,11 +28,11 @@ named_logical-bytes op cache key value =
     let head = logical_head op cache n (length value) in
     let count : LOGICAL_HEAD_LEN + n - LOGICAL_HEAD_LEN ≡ n = omega arith in
     let key_is : take (LOGICAL_HEAD_LEN + n - LOGICAL_HEAD_LEN) (key ++ value) ≡ key =
-      ap (λ k. take k (key ++ value)) count ∙ take_at key value n refl
+    ap (λ k. take k (key ++ value)) count ∙ take_at key value n refl
     in
     let front : length (head ++ key) ≡ LOGICAL_HEAD_LEN + n = omega (arith, length-append head key) in
     let value_is : drop (LOGICAL_HEAD_LEN + n) (head ++ (key ++ value)) ≡ value =
-      ap (drop (LOGICAL_HEAD_LEN + n)) (sym (append_assoc head key value)) ∙ drop_at (head ++ key) value (LOGICAL_HEAD_LEN + n) front
+    ap (drop (LOGICAL_HEAD_LEN + n)) (sym (append_assoc head key value)) ∙ drop_at (head ++ key) value (LOGICAL_HEAD_LEN + n) front
     in
     λ i. Logical op cache (key_is i) (value_is i)
 
@@ -68,7 +68,7 @@ record_of-some kind payload r e =
     let p = and_parts (eqb kind (kind_of named) && is_record named) same t.0 in
     let q = and_parts (eqb kind (kind_of named)) (is_record named) p.0 in
     subst (λ x. IsRecord x × (kind ≡ kind_of x) × (payload ≡ payload_of x)) t.1
-      (IsRecord-from named q.1, eqb-true kind (kind_of named) q.0, bytes_same payload (payload_of named) p.1)
+    (IsRecord-from named q.1, eqb-true kind (kind_of named) q.0, bytes_same payload (payload_of named) p.1)
 
 -- what is found is whatever record is spelled
 pub record_of-spelled : (kind : ℕ) (payload : List ℕ) (found : Option Record) → found ≡ record_of kind payload
@@ -81,10 +81,10 @@ pub record_of-none : (kind : ℕ) (payload : List ℕ)
 record_of-none kind payload h =
     let P : Option Record → Type 0 = λ found. record_of kind payload ≡ found → found ≡ None in
     let found : P (record_of kind payload) =
-      elim (record_of kind payload) as P [
-        | None ↦ λ e. refl
-        | Some r ↦ λ e. let s = record_of-some kind payload r e in absurd (h r s.0 s.1 s.2)
-      ]
+    elim (record_of kind payload) as P [
+      | None ↦ λ e. refl
+      | Some r ↦ λ e. let s = record_of-some kind payload r e in absurd (h r s.0 s.1 s.2)
+    ]
     in
     found refl
 

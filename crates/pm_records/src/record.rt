@@ -20,13 +20,24 @@ pub enum LogRecord<'a> {
         value: &'a [u8],
     },
     /// A page as a whole.
-    Snapshot { page: PageId, bytes: &'a [u8] },
+    Snapshot {
+        page: PageId,
+        bytes: &'a [u8],
+    },
     /// The ranges of a page that were changed: how many, and of each its start, its length and its bytes.
-    Delta { page: PageId, ranges: &'a [u8] },
+    Delta {
+        page: PageId,
+        ranges: &'a [u8],
+    },
     /// The begin of this checkpoint. A restart applies the logical records from the replay place on.
-    CpBegin { number: u64, replay: Place },
+    CpBegin {
+        number: u64,
+        replay: Place,
+    },
     /// An opening of the store, which has this shape.
-    Restart { shape: Shape },
+    Restart {
+        shape: Shape,
+    },
     /// The segment's end: the log goes on at the next segment's begin.
     Seal,
 }

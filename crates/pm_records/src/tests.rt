@@ -54,7 +54,13 @@ fn each_record_has_its_bytes(rt: HostRuntime) {
     };
     agrees(&rt, LOGICAL, &PUT_BYTES, 30, put);
     agrees(&rt, LOGICAL, &REMOVE_BYTES, 30, remove);
-    agrees(&rt, RESTART, &RESTART_BYTES, 37, LogRecord::Restart { shape: SHAPE });
+    agrees(
+        &rt,
+        RESTART,
+        &RESTART_BYTES,
+        37,
+        LogRecord::Restart { shape: SHAPE },
+    );
     agrees(&rt, SEAL, &[], 21, LogRecord::Seal);
 }
 
@@ -75,6 +81,10 @@ fn what_is_in_no_grammar_is_refused(rt: HostRuntime) {
         (CP_BEGIN, &PUT_BYTES),
     ];
     for (kind, payload) in refused {
-        assert_eq!(rt; decode(kind, payload), Err(BadPayload), "kind {kind}: {payload:?}");
+        assert_eq!(rt;
+            decode(kind, payload),
+            Err(BadPayload),
+            "kind {kind}: {payload:?}"
+        );
     }
 }

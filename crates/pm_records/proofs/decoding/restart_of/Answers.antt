@@ -21,7 +21,7 @@ returns-then-not-is_shape c =
     }
     in
     sym (none-other_shape c.args.payload.now c.shape_of-shape.result fits (sym c.in-Ok.ensures.1.same ∙ c.shape_of-shape.ensures)
-      (λ h. false≢true (c.if-not-is_shape.ensures.1 h)))
+    (λ h. false≢true (c.if-not-is_shape.ensures.1 h)))
 
 pub returns : goal.returns
 unfolding payload_of
