@@ -18,7 +18,8 @@ abbrev pub parts : List ℕ → ℕ
 parts [] = 0
 parts (b ∷ bs) = bit_xor (shifted_by (8 * length bs + 8) b) (parts bs)
 
-pub fold-number : (bytes : List ℕ) (register : ℕ) → AreBytes bytes → fold with_byte register bytes ≡ shifted_by (8 * length bytes) (bit_xor register (number bytes))
+pub fold-number : (bytes : List ℕ) (register : ℕ) → AreBytes bytes
+    → fold with_byte register bytes ≡ shifted_by (8 * length bytes) (bit_xor register (number bytes))
 unfolding with_byte shifted_by
 fold-number [] register h = sym (xor_zero_r register)
 fold-number (b ∷ bs) register h =
@@ -41,7 +42,8 @@ shifted_by-number (b ∷ bs) h =
     let apart : shifted_by (8 * length bs) (shifted_by 8 b) ≡ shifted_by (8 * length bs + 8) b = sym (shifted_by-add 8 (8 * length bs) b) in
     rw (count, shifted_by-add 8 (8 * length bs) (number bs * 2 ^ 8 + b), first, shifted_by-xor (8 * length bs) (shifted_by 8 b) (number bs), apart, shifted_by-number bs (λ i. h (suc i))) refl
 
-number-eight : (a b c d e f g h : ℕ) → number (a ∷ b ∷ c ∷ d ∷ e ∷ f ∷ g ∷ h ∷ []) ≡ from_le_bytes w64 (a ∷ b ∷ c ∷ d ∷ e ∷ f ∷ g ∷ h ∷ [])
+number-eight : (a b c d e f g h : ℕ)
+    → number (a ∷ b ∷ c ∷ d ∷ e ∷ f ∷ g ∷ h ∷ []) ≡ from_le_bytes w64 (a ∷ b ∷ c ∷ d ∷ e ∷ f ∷ g ∷ h ∷ [])
 number-eight a b c d e f g h = omega arith
 
 number-to_le_bytes : (n : ℕ) → n < 2 ^ 64 → number (to_le_bytes w64 n) ≡ n
@@ -53,7 +55,8 @@ eight_parts bytes =
     let part : ℕ → ℕ → ℕ = λ bits i. shifted_by bits (get_or bytes i 0) in
     bit_xor (bit_xor (bit_xor (bit_xor (bit_xor (bit_xor (bit_xor (part 64 0) (part 56 1)) (part 48 2)) (part 40 3)) (part 32 4)) (part 24 5)) (part 16 6)) (part 8 7)
 
-parts-eight : (a b c d e f g h : ℕ) → parts (a ∷ b ∷ c ∷ d ∷ e ∷ f ∷ g ∷ h ∷ []) ≡ eight_parts (a ∷ b ∷ c ∷ d ∷ e ∷ f ∷ g ∷ h ∷ [])
+parts-eight : (a b c d e f g h : ℕ)
+    → parts (a ∷ b ∷ c ∷ d ∷ e ∷ f ∷ g ∷ h ∷ []) ≡ eight_parts (a ∷ b ∷ c ∷ d ∷ e ∷ f ∷ g ∷ h ∷ [])
 parts-eight a b c d e f g h = simp (xor_assoc, xor_zero_r)
 
 -- eight bytes at once: the register goes into the first four, and each of the eight is shifted out by itself

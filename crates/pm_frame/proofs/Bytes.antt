@@ -1,5 +1,5 @@
 -- Lists of bytes, and their parts.
-use Rattle.std.proofs.Common.{◌≡◌, ℕ, zero, suc, ◌+◌, ◌/◌, ◌^◌, ◌<◌, List, [], ◌∷◌, map, get_or, take, drop, length, refl, inl, inr, arith}
+use Rattle.std.proofs.Common.{◌≡◌, ℕ, zero, suc, ◌+◌, ◌/◌, ◌^◌, ◌<◌, List, map, get_or, take, drop, length, refl, inl, inr, arith}
 use Rattle.std.specs.Int.{w16, w32, w64, byte_at, bytes_low_first, from_le_bytes, to_le_bytes}
 use Rattle.std.specs.List.{range_with_len}
 use Rattle.std.proofs.lemmas.Bool.{cases_lt}
@@ -44,11 +44,14 @@ AreBytes-cells (suc count) from bytes h zero = h from
 AreBytes-cells (suc count) from bytes h (suc i) = AreBytes-cells count (from + 1) bytes h i
 
 -- a number that is read from bytes is written as these bytes
-pub two_back : (bytes : List ℕ) (from n : ℕ) → AreBytes bytes → n ≡ from_le_bytes w16 (cells from 2 bytes) → to_le_bytes w16 n ≡ cells from 2 bytes
+pub two_back : (bytes : List ℕ) (from n : ℕ) → AreBytes bytes → n ≡ from_le_bytes w16 (cells from 2 bytes)
+    → to_le_bytes w16 n ≡ cells from 2 bytes
 two_back bytes from n h e = le_bytes_2 (cells from 2 bytes) n refl (AreBytes-cells 2 from bytes h) e
 
-pub four_back : (bytes : List ℕ) (from n : ℕ) → AreBytes bytes → n ≡ from_le_bytes w32 (cells from 4 bytes) → to_le_bytes w32 n ≡ cells from 4 bytes
+pub four_back : (bytes : List ℕ) (from n : ℕ) → AreBytes bytes → n ≡ from_le_bytes w32 (cells from 4 bytes)
+    → to_le_bytes w32 n ≡ cells from 4 bytes
 four_back bytes from n h e = le_bytes_4 (cells from 4 bytes) n refl (AreBytes-cells 4 from bytes h) e
 
-pub eight_back : (bytes : List ℕ) (from n : ℕ) → AreBytes bytes → n ≡ from_le_bytes w64 (cells from 8 bytes) → to_le_bytes w64 n ≡ cells from 8 bytes
+pub eight_back : (bytes : List ℕ) (from n : ℕ) → AreBytes bytes → n ≡ from_le_bytes w64 (cells from 8 bytes)
+    → to_le_bytes w64 n ≡ cells from 8 bytes
 eight_back bytes from n h e = le_bytes_8 (cells from 8 bytes) n refl (AreBytes-cells 8 from bytes h) e

@@ -87,11 +87,13 @@ pub joined : (bits front back : ℕ) → back < 2 ^ bits → front * 2 ^ bits + 
 joined bits front back h = sym (xor_shifted front bits back h) ∙ xor_comm (front * 2 ^ bits) back
 
 -- the low bits are shifted out, and the others move down
-pub shifted_by-low : (bits front back : ℕ) → back < 2 ^ bits → shifted_by bits (front * 2 ^ bits + back) ≡ bit_xor (shifted_by bits back) front
+pub shifted_by-low : (bits front back : ℕ) → back < 2 ^ bits
+    → shifted_by bits (front * 2 ^ bits + back) ≡ bit_xor (shifted_by bits back) front
 shifted_by-low bits front back h =
     rw (joined bits front back h, shifted_by-xor bits back (front * 2 ^ bits), shifted_by-front bits front) refl
 
-low_byte : (front back byte : ℕ) → back < 2 ^ 8 → byte < 2 ^ 8 → bit_xor (front * 2 ^ 8 + back) byte ≡ front * 2 ^ 8 + bit_xor back byte
+low_byte : (front back byte : ℕ) → back < 2 ^ 8 → byte < 2 ^ 8
+    → bit_xor (front * 2 ^ 8 + back) byte ≡ front * 2 ^ 8 + bit_xor back byte
 low_byte front back byte h k =
     let e : byte ≡ 0 * 2 ^ 8 + byte = omega arith in
     ap (bit_xor (front * 2 ^ 8 + back)) e
@@ -99,7 +101,8 @@ low_byte front back byte h k =
     ∙ ap (λ (x : ℕ). x * 2 ^ 8 + bit_xor back byte) (xor_zero_r front)
 
 -- one byte more, by the table's first row
-pub with_byte-is : (register byte : ℕ) → byte < 256 → with_byte register byte ≡ bit_xor (shifted_by 8 (bit_xor (register % 2 ^ 8) byte)) (register / 2 ^ 8)
+pub with_byte-is : (register byte : ℕ) → byte < 256
+    → with_byte register byte ≡ bit_xor (shifted_by 8 (bit_xor (register % 2 ^ 8) byte)) (register / 2 ^ 8)
 unfolding with_byte
 with_byte-is register byte h =
     let whole : bit_xor register byte ≡ register / 2 ^ 8 * 2 ^ 8 + bit_xor (register % 2 ^ 8) byte =

@@ -97,7 +97,8 @@ frame_at-some place bytes frame e =
 
 -- where no frame is spelled, none is found
 pub frame_at-none : (place : Place) (bytes : List ℕ)
-    → ((frame : Frame) (rest : List ℕ) → IsFrame place frame → bytes ≡ frame_bytes place frame ++ rest → ⊥) → frame_at place bytes ≡ None
+    → ((frame : Frame) (rest : List ℕ) → IsFrame place frame → bytes ≡ frame_bytes place frame ++ rest → ⊥)
+    → frame_at place bytes ≡ None
 frame_at-none place bytes h =
     let P : Option Frame → Type 0 = λ found. frame_at place bytes ≡ found → found ≡ None in
     let found : P (frame_at place bytes) =

@@ -23,7 +23,8 @@ pub record Begins (bytes : List ℕ) (kind : ℕ) (at : Place) (len : ℕ) : Typ
   pub front : take HEAD_LEN bytes ≡ head_bytes kind at len
   pub fits : Fits at len
 
-pub begins : (bytes front : List ℕ) (kind : ℕ) (at : Place) (len : ℕ) → front ≡ take HEAD_LEN bytes → front ≡ head_bytes kind at len
+pub begins : (bytes front : List ℕ) (kind : ℕ) (at : Place) (len : ℕ) → front ≡ take HEAD_LEN bytes
+    → front ≡ head_bytes kind at len
     → at.seg < 2 ^ 64 → at.off < 2 ^ 32 → len < 2 ^ 32 → Begins bytes kind at len
 begins bytes front kind at len taken said seg off short = record { front = sym taken ∙ said; fits = record { seg = seg; off = off; len = short } }
 

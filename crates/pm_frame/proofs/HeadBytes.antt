@@ -1,10 +1,8 @@
 -- A frame's head says one kind, place and length, and is said by its bytes alone.
-use Rattle.std.proofs.Common.{◌≡◌, ℕ, ◌^◌, ◌<◌, List, ◌∷◌, ◌++◌, map, length, get_or, take, drop, refl, sym, ap, subst, ◌∙◌}
+use Rattle.std.proofs.Common.{◌≡◌, ℕ, ◌^◌, ◌<◌, List, ◌∷◌, ◌++◌, length, get_or, refl, sym, ap, ◌∙◌}
 use Rattle.std.specs.Int.{w32, w64, from_le_bytes}
-use Rattle.std.specs.List.{range_with_len}
 use Rattle.std.specs.Prelude.{slice_range}
-use Rattle.std.proofs.lemmas.List.FromFn.{fill_by_all}
-use Rattle.std.proofs.lemmas.Nat.{le_bytes_4, le_bytes_8, from_le_bytes-to_le_bytes_4, from_le_bytes-to_le_bytes_8}
+use Rattle.std.proofs.lemmas.Nat.{from_le_bytes-to_le_bytes_4, from_le_bytes-to_le_bytes_8}
 use Rattle.pm_types.specs.declared.place.Place.{Place}
 use Rattle.pm_frame.specs.Frames.{head_bytes}
 use Rattle.pm_frame.proofs.Bytes.{AreBytes, cells, written_out, four_back, eight_back}
@@ -21,7 +19,8 @@ length-head_bytes kind place payload_len = refl
 
 -- numbers read from seventeen bytes are said by these bytes
 pub head_bytes-said : (bytes : List ℕ) (seg off len : ℕ) → length bytes ≡ 17 → AreBytes bytes
-    → seg ≡ from_le_bytes w64 (cells 1 8 bytes) → off ≡ from_le_bytes w32 (cells 9 4 bytes) → len ≡ from_le_bytes w32 (cells 13 4 bytes)
+    → seg ≡ from_le_bytes w64 (cells 1 8 bytes) → off ≡ from_le_bytes w32 (cells 9 4 bytes)
+    → len ≡ from_le_bytes w32 (cells 13 4 bytes)
     → bytes ≡ head_bytes (get_or bytes 0 0) (record { seg = seg; off = off }) len
 unfolding head_bytes
 head_bytes-said bytes seg off len long fits s o n =
@@ -31,7 +30,8 @@ head_bytes-said bytes seg off len long fits s o n =
     written_out 17 bytes long ∙ sym (λ i. get_or bytes 0 0 ∷ (seg_back i ++ (off_back i ++ len_back i)))
 
 -- heads with the same bytes are the same
-pub head_bytes-same : (a b : ℕ) (p q : Place) (m n : ℕ) → Fits p m → Fits q n → head_bytes a p m ≡ head_bytes b q n → (a ≡ b) × (p ≡ q) × (m ≡ n)
+pub head_bytes-same : (a b : ℕ) (p q : Place) (m n : ℕ) → Fits p m → Fits q n → head_bytes a p m ≡ head_bytes b q n
+    → (a ≡ b) × (p ≡ q) × (m ≡ n)
 unfolding head_bytes
 head_bytes-same a b p q m n f g e =
     let seg : p.seg ≡ q.seg = sym (from_le_bytes-to_le_bytes_8 p.seg f.seg) ∙ ap (λ bs. from_le_bytes w64 (slice_range bs 1 9)) e ∙ from_le_bytes-to_le_bytes_8 q.seg g.seg in

@@ -13,7 +13,8 @@ tables_are : TABLES ≡ map row (range_with_len 0 8)
 unfolding row shifted_by shifted_once
 tables_are = refl
 
-pub TABLES-entry : (zeros byte : ℕ) → zeros < 8 → byte < 256 → get_or (get_or TABLES zeros []) byte 0 ≡ shifted_by (8 * zeros + 8) byte
+pub TABLES-entry : (zeros byte : ℕ) → zeros < 8 → byte < 256
+    → get_or (get_or TABLES zeros []) byte 0 ≡ shifted_by (8 * zeros + 8) byte
 unfolding row
 TABLES-entry zeros byte lt small =
     ap (λ t. get_or (get_or t zeros []) byte 0) tables_are

@@ -1,13 +1,9 @@
 -- The tests of records and shapes pass exactly where the records and shapes are in their grammars.
-use Rattle.std.proofs.Common.{◌≡◌, ℕ, ◌+◌, ◌≤◌, ◌<◌, Bool, true, false, eqb, leb, ltb, List, [], length, refl, sym, ap, ◌∙◌, inl, inr, arith}
-use Rattle.std.specs.Prelude.{◌⊎◌, ◌&&◌, ◌||◌}
-use Rattle.std.proofs.lemmas.Bool.{and_parts, and_from, or_cases, or_left, or_right, leb-true, le-leb, ltb-true, lt-ltb, eqb-true, eq-eqb}
+use Rattle.std.proofs.Common.{◌≡◌, ℕ, true, List, refl, arith}
 use Rattle.std.proofs.lemmas.Bool.Decides.{nat_tests}
 use Rattle.std.proofs.lemmas.List.{nil_from_length}
-use Rattle.pm_types.specs.declared.limits.TheConstants.{KEY_MAX, VALUE_MAX, LAST_VERSION}
 use Rattle.pm_types.specs.declared.shape.Shape.{Shape}
 use Rattle.pm_types.specs.PageSizes.{IsPageSize}
-use Rattle.pm_records.specs.declared.limits.TheConstants.{PUT, REMOVE, CACHES, PARTITIONS_MAX, ROWS_MAX, SEGMENT_BYTES_MIN, SEGMENT_BYTES_MAX}
 use Rattle.pm_records.specs.Shapes.{IsShape, is_page_size, is_shape}
 use Rattle.pm_records.specs.Records.{Record, Logical, Snapshot, Delta, CpBegin, Restart, Seal, IsLogical, is_logical, IsRecord, is_record}
 

@@ -1,17 +1,17 @@
 -- The bytes of a logical record, read field by field: what each test rules out, and what is read where all tests pass.
-use Rattle.std.proofs.Common.{◌≡◌, ℕ, ◌+◌, ◌^◌, ◌<◌, ◌≤◌, List, ◌∷◌, ◌++◌, length, take, drop, get_or, Some, None, refl, sym, ap, subst, ◌∙◌, arith}
-use Rattle.std.specs.Int.{w32, to_le_bytes, from_le_bytes}
+use Rattle.std.proofs.Common.{◌≡◌, ℕ, ◌+◌, ◌<◌, ◌≤◌, List, ◌∷◌, ◌++◌, length, take, drop, get_or, None, sym, ap, subst, ◌∙◌, arith}
+use Rattle.std.specs.Int.{w32, from_le_bytes}
 use Rattle.std.proofs.lemmas.List.{length-append, length-take, length-drop, take_at, drop_at, take-append-drop}
 use Rattle.std.proofs.lemmas.Nat.{from_le_bytes-to_le_bytes_4}
-use Rattle.pm_types.specs.declared.limits.TheConstants.{VALUE_MAX}
 use Rattle.pm_frame.specs.declared.kinds.TheConstants.{LOGICAL}
 use Rattle.pm_frame.proofs.Bytes.{AreBytes, AreBytes-take, cells, written_out, four_back}
 use Rattle.pm_records.specs.declared.limits.TheConstants.{LOGICAL_HEAD_LEN}
-use Rattle.pm_records.specs.Records.{Record, Logical, Snapshot, Delta, CpBegin, Restart, Seal, logical_head, payload_of, kind_of, IsLogical, IsRecord, record_of}
+use Rattle.pm_records.specs.Records.{Logical, Snapshot, Delta, CpBegin, Restart, Seal, logical_head, payload_of, kind_of, IsLogical, IsRecord, record_of}
 use Rattle.pm_records.proofs.RecordOf.{record_of-none}
 
 -- where no logical record is spelled, none is found
-none-logical : (payload : List ℕ) → ((op cache : ℕ) (key value : List ℕ) → IsLogical op cache key value → payload ≡ payload_of (Logical op cache key value) → ⊥)
+none-logical : (payload : List ℕ)
+    → ((op cache : ℕ) (key value : List ℕ) → IsLogical op cache key value → payload ≡ payload_of (Logical op cache key value) → ⊥)
     → record_of LOGICAL payload ≡ None
 none-logical payload h = record_of-none LOGICAL payload (λ r. elim r as (λ r. IsRecord r → LOGICAL ≡ kind_of r → payload ≡ payload_of r → ⊥) [
   | Logical op cache key value ↦ λ fits k e. h op cache key value fits e
@@ -29,7 +29,8 @@ pub record Splits (payload head rest : List ℕ) (key_len value_len : ℕ) : Typ
   pub key_len_is : key_len ≡ get_or head 2 0
   pub value_len_is : value_len ≡ from_le_bytes w32 (cells 3 4 head)
 
-pub splits : (payload head rest : List ℕ) (key_len value_len : ℕ) → head ≡ take LOGICAL_HEAD_LEN payload → rest ≡ drop LOGICAL_HEAD_LEN payload
+pub splits : (payload head rest : List ℕ) (key_len value_len : ℕ) → head ≡ take LOGICAL_HEAD_LEN payload
+    → rest ≡ drop LOGICAL_HEAD_LEN payload
     → key_len ≡ get_or head 2 0 → value_len ≡ from_le_bytes w32 (cells 3 4 head) → Splits payload head rest key_len value_len
 splits payload head rest key_len value_len h r k v = record { head_is = h; rest_is = r; key_len_is = k; value_len_is = v }
 
@@ -41,8 +42,10 @@ pub record Named (head rest : List ℕ) (key_len value_len op cache : ℕ) (key 
   pub value_long : value_len ≡ length value
   pub rest_is : rest ≡ key ++ value
 
-named : (payload head rest : List ℕ) (key_len value_len op cache : ℕ) (key value : List ℕ) → Splits payload head rest key_len value_len
-    → IsLogical op cache key value → payload ≡ payload_of (Logical op cache key value) → Named head rest key_len value_len op cache key value
+named : (payload head rest : List ℕ) (key_len value_len op cache : ℕ) (key value : List ℕ)
+    → Splits payload head rest key_len value_len
+    → IsLogical op cache key value → payload ≡ payload_of (Logical op cache key value)
+    → Named head rest key_len value_len op cache key value
 unfolding payload_of
 named payload head rest key_len value_len op cache key value s h e =
     let first : head ≡ logical_head op cache (length key) (length value) = s.head_is ∙ ap (take LOGICAL_HEAD_LEN) e in
@@ -68,8 +71,10 @@ none-other_length payload head rest key_len value_len s other =
     let n = named payload head rest key_len value_len op cache key value s h e in
     other (omega (arith, n.key_long, n.value_long, ap length n.rest_is, length-append key value)))
 
-pub none-other_fields : (payload head rest : List ℕ) (key_len value_len : ℕ) (key value : List ℕ) → Splits payload head rest key_len value_len
-    → key ≡ take key_len rest → value ≡ drop key_len rest → (IsLogical (get_or head 0 0) (get_or head 1 0) key value → ⊥) → record_of LOGICAL payload ≡ None
+pub none-other_fields : (payload head rest : List ℕ) (key_len value_len : ℕ) (key value : List ℕ)
+    → Splits payload head rest key_len value_len
+    → key ≡ take key_len rest → value ≡ drop key_len rest → (IsLogical (get_or head 0 0) (get_or head 1 0) key value → ⊥)
+    → record_of LOGICAL payload ≡ None
 none-other_fields payload head rest key_len value_len key value s k v other =
     none-logical payload (λ op cache a b h e.
     let n = named payload head rest key_len value_len op cache a b s h e in
@@ -78,8 +83,10 @@ none-other_fields payload head rest key_len value_len key value s k v other =
     other (subst (λ (x : (ℕ × ℕ) × (List ℕ × List ℕ)). IsLogical x.0.0 x.0.1 x.1.0 x.1.1)
     (λ i. ((sym n.op_is i, sym n.cache_is i), (sym key_is i, sym value_is i))) h))
 
-pub logical_spelled : (payload head rest : List ℕ) (key_len value_len : ℕ) (key value : List ℕ) → Splits payload head rest key_len value_len
-    → AreBytes payload → LOGICAL_HEAD_LEN ≤ length payload → length rest ≡ key_len + value_len → key ≡ take key_len rest → value ≡ drop key_len rest
+pub logical_spelled : (payload head rest : List ℕ) (key_len value_len : ℕ) (key value : List ℕ)
+    → Splits payload head rest key_len value_len
+    → AreBytes payload → LOGICAL_HEAD_LEN ≤ length payload → length rest ≡ key_len + value_len → key ≡ take key_len rest
+    → value ≡ drop key_len rest
     → payload ≡ payload_of (Logical (get_or head 0 0) (get_or head 1 0) key value)
 unfolding payload_of
 logical_spelled payload head rest key_len value_len key value s are enough long k v =

@@ -1,20 +1,19 @@
 -- The record that a payload is: whatever record is spelled so, and no other.
-use Rattle.std.proofs.Common.{◌≡◌, ℕ, ◌+◌, ◌-◌, ◌≤◌, ◌<◌, ◌^◌, Bool, true, false, cond, eqb, List, [], ◌∷◌, ◌++◌, length, take, drop, Option, Some, None, refl, sym, ap, subst, ◌∙◌, append_assoc, inl, inr, arith}
-use Rattle.std.specs.Prelude.{◌⊎◌, ◌&&◌, nat_eq, slice_index, slice_range}
+use Rattle.std.proofs.Common.{◌≡◌, ℕ, ◌+◌, ◌-◌, ◌≤◌, ◌<◌, ◌^◌, true, eqb, List, ◌++◌, length, take, drop, Option, Some, None, refl, sym, ap, subst, ◌∙◌, append_assoc, arith}
+use Rattle.std.specs.Prelude.{◌&&◌, nat_eq}
 use Rattle.std.specs.Cmp.Lexicographic.{pointwise}
-use Rattle.std.proofs.lemmas.Bool.{and_parts, and_from, eqb-true, eq-eqb}
+use Rattle.std.proofs.lemmas.Bool.{and_parts, eqb-true, eq-eqb}
 use Rattle.std.proofs.lemmas.Bool.Decides.{Decides-eqb}
 use Rattle.std.proofs.lemmas.List.{length-append, take_at, drop_at}
 use Rattle.std.proofs.lemmas.Option.{cond_some, same_Some}
 use Rattle.std.proofs.lemmas.Slice.Eq.{slice_eq-Decides}
 use Rattle.pm_types.specs.declared.place.Place.{Place}
-use Rattle.pm_types.specs.declared.shape.Shape.{Shape}
-use Rattle.pm_frame.specs.declared.kinds.TheConstants.{LOGICAL, RESTART, SEAL}
+use Rattle.pm_frame.specs.declared.kinds.TheConstants.{LOGICAL, SEAL}
 use Rattle.pm_frame.specs.declared.limits.TheConstants.{PAYLOAD_MAX, FRAME_EXTRA}
-use Rattle.pm_frame.specs.Frames.{Frame, IsFrame, end_max}
+use Rattle.pm_frame.specs.Frames.{IsFrame, end_max}
 use Rattle.pm_records.specs.declared.limits.TheConstants.{LOGICAL_HEAD_LEN}
-use Rattle.pm_records.specs.Shapes.{IsShape, shape_bytes, named_shape}
-use Rattle.pm_records.specs.Records.{Record, Logical, Snapshot, Delta, CpBegin, Restart, Seal, kind_of, logical_head, payload_of, IsLogical, IsRecord, is_record, named_record, record_of}
+use Rattle.pm_records.specs.Shapes.{shape_bytes}
+use Rattle.pm_records.specs.Records.{Record, Logical, Snapshot, Delta, CpBegin, Restart, Seal, kind_of, logical_head, payload_of, IsRecord, is_record, named_record, record_of}
 use Rattle.pm_records.proofs.GrammarTests.{record_passes, IsRecord-from}
 use Rattle.pm_records.proofs.ShapeBytes.{ShapeFits-from, named_shape-bytes}
 
@@ -114,7 +113,8 @@ kind_of-known (Restart shape) = (omega arith, omega arith)
 kind_of-known Seal = (omega arith, omega arith)
 
 -- a record's frame may stand wherever it ends early enough
-pub IsFrame-record : (place : Place) (r : Record) → IsRecord r → place.seg < 2 ^ 64 → place.off + length (payload_of r) + FRAME_EXTRA ≤ end_max (kind_of r)
+pub IsFrame-record : (place : Place) (r : Record) → IsRecord r → place.seg < 2 ^ 64
+    → place.off + length (payload_of r) + FRAME_EXTRA ≤ end_max (kind_of r)
     → IsFrame place (record { kind = kind_of r; payload = payload_of r })
 IsFrame-record place r h seg ends = record {
   known_from = (kind_of-known r).0;

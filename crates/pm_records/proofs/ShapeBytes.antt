@@ -9,8 +9,10 @@ use Rattle.pm_records.specs.declared.limits.TheConstants.{SHAPE_LEN}
 use Rattle.pm_records.specs.Shapes.{IsShape, shape_bytes, named_shape}
 
 -- numbers read from sixteen bytes are said by these bytes
-pub shape_bytes-said : (bytes : List ℕ) (page_size partitions version max_rows segment_bytes : ℕ) → length bytes ≡ 16 → AreBytes bytes
-    → page_size ≡ from_le_bytes w32 (cells 0 4 bytes) → partitions ≡ from_le_bytes w16 (cells 4 2 bytes) → version ≡ from_le_bytes w16 (cells 6 2 bytes)
+pub shape_bytes-said : (bytes : List ℕ) (page_size partitions version max_rows segment_bytes : ℕ) → length bytes ≡ 16
+    → AreBytes bytes
+    → page_size ≡ from_le_bytes w32 (cells 0 4 bytes) → partitions ≡ from_le_bytes w16 (cells 4 2 bytes)
+    → version ≡ from_le_bytes w16 (cells 6 2 bytes)
     → max_rows ≡ from_le_bytes w32 (cells 8 4 bytes) → segment_bytes ≡ from_le_bytes w32 (cells 12 4 bytes)
     → bytes ≡ shape_bytes (record { page_size = page_size; partitions = partitions; version = version; max_rows = max_rows; segment_bytes = segment_bytes })
 unfolding shape_bytes

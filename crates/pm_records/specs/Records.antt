@@ -97,8 +97,9 @@ is_record Seal = true
 -- the record that a payload of this kind would be, by the lengths that it names; a SEAL where the kind has no grammar
 unfoldable pub named_record : ℕ → List ℕ → Record
 named_record kind payload =
+    let key_end : ℕ = LOGICAL_HEAD_LEN + slice_index payload 2 in
     if kind == LOGICAL
-    then Logical (slice_index payload 0) (slice_index payload 1) (slice_range payload LOGICAL_HEAD_LEN (LOGICAL_HEAD_LEN + slice_index payload 2)) (drop (LOGICAL_HEAD_LEN + slice_index payload 2) payload)
+    then Logical (slice_index payload 0) (slice_index payload 1) (slice_range payload LOGICAL_HEAD_LEN key_end) (drop key_end payload)
     else if kind == RESTART
     then Restart (named_shape payload)
     else Seal

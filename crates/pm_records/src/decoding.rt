@@ -1,7 +1,6 @@
 //! Records, read from payloads.
 
 ghost use Rattle.std.specs.Prelude.{◌≡◌, ◌↔◌, IsTrue, IfOk, Some};
-ghost use Rattle.pm_frame.specs.declared.kinds.TheConstants.{LOGICAL, RESTART, SEAL};
 ghost use Rattle.pm_records.specs.Records.{Record, IsRecord, IsLogical, kind_of, payload_of, record_of};
 ghost use Rattle.pm_records.specs.Views.{record_view, record_in};
 

@@ -20,6 +20,7 @@ pub fn encoded_len(rec: &LogRecord<'_>) -> usize
         LogRecord::Logical { key, value, .. } => LOGICAL_HEAD_LEN + key.len() + value.len(),
         LogRecord::Restart { .. } => SHAPE_LEN,
         LogRecord::Seal => 0,
+        // Records of pages are in no grammar yet.
         LogRecord::Snapshot { .. } | LogRecord::Delta { .. } | LogRecord::CpBegin { .. } => {
             unreachable!()
         }
@@ -42,6 +43,7 @@ pub fn encode(rec: &LogRecord<'_>, into: &mut [u8])
         } => write_logical(*op, *cache, key, value, into),
         LogRecord::Restart { shape } => into.copy_from_slice(&shape_bytes(shape)),
         LogRecord::Seal => {}
+        // Records of pages are in no grammar yet.
         LogRecord::Snapshot { .. } | LogRecord::Delta { .. } | LogRecord::CpBegin { .. } => {
             unreachable!()
         }

@@ -1,11 +1,12 @@
 //! What one record of the log says.
 
-ghost use Rattle.std.specs.Prelude.{◌≡◌};
+ghost use Rattle.std.specs.Prelude.{◌≡◌, Some, codes};
 ghost use Rattle.pm_records.specs.Records.{kind_of};
 ghost use Rattle.pm_records.specs.Views.{record_view};
 
 use pm_frame::{CP_BEGIN, DELTA, LOGICAL, RESTART, SEAL, SNAPSHOT};
 use pm_types::{PageId, Place, Shape};
+use std::error::Error;
 use std::fmt;
 
 /// A record of the log. What it has of variable length lies in the payload that it was read from, or is to be written
@@ -61,7 +62,11 @@ pub fn kind_of(rec: &LogRecord<'_>) -> u8
 pub struct BadPayload;
 
 impl fmt::Display for BadPayload {
+    ghost output = { λ _. Some (codes "the payload is no record of its kind") };
+
     fn fmt<W: fmt::Write>(&self, f: &mut fmt::Formatter<W>) -> fmt::Result {
         write!(f, "the payload is no record of its kind")
     }
 }
+
+impl Error for BadPayload {}

@@ -1,8 +1,6 @@
-use Rattle.std.proofs.Common.{◌≡◌, sym, ap, ◌∙◌, refl, arith}
-use Rattle.pm_frame.specs.declared.kinds.TheConstants.{LOGICAL, RESTART, SEAL}
-use Rattle.pm_records.specs.Records.{Seal, record_of, payload_of}
-use Rattle.pm_records.specs.Views.{record_in}
-use Rattle.pm_records.proofs.RecordOf.{record_of-spelled, record_of-none}
+use Rattle.std.proofs.Common.{sym, ap, ◌∙◌, arith}
+use Rattle.pm_records.specs.Records.{record_of}
+use Rattle.pm_records.proofs.RecordOf.{record_of-spelled}
 use Rattle.pm_records.proofs.Decoded.{decoded-fits, decoded-kind, decoded-spelled}
 use Rattle.pm_records.proofs.OtherBytes.{none-other_kind}
 use Rattle.pm_records.proofs.decoding.decode.Goals as goal
