@@ -1,0 +1,114 @@
+//! Frames, read and written.
+
+ghost use Rattle.std.specs.Prelude.{◌≡◌, ◌+◌, ◌≤◌, ◌++◌, List, ℕ, length, drop, IfSome, Some};
+ghost use Rattle.pm_frame.specs.Frames.{Frame, IsFrame, frame_bytes, frame_len, frame_at};
+ghost use Rattle.pm_frame.specs.Views.{frame_of, frame_in};
+
+use crate::checksum::sum;
+use crate::head::Head;
+use crate::limits::{FRAME_EXTRA, HEAD_LEN, SUM_LEN};
+use pm_types::Place;
+
+/// A frame, as it lies in the bytes that it was read from.
+#[derive(Clone, Copy, Debug)]
+pub struct FrameView<'a> {
+    /// What the payload holds: one of the six kinds, `LOGICAL` to `SEAL`.
+    pub kind: u8,
+    /// The record's own bytes.
+    pub payload: &'a [u8],
+    /// The bytes of the whole frame. The next frame of the segment begins so much further on.
+    pub len: usize,
+}
+
+/// The frame of this place that stands at the front of the bytes. Bytes of anything may follow it.
+///
+/// `None` comes exactly where there is none: the bytes end too early, the kind or the length is none of a frame here, the
+/// frame names another place, or its sum is wrong. The sum is taken only where all else is right.
+pub fn read_frame(bytes: &[u8], place: Place) -> Option<FrameView<'_>>
+    ensures frame { frame_in result ≡ frame_at place bytes.now }
+    ensures len { IfSome result (λ view. view.len ≡ frame_len (frame_of view)) }
+    ensures within { IfSome result (λ view. view.len ≤ length bytes.now) }
+
+    // What is read is a frame, spelled so.
+    ensures fits { IfSome result (λ view. IsFrame place (frame_of view)) }
+    ensures spelled { IfSome result
+        (λ view. bytes.now ≡ frame_bytes place (frame_of view) ++ drop view.len bytes.now) }
+
+    // Whatever frame is spelled there is read.
+    ensures read { (frame : Frame) (rest : List ℕ) → IsFrame place frame
+        → bytes.now ≡ frame_bytes place frame ++ rest → frame_in result ≡ Some frame }
+{
+    let (front, _) = bytes.split_first_chunk::<HEAD_LEN>()?;
+    let head = Head::of(front);
+    if !head.is_of(place) {
+        return None;
+    }
+    let summed_len = HEAD_LEN + head.payload_len as usize;
+    let (summed, rest) = bytes.split_at_checked(summed_len)?;
+    let (stored, _) = rest.split_first_chunk::<SUM_LEN>()?;
+    if u32::from_le_bytes(*stored) != sum(summed) {
+        return None;
+    }
+    Some(FrameView {
+        kind: head.kind,
+        payload: &summed[HEAD_LEN..],
+        len: head.payload_len as usize + FRAME_EXTRA,
+    })
+}
+
+/// Writes the frame of this place with this payload over all of `into`.
+#[tactic(auto, unfolding(crate::specs::Frames::frame_bytes, crate::specs::Frames::summed_bytes))]
+pub fn write_frame(kind: u8, place: Place, payload: &[u8], into: &mut [u8])
+    requires frame { IsFrame place (record { kind = kind; payload = payload.now }) }
+    requires room { length into.old ≡ length payload.now + FRAME_EXTRA }
+    ensures { into.new ≡ frame_bytes place (record { kind = kind; payload = payload.now }) }
+{
+    let head = Head {
+        kind,
+        place,
+        payload_len: payload.len() as u32,
+    };
+    let (summed, stored) = into.split_at_mut(HEAD_LEN + payload.len());
+    let (front, back) = summed.split_at_mut(HEAD_LEN);
+    front.copy_from_slice(&head.bytes());
+    back.copy_from_slice(payload);
+    stored.copy_from_slice(&sum(summed).to_le_bytes());
+}
+
+#[cfg(test)]
+mod tests {
+    use super::*;
+    use crate::kinds::LOGICAL;
+    use std::test::Fail;
+
+    // The frame of `put 0 a 1` at (1, 37). Its sum is that of Python's zlib.
+    const FRAME: [u8; 30] = [
+        0x01, // kind
+        0x01, 0x00, 0x00, 0x00, 0x00, 0x00, 0x00, 0x00, // segment
+        0x25, 0x00, 0x00, 0x00, // offset
+        0x09, 0x00, 0x00, 0x00, // length of the payload
+        0x01, 0x00, 0x01, 0x01, 0x00, 0x00, 0x00, 0x61, 0x31, // payload
+        0xbb, 0xca, 0x8a, 0xe7, // sum
+    ];
+
+    const PLACE: Place = Place { seg: 1, off: 37 };
+
+    #[test]
+    fn a_frame_has_these_bytes(rt: HostRuntime) {
+        let mut bytes = [0; 30];
+        write_frame(LOGICAL, PLACE, &FRAME[17..26], &mut bytes);
+        assert_eq!(rt; bytes, FRAME);
+    }
+
+    #[test]
+    fn a_frame_is_read_at_its_own_place_alone(rt: HostRuntime) -> Result<(), Fail> {
+        let view = read_frame(&FRAME, PLACE).ok_or("the frame is read")?;
+        assert_eq!(rt; view.kind, LOGICAL);
+        assert_eq!(rt; view.payload, &FRAME[17..26]);
+        assert_eq!(rt; view.len, 30);
+        assert!(rt; read_frame(&FRAME, Place { seg: 1, off: 38 }).is_none());
+        assert!(rt; read_frame(&FRAME, Place { seg: 2, off: 37 }).is_none());
+        assert!(rt; read_frame(&FRAME[..29], PLACE).is_none());
+        Ok(())
+    }
+}

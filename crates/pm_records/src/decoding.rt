@@ -1,0 +1,91 @@
+//! Records, read from payloads.
+
+ghost use Rattle.std.specs.Prelude.{◌≡◌, ◌↔◌, IsTrue, IfOk, Some};
+ghost use Rattle.pm_records.specs.Records.{Record, IsRecord, IsLogical, kind_of, payload_of, record_of};
+ghost use Rattle.pm_records.specs.Views.{record_view, record_in};
+
+use crate::limits::{CACHES, LOGICAL_HEAD_LEN, PUT, REMOVE, SHAPE_LEN};
+use crate::record::{BadPayload, LogRecord};
+use crate::shape::{is_shape, shape_of};
+use pm_frame::{LOGICAL, RESTART, SEAL};
+use pm_types::{KEY_MAX, VALUE_MAX};
+
+/// The record of this kind that the payload is, all of it.
+///
+/// It is refused exactly where the payload is not in its kind's grammar. Records of pages are not read yet: those of
+/// kinds `SNAPSHOT`, `DELTA` and `CP_BEGIN` are refused.
+pub fn decode(kind: u8, payload: &[u8]) -> Result<LogRecord<'_>, BadPayload>
+    ensures exact { record_in result ≡ record_of kind payload.now }
+
+    // What is read is in the grammar, and spelled so.
+    ensures fits { IfOk result (λ found. IsRecord (record_view found)) }
+    ensures kind { IfOk result (λ found. kind ≡ kind_of (record_view found)) }
+    ensures spelled { IfOk result (λ found. payload.now ≡ payload_of (record_view found)) }
+
+    // Whatever record is spelled is read.
+    ensures read { (spelled : Record) → IsRecord spelled → kind ≡ kind_of spelled
+        → payload.now ≡ payload_of spelled → record_in result ≡ Some spelled }
+{
+    match kind {
+        LOGICAL => logical_of(payload),
+        RESTART => restart_of(payload),
+        SEAL => seal_of(payload),
+        _ => Err(BadPayload),
+    }
+}
+
+fn logical_of(payload: &[u8]) -> Result<LogRecord<'_>, BadPayload>
+    ensures { record_in result ≡ record_of LOGICAL payload.now }
+{
+    let Some((head, rest)) = payload.split_first_chunk::<LOGICAL_HEAD_LEN>() else {
+        return Err(BadPayload);
+    };
+    let key_len = usize::from(head[2]);
+    let value_len = u32::from_le_bytes([head[3], head[4], head[5], head[6]]) as usize;
+    if rest.len() != key_len + value_len {
+        return Err(BadPayload);
+    }
+    let (key, value) = rest.split_at(key_len);
+    if !is_logical(head[0], head[1], key, value) {
+        return Err(BadPayload);
+    }
+    Ok(LogRecord::Logical {
+        op: head[0],
+        cache: head[1],
+        key,
+        value,
+    })
+}
+
+fn is_logical(op: u8, cache: u8, key: &[u8], value: &[u8]) -> bool
+    ensures { IsTrue result ↔ IsLogical op cache key.now value.now }
+{
+    let value_max = match op {
+        PUT => VALUE_MAX,
+        REMOVE => 0,
+        _ => return false,
+    };
+    cache < CACHES && (1..=KEY_MAX).contains(&key.len()) && value.len() <= value_max
+}
+
+fn restart_of(payload: &[u8]) -> Result<LogRecord<'_>, BadPayload>
+    ensures { record_in result ≡ record_of RESTART payload.now }
+{
+    let Ok(bytes) = <&[u8; SHAPE_LEN]>::try_from(payload) else {
+        return Err(BadPayload);
+    };
+    let shape = shape_of(bytes);
+    if !is_shape(&shape) {
+        return Err(BadPayload);
+    }
+    Ok(LogRecord::Restart { shape })
+}
+
+fn seal_of(payload: &[u8]) -> Result<LogRecord<'_>, BadPayload>
+    ensures { record_in result ≡ record_of SEAL payload.now }
+{
+    if !payload.is_empty() {
+        return Err(BadPayload);
+    }
+    Ok(LogRecord::Seal)
+}
