@@ -1,5 +1,5 @@
 -- One file: what a read finds, and what was changed since it was last forced.
-use Rattle.std.specs.Prelude.{◌+◌, ℕ, List, [], ◌∷◌, ◌++◌, length, take, drop, Option, Some, None}
+use Rattle.std.specs.Prelude.{◌≡◌, ◌+◌, ◌-◌, ℕ, min, List, [], ◌∷◌, ◌++◌, length, take, drop, Option, Some, None}
 
 -- One change of a file.
 pub data Change : Type 0 where
@@ -50,3 +50,8 @@ all_forced file = record { forced = content file; since = [] }
 -- a file that isn't there
 abbrev pub absent : File
 absent = record { forced = None; since = [] }
+
+-- So many bytes of the file from this offset on were read to the front of a buffer: as many as fit, or as there are.
+pub record ReadsFrom (file : Option (List ℕ)) (at count : ℕ) (buffer : List ℕ) : Type 0 where
+  pub many : count ≡ min (length buffer) (length (bytes_of file) - at)
+  pub front : take count buffer ≡ take count (drop at (bytes_of file))

@@ -1,3 +1,5 @@
+pub mod Faults
 pub mod Files
+pub mod Images
 pub mod Moments
 pub mod Worlds

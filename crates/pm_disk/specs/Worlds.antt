@@ -1,6 +1,6 @@
 -- What the disk and the console hold at one moment.
-use Rattle.std.specs.Prelude.{ℕ, List, [], ◌++◌, drop, ◌==◌, if◌then◌else◌}
-use Rattle.pm_disk.specs.Files.{File, Change, with_change, all_forced, absent}
+use Rattle.std.specs.Prelude.{ℕ, List, [], ◌++◌, drop, Option, ◌==◌, if◌then◌else◌}
+use Rattle.pm_disk.specs.Files.{File, Change, content, with_change, all_forced, absent}
 
 -- The disk's files, the bytes said and the input that is left.
 pub record World : Type 0 where
@@ -22,6 +22,10 @@ pub record World : Type 0 where
 -- the files with another one under this number
 abbrev pub with_file : (ℕ → File) → ℕ → File → ℕ → File
 with_file files at file n = if n == at then file else files n
+
+-- what a read finds of a segment of the log
+abbrev pub segment_in : World → ℕ → Option (List ℕ)
+segment_in world seg = content (world.log seg)
 
 -- a segment of the log was changed
 abbrev pub log_changed : ℕ → Change → World → World

@@ -1,26 +1,13 @@
-//! The traits of the outside.
+//! Disk and console together.
 
-ghost use Rattle.std.specs.Prelude.{◌≡◌, ◌<◌, ◌≤◌, ℕ, [], length, take, IfOk};
+ghost use Rattle.std.specs.Prelude.{◌≡◌, ◌<◌, ◌≤◌, [], length, take, IfOk};
 ghost use Rattle.std.specs.Result.{result_unwrap_or};
 ghost use Rattle.pm_types.specs.Causes.{HasCause};
 ghost use Rattle.pm_disk.specs.Worlds.{with_taken};
-ghost use Rattle.pm_disk.specs.Moments.{History, IsHistory, Does, Says};
+ghost use Rattle.pm_disk.specs.Moments.{Does, Says};
 
+use crate::device::Device;
 use crate::failed::Failed;
-
-/// What an object of the outside tells. All but `faults` counts only where it tells content.
-pub trait Device {
-    /// Whether objects of this type tell their content: over real files nobody can know it.
-    ghost tells: { Type 0 };
-
-    /// The world now, the moment, and what the world was at the moments since an earlier one.
-    ghost history: { Self → History };
-
-    /// How often a call failed: the count never falls, and stands still at 2^64 - 1.
-    ghost faults: { Self → ℕ };
-
-    ghost sound: { (device : Self) → tells → IsHistory (history device) };
-}
 
 /// Disk and console in one object, so that a moment pairs what the disk holds with what was said.
 pub trait Host: Device {

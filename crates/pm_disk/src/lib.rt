@@ -1,8 +1,12 @@
 //! What the store asks of the outside: disk and console as one handed-in object, and what it tells.
 #![tactic(auto)]
 
+mod device;
 mod failed;
 mod host;
+mod log;
 
+pub use device::Device;
 pub use failed::Failed;
-pub use host::{Device, Host};
+pub use host::Host;
+pub use log::{LogFile, LogReader};

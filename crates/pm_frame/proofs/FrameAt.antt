@@ -31,11 +31,11 @@ length-frame_bytes place frame =
 
 -- ---- the test says what the record says
 
-is_frame-from : (place : Place) (frame : Frame) → IsFrame place frame → is_frame place frame ≡ true
+pub is_frame-from : (place : Place) (frame : Frame) → IsFrame place frame → is_frame place frame ≡ true
 is_frame-from place frame h =
     and_from _ _ (and_from _ _ (and_from _ _ (and_from _ _ (le-leb _ _ h.known_from) (le-leb _ _ h.known_to)) (le-leb _ _ h.short)) (le-leb _ _ h.ends)) (lt-ltb _ _ h.numbered)
 
-IsFrame-from : (place : Place) (frame : Frame) → is_frame place frame ≡ true → IsFrame place frame
+pub IsFrame-from : (place : Place) (frame : Frame) → is_frame place frame ≡ true → IsFrame place frame
 IsFrame-from place frame t =
     let from = leb LOGICAL frame.kind in
     let to = leb frame.kind SEAL in
@@ -97,8 +97,7 @@ frame_at-some place bytes frame e =
 
 -- where no frame is spelled, none is found
 pub frame_at-none : (place : Place) (bytes : List ℕ)
-    → ((frame : Frame) (rest : List ℕ) → IsFrame place frame → bytes ≡ frame_bytes place frame ++ rest → ⊥)
-    → frame_at place bytes ≡ None
+    → ((frame : Frame) (rest : List ℕ) → IsFrame place frame → bytes ≡ frame_bytes place frame ++ rest → ⊥) → frame_at place bytes ≡ None
 frame_at-none place bytes h =
     let P : Option Frame → Type 0 = λ found. frame_at place bytes ≡ found → found ≡ None in
     let found : P (frame_at place bytes) =

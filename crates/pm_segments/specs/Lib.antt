@@ -1,0 +1,5 @@
+pub mod Ends
+pub mod Grammars
+pub mod Logs
+pub mod Rests
+pub mod Scans

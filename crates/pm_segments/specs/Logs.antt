@@ -1,0 +1,138 @@
+-- The log of a disk, over its segments.
+use Rattle.std.specs.Prelude.{◌≡◌, ◌<◌, ◌≤◌, ◌+◌, ℕ, List, [], ◌∷◌, ◌++◌, length, Option, Some, None, slice_get, if◌then◌else◌, ◌==◌, Bool, true, false}
+use Rattle.pm_types.specs.declared.place.Place.{Place}
+use Rattle.pm_frame.specs.declared.kinds.TheConstants.{SEAL}
+use Rattle.pm_frame.specs.Frames.{Frame, frame_len}
+use Rattle.pm_disk.specs.Files.{File, bytes_of, content, at_change}
+use Rattle.pm_disk.specs.Images.{Below}
+
+-- how many bytes a frame has
+abbrev pub size : Frame → ℕ
+size f = frame_len f
+
+-- whether the log goes on in the next segment behind a frame
+abbrev pub is_seal : Frame → Bool
+is_seal f = f.kind == SEAL
+
+-- How frames stand in the bytes of segments.
+pub record Grammar : Type 0 where
+  -- the frame that stands at an offset of a segment's bytes
+  pub frame_at : ℕ → ℕ → List ℕ → Option Frame
+  -- the bytes of a frame at an offset of a segment
+  pub frame_bytes : ℕ → ℕ → Frame → List ℕ
+  -- whether the frame may stand there
+  pub fits : ℕ → ℕ → Frame → Bool
+
+-- What is read at a place is decided by its own bytes, and what is written there is read.
+pub record IsGrammar (g : Grammar) : Type 0 where
+  -- a frame that stands somewhere is within the bytes
+  pub within : (seg off : ℕ) (bytes : List ℕ) (f : Frame)
+      → g.frame_at seg off bytes ≡ Some f → off + size f ≤ length bytes
+  -- it stands in all other bytes, too, that are the same up to its end
+  pub own : (seg off : ℕ) (old new : List ℕ) (f : Frame)
+      → g.frame_at seg off old ≡ Some f → off + size f ≤ length new
+      → ((i : ℕ) → i < off + size f → slice_get new i ≡ slice_get old i)
+      → g.frame_at seg off new ≡ Some f
+  -- its bytes are as many as its size says
+  pub bytes_length : (seg off : ℕ) (f : Frame) → length (g.frame_bytes seg off f) ≡ size f
+  -- what is written behind the bytes, where it may stand, stands there
+  pub written : (seg : ℕ) (bytes : List ℕ) (f : Frame)
+      → g.fits seg (length bytes) f ≡ true
+      → g.frame_at seg (length bytes) (bytes ++ g.frame_bytes seg (length bytes) f) ≡ Some f
+
+-- the place behind a frame
+abbrev pub next : Place → Frame → Place
+next p f =
+    if is_seal f
+    then record { seg = p.seg + 1; off = 0 }
+    else record { seg = p.seg; off = p.off + size f }
+
+-- the place behind frames that stand one behind the other
+abbrev pub behind : Place → List Frame → Place
+behind p [] = p
+behind p (f ∷ fs) = behind (next p f) fs
+
+-- these frames stand one behind the other from the place on, in these segments' bytes
+abbrev pub Run : Grammar → (ℕ → List ℕ) → Place → List Frame → Type 0
+Run g bytes p [] = Unit {0}
+Run g bytes p (f ∷ fs) =
+    (g.frame_at p.seg p.off (bytes p.seg) ≡ Some f) × Run g bytes (next p f) fs
+
+-- the log from a place is these frames and no more
+pub record IsLog (g : Grammar) (bytes : ℕ → List ℕ) (p : Place) (fs : List Frame) : Type 0 where
+  pub run : Run g bytes p fs
+  pub ends : g.frame_at (behind p fs).seg (behind p fs).off (bytes (behind p fs).seg) ≡ None
+  pub clear : (seg : ℕ) → (behind p fs).seg < seg → bytes seg ≡ []
+
+-- how many bytes these frames have
+abbrev pub sizes : List Frame → ℕ
+sizes [] = 0
+sizes (f ∷ fs) = size f + sizes fs
+
+-- what the segments' files hold now
+abbrev pub contents : (ℕ → File) → ℕ → List ℕ
+contents files n = bytes_of (content (files n))
+
+-- what they held when they were forced last
+abbrev pub forceds : (ℕ → File) → ℕ → List ℕ
+forceds files n = bytes_of (files n).forced
+
+-- Since the last force no other frame stood at these frames' places, nor one behind them. Only the
+-- last may be a SEAL.
+abbrev pub Stood : Grammar → ℕ → File → ℕ → List Frame → Type 0
+Stood g seg file off [] = (k : ℕ) → k ≤ length file.since
+    → g.frame_at seg off (bytes_of (at_change file k)) ≡ None
+Stood g seg file off (f ∷ fs) =
+    ((k : ℕ) (h : Frame) → k ≤ length file.since
+    → g.frame_at seg off (bytes_of (at_change file k)) ≡ Some h → h ≡ f)
+    × (is_seal f ≡ true → fs ≡ [])
+    × (is_seal f ≡ false → Stood g seg file (off + size f) fs)
+
+-- the frames stand one behind the other in one segment
+abbrev pub RunIn : Grammar → ℕ → List ℕ → ℕ → List Frame → Type 0
+RunIn g seg bytes off [] = Unit {0}
+RunIn g seg bytes off (f ∷ fs) =
+    (g.frame_at seg off bytes ≡ Some f) × RunIn g seg bytes (off + size f) fs
+
+-- no SEAL is among them
+abbrev pub Plain : List Frame → Type 0
+Plain [] = Unit {0}
+Plain (f ∷ fs) = (is_seal f ≡ false) × Plain fs
+
+-- what is known of the bytes behind the log's end
+pub data Tail : Type 0 where
+  Loose : Tail  -- what is behind the log's end wasn't cut
+  Cutting : Tail  -- it was cut, and the cut isn't forced
+  Ready : Tail  -- the file ends where the log ends, and frames may be written there
+
+-- the segment's file holds the pending frames and nothing behind them, and was never longer
+pub record Writable (g : Grammar) (log : ℕ → File) (at : Place) (pending : List Frame) : Type 0 where
+  pub run : RunIn g at.seg (contents log at.seg) at.off pending
+  pub short : (k : ℕ) → k ≤ length (log at.seg).since
+      → length (bytes_of (at_change (log at.seg) k)) ≤ at.off + sizes pending
+  pub exact : length (contents log at.seg) ≡ at.off + sizes pending
+
+-- the file of the last segment is what is known of its tail
+abbrev pub TailIs : Grammar → (ℕ → File) → Place → List Frame → Tail → Type 0
+TailIs g log at pending Loose = pending ≡ []
+TailIs g log at pending Cutting = (pending ≡ []) × (length (contents log at.seg) ≡ at.off)
+TailIs g log at pending Ready = Writable g log at pending
+
+-- What the segments' files are: the log is lasting up to a place, and from there on these frames
+-- were written.
+pub record LogStands (g : Grammar) (log : ℕ → File) (low : ℕ) (at : Place) (pending : List Frame)
+    (tail : Tail) : Type 0 where
+  pub reaches : low ≤ at.seg
+  pub older : (seg : ℕ) → low ≤ seg → seg < at.seg → (log seg).since ≡ []
+  pub below : Below (log at.seg) at.off
+  pub stood : Stood g at.seg (log at.seg) at.off pending
+  pub above : (seg : ℕ) → at.seg < seg → (k : ℕ) → k ≤ length (log seg).since
+      → length (bytes_of (at_change (log seg) k)) ≤ 0
+  pub tail_is : TailIs g log at pending tail
+
+-- these lasting frames lead from a place to the lasting end
+pub record Leads (g : Grammar) (log : ℕ → File) (low : ℕ) (at : Place) (p : Place) (fs : List Frame)
+    : Type 0 where
+  pub kept : low ≤ p.seg
+  pub run : Run g (forceds log) p fs
+  pub to : behind p fs ≡ at

@@ -1,0 +1,235 @@
+//! The log's reader.
+
+ghost use Rattle.std.specs.Prelude.{◌≡◌, ◌≤◌, ◌<◌, ◌+◌, ◌-◌, length, take, drop, [], false, None, IfOk, OnOk};
+ghost use Rattle.std.specs.Borrow.{sem};
+ghost use Rattle.std.specs.Io.BufRead.{Rests};
+ghost use Rattle.pm_types.specs.Causes.{HasCause};
+ghost use Rattle.pm_disk.specs.Moments.{Does};
+ghost use Rattle.pm_frame.specs.declared.limits.TheConstants.{SEGMENT_END_MAX as last_end, FRAME_MAX as longest};
+ghost use Rattle.pm_frame.specs.Views.{frame_in};
+ghost use Rattle.pm_frame.specs.Frames.{frame_at};
+ghost use Rattle.pm_disk.specs.Files.{ReadsFrom};
+ghost use Rattle.pm_disk.specs.Worlds.{segment_in};
+ghost use Rattle.pm_segments.specs.Scans.{IsAhead, SeesFrame, StaysAt, StepsOver, stands_next, Advances};
+
+use pm_disk::{Failed, LogReader};
+use pm_frame::{FRAME_EXTRA, FRAME_MAX, FrameView, read_frame};
+use pm_types::Place;
+use std::alloc::{AllocError, Global};
+use std::marker::Model;
+
+// One read asks for at least so many bytes.
+const PIECE: usize = 65_536;
+// The start of a frame that goes on stands before the piece that follows it.
+const BUFFER: usize = PIECE + FRAME_MAX;
+
+/// Reads a segment of the log frame after frame from a place on, through a buffer and in one pass. It
+/// takes its memory when it is made.
+#[derive(Drop)]
+pub struct Scan {
+    place: Place,
+    next: Place,
+    buffer: Vec<u8>,
+    // What was read of the segment from `next` on: buffer[at..end].
+    at: usize,
+    end: usize,
+    is_whole: bool,
+    // The frame that was given last, if one was.
+    has_found: bool,
+    kind: u8,
+    payload_at: usize,
+    payload_len: usize,
+}
+
+impl Model for Scan {
+    ghost use Rattle.std.specs.Prelude.{◌-◌, take, drop};
+    ghost use Rattle.pm_segments.specs.Scans.{Scanned, IsScan, shown};
+
+    ghost Value = { Scanned };
+
+    ghost view = { λ s. record {
+      place = s.place;
+      next = s.next;
+      ahead = take (s.end - s.at) (drop s.at s.buffer.items);
+      is_whole = s.is_whole;
+      found = shown s.has_found s.buffer.items s.kind s.payload_at s.payload_len;
+    } };
+
+    ghost invariant = { λ s. IsScan s.buffer.items s.at s.end s.payload_at s.payload_len s.kind s.next };
+}
+
+impl Scan {
+    ghost use Rattle.pm_segments.specs.contracts.scan.Scan.{the_row};
+
+    /// A scan that has read nothing yet, and begins at `from`. `AllocError` comes where there is no
+    /// memory for its buffer of 131,051 bytes.
+    pub fn new(alloc: Global, from: Place) -> Result<Scan, AllocError>
+        requires { from.off ≤ last_end }
+        ensures { IfOk result (λ scan. scan ≡ record {
+          place = from;
+          next = from;
+          ahead = [];
+          is_whole = false;
+          found = None;
+        }) }
+    {
+        Ok(Scan {
+            place: from,
+            next: from,
+            buffer: vec![in alloc; 0; BUFFER]?,
+            at: 0,
+            end: 0,
+            is_whole: false,
+            has_found: false,
+            kind: 0,
+            payload_at: 0,
+            payload_len: 0,
+        })
+    }
+
+    /// The place of the frame that was given last, or of the log's end.
+    pub fn place(&self) -> Place
+        ensures { result ≡ self.now.place }
+    {
+        self.place
+    }
+
+    /// The next frame of the segment, whatever its kind; none exactly where no frame stands. After
+    /// `Failed` the scan is not to be used any more.
+    pub fn next<L: LogReader>(&mut self, dev: &mut L) -> Result<Option<FrameView<'_>>, Failed>
+        requires ahead { L.tells → IsAhead self.old (L.history dev.old).world }
+        ensures* gives { sem 𝓛 (Rests the_row self.entry (λ left. IfOk result (λ found.
+            Advances self.entry.now left (frame_in found) × (left.next.off ≤ last_end)
+            × (L.tells → (frame_in found ≡ stands_next self.entry.now (L.history dev.old).world)
+            × IsAhead left (L.history dev.new).world)))) }
+        ensures does { L.tells → Does (L.history dev.old) (L.history dev.new) result (L.history dev.old).world }
+        ensures cause { HasCause (L.faults dev.old) (L.faults dev.new) result }
+    {
+        self.advance(dev)?;
+        Ok(self.found())
+    }
+
+    // Reads on, and goes on by the frame ahead, if there is one.
+    fn advance<L: LogReader>(&mut self, dev: &mut L) -> Result<(), Failed>
+        requires ahead { L.tells → IsAhead self.old (L.history dev.old).world }
+        ensures advances { OnOk result (Advances self.old self.new self.new.found) }
+        ensures bound { OnOk result (self.new.next.off ≤ last_end) }
+        ensures found { L.tells → OnOk result
+            (self.new.found ≡ stands_next self.old (L.history dev.old).world) }
+        ensures ahead { L.tells → OnOk result (IsAhead self.new (L.history dev.new).world) }
+        ensures does { L.tells → Does (L.history dev.old) (L.history dev.new) result (L.history dev.old).world }
+        ensures cause { HasCause (L.faults dev.old) (L.faults dev.new) result }
+    {
+        self.fill(dev)?;
+        self.step();
+        Ok(())
+    }
+
+    // The frame that was found last.
+    fn found(&self) -> Option<FrameView<'_>>
+        ensures { frame_in result ≡ self.now.found }
+    {
+        if !self.has_found {
+            return None;
+        }
+        Some(FrameView {
+            kind: self.kind,
+            payload: &self.buffer[self.payload_at..self.payload_at + self.payload_len],
+            len: self.payload_len + FRAME_EXTRA,
+        })
+    }
+
+    // Goes on by the frame ahead, if there is one.
+    fn step(&mut self)
+        requires sees { SeesFrame self.old }
+        ensures advances { Advances self.old self.new self.new.found }
+        ensures bound { self.new.next.off ≤ last_end }
+        ensures found { self.new.found ≡ frame_at self.old.next self.old.ahead }
+        ensures ahead { StepsOver self.old self.new self.new.found }
+    {
+        let ahead = &self.buffer[self.at..self.end];
+        self.place = self.next;
+        match read_frame(ahead, self.next) {
+            None => self.has_found = false,
+            Some(view) => {
+                self.has_found = true;
+                self.kind = view.kind;
+                self.payload_len = view.payload.len();
+                // Of a frame's own bytes 4 are its sum, which stands behind the payload.
+                self.payload_at = self.at + FRAME_EXTRA - 4;
+                self.next.off += view.len as u32;
+                self.at += view.len;
+            }
+        }
+    }
+
+    // Reads on where fewer bytes are ahead than a frame may have.
+    fn fill<L: LogReader>(&mut self, dev: &mut L) -> Result<(), Failed>
+        requires ahead { L.tells → IsAhead self.old (L.history dev.old).world }
+        ensures stays { StaysAt self.old self.new }
+        ensures sees { OnOk result (SeesFrame self.new) }
+        ensures ahead { L.tells → OnOk result (IsAhead self.new (L.history dev.new).world) }
+        ensures does { L.tells → Does (L.history dev.old) (L.history dev.new) result (L.history dev.old).world }
+        ensures cause { HasCause (L.faults dev.old) (L.faults dev.new) result }
+    {
+        if self.is_whole || self.end - self.at >= FRAME_MAX {
+            return Ok(());
+        }
+        self.read_on(dev)
+    }
+
+    // Reads on behind what is ahead.
+    fn read_on<L: LogReader>(&mut self, dev: &mut L) -> Result<(), Failed>
+        requires ahead { L.tells → IsAhead self.old (L.history dev.old).world }
+        requires short { length self.old.ahead < longest }
+        ensures stays { StaysAt self.old self.new }
+        ensures sees { OnOk result (SeesFrame self.new) }
+        ensures ahead { L.tells → OnOk result (IsAhead self.new (L.history dev.new).world) }
+        ensures does { L.tells → Does (L.history dev.old) (L.history dev.new) result (L.history dev.old).world }
+        ensures cause { HasCause (L.faults dev.old) (L.faults dev.new) result }
+    {
+        let kept = move_to_front(&mut self.buffer, self.at, self.end);
+        self.has_found = false;
+        self.payload_len = 0;
+        self.payload_at = 0;
+        self.at = 0;
+        self.end = kept;
+        let from = self.next.off as u64 + kept as u64;
+        let count = read_behind(dev, &mut self.buffer, kept, self.next.seg, from)?;
+        self.end += count;
+        self.is_whole = self.end < self.buffer.len();
+        Ok(())
+    }
+}
+
+// Moves a part of the buffer to its front, and says how long it is.
+fn move_to_front(buffer: &mut Vec<u8>, at: usize, end: usize) -> usize
+    requires ordered { at ≤ end }
+    requires within { end ≤ length buffer.old.items }
+    ensures len { result ≡ end - at }
+    ensures moved { take result buffer.new.items ≡ take (end - at) (drop at buffer.old.items) }
+    ensures same_length { length buffer.new.items ≡ length buffer.old.items }
+{
+    buffer.copy_within(at..end, 0);
+    end - at
+}
+
+// Reads a segment from an offset on into the buffer behind its first `kept` bytes.
+fn read_behind<L: LogReader>(
+    dev: &mut L,
+    buffer: &mut Vec<u8>,
+    kept: usize,
+    seg: u64,
+    from: u64,
+) -> Result<usize, Failed>
+    requires { kept ≤ length buffer.old.items }
+    ensures front { take kept buffer.new.items ≡ take kept buffer.old.items }
+    ensures same_length { length buffer.new.items ≡ length buffer.old.items }
+    ensures bound { IfOk result (λ n. kept + n ≤ length buffer.new.items) }
+    ensures reads { L.tells → IfOk result (λ n.
+        ReadsFrom (segment_in (L.history dev.old).world seg) from n (drop kept buffer.new.items)) }
+    ensures does { L.tells → Does (L.history dev.old) (L.history dev.new) result (L.history dev.old).world }
+    ensures cause { HasCause (L.faults dev.old) (L.faults dev.new) result }
+{
+    dev.read_log(seg, from, &mut buffer[kept..])
+}
