@@ -53,7 +53,7 @@ module _ (g : Grammar) (laws : IsGrammar g) (no_seal : HasNoSeal g) where
   rests_log log fs s =
       let file = log 1 in
       let run = moved_run g laws no_seal (forceds log) (contents log) fs
-          record { long = content_long file (sizes fs) s.stands.below; same = λ i lt. content_same file (sizes fs) s.stands.below i lt } s.leads.run in
+      record { long = content_long file (sizes fs) s.stands.below; same = λ i lt. content_same file (sizes fs) s.stands.below i lt } s.leads.run in
       let last = λ (seg : ℕ). at_change-last (log seg) (length (log seg).since) (omega arith) in
       run_ends (contents log) fs run
       (subst (λ (o : Option (List ℕ)). g.frame_at 1 (sizes fs) (bytes_of o) ≡ None) (last 1) (s.stands.stood (length file.since) (omega arith)))
@@ -83,7 +83,7 @@ module _ (g : Grammar) (laws : IsGrammar g) (no_seal : HasNoSeal g) where
     opened_log : IsLog g (contents opened) (place 1 0) fs
     opened_log =
         let run = moved_run g laws no_seal (contents log) (contents opened) fs
-            record { long = omega (arith, opened_len); same = λ i lt. ap (λ l. slice_get l i) opened_here ∙ slice_get-take (sizes fs) (contents log 1) i lt } is_log.run in
+        record { long = omega (arith, opened_len); same = λ i lt. ap (λ l. slice_get l i) opened_here ∙ slice_get-take (sizes fs) (contents log 1) i lt } is_log.run in
         run_ends (contents opened) fs run (none_past g laws 1 (sizes fs) (contents opened 1) (omega (arith, opened_len)))
         (λ seg lt. opened_there seg (λ is. omega (arith, is, lt)) ∙ is_log.clear seg (subst (λ (q : Place). q.seg < seg) (sym (whole_run g laws no_seal (contents log) fs is_log.run)) lt))
 
