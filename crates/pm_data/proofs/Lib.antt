@@ -1,0 +1,8 @@
+pub mod RowLaws
+pub mod Unchanged
+pub mod RowsByItem
+pub mod Heads
+pub mod Insertion
+pub mod Lifting
+pub mod TakenOut
+pub mod Filled

@@ -1,0 +1,21 @@
+//! Data pages: the rows of a page by item, and its neighbours in a chain.
+#![tactic(auto)]
+
+mod checks;
+mod fields;
+mod head;
+mod items;
+mod layout;
+mod placing;
+mod removal;
+mod rows;
+mod slots;
+#[cfg(test)]
+mod tests;
+
+pub use checks::check;
+pub use head::{fresh, links, set_links};
+pub use items::{fits, room, row};
+pub use layout::{CACHES, DATA_KIND, ROW_HEAD_LEN, SLOTS_MAX};
+pub use placing::insert;
+pub use removal::remove;
