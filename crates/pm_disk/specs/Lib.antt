@@ -2,4 +2,5 @@ pub mod Faults
 pub mod Files
 pub mod Images
 pub mod Moments
+pub mod Names
 pub mod Worlds

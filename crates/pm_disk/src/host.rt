@@ -6,11 +6,11 @@ ghost use Rattle.pm_types.specs.Causes.{HasCause};
 ghost use Rattle.pm_disk.specs.Worlds.{with_taken};
 ghost use Rattle.pm_disk.specs.Moments.{Does, Says};
 
-use crate::device::Device;
 use crate::failed::Failed;
+use crate::log::LogFile;
 
 /// Disk and console in one object, so that a moment pairs what the disk holds with what was said.
-pub trait Host: Device {
+pub trait Host: LogFile {
     /// Names the folder of the store, and makes it where it isn't there.
     /// It comes before every other call but `print`.
     fn bind(&mut self, dir: &str) -> Result<(), Failed>

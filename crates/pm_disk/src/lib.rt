@@ -5,8 +5,10 @@ mod device;
 mod failed;
 mod host;
 mod log;
+mod names;
 
 pub use device::Device;
 pub use failed::Failed;
 pub use host::Host;
 pub use log::{LogFile, LogReader};
+pub use names::{SEGMENT_NAME_LEN, segment_name, segment_number};

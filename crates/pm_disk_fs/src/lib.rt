@@ -1,6 +1,11 @@
 //! The outside as the process has it: real files, standard input and standard output.
 #![tactic(auto)]
 
+mod folder;
 mod host;
+mod log;
 
 pub use host::FsHost;
+
+#[cfg(test)]
+mod tests;

@@ -2,6 +2,12 @@
 #![tactic(auto)]
 
 #[cfg(test)]
-mod host;
+mod crashes;
+#[cfg(test)]
+mod pieces;
+#[cfg(test)]
+mod runs;
 #[cfg(test)]
 mod scripts;
+#[cfg(test)]
+mod stores;

@@ -2,73 +2,44 @@
 
 ghost use Rattle.std.specs.Prelude.{◌<◌};
 
-use crate::host::ScriptHost;
+use crate::pieces::PieceHost;
+use pm_disk_mem::{MemDisk, MemHost};
 use pm_top::{Report, top};
 use std::test::Fail;
 
-/// How a host gives its input, and from which call on it refuses reads and prints.
-#[derive(Clone, Copy)]
-struct Manner {
-    piece: usize,
-    reads: usize,
-    prints: usize,
-    ghost some: { 0 < piece },
-}
-
-impl Manner {
-    /// Nothing is refused.
-    fn pieces_of(piece: usize) -> Manner
-        requires { 0 < piece }
-    {
-        Manner {
-            piece,
-            reads: usize::MAX,
-            prints: usize::MAX,
-        }
-    }
-}
-
+/// The top call over an input in pieces of this size, where the calls of these numbers are refused.
 fn run(
     rt: &HostRuntime,
     words: &[&str],
     input: &[u8],
-    manner: Manner,
-) -> Result<(Report, Vec<u8>), Fail> {
+    piece: usize,
+    refused: &[u64],
+) -> Result<(Report, MemHost), Fail>
+    requires { 0 < piece }
+{
     let mut owned = Vec::new(rt.alloc());
     for word in words {
         owned.push(String::from_str(rt.alloc(), word)?)?;
     }
-    let mut host = ScriptHost {
-        input: Vec::from_slice(rt.alloc(), input)?,
-        at: 0,
-        piece: manner.piece,
-        said: Vec::new(rt.alloc()),
-        reads_left: manner.reads,
-        prints_left: manner.prints,
-        faults: 0,
+    let disk = MemDisk::empty(rt.alloc());
+    let mut pieces = PieceHost {
+        host: MemHost::new(rt.alloc(), input, b"", disk, refused, None)?,
+        piece,
     };
-    let report = top(rt, &owned, &mut host);
-    let ScriptHost {
-        input: _,
-        at: _,
-        piece: _,
-        said,
-        reads_left: _,
-        prints_left: _,
-        faults: _,
-    } = host;
-    Ok((report, said))
+    let report = top(rt, &owned, &mut pieces);
+    let PieceHost { host, piece: _ } = pieces;
+    Ok((report, host))
 }
 
 #[test]
 fn a_put_is_answered_and_found(rt: HostRuntime) -> Result<(), Fail> {
     for piece in [1, 65_536] {
         let script = b"put 0 a 1\nget 0 a\n";
-        let (report, said) = run(&rt, &["run", "d"], script, Manner::pieces_of(piece))?;
+        let (report, host) = run(&rt, &["run", "d"], script, piece, &[])?;
         assert_eq!(rt; report.status, 0);
         assert_eq!(rt; report.lines, 2);
         assert_eq!(rt; report.order.as_slice(), [1].as_slice());
-        assert_eq!(rt; said.as_slice(), b"ok\nvalue 1\n".as_slice());
+        assert_eq!(rt; host.said(), b"ok\nvalue 1\n".as_slice());
     }
     Ok(())
 }
@@ -104,10 +75,10 @@ fn each_line_has_its_reply(rt: HostRuntime) -> Result<(), Fail> {
     ];
     for (script, wanted, lines) in cases {
         for piece in [1, 3, 65_536] {
-            let (report, said) = run(&rt, &["run", "d"], script, Manner::pieces_of(piece))?;
+            let (report, host) = run(&rt, &["run", "d"], script, piece, &[])?;
             assert_eq!(rt; report.status, 0, "{script:?}");
             assert_eq!(rt; report.lines, lines, "{script:?}");
-            assert_eq!(rt; said.as_slice(), wanted, "{script:?}");
+            assert_eq!(rt; host.said(), wanted, "{script:?}");
         }
     }
     Ok(())
@@ -135,10 +106,10 @@ fn lines_are_measured_to_the_byte(rt: HostRuntime) -> Result<(), Fail> {
         for piece in [1_000, 65_536] {
             let mut script = put_of_length(&rt, length)?;
             script.extend_from_slice(b"\nget 0 k\n")?;
-            let (report, said) = run(&rt, &["run", "d"], &script, Manner::pieces_of(piece))?;
+            let (report, host) = run(&rt, &["run", "d"], &script, piece, &[])?;
             assert_eq!(rt; report.status, 0, "{length}");
             assert_eq!(rt; report.lines, 2, "{length}");
-            assert!(rt; said.starts_with(wanted), "{length}");
+            assert!(rt; host.said().starts_with(wanted), "{length}");
         }
     }
     Ok(())
@@ -156,50 +127,51 @@ fn other_words_are_refused(rt: HostRuntime) -> Result<(), Fail> {
         &["--help"],
     ];
     for words in cases {
-        let manner = Manner::pieces_of(100);
-        let (report, said) = run(&rt, words, b"put 0 a 1\n", manner)?;
+        let (report, host) = run(&rt, words, b"put 0 a 1\n", 100, &[])?;
         assert_eq!(rt; report.status, 1, "{words:?}");
         assert_eq!(rt; report.lines, 0, "{words:?}");
-        assert_eq!(rt; said.as_slice(), b"fault usage\n".as_slice(), "{words:?}");
-        let silent = Manner {
-            piece: 100,
-            reads: 9,
-            prints: 0,
-        };
-        let (report, said) = run(&rt, words, b"put 0 a 1\n", silent)?;
+        assert_eq!(rt; host.said(), b"fault usage\n".as_slice(), "{words:?}");
+        let (report, host) = run(&rt, words, b"put 0 a 1\n", 100, &[0])?;
         assert_eq!(rt; report.status, 3, "{words:?}");
-        assert!(rt; said.is_empty(), "{words:?}");
+        assert!(rt; host.said().is_empty(), "{words:?}");
     }
     Ok(())
 }
 
 #[test]
-fn after_a_refused_call_nothing_more_is_said(rt: HostRuntime) -> Result<(), Fail> {
+fn after_a_refused_call_none_is_made(rt: HostRuntime) -> Result<(), Fail> {
     let script = b"put 0 a 1\nput 0 b 2\nget 0 a\n";
-    // (reads, prints, lines answered, accepted, said)
+    // The folder is bound; the log is read, cut and forced; of each line a piece is read, the frame of a put written and
+    // forced, and the reply printed; at last the input's end is read.
+    // (refused call, lines answered, accepted, said)
     let cases = [
-        (0, 9, 0, [].as_slice(), b"".as_slice()),
-        (1, 9, 1, &[1], b"ok\n"),
-        (2, 9, 2, &[1, 2], b"ok\nok\n"),
-        (9, 0, 0, &[1], b""),
-        (9, 1, 1, &[1, 2], b"ok\n"),
-        (9, 2, 2, &[1, 2], b"ok\nok\n"),
+        (0, 0, [].as_slice(), b"".as_slice()),
+        (1, 0, &[], b""),
+        (2, 0, &[], b""),
+        (3, 0, &[], b""),
+        (4, 0, &[], b""),
+        (5, 0, &[1], b""),
+        (6, 0, &[1], b""),
+        (7, 0, &[1], b""),
+        (8, 1, &[1], b"ok\n"),
+        (9, 1, &[1, 2], b"ok\n"),
+        (10, 1, &[1, 2], b"ok\n"),
+        (11, 1, &[1, 2], b"ok\n"),
+        (12, 2, &[1, 2], b"ok\nok\n"),
+        (13, 2, &[1, 2], b"ok\nok\n"),
+        (14, 3, &[1, 2], b"ok\nok\nvalue 1\n"),
     ];
-    for (reads, prints, lines, order, wanted) in cases {
-        let manner = Manner {
-            piece: 10,
-            reads,
-            prints,
-        };
-        let (report, said) = run(&rt, &["run", "d"], script, manner)?;
-        assert_eq!(rt; report.status, 3);
-        assert_eq!(rt; report.lines, lines);
-        assert_eq!(rt; report.order.as_slice(), order);
-        assert_eq!(rt; said.as_slice(), wanted);
+    for (refused, lines, order, wanted) in cases {
+        let (report, host) = run(&rt, &["run", "d"], script, 10, &[refused])?;
+        assert_eq!(rt; report.status, 3, "{refused}");
+        assert_eq!(rt; report.lines, lines, "{refused}");
+        assert_eq!(rt; report.order.as_slice(), order, "{refused}");
+        assert_eq!(rt; host.said(), wanted, "{refused}");
+        assert_eq!(rt; host.calls(), refused + 1, "{refused}");
     }
-    let (report, said) = run(&rt, &["run", "refused"], script, Manner::pieces_of(10))?;
-    assert_eq!(rt; report.status, 3);
-    assert!(rt; said.is_empty());
+    let (report, host) = run(&rt, &["run", "d"], script, 10, &[15])?;
+    assert_eq!(rt; report.status, 0);
+    assert_eq!(rt; host.calls(), 15);
     Ok(())
 }
 
@@ -213,11 +185,11 @@ fn a_script_of_too_many_lines_is_answered_up_to_the_limit(rt: HostRuntime) -> Re
     let last = b"error line\n".as_slice();
     for (lines, status, tail) in [(4_000_000, 0, last), (4_000_001, 6, b"fault long\n")] {
         let script = empty_lines(&rt, lines)?;
-        let (report, said) = run(&rt, &["run", "d"], &script, Manner::pieces_of(65_536))?;
+        let (report, host) = run(&rt, &["run", "d"], &script, 65_536, &[])?;
         assert_eq!(rt; report.status, status);
         assert_eq!(rt; report.lines, 4_000_000);
-        assert_eq!(rt; said.len(), lines * 11);
-        assert!(rt; said.ends_with(tail));
+        assert_eq!(rt; host.said().len(), lines * 11);
+        assert!(rt; host.said().ends_with(tail));
     }
     Ok(())
 }

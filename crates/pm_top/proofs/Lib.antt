@@ -1,1 +1,13 @@
+pub mod Answering
 pub mod Follows
+pub mod Keeps
+pub mod Lasts
+pub mod Numbers
+pub mod Opens
+pub mod Orders
+pub mod Turns
+pub mod Starts
+pub mod Says
+pub mod Telling
+pub mod Binding
+pub mod Limits

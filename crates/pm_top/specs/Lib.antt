@@ -1,5 +1,8 @@
+pub mod Crashes
 pub mod Faults
+pub mod Openings
 pub mod Promises
+pub mod Puts
 pub mod Scripts
 pub mod Sessions
 pub mod Statuses

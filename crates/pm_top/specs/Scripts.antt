@@ -5,6 +5,7 @@ use Rattle.pm_script.specs.Lines.{lines_of, first_line, after_line}
 use Rattle.pm_script.specs.Grammar.{line_of}
 use Rattle.pm_script.specs.Reading.{Unread, TakesLine, IsAtEnd, IsOver, CountsLine}
 use Rattle.pm_model.specs.declared.line.Line.{Line}
+use Rattle.pm_top.specs.Puts.{IsNumbered}
 use Rattle.pm_top.specs.declared.run.Next.{Next}
 use Rattle.pm_top.specs.declared.run.Next.TheVariants as next
 
@@ -44,3 +45,9 @@ abbrev pub Counts : Unread → Unread → Next → Type 0
 Counts old new (next.Line line) = CountsLine old new
 Counts old new next.End = Unit {0}
 Counts old new next.Over = Unit {0}
+
+-- a line that was taken names one of the caches
+abbrev pub IsNumberedNext : Next → Type 0
+IsNumberedNext (next.Line line) = IsNumbered line
+IsNumberedNext next.End = Unit {0}
+IsNumberedNext next.Over = Unit {0}

@@ -1,12 +1,16 @@
 -- How far a run has come, and what one line does.
-use Rattle.std.specs.Prelude.{◌≡◌, ℕ, ◌+◌, List, [], ◌∷◌, ◌++◌, length}
-use Rattle.std.specs.FinMap.{empty}
+use Rattle.std.specs.Prelude.{◌≡◌, ◌⊎◌, ℕ, ◌+◌, ◌≤◌, List, [], ◌∷◌, ◌++◌, length, take, Bool, true, false}
 use Rattle.pm_model.specs.declared.line.Line.{Line}
-use Rattle.pm_model.specs.Eval.{reply_to, after, replies_to, after_all, accepted}
-use Rattle.pm_disk.specs.Worlds.{World, with_said}
+use Rattle.pm_model.specs.Eval.{Pairs, is_accepted, reply_to, after, replies_to, after_all, accepted}
+use Rattle.pm_disk.specs.Worlds.{World, log_forced}
 use Rattle.pm_script.specs.Grammar.{script_of}
 use Rattle.pm_script.specs.Texts.{text_of, texts_of}
-use Rattle.pm_top.specs.Promises.{SaysPart}
+use Rattle.pm_frame.specs.declared.kinds.TheConstants.{LOGICAL}
+use Rattle.pm_frame.specs.declared.limits.TheConstants.{FRAME_EXTRA, SEGMENT_END_MAX}
+use Rattle.pm_frame.specs.Frames.{Frame}
+use Rattle.pm_segments.specs.Ends.{LogEnd, appended, moved}
+use Rattle.pm_top.specs.Puts.{pairs_of, record_of_line, IsPayloadOf, log_bytes}
+use Rattle.pm_top.specs.Openings.{IsReady, KeepsOthers}
 use Rattle.pm_top.specs.Scripts.{after_lines}
 use Rattle.pm_top.specs.declared.session.Session.{Session}
 
@@ -14,16 +18,52 @@ use Rattle.pm_top.specs.declared.session.Session.{Session}
 abbrev pub ordered : Session → Line → List ℕ
 ordered session line = session.order.items ++ accepted (session.lines + 1) (line ∷ []) session.pairs
 
+-- the log of the disk holds these pairs, and the next put is to be written behind it
+pub record Stands (pairs : Pairs) (log : LogEnd) (world : World) : Type 0 where
+  pub puts : List Frame
+  pub ready : IsReady log world puts
+  pub map : pairs ≡ pairs_of puts
+
+-- a line was answered in memory: what is to be written and said is made
+pub record IsPrepared (before now : Session) (line : Line) (accepted_now : Bool) : Type 0 where
+  pub accepted_is : accepted_now ≡ is_accepted line before.pairs
+  pub text : now.text.items ≡ text_of (reply_to line before.pairs)
+  pub payload : IsPayloadOf (record_of_line line) now.payload.items
+  pub pairs : now.pairs ≡ after line before.pairs
+  pub order : now.order.items ≡ ordered before line
+
+-- the frame of a payload
+abbrev pub framed : List ℕ → Frame
+framed payload = record { kind = LOGICAL; payload = payload }
+
+-- the world after a record was written and forced, where there is one
+abbrev pub stored : Bool → List ℕ → LogEnd → World → World
+stored true payload log world = log_forced log.end.seg (appended log (framed payload) world)
+stored false payload log world = world
+
+-- the log's end behind the record, where there is one
+abbrev pub stored_log : Bool → List ℕ → LogEnd → LogEnd
+stored_log true payload log = moved log (framed payload)
+stored_log false payload log = log
+
+-- how far a record is stored: not yet, written, or written and forced
+abbrev pub Stores : Bool → List ℕ → LogEnd → World → World → Type 0
+Stores true payload log old now = (now ≡ old) ⊎ (now ≡ appended log (framed payload) old) ⊎ (now ≡ stored true payload log old)
+Stores false payload log old now = now ≡ old
+
 -- a line was answered, and its reply said
 pub record AnswersLine (before now : Session) (old new : World) (line : Line) : Type 0 where
-  pub said : new ≡ with_said (text_of (reply_to line before.pairs)) old
+  pub said : new.said ≡ old.said ++ text_of (reply_to line before.pairs)
+  pub input : new.input ≡ old.input
+  pub others : KeepsOthers old new
   pub pairs : now.pairs ≡ after line before.pairs
   pub order : now.order.items ≡ ordered before line
   pub lines : now.lines ≡ before.lines + 1
 
 -- a line was answered, and its reply said in part
 pub record BreaksOff (before now : Session) (old new : World) (line : Line) : Type 0 where
-  pub said : SaysPart (text_of (reply_to line before.pairs)) old new
+  pub part : ℕ
+  pub said : new.said ≡ old.said ++ take part (text_of (reply_to line before.pairs))
   pub order : now.order.items ≡ ordered before line
   pub lines : now.lines ≡ before.lines
 
@@ -33,12 +73,16 @@ pub record IsUnanswered (before now : Session) (old new : World) : Type 0 where
   pub order : now.order.items ≡ before.order.items
   pub lines : now.lines ≡ before.lines
 
--- How far a run has come: the lines that are done, and what follows from them alone.
-pub record Progress (old now : World) (rest : List ℕ) (session : Session) : Type 0 where
+-- How far a run has come from a start with these pairs, where the log had this size: the lines that are done, and what
+-- follows from them alone.
+pub record Progress (old now : World) (rest : List ℕ) (pairs : Pairs) (size : ℕ) (session : Session) (log : LogEnd) : Type 0 where
   pub done : List Line
   pub script : script_of old.input ≡ done ++ script_of rest
   pub count : length done ≡ session.lines
-  pub said : now.said ≡ old.said ++ texts_of (replies_to done empty)
-  pub pairs_are : after_all done empty ≡ session.pairs
-  pub order_is : session.order.items ≡ accepted 1 done empty
+  pub said : now.said ≡ old.said ++ texts_of (replies_to done pairs)
+  pub pairs_are : after_all done pairs ≡ session.pairs
+  pub order_is : session.order.items ≡ accepted 1 done pairs
   pub place : rest ≡ after_lines session.lines old.input
+  pub end : log.end.off ≡ size + log_bytes done
+  pub room : log.end.off + FRAME_EXTRA ≤ SEGMENT_END_MAX
+  pub others : KeepsOthers old now

@@ -1,10 +1,16 @@
 //! The top call.
 
-ghost use Rattle.std.specs.Prelude.{◌≡◌, ◌⊎◌, [], length, codes, map, false, IsTrue, string_bytes, ◌<◌};
+ghost use Rattle.std.specs.Prelude.{◌≡◌, ◌⊎◌, List, [], length, codes, map, false, IsTrue, string_bytes, ◌<◌};
 ghost use Rattle.std.specs.FinMap.{empty};
 ghost use Rattle.pm_types.specs.Causes.{Rose};
+ghost use Rattle.pm_frame.specs.Frames.{Frame};
+ghost use Rattle.pm_disk.specs.Images.{NothingPending};
+ghost use Rattle.pm_disk.specs.Moments.{AllMoments};
 ghost use Rattle.pm_disk.specs.Worlds.{with_said};
-ghost use Rattle.pm_top.specs.Promises.{Ends, EndsRefused, SaysPart};
+ghost use Rattle.pm_segments.specs.Logs.{sizes};
+ghost use Rattle.pm_top.specs.Crashes.{KeepsAcknowledged};
+ghost use Rattle.pm_top.specs.Promises.{Ends, EndsRefused, FillsLog, FitsLog, SaysPart};
+ghost use Rattle.pm_top.specs.Puts.{HoldsPuts, pairs_of};
 ghost use Rattle.pm_top.specs.Scripts.{IsWithinLimits, PassesLimit};
 ghost use Rattle.pm_top.specs.Statuses.{status_of, code_of};
 ghost use Rattle.pm_top.specs.Words.{is_command};
@@ -21,33 +27,45 @@ use std::alloc::Global;
 ///
 /// The words are those after the program's name: `run` and a folder, which isn't empty and doesn't
 /// begin with `-`. The folder is made where it isn't there. Then the script on the host's input is
-/// answered line by line, from a map that begins empty; what isn't printed is not kept.
+/// answered line by line over the map that the folder's log holds. Each accepted line is in the log, and forced, before its
+/// reply is printed.
 /// After the statuses 3 and 4 nothing more is printed.
 pub fn top<Q: AllocGlobal, H: Host>(rt: &Q, words: &[String], host: &mut H) -> Report
     ensures known { result.status ≡ code_of (status_of result.status) }
 
     // Which lines are answered, and with what.
     ensures replies { H.tells → IsTrue (is_command (map string_bytes words.now)) →
+        (puts : List Frame) → HoldsPuts (H.history host.old).world puts →
         Ends (status_of result.status) (H.history host.old).world
-        (H.history host.new).world result.lines result.order.items }
+        (H.history host.new).world (pairs_of puts) (sizes puts) result.lines result.order.items }
     ensures refusal { H.tells → is_command (map string_bytes words.now) ≡ false →
         EndsRefused (status_of result.status) (H.history host.old).world
         (H.history host.new).world result.lines result.order.items }
+
+    // Whatever a crash at any moment leaves holds each line that was acknowledged, and no line that the order lacks.
+    ensures crash { H.tells → NothingPending (H.history host.old).world → (puts : List Frame) →
+        HoldsPuts (H.history host.old).world puts →
+        AllMoments (H.history host.old) (H.history host.new)
+        (KeepsAcknowledged (H.history host.old).world (pairs_of puts) result.order.items) }
 
     // When each status comes: 1 and 6 exactly where the words or the script ask for it, 3 only after a failed call.
     ensures usage { result.status ≡ 1 → is_command (map string_bytes words.now) ≡ false }
     ensures refused { is_command (map string_bytes words.now) ≡ false →
         (result.status ≡ 1) ⊎ (result.status ≡ 3) }
     ensures failed { result.status ≡ 3 → Rose (H.faults host.old) (H.faults host.new) }
-    ensures long { H.tells → result.status ≡ 6 → PassesLimit (H.history host.old).world.input }
-    ensures passes { H.tells → IsTrue (is_command (map string_bytes words.now)) →
-        PassesLimit (H.history host.old).world.input →
+    ensures long { H.tells → result.status ≡ 6 → (puts : List Frame) →
+        HoldsPuts (H.history host.old).world puts →
+        PassesLimit (H.history host.old).world.input ⊎ FillsLog (sizes puts) (H.history host.old).world.input }
+    ensures passes { H.tells → IsTrue (is_command (map string_bytes words.now)) → (puts : List Frame) →
+        HoldsPuts (H.history host.old).world puts →
+        PassesLimit (H.history host.old).world.input ⊎ FillsLog (sizes puts) (H.history host.old).world.input →
         (Rose (H.faults host.old) (H.faults host.new) → ⊥) →
         (result.status ≡ 6) ⊎ (result.status ≡ 4) }
 
     // Where nothing fails and the script is within its limits, it is answered whole, or memory runs out.
-    ensures complete { H.tells → IsTrue (is_command (map string_bytes words.now)) →
-        IsWithinLimits (H.history host.old).world.input →
+    ensures complete { H.tells → IsTrue (is_command (map string_bytes words.now)) → (puts : List Frame) →
+        HoldsPuts (H.history host.old).world puts →
+        IsWithinLimits (H.history host.old).world.input → FitsLog (sizes puts) (H.history host.old).world.input →
         (Rose (H.faults host.old) (H.faults host.new) → ⊥) →
         (result.status ≡ 0) ⊎ (result.status ≡ 4) }
 {
@@ -66,11 +84,16 @@ fn command<H: Host>(alloc: Global, words: &[String], host: &mut H, session: &mut
     requires order { session.old.order.items ≡ [] }
     requires lines { session.old.lines ≡ 0 }
     ensures replies { H.tells → IsTrue (is_command (map string_bytes words.now)) →
+        (puts : List Frame) → HoldsPuts (H.history host.old).world puts →
         Ends result (H.history host.old).world
-        (H.history host.new).world session.new.lines session.new.order.items }
+        (H.history host.new).world (pairs_of puts) (sizes puts) session.new.lines session.new.order.items }
     ensures refusal { H.tells → is_command (map string_bytes words.now) ≡ false →
         EndsRefused result (H.history host.old).world
         (H.history host.new).world session.new.lines session.new.order.items }
+    ensures crash { H.tells → NothingPending (H.history host.old).world → (puts : List Frame) →
+        HoldsPuts (H.history host.old).world puts →
+        AllMoments (H.history host.old) (H.history host.new)
+        (KeepsAcknowledged (H.history host.old).world (pairs_of puts) session.new.order.items) }
     ensures usage { result ≡ Status.Usage → is_command (map string_bytes words.now) ≡ false }
     ensures refused { is_command (map string_bytes words.now) ≡ false →
         (result ≡ Status.Usage) ⊎ (result ≡ Status.Failed) }
@@ -91,6 +114,8 @@ fn refuse<H: Host>(host: &mut H) -> Status
         (H.history host.new).world ≡ with_said (codes "fault usage\n") (H.history host.old).world }
     ensures part { H.tells → result ≡ Status.Failed →
         SaysPart (codes "fault usage\n") (H.history host.old).world (H.history host.new).world }
+    ensures moments { H.tells → AllMoments (H.history host.old) (H.history host.new)
+        (SaysPart (codes "fault usage\n") (H.history host.old).world) }
     ensures cases { (result ≡ Status.Usage) ⊎ (result ≡ Status.Failed) }
     ensures failed { result ≡ Status.Failed → Rose (H.faults host.old) (H.faults host.new) }
 {

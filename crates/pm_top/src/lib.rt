@@ -3,6 +3,8 @@
 
 mod call;
 mod fault;
+mod open;
+mod put;
 mod report;
 mod run;
 mod session;

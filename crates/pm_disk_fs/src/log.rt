@@ -1,0 +1,224 @@
+//! The log's segments as files of a folder.
+
+ghost use Rattle.std.specs.Prelude.{◌≡◌, ◌<◌, ◌≤◌, ◌↔◌, false, length, take, IsTrue, IsErr, OnOk, IfOk};
+ghost use Rattle.std.specs.String.{string_bytes};
+ghost use Rattle.std.specs.Io.KnownBytes.{Consumes, IsAtEnd};
+
+use crate::folder::{make_folder, segment_path, sync_folder};
+use std::alloc::Global;
+use std::fs::{self, OpenFile, OpenOptions};
+use std::io::{self, ErrorKind, Read, Seek, SeekFrom, Write};
+use std::path::Path;
+use std::rt::Files;
+
+/// The segments of the log in the store's folder. Where a write, a cut or a force has failed, each later
+/// one fails: nobody knows then what the disk holds.
+#[derive(Drop)]
+pub struct LogFolder<R: Files> {
+    dir: String,
+    // The segment that was changed last. It stays open, so that its force is told of each failed write.
+    open: Option<Segment<R::File>>,
+    // Whether each name in the folder lasts. An earlier run may have ended before it saw to that.
+    names_last: bool,
+    // Whether a change or a force has failed.
+    is_broken: bool,
+}
+
+// An open file of the log.
+#[derive(Drop)]
+struct Segment<F: Drop> {
+    seg: u64,
+    file: F,
+}
+
+impl<R: Files + AllocGlobal> LogFolder<R> {
+    /// No folder yet.
+    pub fn new(alloc: Global) -> LogFolder<R>
+        ensures whole { result.is_broken ≡ false }
+    {
+        LogFolder {
+            dir: String::new(alloc),
+            open: None,
+            names_last: false,
+            is_broken: false,
+        }
+    }
+
+    /// Makes the folder where it isn't there. From now on the segments are in it.
+    pub fn bind(&mut self, rt: &R, dir: &str) -> io::Result<()>
+        ensures broken { self.new.is_broken ≡ self.old.is_broken }
+        ensures dir { OnOk result (string_bytes self.new.dir ≡ dir.now) }
+        ensures names { OnOk result (self.new.names_last ≡ false) }
+    {
+        make_folder(rt, dir)?;
+        self.dir = String::from_str(rt.alloc(), dir)?;
+        self.names_last = false;
+        self.open = None;
+        Ok(())
+    }
+
+    /// The length of a segment in bytes, none where there is no such file.
+    pub fn len(&self, rt: &R, seg: u64) -> io::Result<Option<u64>> {
+        let path = segment_path(rt.alloc(), &self.dir, seg)?;
+        match fs::metadata(rt, &path) {
+            Ok(found) => Ok(Some(found.len())),
+            Err(e) if e.kind() == ErrorKind::NotFound => Ok(None),
+            Err(e) => Err(e),
+        }
+    }
+
+    /// Reads a segment from the offset on until the buffer is full or the file ends, and answers how
+    /// many bytes there were; 0 where there is no such file.
+    pub fn read(&self, rt: &R, seg: u64, at: u64, into: &mut [u8]) -> io::Result<usize>
+        ensures bound { IfOk result (λ n. n ≤ length into.new) }
+    {
+        match self.open_to_read(rt, seg)? {
+            Some(mut file) => {
+                file.seek(SeekFrom::Start(at))?;
+                fill(&mut file, into)
+            }
+            None => Ok(0),
+        }
+    }
+
+    /// Writes the bytes from the offset on, and makes the file where it isn't there.
+    pub fn write(&mut self, rt: &R, seg: u64, at: u64, bytes: &[u8]) -> io::Result<()>
+        ensures refused { IsTrue self.old.is_broken → IsErr result }
+        ensures broken { IsErr result ↔ IsTrue self.new.is_broken }
+    {
+        self.begin()?;
+        let mut file = self.take(rt, seg)?;
+        file.seek(SeekFrom::Start(at))?;
+        file.write_all(bytes)?;
+        self.open = Some(Segment { seg, file });
+        self.is_broken = false;
+        Ok(())
+    }
+
+    /// Cuts the file to this length in bytes, and makes it where it isn't there.
+    pub fn cut(&mut self, rt: &R, seg: u64, len: u64) -> io::Result<()>
+        ensures refused { IsTrue self.old.is_broken → IsErr result }
+        ensures broken { IsErr result ↔ IsTrue self.new.is_broken }
+    {
+        self.begin()?;
+        let file = self.take(rt, seg)?;
+        file.set_len(len)?;
+        self.open = Some(Segment { seg, file });
+        self.is_broken = false;
+        Ok(())
+    }
+
+    /// Makes the file's bytes and its length lasting, and all names in the folder.
+    pub fn force(&mut self, rt: &R, seg: u64) -> io::Result<()>
+        ensures refused { IsTrue self.old.is_broken → IsErr result }
+        ensures broken { IsErr result ↔ IsTrue self.new.is_broken }
+        ensures names { OnOk result (IsTrue self.new.names_last) }
+    {
+        self.begin()?;
+        self.sync(rt, seg)?;
+        if !self.names_last {
+            sync_folder(rt, Path::new(&self.dir))?;
+            self.names_last = true;
+        }
+        self.is_broken = false;
+        Ok(())
+    }
+
+    // Refuses where an earlier call has failed, and takes this one for failed until it is done.
+    fn begin(&mut self) -> io::Result<()>
+        ensures refused { IsErr result ↔ IsTrue self.old.is_broken }
+        ensures broken { IsTrue self.new.is_broken }
+    {
+        if self.is_broken {
+            return Err(io::Error::from(ErrorKind::Other));
+        }
+        self.is_broken = true;
+        Ok(())
+    }
+
+    // Makes the file's bytes and its length lasting, where it is there.
+    fn sync(&mut self, rt: &R, seg: u64) -> io::Result<()>
+        ensures broken { self.new.is_broken ≡ self.old.is_broken }
+    {
+        let Some(open) = self.open.take() else {
+            return self.sync_closed(rt, seg);
+        };
+        if open.seg == seg {
+            open.file.sync_all()?;
+        } else {
+            self.sync_closed(rt, seg)?;
+        }
+        self.open = Some(open);
+        Ok(())
+    }
+
+    fn sync_closed(&self, rt: &R, seg: u64) -> io::Result<()> {
+        match self.open_to_read(rt, seg)? {
+            Some(file) => file.sync_all(),
+            None => Ok(()),
+        }
+    }
+
+    fn open_to_read(&self, rt: &R, seg: u64) -> io::Result<Option<R::File>> {
+        let path = segment_path(rt.alloc(), &self.dir, seg)?;
+        match fs::open(rt, &path) {
+            Ok(file) => Ok(Some(file)),
+            Err(e) if e.kind() == ErrorKind::NotFound => Ok(None),
+            Err(e) => Err(e),
+        }
+    }
+
+    // The segment's file to be changed, which the folder doesn't keep open from now on.
+    fn take(&mut self, rt: &R, seg: u64) -> io::Result<R::File>
+        ensures broken { self.new.is_broken ≡ self.old.is_broken }
+    {
+        if let Some(open) = self.open.take() {
+            let Segment { seg: number, file } = open;
+            if number == seg {
+                return Ok(file);
+            }
+        }
+        self.open_to_change(rt, seg)
+    }
+
+    // The segment's file to be changed, which is made where it isn't there.
+    fn open_to_change(&mut self, rt: &R, seg: u64) -> io::Result<R::File>
+        ensures broken { self.new.is_broken ≡ self.old.is_broken }
+    {
+        let path = segment_path(rt.alloc(), &self.dir, seg)?;
+        match OpenOptions::new().write(true).open(rt, &path) {
+            Err(e) if e.kind() == ErrorKind::NotFound => self.make(rt, &path),
+            opened => opened,
+        }
+    }
+
+    // Makes a segment's file. Its name lasts once a force has seen to that.
+    fn make(&mut self, rt: &R, path: &str) -> io::Result<R::File>
+        ensures broken { self.new.is_broken ≡ self.old.is_broken }
+        ensures names { self.new.names_last ≡ false }
+    {
+        self.names_last = false;
+        OpenOptions::new()
+            .write(true)
+            .create_new(true)
+            .open(rt, path)
+    }
+}
+
+// Reads until the buffer is full or the file ends.
+fn fill<F: Read>(from: &mut F, into: &mut [u8]) -> io::Result<usize>
+    ensures bound { IfOk result (λ n. n ≤ length into.new) }
+    ensures front { IfOk result
+        (λ n. Consumes (F.remaining from.old) (F.remaining from.new) (take n into.new)) }
+    ensures end { IfOk result (λ n. n < length into.new → IsAtEnd (F.remaining from.new)) }
+{
+    let mut count = 0;
+    while count < into.len() {
+        let more = from.read(&mut into[count..])?;
+        if more == 0 {
+            break;
+        }
+        count += more;
+    }
+    Ok(count)
+}

@@ -1,0 +1,42 @@
+-- What a host in memory tells.
+use Rattle.std.specs.Prelude.{◌≡◌, ◌+◌, ◌-◌, ◌^◌, ℕ, min, true, List, Option, Result, IsErr}
+use Rattle.pm_disk.specs.Worlds.{World}
+use Rattle.pm_disk.specs.Moments.{History}
+use Rattle.pm_disk_mem.specs.Plans.{is_due, HasPlan, KeepsPlan}
+use Rattle.pm_disk_mem.specs.Steps.{start_world, replay, told}
+use Rattle.pm_disk_mem.specs.declared.host.MemHost.{MemHost}
+use Rattle.pm_disk_mem.specs.declared.step.Step.{Step}
+
+-- the world as the host began
+abbrev pub first_world : MemHost → World
+first_world host = start_world host.segments host.console host.config.items
+
+-- what the host has done
+abbrev pub steps_of : MemHost → List Step
+steps_of host = host.steps.items
+
+-- the world now
+abbrev pub world_of : MemHost → World
+world_of host = replay (steps_of host) (first_world host)
+
+-- the world now and at each moment before
+abbrev pub history_of : MemHost → History
+history_of host = told (first_world host) (steps_of host)
+
+-- how many calls were made that can fail
+abbrev pub calls_of : MemHost → ℕ
+calls_of host = host.failures.calls
+
+-- how many of them failed
+abbrev pub faults_of : MemHost → ℕ
+faults_of host = host.failures.count
+
+-- these calls are to fail, and each one from the stop on
+abbrev pub IsPlanned : MemHost → List ℕ → Option ℕ → Type 0
+IsPlanned host failing stop = HasPlan host.failures failing stop
+
+-- The call was counted, and failed where it was to fail; which calls are to fail is as it was.
+pub record Counts {T E : Type 0} (old new : MemHost) (result : Result T E) : Type 0 where
+  pub calls : calls_of new ≡ min (calls_of old + 1) (2 ^ 64 - 1)
+  pub due : is_due old.failures ≡ true → IsErr result
+  pub plan : KeepsPlan old.failures new.failures

@@ -1,0 +1,10 @@
+pub mod Changes
+pub mod Consoles
+pub mod Disks
+pub mod Hosts
+pub mod Picks
+pub mod Plans
+pub mod Segments
+pub mod Sound
+pub mod Steps
+pub mod Tracks

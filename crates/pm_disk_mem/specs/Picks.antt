@@ -1,0 +1,80 @@
+-- What each pick leaves of a file.
+use Rattle.std.specs.Prelude.{◌≡◌, ◌+◌, ◌-◌, ℕ, zero, suc, List, [], ◌∷◌, ◌++◌, length, take, replicate, map, Option, Some}
+use Rattle.pm_disk.specs.Files.{Change, Write, Cut, Drop, File, bytes_of, after, changed, content}
+use Rattle.pm_disk_mem.specs.Changes.{change_of}
+use Rattle.pm_disk_mem.specs.Disks.{Store, segment_of}
+use Rattle.pm_disk_mem.specs.declared.change.FileChange.{FileChange}
+use Rattle.pm_disk_mem.specs.declared.pick.Pick.{Pick}
+use Rattle.pm_disk_mem.specs.declared.pick.Pick.TheVariants as pick
+
+-- the file with this byte in place of each one that the change wrote or cut off, and no shorter than it was
+abbrev pub filled_by : ℕ → Change → Option (List ℕ) → Option (List ℕ)
+filled_by byte (Write at bytes) file = changed (Write at (replicate (length bytes) byte)) file
+filled_by byte (Cut len) file = Some (take len (bytes_of file) ++ replicate (length (bytes_of file) - len) byte)
+filled_by byte Drop file = file
+
+-- the same after these changes
+abbrev pub filled : ℕ → List Change → Option (List ℕ) → Option (List ℕ)
+filled byte [] file = file
+filled byte (change ∷ changes) file = filled byte changes (filled_by byte change file)
+
+-- how many bytes the change writes
+abbrev pub written_by : Change → ℕ
+written_by (Write at bytes) = length bytes
+written_by (Cut len) = 0
+written_by Drop = 0
+
+-- how many bytes these changes write
+abbrev pub written : List Change → ℕ
+written [] = 0
+written (change ∷ changes) = written_by change + written changes
+
+-- the file with these bytes from the offset on, and as it is where there are none
+abbrev pub laid_over : ℕ → List ℕ → Option (List ℕ) → Option (List ℕ)
+laid_over at [] file = file
+laid_over at (byte ∷ bytes) file = changed (Write at (byte ∷ bytes)) file
+
+-- the file with the first so many bytes of those that the change writes
+abbrev pub laid_by : ℕ → Change → Option (List ℕ) → Option (List ℕ)
+laid_by count (Write at bytes) file = laid_over at (take count bytes) file
+laid_by count (Cut len) file = file
+laid_by count Drop file = file
+
+-- the file with the first so many bytes of those that these changes write
+abbrev pub laid : ℕ → List Change → Option (List ℕ) → Option (List ℕ)
+laid count [] file = file
+laid count (change ∷ changes) file = laid (count - written_by change) changes (laid_by count change file)
+
+-- what a crash leaves of a file by this pick
+abbrev pub left_by : Pick → File → Option (List ℕ)
+left_by pick.Kept file = content file
+left_by pick.Lost file = file.forced
+left_by (pick.Fill byte) file = filled byte file.since file.forced
+left_by (pick.Cut count) file = laid count file.since file.forced
+
+-- how many bytes are pending in the segments below this one
+abbrev pub written_below : (ℕ → File) → ℕ → ℕ
+written_below log zero = 0
+written_below log (suc seg) = written_below log seg + written (log seg).since
+
+-- the pick for this segment: of the bytes of a cut those in the segments below are laid before
+abbrev pub pick_at : Pick → (ℕ → File) → ℕ → Pick
+pick_at (pick.Cut count) log seg = pick.Cut (count - written_below log seg)
+pick_at pick.Kept log seg = pick.Kept
+pick_at pick.Lost log seg = pick.Lost
+pick_at (pick.Fill byte) log seg = pick.Fill byte
+
+-- each segment of the disk is what a crash leaves of the log by this pick
+abbrev pub IsPicked : Pick → (ℕ → File) → Store → Type 0
+IsPicked pick log disk = (seg : ℕ) → segment_of disk seg ≡ left_by (pick_at pick log seg) (log seg)
+
+-- the pick for the next segment of which there is a file: of a cut the bytes that this one has are there
+abbrev pub pick_after : Pick → File → Pick
+pick_after pick.Kept file = pick.Kept
+pick_after pick.Lost file = pick.Lost
+pick_after (pick.Fill byte) file = pick.Fill byte
+pick_after (pick.Cut count) file = pick.Cut (count - written file.since)
+
+-- the file with such a start and these changes, of which the first ones are lasting
+abbrev pub file_of : Option (List ℕ) → List FileChange → List FileChange → File
+file_of start lasting pending = record { forced = after (map change_of lasting) start; since = map change_of pending }

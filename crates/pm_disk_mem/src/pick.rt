@@ -1,0 +1,16 @@
+//! Which of its images a crash leaves.
+
+/// What a crash leaves of the changes that no force has made lasting.
+#[derive(Clone, Copy, Debug, PartialEq, Eq)]
+pub enum Pick {
+    /// All of them.
+    Kept,
+    /// None of them.
+    Lost,
+    /// Each byte that isn't lasting is this one, and each file has the greatest length that it had
+    /// since its last force.
+    Fill(u8),
+    /// The first so many of the bytes that were written to the log and aren't lasting, by segment, and
+    /// in a segment in the order of the writes. Of all other changes none.
+    Cut(u64),
+}
