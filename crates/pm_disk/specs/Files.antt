@@ -1,5 +1,5 @@
 -- One file: what a read finds, and what was changed since it was last forced.
-use Rattle.std.specs.Prelude.{◌≡◌, ◌+◌, ◌-◌, ℕ, min, List, [], ◌∷◌, ◌++◌, length, take, drop, Option, Some, None}
+use Rattle.std.specs.Prelude.{◌≡◌, ◌≤◌, ◌↔◌, ◌+◌, ◌-◌, ℕ, min, List, [], ◌∷◌, ◌++◌, length, take, drop, replicate, Option, Some, None, Bool, false, IsTrue}
 
 -- One change of a file.
 pub data Change : Type 0 where
@@ -55,3 +55,18 @@ absent = record { forced = None; since = [] }
 pub record ReadsFrom (file : Option (List ℕ)) (at count : ℕ) (buffer : List ℕ) : Type 0 where
   pub many : count ≡ min (length buffer) (length (bytes_of file) - at)
   pub front : take count buffer ≡ take count (drop at (bytes_of file))
+
+-- A whole range of the file, from this offset on and as long as the buffer, was read to the buffer. Where the file ends
+-- before the range does, the buffer has zeros.
+pub record ReadsWhole (file : Option (List ℕ)) (at : ℕ) (whole : Bool) (buffer : List ℕ) : Type 0 where
+  pub there : IsTrue whole ↔ (at + length buffer ≤ length (bytes_of file))
+  pub found : IsTrue whole → buffer ≡ take (length buffer) (drop at (bytes_of file))
+  pub zeros : whole ≡ false → buffer ≡ replicate (length buffer) 0
+
+-- how many bytes are missing between the file's end and this offset
+abbrev pub missing : ℕ → Option (List ℕ) → ℕ
+missing at file = at - length (bytes_of file)
+
+-- These bytes are written at this offset. Where the file ends before it, the gap is written too, from the file's end on.
+abbrev pub gapped : Option (List ℕ) → ℕ → List ℕ → List ℕ → Change
+gapped file at gap bytes = Write (min at (length (bytes_of file))) (gap ++ bytes)

@@ -3,7 +3,7 @@
 -- A forced byte that no change since has written or cut is as it was. Each byte that a change has
 -- written since, and all that lies past the forced end, may be anything. Files are independent.
 use Rattle.std.specs.Prelude.{◌≡◌, ◌<◌, ◌≤◌, ◌+◌, ℕ, List, [], ◌∷◌, length, Option, Some, None, IsSome, IsNone, slice_get}
-use Rattle.pm_disk.specs.Files.{Change, Write, Cut, Drop, File, bytes_of, at_change}
+use Rattle.pm_disk.specs.Files.{Change, Write, Cut, Drop, File, bytes_of, changed, at_change}
 use Rattle.pm_disk.specs.Worlds.{World}
 
 -- the change wrote this byte or cut it off; where a crash leaves a removed file, it is as it was
@@ -16,6 +16,17 @@ Touches Drop i = ⊥
 abbrev pub Untouched : List Change → ℕ → Type 0
 Untouched [] i = Unit {0}
 Untouched (change ∷ changes) i = (Touches change i → ⊥) × Untouched changes i
+
+-- The change leaves what is there between two offsets as it is, and the file no shorter.
+pub record KeepsRange (file : Option (List ℕ)) (change : Change) (low high : ℕ) : Type 0 where
+  pub apart : (i : ℕ) → low ≤ i → i < high → i < length (bytes_of file) → Touches change i → ⊥
+  pub same : (i : ℕ) → low ≤ i → i < high → i < length (bytes_of file) → slice_get (bytes_of (changed change file)) i ≡ slice_get (bytes_of file) i
+  pub no_shorter : length (bytes_of file) ≤ length (bytes_of (changed change file))
+
+-- After the change these bytes stand at this offset.
+pub record Puts (file : Option (List ℕ)) (change : Change) (at : ℕ) (bytes : List ℕ) : Type 0 where
+  pub long : at + length bytes ≤ length (bytes_of (changed change file))
+  pub there : (i : ℕ) → i < length bytes → slice_get (bytes_of (changed change file)) (at + i) ≡ slice_get bytes i
 
 -- What a crash may leave of a file that is there afterwards. An absent file has the length 0.
 pub record LeavesBytes (file : File) (left : List ℕ) : Type 0 where

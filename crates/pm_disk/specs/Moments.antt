@@ -1,6 +1,9 @@
 -- How the moments of an object of the outside follow each other.
 use Rattle.std.specs.Prelude.{◌≡◌, ◌≤◌, ◌⊎◌, ℕ, List, length, take, Result, OnOk}
-use Rattle.pm_disk.specs.Worlds.{World, with_said, empty_world}
+use Rattle.pm_types.specs.Ids.{part_of_id}
+use Rattle.pm_types.specs.declared.page_id.PageId.{PageId}
+use Rattle.pm_disk.specs.Files.{missing, gapped}
+use Rattle.pm_disk.specs.Worlds.{World, with_said, empty_world, pages_in, page_at, pages_changed}
 
 -- What an object tells: the world now, the moment as a number that doesn't fall,
 -- and what the world was at some moment from a given one on.
@@ -25,6 +28,12 @@ pub record Does {T E : Type 0} (old new : History) (result : Result T E) (next :
   pub time : Elapses old new
   pub ok : OnOk result (new.world ≡ next)
   pub either : (new.world ≡ old.world) ⊎ (new.world ≡ next)
+
+-- A call that writes a page: behind the end of a file that ends before it any bytes are written first.
+pub record WritesPage {T E : Type 0} (old new : History) (result : Result T E) (page : PageId) (bytes : List ℕ) : Type 0 where
+  pub gap : List ℕ
+  pub reaches : length gap ≡ missing (page_at page (length bytes)) (pages_in old.world (part_of_id page))
+  pub does : Does old new result (pages_changed (part_of_id page) (gapped (pages_in old.world (part_of_id page)) (page_at page (length bytes)) gap bytes) old.world)
 
 -- A call that says bytes: all of them at `Ok`, and at an `Err` the first so many.
 pub record Says {T E : Type 0} (old new : History) (result : Result T E) (bytes : List ℕ) : Type 0 where

@@ -1,21 +1,72 @@
 //! Disk and console together.
 
-ghost use Rattle.std.specs.Prelude.{◌≡◌, ◌<◌, ◌≤◌, [], length, take, IfOk};
+ghost use Rattle.std.specs.Prelude.{◌≡◌, ◌<◌, ◌≤◌, [], length, take, Some, IfOk};
 ghost use Rattle.std.specs.Result.{result_unwrap_or};
 ghost use Rattle.pm_types.specs.Causes.{HasCause};
-ghost use Rattle.pm_disk.specs.Worlds.{with_taken};
+ghost use Rattle.pm_disk.specs.Files.{Drop, ReadsFrom, ReadsWhole};
+ghost use Rattle.pm_disk.specs.Worlds.{log_changed, marks_in, marks_changed, marks_forced, slot_at, slot_change, with_taken};
 ghost use Rattle.pm_disk.specs.Moments.{Does, Says};
 
 use crate::failed::Failed;
 use crate::log::LogFile;
+use crate::mark::{MarkFile, SLOT_LEN};
+use crate::pages::{PageReader, PageWriter};
 
 /// Disk and console in one object, so that a moment pairs what the disk holds with what was said.
-pub trait Host: LogFile {
+pub trait Host: LogFile + PageReader + PageWriter {
     /// Names the folder of the store, and makes it where it isn't there.
     /// It comes before every other call but `print`.
     fn bind(&mut self, dir: &str) -> Result<(), Failed>
         ensures does { Self.tells →
             Does (Self.history self.old) (Self.history self.new) result (Self.history self.old).world }
+        ensures cause { HasCause (Self.faults self.old) (Self.faults self.new) result };
+
+    /// Reads the first bytes of the configuration, as many as it has and `into` holds, and answers how
+    /// many; 0 where there is none.
+    fn read_config(&mut self, into: &mut [u8]) -> Result<usize, Failed>
+        ensures bound { IfOk result (λ n. n ≤ length into.new) }
+        ensures reads { Self.tells → IfOk result
+            (λ n. ReadsFrom (Some (Self.history self.old).world.config) 0 n into.new) }
+        ensures does { Self.tells →
+            Does (Self.history self.old) (Self.history self.new) result (Self.history self.old).world }
+        ensures cause { HasCause (Self.faults self.old) (Self.faults self.new) result };
+
+    /// Removes a segment's file, where it is there. A crash may leave it there again, until the segment
+    /// was forced after this.
+    fn drop_log(&mut self, seg: u64) -> Result<(), Failed>
+        ensures does { Self.tells → Does (Self.history self.old) (Self.history self.new) result
+            (log_changed seg Drop (Self.history self.old).world) }
+        ensures cause { HasCause (Self.faults self.old) (Self.faults self.new) result };
+
+    /// Fills `into` with a slot of a marker file, and answers true. It answers false, and fills `into`
+    /// with zeros, exactly where the file ends before the slot's end.
+    fn read_mark(
+        &mut self,
+        file: MarkFile,
+        slot: u8,
+        into: &mut [u8; SLOT_LEN],
+    ) -> Result<bool, Failed>
+        requires { slot < 2 }
+        ensures reads { Self.tells → IfOk result
+            (λ whole. ReadsWhole (marks_in (Self.history self.old).world file) (slot_at slot) whole into.new) }
+        ensures does { Self.tells →
+            Does (Self.history self.old) (Self.history self.new) result (Self.history self.old).world }
+        ensures cause { HasCause (Self.faults self.old) (Self.faults self.new) result };
+
+    /// Writes a slot of a marker file, over what stands there and past the end. An absent file is made.
+    /// Where the file ends before the slot, zeros are written between the two.
+    fn write_mark(&mut self, file: MarkFile, slot: u8, bytes: &[u8; SLOT_LEN]) -> Result<(), Failed>
+        requires { slot < 2 }
+        ensures does { Self.tells → Does (Self.history self.old) (Self.history self.new) result
+            (marks_changed file (slot_change (marks_in (Self.history self.old).world file) slot bytes.now)
+            (Self.history self.old).world) }
+        ensures cause { HasCause (Self.faults self.old) (Self.faults self.new) result };
+
+    /// Makes the bytes, the length and the existence of a marker file lasting, or, where there is no
+    /// such file, its absence.
+    fn force_mark(&mut self, file: MarkFile) -> Result<(), Failed>
+        ensures does { Self.tells → Does (Self.history self.old) (Self.history self.new) result
+            (marks_forced file (Self.history self.old).world) }
         ensures cause { HasCause (Self.faults self.old) (Self.faults self.new) result };
 
     /// Takes at least one byte of the input, at most as many as `into` holds, and answers how many;

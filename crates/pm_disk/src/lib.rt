@@ -4,11 +4,20 @@
 mod device;
 mod failed;
 mod host;
+mod laws;
 mod log;
+mod mark;
 mod names;
+mod pages;
 
 pub use device::Device;
 pub use failed::Failed;
 pub use host::Host;
+pub use laws::{a_page_is_written_alone, a_slot_is_written_alone};
 pub use log::{LogFile, LogReader};
-pub use names::{SEGMENT_NAME_LEN, segment_name, segment_number};
+pub use mark::{MarkFile, SLOT_LEN};
+pub use names::{
+    PARTITION_NAME_LEN, PARTITIONS_MAX, SEGMENT_NAME_LEN, StoreFile, file_named, partition_name,
+    partition_number, segment_name, segment_number,
+};
+pub use pages::{PageReader, PageWriter};

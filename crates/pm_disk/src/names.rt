@@ -1,7 +1,10 @@
 //! The names of the store's files in its folder.
 
 ghost use Rattle.std.specs.Prelude.{◌≡◌, ◌<◌, ℕ, MatchOption};
-ghost use Rattle.pm_disk.specs.Names.{hex_digit, segment_name, IsSegmentName};
+ghost use Rattle.pm_disk.specs.declared.names.StoreFile.{StoreFile};
+ghost use Rattle.pm_disk.specs.Names.{hex_digit, segment_name, IsSegmentName, partition_name, IsPartitionName, IsNameOf};
+
+use crate::mark::MarkFile;
 
 /// How many bytes the name of a segment has.
 pub const SEGMENT_NAME_LEN: usize = 24;
@@ -37,6 +40,81 @@ pub fn segment_number(name: &[u8]) -> Option<u64>
         Some(seg)
     } else {
         None
+    }
+}
+
+/// The most partitions of a store. A partition's file has a name of three digits.
+pub const PARTITIONS_MAX: u16 = 64;
+
+/// How many bytes the name of a partition's file has.
+pub const PARTITION_NAME_LEN: usize = 14;
+
+/// The name of a partition's file. On the disk: do not change.
+pub fn partition_name(part: u16) -> [u8; PARTITION_NAME_LEN]
+    requires { part < PARTITIONS_MAX }
+    ensures { result ≡ partition_name part }
+{
+    let mut name = *b"part-000.pages";
+    name[6] = b'0' + (part / 10) as u8;
+    name[7] = b'0' + (part % 10) as u8;
+    name
+}
+
+/// The partition whose file has this name, none exactly where it is no partition's name.
+pub fn partition_number(name: &[u8]) -> Option<u16>
+    ensures { MatchOption result
+        ((part : ℕ) → IsPartitionName name.now part → ⊥) (λ part. IsPartitionName name.now part) }
+{
+    for part in 0..PARTITIONS_MAX {
+        if partition_name(part).as_slice() == name {
+            return Some(part);
+        }
+    }
+    None
+}
+
+/// A file of the store's folder.
+#[derive(Clone, Copy, Debug, PartialEq, Eq)]
+pub enum StoreFile {
+    /// The configuration, `config.json`.
+    Config,
+    /// A file of markers, `cp.start` or `cp.end`.
+    Marks(MarkFile),
+    /// A segment of the log, by its number from 1.
+    Segment(u64),
+    /// A partition's pages, by its number, below `PARTITIONS_MAX`.
+    Pages(u16),
+}
+
+/// The file of the store that has this name, none exactly where no file of it has.
+pub fn file_named(name: &[u8]) -> Option<StoreFile>
+    ensures { MatchOption result
+        ((file : StoreFile) → IsNameOf name.now file → ⊥) (λ file. IsNameOf name.now file) }
+{
+    if name == b"config.json".as_slice() {
+        return Some(StoreFile::Config);
+    }
+    if name == b"cp.start".as_slice() {
+        return Some(StoreFile::Marks(MarkFile::Start));
+    }
+    if name == b"cp.end".as_slice() {
+        return Some(StoreFile::Marks(MarkFile::End));
+    }
+    numbered_file(name)
+}
+
+// The segment or the partition whose file has this name.
+fn numbered_file(name: &[u8]) -> Option<StoreFile>
+    ensures numbered { MatchOption result
+        (((seg : ℕ) → IsSegmentName name.now seg → ⊥)
+        × ((part : ℕ) → IsPartitionName name.now part → ⊥)) (λ file. IsNameOf name.now file) }
+{
+    if let Some(seg) = segment_number(name) {
+        return Some(StoreFile::Segment(seg));
+    }
+    match partition_number(name) {
+        Some(part) => Some(StoreFile::Pages(part)),
+        None => None,
     }
 }
 
@@ -83,5 +161,24 @@ mod tests {
             assert_eq!(rt; segment_number(name), None, "{name:?}");
         }
         assert_eq!(rt; segment_number(b"wal-1.seg"), None);
+    }
+
+    #[test]
+    fn a_name_tells_its_file(rt: HostRuntime) {
+        for (name, file) in [
+            (b"config.json".as_slice(), Some(StoreFile::Config)),
+            (b"cp.start", Some(StoreFile::Marks(MarkFile::Start))),
+            (b"cp.end", Some(StoreFile::Marks(MarkFile::End))),
+            (b"wal-00000000000000ff.seg", Some(StoreFile::Segment(255))),
+            (b"part-000.pages", Some(StoreFile::Pages(0))),
+            (b"part-063.pages", Some(StoreFile::Pages(63))),
+            (b"part-064.pages", None),
+            (b"part-63.pages", None),
+            (b"config.jso", None),
+            (b"cp.start ", None),
+            (b"", None),
+        ] {
+            assert_eq!(rt; file_named(name), file, "{name:?}");
+        }
     }
 }

@@ -5,5 +5,5 @@ use Rattle.std.specs.Prelude.{ℕ, Bool}
 pub record HostFaults : Type 0 where
   -- how often a call has failed, up to 2^64 - 1, where the count stands still
   pub faults : ℕ
-  -- whether a change or a force of the log has failed
-  pub log_is_broken : Bool
+  -- whether a change or a force of a file has failed
+  pub is_broken : Bool

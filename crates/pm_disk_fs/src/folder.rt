@@ -1,66 +1,261 @@
-//! The store's folder, and the names in it.
+//! The store's files in its folder.
 
-ghost use Rattle.std.specs.Prelude.{◌≡◌, ◌++◌, IfOk, codes};
+ghost use Rattle.std.specs.Prelude.{◌≡◌, ◌<◌, ◌≤◌, ◌↔◌, false, length, take, replicate, IsTrue, IsErr, OnOk, IfOk};
 ghost use Rattle.std.specs.String.{string_bytes};
-ghost use Rattle.pm_disk.specs.Names.{segment_name};
+ghost use Rattle.std.specs.Io.KnownBytes.{Consumes, IsAtEnd};
 
-use pm_disk::segment_name;
-use std::alloc::{AllocError, Global};
-use std::fs::{self, OpenFile};
-use std::io::{self, ErrorKind};
-use std::path::{Path, PathBuf};
+use crate::paths::{file_path, make_folder, sync_folder};
+use pm_disk::StoreFile;
+use std::alloc::Global;
+use std::fs::{self, OpenFile, OpenOptions};
+use std::io::{self, ErrorKind, Read, Seek, SeekFrom, Write};
+use std::path::Path;
 use std::rt::Files;
-use std::str;
 
-/// Makes the folder, and those above it, where they aren't there, and the name of each that was made
-/// lasting in the folder above it. Of one that is there already the name is taken to last.
-pub fn make_folder<R: Files + AllocGlobal>(rt: &R, dir: &str) -> io::Result<()> {
-    let store = Path::new(dir);
-    if store.is_dir(rt) {
-        return Ok(());
-    }
-    let mut folder = PathBuf::new(rt.alloc());
-    for part in store.components() {
-        let above = folder.as_path().to_path_buf(rt.alloc())?;
-        folder.push(part.as_os_str())?;
-        if make_one(rt, folder.as_path())? {
-            sync_folder(rt, above.as_path())?;
+/// The store's folder. Where a change or a force of one of its files has failed, each later one fails:
+/// nobody knows then what the disk holds.
+#[derive(Drop)]
+pub struct Folder<R: Files> {
+    dir: String,
+    // The file that was changed last. It stays open, so that its force is told of each failed write.
+    open: Option<Changed<R::File>>,
+    // Whether each name in the folder lasts. An earlier run may have ended before it saw to that.
+    names_last: bool,
+    // Whether a change or a force of a file has failed.
+    is_broken: bool,
+}
+
+// An open file.
+#[derive(Drop)]
+struct Changed<F: Drop> {
+    name: StoreFile,
+    file: F,
+}
+
+impl<R: Files + AllocGlobal> Folder<R> {
+    /// No folder yet.
+    pub fn new(alloc: Global) -> Folder<R>
+        ensures whole { result.is_broken ≡ false }
+    {
+        Folder {
+            dir: String::new(alloc),
+            open: None,
+            names_last: false,
+            is_broken: false,
         }
     }
-    if store.is_dir(rt) {
+
+    /// Makes the folder where it isn't there. From now on the files are in it.
+    pub fn bind(&mut self, rt: &R, dir: &str) -> io::Result<()>
+        ensures broken { self.new.is_broken ≡ self.old.is_broken }
+        ensures dir { OnOk result (string_bytes self.new.dir ≡ dir.now) }
+        ensures names { OnOk result (self.new.names_last ≡ false) }
+    {
+        make_folder(rt, dir)?;
+        self.dir = String::from_str(rt.alloc(), dir)?;
+        self.names_last = false;
+        self.open = None;
         Ok(())
-    } else {
-        Err(io::Error::from(ErrorKind::NotADirectory))
+    }
+
+    /// The length of a file in bytes, none where it isn't there.
+    pub fn len(&self, rt: &R, name: StoreFile) -> io::Result<Option<u64>> {
+        let path = file_path(rt.alloc(), &self.dir, name)?;
+        match fs::metadata(rt, &path) {
+            Ok(found) => Ok(Some(found.len())),
+            Err(e) if e.kind() == ErrorKind::NotFound => Ok(None),
+            Err(e) => Err(e),
+        }
+    }
+
+    /// Reads a file from the offset on until the buffer is full or the file ends, and answers how many
+    /// bytes there were; 0 where it isn't there.
+    pub fn read(&self, rt: &R, name: StoreFile, at: u64, into: &mut [u8]) -> io::Result<usize>
+        ensures bound { IfOk result (λ n. n ≤ length into.new) }
+    {
+        match self.open_to_read(rt, name)? {
+            Some(mut file) => {
+                file.seek(SeekFrom::Start(at))?;
+                fill(&mut file, into)
+            }
+            None => Ok(0),
+        }
+    }
+
+    /// Writes the bytes from the offset on, and makes the file where it isn't there.
+    pub fn write(&mut self, rt: &R, name: StoreFile, at: u64, bytes: &[u8]) -> io::Result<()>
+        ensures refused { IsTrue self.old.is_broken → IsErr result }
+        ensures broken { IsErr result ↔ IsTrue self.new.is_broken }
+    {
+        self.begin()?;
+        let mut file = self.take(rt, name)?;
+        file.seek(SeekFrom::Start(at))?;
+        file.write_all(bytes)?;
+        self.open = Some(Changed { name, file });
+        self.is_broken = false;
+        Ok(())
+    }
+
+    /// Cuts the file to this length in bytes, and makes it where it isn't there.
+    pub fn cut(&mut self, rt: &R, name: StoreFile, len: u64) -> io::Result<()>
+        ensures refused { IsTrue self.old.is_broken → IsErr result }
+        ensures broken { IsErr result ↔ IsTrue self.new.is_broken }
+    {
+        self.begin()?;
+        let file = self.take(rt, name)?;
+        file.set_len(len)?;
+        self.open = Some(Changed { name, file });
+        self.is_broken = false;
+        Ok(())
+    }
+
+    /// Makes the file's bytes and its length lasting, and all names in the folder.
+    pub fn force(&mut self, rt: &R, name: StoreFile) -> io::Result<()>
+        ensures refused { IsTrue self.old.is_broken → IsErr result }
+        ensures broken { IsErr result ↔ IsTrue self.new.is_broken }
+        ensures names { OnOk result (IsTrue self.new.names_last) }
+    {
+        self.begin()?;
+        self.sync(rt, name)?;
+        if !self.names_last {
+            sync_folder(rt, Path::new(&self.dir))?;
+            self.names_last = true;
+        }
+        self.is_broken = false;
+        Ok(())
+    }
+
+    /// Reads a whole range of a file from the offset on, and answers true, or, where the file ends before
+    /// it, fills the buffer with zeros and answers false.
+    pub fn read_whole(&self, rt: &R, name: StoreFile, at: u64, into: &mut [u8]) -> io::Result<bool>
+        ensures zeros { IfOk result
+            (λ whole. whole ≡ false → into.new ≡ replicate (length into.new) 0) }
+    {
+        let is_whole = self.read(rt, name, at, into)? == into.len();
+        if !is_whole {
+            into.fill(0);
+        }
+        Ok(is_whole)
+    }
+
+    /// Removes the file, where it is there.
+    pub fn remove(&mut self, rt: &R, name: StoreFile) -> io::Result<()>
+        ensures refused { IsTrue self.old.is_broken → IsErr result }
+        ensures broken { IsErr result ↔ IsTrue self.new.is_broken }
+        ensures names { OnOk result (self.new.names_last ≡ false) }
+    {
+        self.begin()?;
+        self.names_last = false;
+        let _ = self.open.take();
+        let path = file_path(rt.alloc(), &self.dir, name)?;
+        remove_one(rt, &path)?;
+        self.is_broken = false;
+        Ok(())
+    }
+
+    // Refuses where an earlier call has failed, and takes this one for failed until it is done.
+    fn begin(&mut self) -> io::Result<()>
+        ensures refused { IsErr result ↔ IsTrue self.old.is_broken }
+        ensures broken { IsTrue self.new.is_broken }
+    {
+        if self.is_broken {
+            return Err(io::Error::from(ErrorKind::Other));
+        }
+        self.is_broken = true;
+        Ok(())
+    }
+
+    // Makes the file's bytes and its length lasting, where it is there.
+    fn sync(&mut self, rt: &R, name: StoreFile) -> io::Result<()>
+        ensures broken { self.new.is_broken ≡ self.old.is_broken }
+    {
+        let Some(open) = self.open.take() else {
+            return self.sync_closed(rt, name);
+        };
+        if open.name == name {
+            open.file.sync_all()?;
+        } else {
+            self.sync_closed(rt, name)?;
+        }
+        self.open = Some(open);
+        Ok(())
+    }
+
+    fn sync_closed(&self, rt: &R, name: StoreFile) -> io::Result<()> {
+        match self.open_to_read(rt, name)? {
+            Some(file) => file.sync_all(),
+            None => Ok(()),
+        }
+    }
+
+    fn open_to_read(&self, rt: &R, name: StoreFile) -> io::Result<Option<R::File>> {
+        let path = file_path(rt.alloc(), &self.dir, name)?;
+        match fs::open(rt, &path) {
+            Ok(file) => Ok(Some(file)),
+            Err(e) if e.kind() == ErrorKind::NotFound => Ok(None),
+            Err(e) => Err(e),
+        }
+    }
+
+    // The file to be changed, which the folder doesn't keep open from now on.
+    fn take(&mut self, rt: &R, name: StoreFile) -> io::Result<R::File>
+        ensures broken { self.new.is_broken ≡ self.old.is_broken }
+    {
+        if let Some(open) = self.open.take() {
+            let Changed { name: held, file } = open;
+            if held == name {
+                return Ok(file);
+            }
+        }
+        self.open_to_change(rt, name)
+    }
+
+    // The file to be changed, which is made where it isn't there.
+    fn open_to_change(&mut self, rt: &R, name: StoreFile) -> io::Result<R::File>
+        ensures broken { self.new.is_broken ≡ self.old.is_broken }
+    {
+        let path = file_path(rt.alloc(), &self.dir, name)?;
+        match OpenOptions::new().write(true).open(rt, &path) {
+            Err(e) if e.kind() == ErrorKind::NotFound => self.make(rt, &path),
+            opened => opened,
+        }
+    }
+
+    // Makes a file. Its name lasts once a force has seen to that.
+    fn make(&mut self, rt: &R, path: &str) -> io::Result<R::File>
+        ensures broken { self.new.is_broken ≡ self.old.is_broken }
+        ensures names { self.new.names_last ≡ false }
+    {
+        self.names_last = false;
+        OpenOptions::new()
+            .write(true)
+            .create_new(true)
+            .open(rt, path)
     }
 }
 
-/// Makes the names in the folder lasting. No path is the folder where the process runs.
-pub fn sync_folder<R: Files>(rt: &R, dir: Path<'_>) -> io::Result<()> {
-    let folder = if dir.as_str().is_empty() {
-        Path::new(".")
-    } else {
-        dir
-    };
-    fs::open(rt, folder)?.sync_all()
+// Removes the file, where it is there.
+fn remove_one<R: Files>(rt: &R, path: &str) -> io::Result<()> {
+    match fs::remove_file(rt, path) {
+        Err(e) if e.kind() == ErrorKind::NotFound => Ok(()),
+        removed => removed,
+    }
 }
 
-/// The path of a segment's file.
-pub fn segment_path(alloc: Global, dir: &str, seg: u64) -> Result<String, AllocError>
-    ensures { IfOk result
-        (λ path. string_bytes path ≡ dir.now ++ codes "/" ++ segment_name seg) }
+// Reads until the buffer is full or the file ends.
+fn fill<F: Read>(from: &mut F, into: &mut [u8]) -> io::Result<usize>
+    ensures bound { IfOk result (λ n. n ≤ length into.new) }
+    ensures front { IfOk result
+        (λ n. Consumes (F.remaining from.old) (F.remaining from.new) (take n into.new)) }
+    ensures end { IfOk result (λ n. n < length into.new → IsAtEnd (F.remaining from.new)) }
 {
-    let name = segment_name(seg);
-    let mut path = String::from_str(alloc, dir)?;
-    path.push('/')?;
-    path.push_str(str::from_utf8(&name).unwrap())?;
-    Ok(path)
-}
-
-// Makes the folder, and answers whether it wasn't there before.
-fn make_one<R: Files>(rt: &R, folder: Path<'_>) -> io::Result<bool> {
-    match fs::create_dir(rt, folder) {
-        Ok(()) => Ok(true),
-        Err(e) if e.kind() == ErrorKind::AlreadyExists => Ok(false),
-        Err(e) => Err(e),
+    let mut count = 0;
+    while count < into.len() {
+        let more = from.read(&mut into[count..])?;
+        if more == 0 {
+            break;
+        }
+        count += more;
     }
+    Ok(count)
 }

@@ -1,23 +1,27 @@
 //! The host over the process's files and standard streams.
 
 ghost use Rattle.std.specs.Prelude.{◌≡◌, ◌≤◌, ◌↔◌, false, length, Ok, IsTrue, IsErr, IfOk};
+ghost use Rattle.pm_types.specs.declared.limits.TheConstants.{PAGE_SIZE_MAX};
 ghost use Rattle.pm_types.specs.Causes.{HasCause};
 ghost use Rattle.pm_disk.specs.Moments.{nothing_told};
 
-use crate::log::LogFolder;
-use pm_disk::{Device, Failed, Host, LogFile, LogReader};
+use crate::folder::Folder;
+use pm_disk::{
+    Device, Failed, Host, LogFile, LogReader, MarkFile, PageReader, PageWriter, SLOT_LEN, StoreFile,
+};
+use pm_types::PageId;
 use std::io::{self, Read};
 use std::marker::Model;
 use std::rt::Files;
 
 /// Disk and console of the process, which tell nothing of their content. A clause sees how often a call
-/// has failed, and whether a change or a force of the log has.
+/// has failed, and whether a change or a force of a file has.
 #[derive(Drop)]
 pub struct FsHost<R: Files + Input> {
     rt: R,
     // Kept, since each new reader would ask the system whether the input can seek.
     input: R::Reader,
-    log: LogFolder<R>,
+    folder: Folder<R>,
     faults: u64,
 }
 
@@ -26,21 +30,21 @@ impl<R: Files + Input> Model for FsHost<R> {
 
     ghost Value = { HostFaults };
 
-    ghost view = { λ host. record { faults = host.faults; log_is_broken = host.log.is_broken } };
+    ghost view = { λ host. record { faults = host.faults; is_broken = host.folder.is_broken } };
 }
 
 impl<R: Files + Input + Print + AllocGlobal + Clone + Send + Drop> FsHost<R> {
     /// A host whose calls haven't failed yet.
     pub fn new(rt: R) -> FsHost<R>
         ensures unfailed { result.faults ≡ 0 }
-        ensures whole { result.log_is_broken ≡ false }
+        ensures whole { result.is_broken ≡ false }
     {
         let input = rt.reader();
-        let log = LogFolder::new(rt.alloc());
+        let folder = Folder::new(rt.alloc());
         FsHost {
             rt,
             input,
-            log,
+            folder,
             faults: 0,
         }
     }
@@ -50,7 +54,7 @@ impl<R: Files + Input> FsHost<R> {
     // What the system answered, an error of it counted.
     fn counted<T>(&mut self, answer: io::Result<T>) -> Result<T, Failed>
         ensures cause { HasCause self.old.faults self.new.faults result }
-        ensures log { self.new.log_is_broken ≡ self.old.log_is_broken }
+        ensures broken { self.new.is_broken ≡ self.old.is_broken }
         ensures value { IfOk result (λ v. answer ≡ Ok v) }
         ensures error { IsErr result → IsErr answer }
     {
@@ -77,49 +81,93 @@ impl<R: Files + Input> Device for FsHost<R> {
 impl<R: Files + Input + AllocGlobal> LogReader for FsHost<R> {
     fn seg_len(&mut self, seg: u64) -> Result<Option<u64>, Failed>
         ensures cause { HasCause self.old.faults self.new.faults result }
-        ensures log { self.new.log_is_broken ≡ self.old.log_is_broken }
+        ensures broken { self.new.is_broken ≡ self.old.is_broken }
     {
-        let len = self.log.len(&self.rt, seg);
+        let len = self.folder.len(&self.rt, StoreFile::Segment(seg));
         self.counted(len)
     }
 
     fn read_log(&mut self, seg: u64, at: u64, into: &mut [u8]) -> Result<usize, Failed>
         ensures bound { IfOk result (λ n. n ≤ length into.new) }
         ensures cause { HasCause self.old.faults self.new.faults result }
-        ensures log { self.new.log_is_broken ≡ self.old.log_is_broken }
+        ensures broken { self.new.is_broken ≡ self.old.is_broken }
     {
-        let count = self.log.read(&self.rt, seg, at, into);
+        let count = self
+            .folder
+            .read(&self.rt, StoreFile::Segment(seg), at, into);
         self.counted(count)
     }
 }
 
-/// Where one of these calls has failed, each later one fails: nobody knows then what the disk holds.
+/// Where a change or a force of a file has failed, each later one fails: nobody knows then what the disk
+/// holds.
 impl<R: Files + Input + AllocGlobal> LogFile for FsHost<R> {
     fn write_log(&mut self, seg: u64, at: u64, bytes: &[u8]) -> Result<(), Failed>
         ensures cause { HasCause self.old.faults self.new.faults result }
-        ensures refused { IsTrue self.old.log_is_broken → IsErr result }
-        ensures broken { IsErr result ↔ IsTrue self.new.log_is_broken }
+        ensures refused { IsTrue self.old.is_broken → IsErr result }
+        ensures broken { IsErr result ↔ IsTrue self.new.is_broken }
     {
-        let written = self.log.write(&self.rt, seg, at, bytes);
+        let written = self
+            .folder
+            .write(&self.rt, StoreFile::Segment(seg), at, bytes);
         self.counted(written)
     }
 
     fn cut_log(&mut self, seg: u64, len: u64) -> Result<(), Failed>
         ensures cause { HasCause self.old.faults self.new.faults result }
-        ensures refused { IsTrue self.old.log_is_broken → IsErr result }
-        ensures broken { IsErr result ↔ IsTrue self.new.log_is_broken }
+        ensures refused { IsTrue self.old.is_broken → IsErr result }
+        ensures broken { IsErr result ↔ IsTrue self.new.is_broken }
     {
-        let cut = self.log.cut(&self.rt, seg, len);
+        let cut = self.folder.cut(&self.rt, StoreFile::Segment(seg), len);
         self.counted(cut)
     }
 
-    /// It makes the names of all segments lasting too.
+    /// It makes the names of all files lasting too.
     fn force_log(&mut self, seg: u64) -> Result<(), Failed>
         ensures cause { HasCause self.old.faults self.new.faults result }
-        ensures refused { IsTrue self.old.log_is_broken → IsErr result }
-        ensures broken { IsErr result ↔ IsTrue self.new.log_is_broken }
+        ensures refused { IsTrue self.old.is_broken → IsErr result }
+        ensures broken { IsErr result ↔ IsTrue self.new.is_broken }
     {
-        let forced = self.log.force(&self.rt, seg);
+        let forced = self.folder.force(&self.rt, StoreFile::Segment(seg));
+        self.counted(forced)
+    }
+}
+
+impl<R: Files + Input + AllocGlobal> PageReader for FsHost<R> {
+    fn read_page(&mut self, page: PageId, into: &mut [u8]) -> Result<bool, Failed>
+        requires { length into.old ≤ PAGE_SIZE_MAX }
+        ensures cause { HasCause self.old.faults self.new.faults result }
+        ensures broken { self.new.is_broken ≡ self.old.is_broken }
+    {
+        let at = page.index() as u64 * into.len() as u64;
+        let name = StoreFile::Pages(page.part());
+        let is_whole = self.folder.read_whole(&self.rt, name, at, into);
+        self.counted(is_whole)
+    }
+}
+
+/// Where a change or a force of a file has failed, each later one fails.
+impl<R: Files + Input + AllocGlobal> PageWriter for FsHost<R> {
+    /// What a file system leaves in a gap is zeros.
+    fn write_page(&mut self, page: PageId, bytes: &[u8]) -> Result<(), Failed>
+        requires { length bytes.now ≤ PAGE_SIZE_MAX }
+        ensures cause { HasCause self.old.faults self.new.faults result }
+        ensures refused { IsTrue self.old.is_broken → IsErr result }
+        ensures broken { IsErr result ↔ IsTrue self.new.is_broken }
+    {
+        let at = page.index() as u64 * bytes.len() as u64;
+        let name = StoreFile::Pages(page.part());
+        let written = self.folder.write(&self.rt, name, at, bytes);
+        self.counted(written)
+    }
+
+    /// It makes the names of all files lasting too.
+    fn force_pages(&mut self, part: u16) -> Result<(), Failed>
+        ensures cause { HasCause self.old.faults self.new.faults result }
+        ensures refused { IsTrue self.old.is_broken → IsErr result }
+        ensures broken { IsErr result ↔ IsTrue self.new.is_broken }
+    {
+        let forced = self.folder.force(&self.rt, StoreFile::Pages(part));
         self.counted(forced)
     }
 }
@@ -128,17 +176,74 @@ impl<R: Files + Input + Print + AllocGlobal> Host for FsHost<R> {
     /// Makes the folders above it too. A file of that name is a failure.
     fn bind(&mut self, dir: &str) -> Result<(), Failed>
         ensures cause { HasCause self.old.faults self.new.faults result }
-        ensures log { self.new.log_is_broken ≡ self.old.log_is_broken }
+        ensures broken { self.new.is_broken ≡ self.old.is_broken }
     {
-        let made = self.log.bind(&self.rt, dir);
+        let made = self.folder.bind(&self.rt, dir);
         self.counted(made)
+    }
+
+    fn read_config(&mut self, into: &mut [u8]) -> Result<usize, Failed>
+        ensures bound { IfOk result (λ n. n ≤ length into.new) }
+        ensures cause { HasCause self.old.faults self.new.faults result }
+        ensures broken { self.new.is_broken ≡ self.old.is_broken }
+    {
+        let count = self.folder.read(&self.rt, StoreFile::Config, 0, into);
+        self.counted(count)
+    }
+
+    fn drop_log(&mut self, seg: u64) -> Result<(), Failed>
+        ensures cause { HasCause self.old.faults self.new.faults result }
+        ensures refused { IsTrue self.old.is_broken → IsErr result }
+        ensures broken { IsErr result ↔ IsTrue self.new.is_broken }
+    {
+        let removed = self.folder.remove(&self.rt, StoreFile::Segment(seg));
+        self.counted(removed)
+    }
+
+    fn read_mark(
+        &mut self,
+        file: MarkFile,
+        slot: u8,
+        into: &mut [u8; SLOT_LEN],
+    ) -> Result<bool, Failed>
+        ensures cause { HasCause self.old.faults self.new.faults result }
+        ensures broken { self.new.is_broken ≡ self.old.is_broken }
+    {
+        let at = slot as u64 * SLOT_LEN as u64;
+        let is_whole = self
+            .folder
+            .read_whole(&self.rt, StoreFile::Marks(file), at, into);
+        self.counted(is_whole)
+    }
+
+    /// What a file system leaves in a gap is zeros.
+    fn write_mark(&mut self, file: MarkFile, slot: u8, bytes: &[u8; SLOT_LEN]) -> Result<(), Failed>
+        ensures cause { HasCause self.old.faults self.new.faults result }
+        ensures refused { IsTrue self.old.is_broken → IsErr result }
+        ensures broken { IsErr result ↔ IsTrue self.new.is_broken }
+    {
+        let at = slot as u64 * SLOT_LEN as u64;
+        let written = self
+            .folder
+            .write(&self.rt, StoreFile::Marks(file), at, bytes);
+        self.counted(written)
+    }
+
+    /// It makes the names of all files lasting too.
+    fn force_mark(&mut self, file: MarkFile) -> Result<(), Failed>
+        ensures cause { HasCause self.old.faults self.new.faults result }
+        ensures refused { IsTrue self.old.is_broken → IsErr result }
+        ensures broken { IsErr result ↔ IsTrue self.new.is_broken }
+    {
+        let forced = self.folder.force(&self.rt, StoreFile::Marks(file));
+        self.counted(forced)
     }
 
     /// One system call. No byte is kept back, since the reader is asked for nothing else.
     fn read(&mut self, into: &mut [u8]) -> Result<usize, Failed>
         ensures bound { IfOk result (λ n. n ≤ length into.new) }
         ensures cause { HasCause self.old.faults self.new.faults result }
-        ensures log { self.new.log_is_broken ≡ self.old.log_is_broken }
+        ensures broken { self.new.is_broken ≡ self.old.is_broken }
     {
         let taken = self.input.read(into);
         self.counted(taken)
@@ -148,7 +253,7 @@ impl<R: Files + Input + Print + AllocGlobal> Host for FsHost<R> {
     /// Where it takes nothing, or nobody reads any more, the call fails.
     fn print(&mut self, bytes: &[u8]) -> Result<(), Failed>
         ensures cause { HasCause self.old.faults self.new.faults result }
-        ensures log { self.new.log_is_broken ≡ self.old.log_is_broken }
+        ensures broken { self.new.is_broken ≡ self.old.is_broken }
     {
         let said = self.rt.write_all(bytes);
         self.counted(said)

@@ -3,7 +3,7 @@
 
 mod folder;
 mod host;
-mod log;
+mod paths;
 
 pub use host::FsHost;
 

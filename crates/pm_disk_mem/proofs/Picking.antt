@@ -1,4 +1,4 @@
--- What a pick leaves of all segments is what a crash may leave of each.
+-- What a pick leaves of all files of a family is what a crash may leave of each.
 use Rattle.std.proofs.Common.{◌≡◌, inl, inr, ◌<◌, ◌≤◌, ℕ, suc, true, false, List, [], ◌∷◌, ◌++◌, Option, Some, None, Less, refl, sym, ◌∙◌, ap, subst, arith, append_assoc}
 use Rattle.std.specs.Prelude.{◌≢◌, unwrap_or, if◌then◌else◌}
 use Rattle.std.specs.Ordering.{nat_cmp}
@@ -14,7 +14,7 @@ use Rattle.pm_disk.specs.Files.{File, absent}
 use Rattle.pm_disk.specs.Images.{Leaves}
 use Rattle.pm_disk_mem.specs.Changes.{CanAll}
 use Rattle.pm_disk_mem.specs.Tracks.{Track, new_track}
-use Rattle.pm_disk_mem.specs.Disks.{Store, segment_of, with_left}
+use Rattle.pm_disk_mem.specs.Disks.{content_at, with_left}
 use Rattle.pm_disk_mem.specs.Picks.{left_by, written, pick_after, pick_at}
 use Rattle.pm_disk_mem.proofs.Below.{below_it, below_past, pick_first, pick_past}
 use Rattle.pm_disk_mem.proofs.Leaving.{leaves_left}
@@ -66,21 +66,21 @@ sorted_picked pick (entry ∷ entries) sorted =
     (sorted_picked (pick_after pick entry.1.file) entries sorted.1)
 
 -- One segment more. Those so far are in the store, and those to come are `left`.
-module _ (store : Store) (all : List (ℕ × List ℕ)) (pick next : Pick) (left new_left : List (ℕ × Track)) (seg : ℕ) (track : Track)
-    (so_far : store.log ++ picked pick left ≡ all) (is : left ≡ (seg, track) ∷ new_left) (goes : next ≡ pick_after pick track.file) where
-  put : (o : Option (List ℕ)) → store.log ++ (entry_of seg o ++ picked next new_left) ≡ all → IsStrictlySortedBy nat_cmp (keys_of all) → (with_left store seg o).log ++ picked next new_left ≡ all
+module _ (store : List (ℕ × List ℕ)) (all : List (ℕ × List ℕ)) (pick next : Pick) (left new_left : List (ℕ × Track)) (seg : ℕ) (track : Track)
+    (so_far : store ++ picked pick left ≡ all) (is : left ≡ (seg, track) ∷ new_left) (goes : next ≡ pick_after pick track.file) where
+  put : (o : Option (List ℕ)) → store ++ (entry_of seg o ++ picked next new_left) ≡ all → IsStrictlySortedBy nat_cmp (keys_of all) → with_left store seg o ++ picked next new_left ≡ all
   put None whole sorted = whole
   put (Some bytes) whole sorted =
-      let last = insert_entry-last store.log (picked next new_left) seg bytes (subst (λ (l : List (ℕ × List ℕ)). IsStrictlySortedBy nat_cmp (keys_of l)) (sym whole) sorted) in
-      ap (λ (l : List (ℕ × List ℕ)). l ++ picked next new_left) last ∙ append_assoc store.log ((seg, bytes) ∷ []) (picked next new_left) ∙ whole
+      let last = insert_entry-last store (picked next new_left) seg bytes (subst (λ (l : List (ℕ × List ℕ)). IsStrictlySortedBy nat_cmp (keys_of l)) (sym whole) sorted) in
+      ap (λ (l : List (ℕ × List ℕ)). l ++ picked next new_left) last ∙ append_assoc store ((seg, bytes) ∷ []) (picked next new_left) ∙ whole
 
-  pub pick_more : (new : Store) (o : Option (List ℕ)) → new ≡ with_left store seg o → o ≡ left_by pick track.file → IsStrictlySortedBy nat_cmp (keys_of all) → new.log ++ picked next new_left ≡ all
+  pub pick_more : (new : List (ℕ × List ℕ)) (o : Option (List ℕ)) → new ≡ with_left store seg o → o ≡ left_by pick track.file → IsStrictlySortedBy nat_cmp (keys_of all) → new ++ picked next new_left ≡ all
   pick_more new o new_is left_is sorted =
-      let whole = ap (λ p. store.log ++ (entry_of seg o ++ picked p new_left)) goes
-      ∙ ap (λ (l : Option (List ℕ)). store.log ++ (entry_of seg l ++ picked (pick_after pick track.file) new_left)) left_is
-      ∙ ap (λ (l : List (ℕ × Track)). store.log ++ picked pick l) (sym is)
+      let whole = ap (λ p. store ++ (entry_of seg o ++ picked p new_left)) goes
+      ∙ ap (λ (l : Option (List ℕ)). store ++ (entry_of seg l ++ picked (pick_after pick track.file) new_left)) left_is
+      ∙ ap (λ (l : List (ℕ × Track)). store ++ picked pick l) (sym is)
       ∙ so_far in
-      ap (λ (s : Store). s.log ++ picked next new_left) new_is ∙ put o whole sorted
+      ap (λ (s : List (ℕ × List ℕ)). s ++ picked next new_left) new_is ∙ put o whole sorted
 
 -- ---- look-ups
 no_look_up : {Y : Type 0} (seg : ℕ) (entries : List (ℕ × Y)) → Behind seg entries → lookup (is_at (nat_cmp seg)) entries ≡ None
@@ -195,14 +195,14 @@ picked_at pick (entry ∷ entries) seg sorted =
     ]
 
 -- When none is to come.
-module _ (pick rest : Pick) (items entries left : List (ℕ × Track)) (disk : Store) (none_left : left ≡ []) (so_far : disk.log ++ picked rest left ≡ picked pick items) (is : items ≡ entries) (sorted : IsStrictlySortedBy nat_cmp (keys_of entries)) where
-  all : disk.log ≡ picked pick entries
-  all = sym (append-nil disk.log) ∙ ap (λ (l : List (ℕ × Track)). disk.log ++ picked rest l) (sym none_left) ∙ so_far ∙ ap (λ (l : List (ℕ × Track)). picked pick l) is
+module _ (pick rest : Pick) (items entries left : List (ℕ × Track)) (disk : List (ℕ × List ℕ)) (none_left : left ≡ []) (so_far : disk ++ picked rest left ≡ picked pick items) (is : items ≡ entries) (sorted : IsStrictlySortedBy nat_cmp (keys_of entries)) where
+  all : disk ≡ picked pick entries
+  all = sym (append-nil disk) ∙ ap (λ (l : List (ℕ × Track)). disk ++ picked rest l) (sym none_left) ∙ so_far ∙ ap (λ (l : List (ℕ × Track)). picked pick l) is
 
-  pub image_picked : (seg : ℕ) → segment_of disk seg ≡ left_by (pick_at pick (file_in entries) seg) (file_in entries seg)
+  pub image_picked : (seg : ℕ) → content_at disk seg ≡ left_by (pick_at pick (file_in entries) seg) (file_in entries seg)
   image_picked seg = ap (λ (l : List (ℕ × List ℕ)). lookup (is_at (nat_cmp seg)) l) all ∙ picked_at pick entries seg sorted
 
-  pub image_leaves : (CouldEach left → CouldEach items) → (seg : ℕ) → Leaves (file_in entries seg) (segment_of disk seg)
+  pub image_leaves : (CouldEach left → CouldEach items) → (seg : ℕ) → Leaves (file_in entries seg) (content_at disk seg)
   image_leaves each seg =
       let each_entry : CouldEach entries = subst (λ (l : List (ℕ × Track)). CouldEach l) is (each (subst (λ (l : List (ℕ × Track)). CouldEach l) (sym none_left) tt)) in
       subst (λ (o : Option (List ℕ)). Leaves (file_in entries seg) o) (sym (image_picked seg)) (leaves_left (pick_at pick (file_in entries) seg) (file_in entries seg) (could_at entries seg each_entry))

@@ -14,6 +14,7 @@ bytes_in (Some bytes) = Some bytes.items
 abbrev pub change_of : FileChange → Change
 change_of (file.Write at bytes) = Write at bytes.items
 change_of (file.Cut len) = Cut len
+change_of file.Remove = Drop
 
 -- the change can be made: a write begins within the file, and a cut doesn't make it longer
 abbrev pub CanChange : Change → Option (List ℕ) → Type 0

@@ -9,7 +9,7 @@ use Rattle.pm_disk_mem.specs.declared.step.Step.{Step}
 
 -- the world as the host began
 abbrev pub first_world : MemHost → World
-first_world host = start_world host.segments host.console host.config.items
+first_world host = start_world host.files host.console host.config.items
 
 -- what the host has done
 abbrev pub steps_of : MemHost → List Step

@@ -1,10 +1,12 @@
 pub mod Changes
 pub mod Consoles
 pub mod Disks
+pub mod Families
+pub mod Held
 pub mod Hosts
+pub mod Parts
 pub mod Picks
 pub mod Plans
-pub mod Segments
 pub mod Sound
 pub mod Steps
 pub mod Tracks

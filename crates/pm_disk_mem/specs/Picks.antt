@@ -2,7 +2,8 @@
 use Rattle.std.specs.Prelude.{◌≡◌, ◌+◌, ◌-◌, ℕ, zero, suc, List, [], ◌∷◌, ◌++◌, length, take, replicate, map, Option, Some}
 use Rattle.pm_disk.specs.Files.{Change, Write, Cut, Drop, File, bytes_of, after, changed, content}
 use Rattle.pm_disk_mem.specs.Changes.{change_of}
-use Rattle.pm_disk_mem.specs.Disks.{Store, segment_of}
+use Rattle.pm_disk.specs.Worlds.{World}
+use Rattle.pm_disk_mem.specs.Disks.{Store, content_at, config_file}
 use Rattle.pm_disk_mem.specs.declared.change.FileChange.{FileChange}
 use Rattle.pm_disk_mem.specs.declared.pick.Pick.{Pick}
 use Rattle.pm_disk_mem.specs.declared.pick.Pick.TheVariants as pick
@@ -64,9 +65,24 @@ pick_at pick.Kept log seg = pick.Kept
 pick_at pick.Lost log seg = pick.Lost
 pick_at (pick.Fill byte) log seg = pick.Fill byte
 
--- each segment of the disk is what a crash leaves of the log by this pick
-abbrev pub IsPicked : Pick → (ℕ → File) → Store → Type 0
-IsPicked pick log disk = (seg : ℕ) → segment_of disk seg ≡ left_by (pick_at pick log seg) (log seg)
+-- these contents are what a crash leaves of a family of files by this pick
+abbrev pub ArePicked : Pick → (ℕ → File) → List (ℕ × List ℕ) → Type 0
+ArePicked pick files contents = (n : ℕ) → content_at contents n ≡ left_by (pick_at pick files n) (files n)
+
+-- the pick for all files but the log's segments: of these a cut leaves nothing that is pending
+abbrev pub pick_beside : Pick → Pick
+pick_beside (pick.Cut count) = pick.Lost
+pick_beside pick.Kept = pick.Kept
+pick_beside pick.Lost = pick.Lost
+pick_beside (pick.Fill byte) = pick.Fill byte
+
+-- Each file of the store is what a crash in this world leaves of it by this pick.
+pub record IsPicked (pick : Pick) (world : World) (store : Store) : Type 0 where
+  pub log : ArePicked pick world.log store.log
+  pub pages : (part : ℕ) → content_at store.pages part ≡ left_by (pick_beside pick) (world.pages part)
+  pub starts : store.starts ≡ left_by (pick_beside pick) world.starts
+  pub ends : store.ends ≡ left_by (pick_beside pick) world.ends
+  pub config : store.config ≡ config_file world.config
 
 -- the pick for the next segment of which there is a file: of a cut the bytes that this one has are there
 abbrev pub pick_after : Pick → File → Pick

@@ -1,7 +1,7 @@
 //! What a file holds, as bytes or as none where it is absent.
 
-ghost use Rattle.std.specs.Prelude.{◌≡◌, ◌≤◌, ◌+◌, ◌++◌, length, take, drop, vec_len, IfOk, OnOk, OnErr, option_map};
-ghost use Rattle.pm_disk.specs.Files.{bytes_of, changed, Write, Cut, ReadsFrom};
+ghost use Rattle.std.specs.Prelude.{◌≡◌, ◌≤◌, ◌+◌, ◌-◌, ◌++◌, length, take, drop, replicate, min, vec_len, IfOk, OnOk, OnErr, option_map};
+ghost use Rattle.pm_disk.specs.Files.{bytes_of, changed, Write, Cut, ReadsFrom, ReadsWhole};
 ghost use Rattle.pm_disk_mem.specs.Changes.{bytes_in, change_of};
 
 use crate::change::FileChange;
@@ -35,15 +35,53 @@ pub fn length_of(held: &Option<Vec<u8>>) -> Option<u64>
     }
 }
 
+/// Copies the first bytes, as many as fit, and answers how many.
+pub fn copy_front(from: &[u8], into: &mut [u8]) -> usize
+    ensures bound { result ≤ length into.new }
+    ensures many { result ≡ min (length into.new) (length from.now) }
+    ensures front { take result into.new ≡ take result from.now }
+{
+    let count = into.len().min(from.len());
+    into[..count].copy_from_slice(&from[..count]);
+    count
+}
+
 /// Reads from the offset on, as many bytes as fit, and answers how many.
 pub fn read(held: &Option<Vec<u8>>, at: u64, into: &mut [u8]) -> usize
     ensures bound { result ≤ length into.new }
     ensures reads { ReadsFrom (bytes_in held.now) at result into.new }
 {
+    copy_front(from_offset(readable(held), at), into)
+}
+
+/// Reads a whole range from the offset on, and answers true, or, where the file ends before it, fills
+/// the buffer with zeros and answers false.
+pub fn read_whole(held: &Option<Vec<u8>>, at: u64, into: &mut [u8]) -> bool
+    ensures { ReadsWhole (bytes_in held.now) at result into.new }
+{
     let from = from_offset(readable(held), at);
-    let count = into.len().min(from.len());
-    into[..count].copy_from_slice(&from[..count]);
-    count
+    let is_whole = at <= readable(held).len() as u64 && into.len() <= from.len();
+    if is_whole {
+        into.copy_from_slice(&from[..into.len()]);
+    } else {
+        into.fill(0);
+    }
+    is_whole
+}
+
+/// The write of these bytes at an offset, with zeros from the file's end on where it ends before that.
+pub fn write_with_gap(
+    alloc: Global,
+    len: u64,
+    at: u64,
+    bytes: &[u8],
+) -> Result<FileChange, AllocError>
+    ensures { IfOk result (λ change. change_of change
+        ≡ Write (min at len) (replicate (at - len) 0 ++ bytes.now)) }
+{
+    let mut written = vec![in alloc; 0; at.saturating_sub(len) as usize]?;
+    written.extend_from_slice(bytes)?;
+    Ok(FileChange::Write(at.min(len), written))
 }
 
 /// A copy.
@@ -113,6 +151,10 @@ pub fn apply_change(
         FileChange::Write(at, bytes) => write(alloc, held, *at, bytes),
         FileChange::Cut(len) => {
             cut(alloc, held, *len as usize);
+            Ok(())
+        }
+        FileChange::Remove => {
+            *held = None;
             Ok(())
         }
     }

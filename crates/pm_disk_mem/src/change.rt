@@ -12,6 +12,8 @@ pub enum FileChange {
     Write(u64, Vec<u8>),
     /// The file is cut to this length, in bytes.
     Cut(u64),
+    /// The file is removed.
+    Remove,
 }
 
 impl FileChange {
@@ -24,6 +26,7 @@ impl FileChange {
                 Ok(FileChange::Write(*at, Vec::from_slice(alloc, bytes)?))
             }
             FileChange::Cut(len) => Ok(FileChange::Cut(*len)),
+            FileChange::Remove => Ok(FileChange::Remove),
         }
     }
 }

@@ -2,7 +2,7 @@
 
 ghost use Rattle.std.specs.Prelude.{◌≡◌, ◌≤◌, ◌+◌, ◌++◌, [], length, take, drop, vec_len, OnOk, OnErr, IfOk, min};
 
-use crate::bytes::from_offset;
+use crate::bytes::{copy_front, from_offset};
 use std::alloc::{AllocError, Global};
 
 /// The input and the output.
@@ -48,10 +48,7 @@ impl Console {
         ensures within { self.now.taken + result ≤ vec_len self.now.script }
         ensures front { take result into.new ≡ take result (input_left self.now) }
     {
-        let left = from_offset(&self.script, self.taken as u64);
-        let count = into.len().min(left.len());
-        into[..count].copy_from_slice(&left[..count]);
-        count
+        copy_front(from_offset(&self.script, self.taken as u64), into)
     }
 
     /// Takes so many bytes of the input.

@@ -98,6 +98,7 @@ fn fill_change(
             fill_from(alloc, held, *len, byte);
             Ok(())
         }
+        FileChange::Remove => Ok(()),
     }
 }
 

@@ -1,12 +1,13 @@
 //! One file in memory.
 
 ghost use Rattle.std.specs.Prelude.{◌≡◌, ◌≤◌, [], ◌∷◌, ◌++◌, length, IfOk, OnOk, OnErr, option_map};
-ghost use Rattle.pm_disk.specs.Files.{content, with_change, all_forced, ReadsFrom};
+ghost use Rattle.pm_disk.specs.Files.{content, with_change, all_forced, ReadsFrom, ReadsWhole};
+ghost use Rattle.pm_disk.specs.Images.{Leaves};
 ghost use Rattle.pm_disk_mem.specs.Changes.{bytes_in, change_of, CanChange, CanAll};
 ghost use Rattle.pm_disk_mem.specs.Picks.{left_by, pick_after};
 ghost use Rattle.pm_disk_mem.specs.Tracks.{new_track};
 
-use crate::bytes::{apply_change, copied, length_of, read};
+use crate::bytes::{apply_change, copied, length_of, read, read_whole};
 use crate::change::FileChange;
 use crate::crash::left_of;
 use crate::pick::Pick;
@@ -86,6 +87,13 @@ impl MemFile {
         read(&self.held, at, into)
     }
 
+    /// Reads a whole range from the offset on.
+    pub fn read_whole(&self, at: u64, into: &mut [u8]) -> bool
+        ensures { ReadsWhole (content self.now.file) at result into.new }
+    {
+        read_whole(&self.held, at, into)
+    }
+
     /// What a crash leaves of the file by this pick, and in its place the pick for the next segment.
     pub fn left(&self, alloc: Global, pick: &mut Pick) -> Result<Option<Vec<u8>>, AllocError>
         ensures left { IfOk result (λ left. bytes_in left ≡ left_by pick.old self.now.file) }
@@ -94,5 +102,13 @@ impl MemFile {
     {
         let (lasting, pending) = self.changes.split_at(self.lasting);
         left_of(alloc, &self.start, lasting, pending, pick)
+    }
+    /// What a crash leaves of the file by this pick.
+    pub fn image(&self, alloc: Global, pick: Pick) -> Result<Option<Vec<u8>>, AllocError>
+        ensures picked { IfOk result (λ left. bytes_in left ≡ left_by pick self.now.file) }
+        ensures leaves { IfOk result (λ left. Leaves self.now.file (bytes_in left)) }
+    {
+        let mut rest = pick;
+        self.left(alloc, &mut rest)
     }
 }

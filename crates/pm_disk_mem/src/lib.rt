@@ -3,14 +3,21 @@
 
 mod bytes;
 mod change;
+mod config;
 mod console;
+mod contents;
 mod crash;
 mod disk;
 mod failures;
+mod family;
 mod file;
+mod files;
 mod host;
+mod log;
+mod outside;
+mod pages;
+mod parts;
 mod pick;
-mod segments;
 mod step;
 mod work;
 

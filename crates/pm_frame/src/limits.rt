@@ -1,7 +1,7 @@
 //! How long frames are, and where they may end. On the disk: do not change.
 
 /// The bytes of a frame before its payload: kind 1, segment 8, offset 4, length of the payload 4.
-pub(crate) const HEAD_LEN: usize = 17;
+pub const HEAD_LEN: usize = 17;
 /// The bytes of a frame behind its payload.
 pub(crate) const SUM_LEN: usize = 4;
 /// The bytes that a frame has beside its payload.

@@ -1,17 +1,21 @@
--- The replies to lines, and the map that they leave.
-use Rattle.std.specs.Prelude.{ℕ, ◌+◌, List, [], ◌∷◌, refl, Option, None, Some, Bool, true, false, if◌then◌else◌}
+-- The replies to lines, and the map that they leave, in a store of some shape.
+use Rattle.std.specs.Prelude.{ℕ, ◌+◌, List, [], ◌∷◌, refl, Option, None, Some, Bool, true, false, not, ◌&&◌, nat_le, ◌==◌, if◌then◌else◌, count_by, filter}
+use Rattle.std.specs.Prelude as list
 use Rattle.std.specs.declared.cmp.Ordering.{Ordering}
 use Rattle.std.specs.Ordering.{nat_cmp, ordering_then}
 use Rattle.std.specs.Cmp.Lexicographic.{slice_cmp}
 use Rattle.std.specs.Coded.{Coded, code_by, coded×, coded_ℕ, coded_list}
 use Rattle.std.specs.FinMap as map
 use Rattle.std.specs.FinMap.{FinMap}
+use Rattle.pm_types.specs.declared.shape.Shape.{Shape}
 use Rattle.pm_model.specs.declared.cache_key.CacheKey.{CacheKey}
-use Rattle.pm_model.specs.declared.line.Cmd.TheVariants.{Put, Get}
+use Rattle.pm_model.specs.declared.line.Cmd.TheVariants.{Put, Get, Remove, Scan, Checkpoint}
 use Rattle.pm_model.specs.declared.line.Line.{Line}
-use Rattle.pm_model.specs.declared.line.Line.TheVariants.{Good, Bad}
+use Rattle.pm_model.specs.declared.line.Line.TheVariants.{Good, Bad, Long}
 use Rattle.pm_model.specs.declared.reply.Reply.{Reply}
-use Rattle.pm_model.specs.declared.reply.Reply.TheVariants.{Done, Found, Absent, BadLine}
+use Rattle.pm_model.specs.declared.reply.Reply.TheVariants as reply
+use Rattle.pm_model.specs.declared.reply.Reply.TheVariants.{Done, Found, Absent, Was, Full, BadLine, LongLine}
+use Rattle.pm_model.specs.Partitions.{part_of}
 
 -- by cache, then by the key byte by byte, a proper prefix first
 abbrev pub cache_key_cmp : CacheKey → CacheKey → Ordering
@@ -29,43 +33,87 @@ coded_cache_key = code_by (ℕ × List ℕ) (coded× coded_ℕ (coded_list coded
 abbrev pub Pairs : Type 0
 Pairs = FinMap cache_key_cmp (List ℕ)
 
+-- a map is stored as the list of its entries
+abbrev pub coded_pairs : Coded Pairs
+coded_pairs = map.code coded_cache_key (coded_list coded_ℕ)
+
 -- the reply that tells a key's value, or that it has none
 abbrev pub found : Option (List ℕ) → Reply
 found None = Absent
 found (Some value) = Found value
 
+-- whether a key belongs to this partition, of so many
+abbrev pub is_of_part : ℕ → ℕ → CacheKey → Bool
+is_of_part partitions part at = part_of at.key partitions == part
+
+-- how many of the keys belong to this partition, of so many
+abbrev pub rows_among : ℕ → ℕ → List CacheKey → ℕ
+rows_among partitions part keys = count_by (is_of_part partitions part) keys
+
+-- how many keys of a partition the map has, over all caches
+abbrev pub rows_of : ℕ → ℕ → Pairs → ℕ
+rows_of partitions part pairs = rows_among partitions part (map.keys pairs)
+
+-- whether a key is new, and its partition has as many rows as it may have
+abbrev pub is_full : Shape → CacheKey → Pairs → Bool
+is_full shape at pairs =
+    not (map.contains_key pairs at) && nat_le shape.max_rows (rows_of shape.partitions (part_of at.key shape.partitions) pairs)
+
+-- the pairs of a cache among entries
+abbrev pub pairs_among : ℕ → List (CacheKey × List ℕ) → List (List ℕ × List ℕ)
+pairs_among cache entries = list.map (λ entry. (entry.0.key, entry.1)) (filter (λ entry. entry.0.cache == cache) entries)
+
+-- the pairs of a cache by rising key
+abbrev pub pairs_of : ℕ → Pairs → List (List ℕ × List ℕ)
+pairs_of cache pairs = pairs_among cache (map.entries pairs)
+
 -- the reply to a line
-abbrev pub reply_to : Line → Pairs → Reply
-reply_to (Good (Put cache key value)) pairs = Done
-reply_to (Good (Get cache key)) pairs = found (map.get pairs (cache_key cache key))
-reply_to Bad pairs = BadLine
+abbrev pub reply_to : Shape → Line → Pairs → Reply
+reply_to shape (Good (Put cache key value)) pairs = if is_full shape (cache_key cache key) pairs then Full else Done
+reply_to shape (Good (Get cache key)) pairs = found (map.get pairs (cache_key cache key))
+reply_to shape (Good (Remove cache key)) pairs = Was (map.contains_key pairs (cache_key cache key))
+reply_to shape (Good (Scan cache)) pairs = reply.Pairs (pairs_of cache pairs)
+reply_to shape (Good Checkpoint) pairs = Done
+reply_to shape Bad pairs = BadLine
+reply_to shape Long pairs = LongLine
 
 -- the map after a line
-abbrev pub after : Line → Pairs → Pairs
-after (Good (Put cache key value)) pairs = map.insert pairs (cache_key cache key) value
-after (Good (Get cache key)) pairs = pairs
-after Bad pairs = pairs
+abbrev pub after : Shape → Line → Pairs → Pairs
+after shape (Good (Put cache key value)) pairs =
+    if is_full shape (cache_key cache key) pairs
+    then pairs
+    else map.insert pairs (cache_key cache key) value
+after shape (Good (Get cache key)) pairs = pairs
+after shape (Good (Remove cache key)) pairs = map.remove pairs (cache_key cache key)
+after shape (Good (Scan cache)) pairs = pairs
+after shape (Good Checkpoint) pairs = pairs
+after shape Bad pairs = pairs
+after shape Long pairs = pairs
 
--- whether a line is accepted: those that change the map are
-abbrev pub is_accepted : Line → Pairs → Bool
-is_accepted (Good (Put cache key value)) pairs = true
-is_accepted (Good (Get cache key)) pairs = false
-is_accepted Bad pairs = false
+-- whether a line is accepted: a put that isn't refused, and a remove of a key that is there
+abbrev pub is_accepted : Shape → Line → Pairs → Bool
+is_accepted shape (Good (Put cache key value)) pairs = not (is_full shape (cache_key cache key) pairs)
+is_accepted shape (Good (Get cache key)) pairs = false
+is_accepted shape (Good (Remove cache key)) pairs = map.contains_key pairs (cache_key cache key)
+is_accepted shape (Good (Scan cache)) pairs = false
+is_accepted shape (Good Checkpoint) pairs = false
+is_accepted shape Bad pairs = false
+is_accepted shape Long pairs = false
 
 -- the replies to lines, one for each, each over the map that the lines before it left
-abbrev pub replies_to : List Line → Pairs → List Reply
-replies_to [] pairs = []
-replies_to (line ∷ lines) pairs = reply_to line pairs ∷ replies_to lines (after line pairs)
+abbrev pub replies_to : Shape → List Line → Pairs → List Reply
+replies_to shape [] pairs = []
+replies_to shape (line ∷ lines) pairs = reply_to shape line pairs ∷ replies_to shape lines (after shape line pairs)
 
 -- the map after lines
-abbrev pub after_all : List Line → Pairs → Pairs
-after_all [] pairs = pairs
-after_all (line ∷ lines) pairs = after_all lines (after line pairs)
+abbrev pub after_all : Shape → List Line → Pairs → Pairs
+after_all shape [] pairs = pairs
+after_all shape (line ∷ lines) pairs = after_all shape lines (after shape line pairs)
 
 -- the numbers of the accepted lines in order, where the first of the lines has this number
-abbrev pub accepted : ℕ → List Line → Pairs → List ℕ
-accepted number [] pairs = []
-accepted number (line ∷ lines) pairs =
-    if is_accepted line pairs
-    then number ∷ accepted (number + 1) lines (after line pairs)
-    else accepted (number + 1) lines (after line pairs)
+abbrev pub accepted : Shape → ℕ → List Line → Pairs → List ℕ
+accepted shape number [] pairs = []
+accepted shape number (line ∷ lines) pairs =
+    if is_accepted shape line pairs
+    then number ∷ accepted shape (number + 1) lines (after shape line pairs)
+    else accepted shape (number + 1) lines (after shape line pairs)

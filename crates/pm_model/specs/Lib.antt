@@ -1,1 +1,4 @@
+pub mod Batches
 pub mod Eval
+pub mod Partitions
+pub mod ReplyLists

@@ -3,12 +3,15 @@
 ghost use Rattle.std.specs.Prelude.{◌≡◌, IfOk, OnOk, OnErr};
 ghost use Rattle.std.specs.Option.{option_copied};
 ghost use Rattle.std.specs.FinMap as map;
-ghost use Rattle.pm_model.specs.Eval.{cache_key, found, reply_to, is_accepted, after};
+ghost use Rattle.pm_model.specs.Eval.{cache_key, found, rows_of, is_full, pairs_of, reply_to, is_accepted, after};
+ghost use Rattle.pm_model.specs.Partitions.{ArePartitions};
 
 use crate::cache_key::CacheKey;
 use crate::line::{Cmd, Line};
+use crate::pair_list::PairList;
+use crate::partition::part_of;
 use crate::reply::{Answer, Reply};
-use pm_types::{Key, Value};
+use pm_types::{Key, Shape, Value};
 use std::alloc::{AllocError, Global};
 use std::collections::BTreeMap;
 use std::marker::Model;
@@ -21,13 +24,12 @@ pub struct PlainMap {
 
 impl Model for PlainMap {
     ghost use Rattle.std.specs.Prelude.{ℕ, List};
-    ghost use Rattle.std.specs.Coded.{coded_ℕ, coded_list};
     ghost use Rattle.std.specs.FinMap as map;
-    ghost use Rattle.pm_model.specs.Eval.{cache_key_cmp, coded_cache_key};
+    ghost use Rattle.pm_model.specs.Eval.{cache_key_cmp, coded_pairs};
 
     ghost Value = { map.FinMap cache_key_cmp (List ℕ) };
 
-    ghost coded = { map.code coded_cache_key (coded_list coded_ℕ) };
+    ghost coded = { coded_pairs };
 
     ghost view = { λ m. map.from_entries m.pairs.entries };
 }
@@ -61,15 +63,49 @@ impl PlainMap {
         self.pairs.get(at)
     }
 
-    /// Answers a line. A value that is found is copied once, into the reply.
-    pub fn answer(&mut self, alloc: Global, line: Line) -> Result<Answer, AllocError>
-        ensures reply { IfOk result (λ answer. answer.reply ≡ reply_to line self.old) }
-        ensures accepted { IfOk result (λ answer. answer.is_accepted ≡ is_accepted line self.old) }
-        ensures after { OnOk result (self.new ≡ after line self.old) }
+    /// Takes a key out, and says whether it was there.
+    #[tactic(auto, using(crate::proofs::CacheKeys::one_removed, crate::proofs::CacheKeys::get_value))]
+    pub fn remove(&mut self, at: &CacheKey) -> bool
+        ensures was { result ≡ map.contains_key self.old at.now }
+        ensures removed { self.new ≡ map.remove self.old at.now }
+    {
+        self.pairs.remove(at).is_some()
+    }
+
+    /// The pairs of a cache, by rising key.
+    #[tactic(auto, using(crate::proofs::CacheKeys::entries_are))]
+    pub fn pairs_of(&self, alloc: Global, cache: u8) -> Result<PairList, AllocError>
+        ensures { IfOk result (λ list. list ≡ pairs_of cache self.now) }
+    {
+        let mut pairs = Vec::new(alloc);
+        'each: for (at, value) in self.pairs.iter() {
+            if at.cache == cache {
+                let key = Key::of(alloc, at.key.bytes())?;
+                let value = Value::of(alloc, value.bytes())?;
+                pairs.push((key, value))?;
+            }
+        }
+        Ok(PairList { pairs })
+    }
+
+    /// Answers a line, in a store of this shape. What is found is copied once, into the reply.
+    ///
+    /// Where memory ran out the map is as before.
+    pub fn answer(&mut self, alloc: Global, shape: Shape, line: Line) -> Result<Answer, AllocError>
+        requires { ArePartitions shape.partitions }
+        ensures reply { IfOk result (λ answer. answer.reply ≡ reply_to shape line self.old) }
+        ensures accepted { IfOk result
+            (λ answer. answer.is_accepted ≡ is_accepted shape line self.old) }
+        ensures after { OnOk result (self.new ≡ after shape line self.old) }
         ensures unchanged { OnErr result (self.new ≡ self.old) }
     {
         match line {
             Line::Good(Cmd::Put { cache, key, value }) => {
+                let at = CacheKey { cache, key };
+                if self.is_full(shape, &at) {
+                    return Ok(Answer::not_accepted(Reply::Full));
+                }
+                let CacheKey { cache, key } = at;
                 self.put(cache, key, value)?;
                 Ok(Answer::accepted(Reply::Done))
             }
@@ -77,7 +113,20 @@ impl PlainMap {
                 let reply = self.find(alloc, &CacheKey { cache, key })?;
                 Ok(Answer::not_accepted(reply))
             }
+            Line::Good(Cmd::Remove { cache, key }) => {
+                let was = self.remove(&CacheKey { cache, key });
+                Ok(Answer {
+                    reply: Reply::Was(was),
+                    is_accepted: was,
+                })
+            }
+            Line::Good(Cmd::Scan { cache }) => {
+                let pairs = self.pairs_of(alloc, cache)?;
+                Ok(Answer::not_accepted(Reply::Pairs(pairs)))
+            }
+            Line::Good(Cmd::Checkpoint) => Ok(Answer::not_accepted(Reply::Done)),
             Line::Bad => Ok(Answer::not_accepted(Reply::BadLine)),
+            Line::Long => Ok(Answer::not_accepted(Reply::LongLine)),
         }
     }
 
@@ -90,6 +139,35 @@ impl PlainMap {
             Some(value) => Ok(Reply::Found(Value::of(alloc, value.bytes())?)),
         }
     }
+
+    // Whether the key is new, and its partition has as many rows as it may have.
+    #[tactic(auto, using(crate::proofs::CacheKeys::few_rows))]
+    fn is_full(&self, shape: Shape, at: &CacheKey) -> bool
+        requires { ArePartitions shape.partitions }
+        ensures { result ≡ is_full shape at.now self.now }
+    {
+        if self.get(at).is_some() {
+            return false;
+        }
+        // A map with fewer rows needs no count.
+        let most = shape.max_rows as usize;
+        if self.pairs.len() < most {
+            return false;
+        }
+        let part = part_of(at.key.bytes(), shape.partitions);
+        self.rows_of(shape.partitions, part) >= most
+    }
+
+    // How many rows the partition has, over all caches.
+    #[tactic(auto, using(crate::proofs::CacheKeys::entries_are))]
+    fn rows_of(&self, partitions: u16, part: u16) -> usize
+        requires { ArePartitions partitions }
+        ensures { result ≡ rows_of partitions part self.now }
+    {
+        let keys = self.pairs.keys();
+        keys.filter(|at| part_of(at.key.bytes(), partitions) == part)
+            .count()
+    }
 }
 
 #[cfg(test)]
@@ -98,6 +176,15 @@ mod tests {
     use pm_types::{KEY_MAX, VALUE_MAX};
     use std::process::Abort;
     use std::test::Fail;
+
+    // Two rows in the one partition.
+    const SMALL: Shape = Shape {
+        page_size: 4_096,
+        partitions: 1,
+        version: 1,
+        max_rows: 2,
+        segment_bytes: 65_536,
+    };
 
     fn key(rt: &impl Abort, alloc: Global, bytes: &[u8]) -> Result<Key, Fail> {
         assert!(rt; !bytes.is_empty() && bytes.len() <= KEY_MAX);
@@ -117,40 +204,34 @@ mod tests {
     }
 
     #[test]
-    fn a_key_has_the_value_that_was_put_last(rt: HostRuntime) -> Result<(), Fail> {
+    fn a_full_partition_takes_a_key_that_it_has(rt: HostRuntime) -> Result<(), Fail> {
         let alloc = rt.alloc();
         let mut map = PlainMap::new(alloc);
-        let lines = [
-            (3, b"ab".as_slice(), b"1".as_slice()),
-            (3, b"a", b"2"),
-            (2, b"ab", b"3"),
-            (3, b"ab", b"4"),
+        let puts = [
+            (0, b"a".as_slice(), b"1".as_slice(), true),
+            (1, b"a", b"2", true),
+            (0, b"b", b"3", false),
+            (0, b"a", b"4", true),
         ];
-        for (cache, at, bytes) in lines {
+        for (cache, at, bytes, is_done) in puts {
             let key = key(&rt, alloc, at)?;
             let value = value(&rt, alloc, bytes)?;
             let put = Line::Good(Cmd::Put { cache, key, value });
-            let answer = map.answer(alloc, put)?;
-            assert!(rt; answer.is_accepted);
-            assert!(rt; matches!(answer.reply, Reply::Done));
+            let answer = map.answer(alloc, SMALL, put)?;
+            assert_eq!(rt; answer.is_accepted, is_done, "{bytes:?}");
+            assert_eq!(rt; matches!(answer.reply, Reply::Done), is_done, "{bytes:?}");
+            assert_eq!(rt; matches!(answer.reply, Reply::Full), !is_done, "{bytes:?}");
         }
-        let found = [
-            (3, b"ab".as_slice(), b"4".as_slice()),
-            (3, b"a", b"2"),
-            (2, b"ab", b"3"),
-        ];
-        for (cache, at, bytes) in found {
-            let key = key(&rt, alloc, at)?;
-            let answer = map.answer(alloc, Line::Good(Cmd::Get { cache, key }))?;
-            assert!(rt; !answer.is_accepted);
+        for (cache, bytes) in [(0, b"4".as_slice()), (1, b"2")] {
+            let key = key(&rt, alloc, b"a")?;
+            let answer = map.answer(alloc, SMALL, Line::Good(Cmd::Get { cache, key }))?;
             assert!(rt; is_found(&answer.reply, bytes), "{bytes:?}");
         }
-        let key = key(&rt, alloc, b"a")?;
-        let answer = map.answer(alloc, Line::Good(Cmd::Get { cache: 2, key }))?;
-        assert!(rt; matches!(answer.reply, Reply::Absent));
-        let answer = map.answer(alloc, Line::Bad)?;
-        assert!(rt; !answer.is_accepted);
-        assert!(rt; matches!(answer.reply, Reply::BadLine));
+        for was in [true, false] {
+            let key = key(&rt, alloc, b"a")?;
+            let answer = map.answer(alloc, SMALL, Line::Good(Cmd::Remove { cache: 0, key }))?;
+            assert_eq!(rt; answer.is_accepted, was);
+        }
         Ok(())
     }
 }

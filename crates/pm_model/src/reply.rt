@@ -2,19 +2,28 @@
 
 ghost use Rattle.std.specs.Prelude.{◌≡◌, true, false};
 
+use crate::pair_list::PairList;
 use pm_types::Value;
 
 /// The reply to a line.
 #[derive(Debug, Drop)]
 pub enum Reply {
-    /// The key has the value now.
+    /// The key has the value now, or the checkpoint was made.
     Done,
     /// The key's value.
     Found(Value),
     /// The key has no value.
     Absent,
+    /// Whether the key was there; it is taken out.
+    Was(bool),
+    /// The pairs of a cache, by rising key.
+    Pairs(PairList),
+    /// The key is new, and its partition has as many rows as it may have. Nothing was changed.
+    Full,
     /// The line is bad.
     BadLine,
+    /// The line is too long.
+    LongLine,
 }
 
 /// A line's reply, and whether the line was accepted: whether it changes the map.

@@ -1,7 +1,10 @@
+pub mod Digits
+pub mod FieldTexts
 pub mod Newlines
 pub mod OnTheWay
 pub mod Parts
 pub mod ScriptLines
 pub mod Spaces
 pub mod Taking
+pub mod TextsReadBack
 pub mod Unbroken

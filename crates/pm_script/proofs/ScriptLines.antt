@@ -4,7 +4,7 @@ use Rattle.std.proofs.lemmas.Bool.{cases_lt, lt-ltb}
 use Rattle.std.proofs.lemmas.List.{length-take-le, take_all}
 use Rattle.std.specs.List.{onto_first}
 use Rattle.pm_types.specs.declared.limits.TheConstants.{LINE_MAX}
-use Rattle.pm_model.specs.declared.line.Line.TheVariants.{Bad}
+use Rattle.pm_model.specs.declared.line.Line.TheVariants.{Long}
 use Rattle.pm_script.specs.Lines.{lines_of, first_line, after_line}
 use Rattle.pm_script.specs.Grammar.{line_of, line_of_words, words_of, script_of}
 
@@ -34,9 +34,9 @@ lines_of-first (b ∷ c ∷ bytes) some = lines_cond (eqb b 10) b (first_line (c
 pub script_of-first : (bytes : List ℕ) → 0 < length bytes → script_of bytes ≡ line_of (first_line bytes) ∷ script_of (after_line bytes)
 script_of-first bytes some = ap (map line_of) (lines_of-first bytes some)
 
--- a line that is too long is bad
-pub line_of-long : (line : List ℕ) → LINE_MAX < length line → line_of line ≡ Bad
-line_of-long line long = ap (λ t. cond t Bad (line_of_words (words_of line))) (lt-ltb _ _ long)
+-- a line that is too long is told apart
+pub line_of-long : (line : List ℕ) → LINE_MAX < length line → line_of line ≡ Long
+line_of-long line long = ap (λ t. cond t Long (line_of_words (words_of line))) (lt-ltb _ _ long)
 
 -- a line cut behind the first byte that makes it too long says what the whole line says
 pub line_of-cut : (line : List ℕ) → line_of (take (LINE_MAX + 1) line) ≡ line_of line

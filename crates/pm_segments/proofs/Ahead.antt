@@ -12,7 +12,7 @@ use Rattle.pm_frame.proofs.HeadBytes.{length-head_bytes}
 use Rattle.pm_frame.proofs.FrameAt.{length-frame_bytes, frame_at-same, frame_at-some, frame_at-append, frame_at-within}
 use Rattle.pm_disk.specs.Files.{bytes_of}
 use Rattle.pm_disk.specs.Worlds.{World, segment_in}
-use Rattle.pm_segments.specs.Scans.{Scanned, IsAhead, StepsOver, Advances, behind_place}
+use Rattle.pm_segments.specs.Scans.{Scanned, IsAhead, StepsOver, StepsTo, behind_place}
 use Rattle.pm_segments.proofs.Runs.{option_cases}
 
 -- the first so many elements, less some of them
@@ -35,18 +35,17 @@ payload_of place frame bytes rest spelled =
     ∙ take_at frame.payload (sum ++ rest) n refl
 
 -- the payload of a frame that stands in the buffer
-pub payload_there : (place : Place) (frame : Frame) (buffer rest : List ℕ) (at end : ℕ) → take (end - at) (drop at buffer) ≡ frame_bytes place frame ++ rest → take (length frame.payload) (drop (at + 21 - 4) buffer) ≡ frame.payload
+pub payload_there : (place : Place) (frame : Frame) (buffer rest : List ℕ) (at end : ℕ) → take (end - at) (drop at buffer) ≡ frame_bytes place frame ++ rest → take (length frame.payload) (drop (at + 17) buffer) ≡ frame.payload
 payload_there place frame buffer rest at end spelled =
     let n = length frame.payload in
     let w = drop at buffer in
-    let off : at + 21 - 4 ≡ at + 17 = omega arith in
     let long : n + 21 ≤ end - at = omega (arith, ap (λ (b : List ℕ). length b) spelled, length-take (end - at) w, length-append (frame_bytes place frame) rest, length-frame_bytes place frame) in
     let inner = payload_of place frame (take (end - at) w) rest spelled in
     let shifted : take n (drop 17 (take (end - at) w)) ≡ take n (drop (at + 17) buffer) =
     ap (take n) (less_first 17 (end - at) w (omega (arith, long)))
     ∙ take-take n (end - at - 17) (drop 17 w) (omega (arith, long))
     ∙ ap (take n) (drop-drop 17 at buffer) in
-    ap (λ k. take n (drop k buffer)) off ∙ sym shifted ∙ inner
+    sym shifted ∙ inner
 
 -- what a scan holds tells which frame stands there
 pub sees : (place : Place) (ahead there : List ℕ) → ahead ≡ take (length ahead) there → (FRAME_MAX ≤ length ahead) ⊎ (ahead ≡ there) → frame_at place ahead ≡ frame_at place there
@@ -68,7 +67,7 @@ sees place ahead there front enough = elim enough [
 ]
 
 -- what a scan holds behind the frame that it gave
-pub ahead_after : (old new : Scanned) (world : World) (found : Option Frame) → IsAhead old world → found ≡ frame_at old.next old.ahead → Advances old new found → StepsOver old new found → IsAhead new world
+pub ahead_after : (old new : Scanned) (world : World) (found : Option Frame) → IsAhead old world → found ≡ frame_at old.next old.ahead → StepsTo old new found → StepsOver old new found → IsAhead new world
 ahead_after old new world None is_ahead is advances steps =
     let there : behind_place new.next world ≡ behind_place old.next world = ap (λ (p : Place). behind_place p world) advances.1 in
     record {

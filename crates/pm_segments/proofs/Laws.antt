@@ -7,7 +7,8 @@ use Rattle.pm_frame.specs.Frames.{Frame, frame_bytes, frame_at, is_frame}
 use Rattle.pm_frame.proofs.FrameAt.{length-frame_bytes, frame_at-bytes, frame_at-same, frame_at-within, IsFrame-from}
 use Rattle.pm_disk.proofs.Files.{same_reads}
 use Rattle.pm_segments.specs.Grammars.{place, kept, grammar}
-use Rattle.pm_segments.specs.Logs.{IsGrammar, size}
+use Rattle.pm_segments.specs.Logs.{size}
+use Rattle.pm_segments.proofs.GrammarLaws.{IsGrammar}
 use Rattle.pm_segments.proofs.LogSteps.{slice_get-take}
 
 slice_get-drop : (n : ℕ) (xs : List ℕ) (i : ℕ) → slice_get (drop n xs) i ≡ slice_get xs (n + i)

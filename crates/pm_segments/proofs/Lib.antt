@@ -1,6 +1,17 @@
 pub mod Ahead
+pub mod Appending
+pub mod AppendLaw
+pub mod Emptied
+pub mod Fitting
+pub mod GrammarLaws
 pub mod Laws
 pub mod LogSteps
 pub mod OneSegment
 pub mod Opening
+pub mod Reading
 pub mod Runs
+pub mod Sealing
+pub mod Standing
+pub mod Tracing
+pub mod Turning
+pub mod Writing

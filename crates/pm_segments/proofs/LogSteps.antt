@@ -5,11 +5,12 @@ use Rattle.std.proofs.lemmas.List.{take_all, drop_all, append-nil, length-take}
 use Rattle.pm_disk.specs.Files.{File, Change, Write, Cut, changed, at_change, content, bytes_of, with_change, all_forced}
 use Rattle.pm_disk.specs.Worlds.{with_file}
 use Rattle.pm_disk.specs.Images.{Below}
-use Rattle.pm_disk.proofs.Families.{file_here, file_cases}
+use Rattle.pm_disk.proofs.Families.{file_here, file_there, file_cases}
 use Rattle.pm_disk.proofs.Files.{quiet_below, each_change, content_change, below_push, content_long, below_less, forced_change}
 use Rattle.pm_frame.specs.Frames.{Frame}
 use Rattle.pm_types.specs.declared.place.Place.{Place}
-use Rattle.pm_segments.specs.Logs.{IsGrammar, Grammar, size, next, behind, Run, RunIn, Plain, sizes, Stood, Tail, Cutting, Ready, LogStands}
+use Rattle.pm_segments.specs.Logs.{Grammar, size, next, behind, Run, RunIn, Plain, sizes, Stood, Tail, Loose, Cutting, Ready, LogStands}
+use Rattle.pm_segments.proofs.GrammarLaws.{IsGrammar}
 use Rattle.pm_segments.proofs.Runs.{next-plain, none_past}
 
 -- the front of a longer list
@@ -188,5 +189,43 @@ log_force g laws log low at pending s plain =
         run = tt;
         short = subst (λ (x : File). (k : ℕ) → k ≤ length x.since → length (bytes_of (at_change x k)) ≤ end + 0) back (forced_change file (λ o. length (bytes_of o) ≤ end + 0) (omega (arith, w.exact)));
         exact = subst (λ (x : File). length (bytes_of (content x)) ≡ end + 0) back (omega (arith, w.exact));
+      };
+    }
+
+-- Where the last pending frame is a SEAL, the log ends in the next segment once it is forced.
+pub log_force_sealed : (g : Grammar) (laws : IsGrammar g) (log : ℕ → File) (low : ℕ) (at : Place) (pending : List Frame) → LogStands g log low at pending Ready
+    → LogStands g (with_file log at.seg (all_forced (log at.seg))) low (record { seg = at.seg + 1; off = 0 }) [] Loose
+log_force_sealed g laws log low at pending s =
+    let file = log at.seg in
+    let new : File = all_forced file in
+    let there : with_file log at.seg new (at.seg + 1) ≡ log (at.seg + 1) = file_there log at.seg (at.seg + 1) new (λ is. absurd (omega (arith, is))) in
+    let empty = s.above (at.seg + 1) (omega arith) in
+    record {
+      reaches = omega (arith, s.reaches);
+      older = file_cases log at.seg new (λ m x. low ≤ m → m < at.seg + 1 → x.since ≡ []) (λ le lt. refl) (λ m apart le lt. s.older m le (omega arith));
+      below = record { forced = omega arith; untouched = λ i lt. absurd (omega (arith, lt)); long = λ k le. omega arith; same = λ k le i lt. absurd (omega (arith, lt)) };
+      stood = subst (λ (x : File). Stood g (at.seg + 1) x 0 []) (sym there) (λ k le. none_past g laws (at.seg + 1) 0 (bytes_of (at_change (log (at.seg + 1)) k)) (empty k le));
+      above = file_cases log at.seg new (λ m x. at.seg + 1 < m → (k : ℕ) → k ≤ length x.since → length (bytes_of (at_change x k)) ≤ 0) (λ isnt. absurd (omega (arith, isnt))) (λ m apart lt. s.above m (omega (arith, lt)));
+      tail_is = refl;
+    }
+
+-- Once the cut is forced, frames may be written behind the log's end.
+pub log_force_cut : (g : Grammar) (laws : IsGrammar g) (log : ℕ → File) (low : ℕ) (at : Place) → LogStands g log low at [] Cutting
+    → LogStands g (with_file log at.seg (all_forced (log at.seg))) low at [] Ready
+log_force_cut g laws log low at s =
+    let file = log at.seg in
+    let exact = s.tail_is.1 in
+    let new : File = all_forced file in
+    let back : new ≡ with_file log at.seg new at.seg = sym (file_here log at.seg new) in
+    record {
+      reaches = s.reaches;
+      older = file_cases log at.seg new (λ m x. low ≤ m → m < at.seg → x.since ≡ []) (λ le isnt. absurd (omega (arith, isnt))) (λ m apart. s.older m);
+      below = subst (λ (x : File). Below x at.off) back (below_less new at.off (length (bytes_of (content file))) (omega (arith, exact)) (quiet_below new refl));
+      stood = subst (λ (x : File). Stood g at.seg x at.off []) back (forced_change file (λ o. g.frame_at at.seg at.off (bytes_of o) ≡ None) (none_past g laws at.seg at.off (bytes_of (content file)) (omega (arith, exact))));
+      above = file_cases log at.seg new (λ m x. at.seg < m → (k : ℕ) → k ≤ length x.since → length (bytes_of (at_change x k)) ≤ 0) (λ isnt. absurd (omega (arith, isnt))) (λ m apart. s.above m);
+      tail_is = record {
+        run = tt;
+        short = subst (λ (x : File). (k : ℕ) → k ≤ length x.since → length (bytes_of (at_change x k)) ≤ at.off + 0) back (forced_change file (λ o. length (bytes_of o) ≤ at.off + 0) (omega (arith, exact)));
+        exact = subst (λ (x : File). length (bytes_of (content x)) ≡ at.off + 0) back (omega (arith, exact));
       };
     }

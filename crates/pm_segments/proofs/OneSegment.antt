@@ -1,5 +1,5 @@
 -- A log of one segment through cuts, writes and forces, and what a crash leaves of it.
-use Rattle.std.proofs.Common.{◌≡◌, ◌⊎◌, inl, inr, ℕ, zero, suc, ◌+◌, ◌<◌, ◌≤◌, List, [], ◌∷◌, ◌++◌, length, take, Option, Some, None, refl, sym, ◌∙◌, ap, subst, arith, true}
+use Rattle.std.proofs.Common.{◌≡◌, ◌⊎◌, inl, inr, ℕ, zero, suc, ◌+◌, ◌<◌, ◌≤◌, List, [], ◌∷◌, ◌++◌, length, take, Option, Some, None, refl, sym, ◌∙◌, ap, subst, arith, true, false}
 use Rattle.std.specs.Prelude.{slice_get}
 use Rattle.std.proofs.lemmas.List.{append-nil, take_all}
 use Rattle.pm_types.specs.declared.place.Place.{Place}
@@ -10,10 +10,20 @@ use Rattle.pm_disk.specs.Images.{Leaves, IsTrueOf}
 use Rattle.pm_disk.proofs.Files.{quiet_below, below_less, quiet_content, at_change-last, content_same, content_long}
 use Rattle.pm_disk.proofs.Families.{file_here}
 use Rattle.pm_segments.specs.Grammars.{place}
-use Rattle.pm_segments.specs.Logs.{Grammar, IsGrammar, IsLog, LogStands, Tail, Loose, Cutting, Ready, Run, Plain, sizes, size, behind, contents, forceds}
-use Rattle.pm_segments.specs.Rests.{HasNoSeal, StandsFor, Rests, Pends, end_of}
+use Rattle.pm_segments.specs.Logs.{Grammar, IsLog, LogStands, Tail, Loose, Cutting, Ready, Run, Plain, sizes, size, is_seal, behind, contents, forceds}
+use Rattle.pm_segments.proofs.GrammarLaws.{IsGrammar}
+use Rattle.pm_segments.specs.Rests.{StandsFor, Rests, end_of}
 use Rattle.pm_segments.proofs.Runs.{next-plain, log_join, log_image, keeps_run, Same}
 use Rattle.pm_segments.proofs.LogSteps.{log_append, log_force, log_cut, sizes-append, run_join}
+
+-- no frame of a grammar ends a segment
+abbrev pub HasNoSeal : Grammar → Type 0
+HasNoSeal g = (seg off : ℕ) (bytes : List ℕ) (f : Frame)
+    → g.frame_at seg off bytes ≡ Some f → is_seal f ≡ false
+
+-- the same, and one more frame was written behind them
+abbrev pub Pends : Grammar → (ℕ → File) → List Frame → Frame → Type 0
+Pends g log fs f = StandsFor g log fs (f ∷ []) Ready
 
 -- at no moment a later segment has bytes
 abbrev pub ClearAbove : (ℕ → File) → Type 0

@@ -1,20 +1,21 @@
 -- How a log of one segment is read, and made ready for more.
-use Rattle.std.proofs.Common.{◌≡◌, ◌≢◌, ℕ, ◌+◌, ◌<◌, ◌≤◌, List, [], ◌∷◌, ◌++◌, length, take, Option, Some, None, refl, sym, ◌∙◌, ap, subst, arith}
+use Rattle.std.proofs.Common.{◌≡◌, ◌≢◌, ℕ, ◌<◌, ◌≤◌, List, [], ◌∷◌, ◌++◌, length, take, Option, Some, None, refl, sym, ◌∙◌, ap, subst, arith}
 use Rattle.std.specs.Prelude.{slice_get}
 use Rattle.std.proofs.lemmas.Option.{same_Some}
 use Rattle.std.proofs.lemmas.List.{length-take}
 use Rattle.pm_types.specs.declared.place.Place.{Place}
 use Rattle.pm_frame.specs.Frames.{Frame}
-use Rattle.pm_disk.specs.Files.{File, Cut, content, bytes_of, changed, with_change, all_forced, at_change}
+use Rattle.pm_disk.specs.Files.{File, Cut, content, bytes_of, with_change, all_forced}
 use Rattle.pm_disk.specs.Worlds.{with_file}
 use Rattle.pm_disk.proofs.Files.{content_change, content_same, content_long, at_change-last}
 use Rattle.pm_disk.proofs.Families.{file_here, file_there}
 use Rattle.pm_segments.specs.Grammars.{place}
-use Rattle.pm_segments.specs.Logs.{Grammar, IsGrammar, IsLog, Run, sizes, size, next, behind, contents, forceds}
-use Rattle.pm_segments.specs.Rests.{HasNoSeal, StandsFor, Rests, end_of}
+use Rattle.pm_segments.specs.Logs.{Grammar, IsLog, Run, sizes, next, contents, forceds}
+use Rattle.pm_segments.proofs.GrammarLaws.{IsGrammar}
+use Rattle.pm_segments.specs.Rests.{Rests}
 use Rattle.pm_segments.proofs.Runs.{none_past}
 use Rattle.pm_segments.proofs.LogSteps.{run_join, slice_get-take}
-use Rattle.pm_segments.proofs.OneSegment.{ClearAbove, whole_run, moved_run, run_fits, quiet_rests}
+use Rattle.pm_segments.proofs.OneSegment.{HasNoSeal, ClearAbove, whole_run, moved_run, run_fits, quiet_rests}
 
 -- a list with no byte
 no_bytes : (xs : List ℕ) → length xs ≤ 0 → xs ≡ []

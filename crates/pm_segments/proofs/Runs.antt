@@ -7,7 +7,8 @@ use Rattle.pm_disk.specs.Images.{Below, Leaves, IsTrueOf}
 use Rattle.pm_disk.proofs.Files.{kept, no_longer, quiet_below}
 use Rattle.pm_frame.specs.Frames.{Frame}
 use Rattle.pm_types.specs.declared.place.Place.{Place}
-use Rattle.pm_segments.specs.Logs.{IsGrammar, Grammar, size, is_seal, next, behind, Run, IsLog, sizes, forceds, Stood, Tail, LogStands, Leads}
+use Rattle.pm_segments.specs.Logs.{Grammar, size, is_seal, next, behind, Run, IsLog, sizes, forceds, Stood, Tail, LogStands, Leads}
+use Rattle.pm_segments.proofs.GrammarLaws.{IsGrammar}
 
 pub bool_cases : (b : Bool) → (b ≡ true) ⊎ (b ≡ false)
 bool_cases true = inl refl

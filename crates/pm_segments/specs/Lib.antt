@@ -3,3 +3,4 @@ pub mod Grammars
 pub mod Logs
 pub mod Rests
 pub mod Scans
+pub mod Steps

@@ -1,5 +1,5 @@
 -- The log of a disk, over its segments.
-use Rattle.std.specs.Prelude.{◌≡◌, ◌<◌, ◌≤◌, ◌+◌, ℕ, List, [], ◌∷◌, ◌++◌, length, Option, Some, None, slice_get, if◌then◌else◌, ◌==◌, Bool, true, false}
+use Rattle.std.specs.Prelude.{◌≡◌, ◌<◌, ◌≤◌, ◌+◌, ℕ, List, [], ◌∷◌, length, Option, Some, None, if◌then◌else◌, ◌==◌, Bool, true, false}
 use Rattle.pm_types.specs.declared.place.Place.{Place}
 use Rattle.pm_frame.specs.declared.kinds.TheConstants.{SEAL}
 use Rattle.pm_frame.specs.Frames.{Frame, frame_len}
@@ -22,23 +22,6 @@ pub record Grammar : Type 0 where
   pub frame_bytes : ℕ → ℕ → Frame → List ℕ
   -- whether the frame may stand there
   pub fits : ℕ → ℕ → Frame → Bool
-
--- What is read at a place is decided by its own bytes, and what is written there is read.
-pub record IsGrammar (g : Grammar) : Type 0 where
-  -- a frame that stands somewhere is within the bytes
-  pub within : (seg off : ℕ) (bytes : List ℕ) (f : Frame)
-      → g.frame_at seg off bytes ≡ Some f → off + size f ≤ length bytes
-  -- it stands in all other bytes, too, that are the same up to its end
-  pub own : (seg off : ℕ) (old new : List ℕ) (f : Frame)
-      → g.frame_at seg off old ≡ Some f → off + size f ≤ length new
-      → ((i : ℕ) → i < off + size f → slice_get new i ≡ slice_get old i)
-      → g.frame_at seg off new ≡ Some f
-  -- its bytes are as many as its size says
-  pub bytes_length : (seg off : ℕ) (f : Frame) → length (g.frame_bytes seg off f) ≡ size f
-  -- what is written behind the bytes, where it may stand, stands there
-  pub written : (seg : ℕ) (bytes : List ℕ) (f : Frame)
-      → g.fits seg (length bytes) f ≡ true
-      → g.frame_at seg (length bytes) (bytes ++ g.frame_bytes seg (length bytes) f) ≡ Some f
 
 -- the place behind a frame
 abbrev pub next : Place → Frame → Place

@@ -1,10 +1,10 @@
 -- A log of one segment: what of it is lasting, and what was written behind that.
-use Rattle.std.specs.Prelude.{◌≡◌, ◌==◌, if◌then◌else◌, ℕ, List, [], ◌∷◌, false, Option, Some, None}
+use Rattle.std.specs.Prelude.{◌==◌, if◌then◌else◌, ℕ, List, [], Option, None}
 use Rattle.pm_types.specs.declared.place.Place.{Place}
 use Rattle.pm_frame.specs.Frames.{Frame}
 use Rattle.pm_disk.specs.Files.{File, absent}
 use Rattle.pm_segments.specs.Grammars.{place}
-use Rattle.pm_segments.specs.Logs.{Grammar, LogStands, Leads, Tail, Ready, sizes, is_seal}
+use Rattle.pm_segments.specs.Logs.{Grammar, LogStands, Leads, Tail, Ready, sizes}
 
 -- the first segment, and no other
 abbrev pub first_alone : (ℕ → File) → ℕ → File
@@ -18,11 +18,6 @@ left_alone left n = if n == 1 then left 1 else None
 abbrev pub end_of : List Frame → Place
 end_of fs = place 1 (sizes fs)
 
--- no frame of a grammar ends a segment
-abbrev pub HasNoSeal : Grammar → Type 0
-HasNoSeal g = (seg off : ℕ) (bytes : List ℕ) (f : Frame)
-    → g.frame_at seg off bytes ≡ Some f → is_seal f ≡ false
-
 -- these frames are lasting, these were written behind them, and so much is known of what is behind
 pub record StandsFor (g : Grammar) (log : ℕ → File) (lasting pending : List Frame) (tail : Tail)
     : Type 0 where
@@ -32,7 +27,3 @@ pub record StandsFor (g : Grammar) (log : ℕ → File) (lasting pending : List 
 -- the log is these frames, all of them lasting, and more may be written behind them
 abbrev pub Rests : Grammar → (ℕ → File) → List Frame → Type 0
 Rests g log fs = StandsFor g log fs [] Ready
-
--- the same, and one more frame was written behind them
-abbrev pub Pends : Grammar → (ℕ → File) → List Frame → Frame → Type 0
-Pends g log fs f = StandsFor g log fs (f ∷ []) Ready

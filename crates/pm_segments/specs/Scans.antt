@@ -1,10 +1,12 @@
 -- What contracts see of a log that is read.
-use Rattle.std.specs.Prelude.{◌≡◌, ◌+◌, ◌≤◌, ◌⊎◌, ℕ, List, length, take, drop, Bool, IsTrue, Option, Some, None, if◌then◌else◌}
+use Rattle.std.specs.Prelude.{◌≡◌, ◌+◌, ◌-◌, ◌^◌, ◌≤◌, ◌⊎◌, ◌==◌, ◌&&◌, ℕ, List, [], length, take, drop, Bool, true, false, not, IsTrue, Option, Some, None, if◌then◌else◌}
 use Rattle.pm_types.specs.declared.place.Place.{Place}
 use Rattle.pm_frame.specs.declared.limits.TheConstants.{SEGMENT_END_MAX, FRAME_MAX}
 use Rattle.pm_frame.specs.Frames.{Frame, frame_len, frame_at}
 use Rattle.pm_disk.specs.Files.{bytes_of}
 use Rattle.pm_disk.specs.Worlds.{World, segment_in}
+use Rattle.pm_segments.specs.Ends.{place_behind}
+use Rattle.pm_segments.specs.Logs.{is_seal}
 use Rattle.pm_segments.specs.declared.scan.TheConstants.{BUFFER}
 
 -- What a scan of the log holds.
@@ -17,6 +19,8 @@ pub record Scanned : Type 0 where
   pub ahead : List ℕ
   -- whether the segment ends behind that
   pub is_whole : Bool
+  -- whether the log ended with a SEAL in the last segment
+  pub is_over : Bool
   -- the frame that was given last, none at the log's end
   pub found : Option Frame
 
@@ -49,23 +53,20 @@ pub record IsAhead (scan : Scanned) (world : World) : Type 0 where
 abbrev pub SeesFrame : Scanned → Type 0
 SeesFrame scan = (FRAME_MAX ≤ length scan.ahead) ⊎ IsTrue scan.is_whole
 
--- the frame that stands where a scan goes on
+-- the frame that stands where a scan goes on, where the log isn't over
 abbrev pub stands_next : Scanned → World → Option Frame
-stands_next scan world = frame_at scan.next (behind_place scan.next world)
+stands_next scan world = if scan.is_over then None else frame_at scan.next (behind_place scan.next world)
 
 -- a scan stays where it was
 pub record StaysAt (old new : Scanned) : Type 0 where
   pub place : new.place ≡ old.place
   pub next : new.next ≡ old.next
+  pub is_over : new.is_over ≡ old.is_over
 
--- the place behind a frame in its segment
-abbrev pub place_behind : Place → Frame → Place
-place_behind place frame = record { seg = place.seg; off = place.off + frame_len frame }
-
--- a scan went on by a frame, or stays at the log's end
-abbrev pub Advances : Scanned → Scanned → Option Frame → Type 0
-Advances old new None = (new.place ≡ old.next) × (new.next ≡ old.next)
-Advances old new (Some frame) =
+-- a scan went on by a frame in its segment, or stays where none stands
+abbrev pub StepsTo : Scanned → Scanned → Option Frame → Type 0
+StepsTo old new None = (new.place ≡ old.next) × (new.next ≡ old.next)
+StepsTo old new (Some frame) =
     (new.place ≡ old.next) × (new.next ≡ place_behind old.next frame)
 
 -- the bytes of a frame that was given are no longer ahead
@@ -73,3 +74,40 @@ abbrev pub StepsOver : Scanned → Scanned → Option Frame → Type 0
 StepsOver old new None = (new.ahead ≡ old.ahead) × (new.is_whole ≡ old.is_whole)
 StepsOver old new (Some frame) =
     (new.ahead ≡ drop (frame_len frame) old.ahead) × (new.is_whole ≡ old.is_whole)
+
+-- whether a frame is a SEAL
+abbrev pub found_seal : Option Frame → Bool
+found_seal None = false
+found_seal (Some frame) = is_seal frame
+
+-- whether a segment is the last one
+abbrev pub is_last : ℕ → Bool
+is_last seg = seg == 2 ^ 64 - 1
+
+-- a scan at the begin of the next segment
+abbrev pub entered : Scanned → Scanned
+entered scan = record scan { next = record { seg = scan.next.seg + 1; off = 0 }; ahead = []; is_whole = false }
+
+-- a scan behind a SEAL: it goes on in the next segment, and in the last one the log is over
+abbrev pub sealed : Scanned → Scanned
+sealed scan = if is_last scan.next.seg then record scan { is_over = true } else entered scan
+
+-- a scan behind the frame that it found
+abbrev pub turned : Scanned → Scanned
+turned scan = if found_seal scan.found then sealed scan else scan
+
+-- The place behind a frame: behind a SEAL that of the next segment's begin. The last segment has no next one, and the
+-- place is just behind its SEAL.
+abbrev pub following : Place → Frame → Place
+following place frame =
+    if is_seal frame && not (is_last place.seg)
+    then record { seg = place.seg + 1; off = 0 }
+    else place_behind place frame
+
+-- a scan went on by a frame, or stays at the log's end
+abbrev pub Advances : Scanned → Scanned → Option Frame → Type 0
+Advances old new None =
+    (new.place ≡ old.next) × (new.next ≡ old.next) × (new.is_over ≡ old.is_over)
+Advances old new (Some frame) =
+    (new.place ≡ old.next) × (new.next ≡ following old.next frame)
+    × (new.is_over ≡ (is_seal frame && is_last old.next.seg))

@@ -1,16 +1,19 @@
 //! The log's writer.
 
-ghost use Rattle.std.specs.Prelude.{◌≡◌, ◌⊎◌, ◌≤◌, ◌+◌, ◌↔◌, ℕ, length, IsTrue, IfOk, OnOk, OnErr};
+ghost use Rattle.std.specs.Prelude.{◌≡◌, ◌⊎◌, ◌≤◌, ◌<◌, ◌+◌, ◌↔◌, ℕ, [], length, true, IsTrue, IfOk, OnOk, OnErr};
 ghost use Rattle.pm_types.specs.Causes.{HasCause};
 ghost use Rattle.pm_frame.specs.declared.limits.TheConstants.{PAYLOAD_MAX as longest, SEGMENT_END_MAX as last_end};
 ghost use Rattle.pm_frame.specs.declared.kinds.TheConstants.{LOGICAL, SEAL};
+ghost use Rattle.pm_frame.specs.Frames.{IsFrame, frame_len};
+ghost use Rattle.pm_records.specs.declared.limits.TheConstants.{SEGMENT_BYTES_MIN as least_size, SEGMENT_BYTES_MAX as most_size};
 ghost use Rattle.pm_disk.specs.Files.{bytes_of};
 ghost use Rattle.pm_disk.specs.Worlds.{segment_in, log_forced};
 ghost use Rattle.pm_disk.specs.Moments.{Does, AllMoments};
-ghost use Rattle.pm_segments.specs.Ends.{HasRoom, EndsThere, moved, appended, cut_at, CutsTail};
+ghost use Rattle.pm_segments.specs.Ends.{fresh_log, HasRoom, EndsThere, moved, written, cut_at, CutsTail};
+ghost use Rattle.pm_segments.specs.Steps.{DoesSteps, next_segment, next_begin, seal_len, seal_steps, turn_steps, begin_steps, roll_steps, rolled, room_steps, roomy, append_steps, grown, steps_of, tried_log, broken, Reaches};
 
 use pm_disk::{Failed, LogFile};
-use pm_frame::{FRAME_EXTRA, FRAME_MAX, write_frame};
+use pm_frame::{FRAME_END_MAX, FRAME_EXTRA, FRAME_MAX, SEAL, write_frame};
 use pm_types::Place;
 use std::marker::Model;
 
@@ -18,8 +21,11 @@ use std::marker::Model;
 /// call takes any.
 #[derive(Drop)]
 pub struct Log {
+    first: u64,
     end: Place,
     segment_bytes: u32,
+    tried: bool,
+    total: u64,
     frame: [u8; FRAME_MAX],
 }
 
@@ -28,17 +34,79 @@ impl Model for Log {
 
     ghost Value = { LogEnd };
 
-    ghost view = { λ log. record { end = log.end; segment_bytes = log.segment_bytes } };
+    ghost view = { λ log. record {
+      first = log.first;
+      end = log.end;
+      segment_bytes = log.segment_bytes;
+      tried = log.tried;
+      total = log.total;
+    } };
 
-    ghost invariant = { λ log. IsLogEnd (record { end = log.end; segment_bytes = log.segment_bytes }) };
+    ghost invariant = { λ log. IsLogEnd (record {
+      first = log.first;
+      end = log.end;
+      segment_bytes = log.segment_bytes;
+      tried = log.tried;
+      total = log.total;
+    }) };
 }
 
 impl Log {
+    /// Cuts the last segment at `end` and forces it, and gives the log that ends there. Its segments
+    /// from `first` on are kept, and one may have `segment_bytes` bytes. After `Failed` the segment
+    /// may be cut or not, and what is before `end` is as it was.
+    pub fn cut_tail<L: LogFile>(
+        dev: &mut L,
+        first: u64,
+        end: Place,
+        segment_bytes: u32,
+    ) -> Result<Log, Failed>
+        requires end { end.off ≤ last_end }
+        requires size_from { least_size ≤ segment_bytes }
+        requires size_to { segment_bytes ≤ most_size }
+        requires long { L.tells →
+            end.off ≤ length (bytes_of (segment_in (L.history dev.old).world end.seg)) }
+        ensures log { IfOk result (λ log. log ≡ fresh_log first end segment_bytes) }
+        ensures world { L.tells → OnOk result
+            ((L.history dev.new).world ≡ log_forced end.seg (cut_at end (L.history dev.old).world)) }
+        ensures ends { L.tells → IfOk result (λ log. EndsThere log (L.history dev.new).world) }
+        ensures moments { L.tells → AllMoments (L.history dev.old) (L.history dev.new)
+            (CutsTail end (L.history dev.old).world) }
+        ensures cause { HasCause (L.faults dev.old) (L.faults dev.new) result }
+    {
+        dev.cut_log(end.seg, end.off as u64)?;
+        dev.force_log(end.seg)?;
+        Ok(Log {
+            first,
+            end,
+            segment_bytes,
+            tried: false,
+            total: 0,
+            frame: [0; FRAME_MAX],
+        })
+    }
+
     /// Where the log ends.
     pub fn end(&self) -> Place
         ensures { result ≡ self.now.end }
     {
         self.end
+    }
+
+    /// Whether the last `append` tried to write its own frame. Where it did and failed, the frame
+    /// may be in the log or not; where it didn't, the frame isn't.
+    pub fn tried(&self) -> bool
+        ensures { result ≡ self.now.tried }
+    {
+        self.tried
+    }
+
+    /// How many bytes the frames have that were appended since `cut_tail`, SEALs among them; those of
+    /// an append that failed don't count. The count stands still at 2^64 - 1.
+    pub fn appended(&self) -> u64
+        ensures { result ≡ self.now.total }
+    {
+        self.total
     }
 
     /// Whether a record with so many bytes of payload fits into the segment behind the log's end, with
@@ -50,32 +118,13 @@ impl Log {
         self.end.off as usize + payload_len + 2 * FRAME_EXTRA <= self.segment_bytes as usize
     }
 
-    /// Cuts the last segment at `end` and forces it, and gives the log that ends there. A segment of
-    /// that log may have `segment_bytes` bytes. After `Failed` the segment may be cut or not, and what
-    /// is before `end` is as it was.
-    pub fn cut_tail<L: LogFile>(dev: &mut L, end: Place, segment_bytes: u32) -> Result<Log, Failed>
-        requires end { end.off ≤ last_end }
-        requires size { segment_bytes ≤ last_end }
-        requires long { L.tells →
-            end.off ≤ length (bytes_of (segment_in (L.history dev.old).world end.seg)) }
-        ensures log { IfOk result (λ log. log ≡ record { end = end; segment_bytes = segment_bytes }) }
-        ensures world { L.tells → OnOk result
-            ((L.history dev.new).world ≡ log_forced end.seg (cut_at end (L.history dev.old).world)) }
-        ensures moments { L.tells → AllMoments (L.history dev.old) (L.history dev.new)
-            (CutsTail end (L.history dev.old).world) }
-        ensures cause { HasCause (L.faults dev.old) (L.faults dev.new) result }
-    {
-        dev.cut_log(end.seg, end.off as u64)?;
-        dev.force_log(end.seg)?;
-        Ok(Log {
-            end,
-            segment_bytes,
-            frame: [0; FRAME_MAX],
-        })
-    }
-
-    /// Appends a record, and gives its place. It isn't lasting until the log is forced. After `Failed`
-    /// the log ends where it ended, and the record may stand behind that end or not.
+    /// Appends a record, and gives its place. Where it doesn't fit into the segment with a SEAL behind
+    /// it, the log rolls first: a SEAL is written at its end, the segment is forced, the next one is
+    /// cut to nothing and forced, and the record goes to its begin. It isn't lasting until the log is
+    /// forced.
+    ///
+    /// After `Failed` some first of these steps were done. The record may be in the log or not where
+    /// `tried` is true, and else it isn't. Nothing is to be appended any more.
     pub fn append<L: LogFile>(
         &mut self,
         dev: &mut L,
@@ -83,24 +132,26 @@ impl Log {
         payload: &[u8],
     ) -> Result<Place, Failed>
         requires known_from { LOGICAL ≤ kind }
-        requires known_to { kind ≤ SEAL }
+        requires known_to { kind < SEAL }
         requires short { length payload.now ≤ longest }
-        requires room { HasRoom self.old (length payload.now) }
         requires end { L.tells → EndsThere self.old (L.history dev.old).world }
-        ensures place { IfOk result (λ place. place ≡ self.old.end) }
-        ensures moved { OnOk result
-            (self.new ≡ moved self.old (record { kind = kind; payload = payload.now })) }
-        ensures does { L.tells → Does (L.history dev.old) (L.history dev.new) result
-            (appended self.old (record { kind = kind; payload = payload.now }) (L.history dev.old).world) }
-        ensures unmoved { OnErr result (self.new ≡ self.old) }
+
+        ensures place { IfOk result (λ place. place ≡ (roomy self.old (length payload.now)).end) }
+        ensures grown { OnOk result (self.new ≡ grown self.old (record { kind = kind; payload = payload.now })) }
+        ensures ends { L.tells → OnOk result (EndsThere self.new (L.history dev.new).world) }
+
+        // Which calls were made, in this order, and how far they came.
+        ensures steps { L.tells → DoesSteps (L.history dev.old) (L.history dev.new) result
+            (steps_of self.new.tried self.old (record { kind = kind; payload = payload.now })) self.old.end }
+        ensures reaches { L.tells → Reaches self.new.tried self.old
+            (record { kind = kind; payload = payload.now }) (L.history dev.old).world (L.history dev.new).world }
+        ensures broken { OnErr result (self.new
+            ≡ broken self.new.tried self.old (record { kind = kind; payload = payload.now })) }
         ensures cause { HasCause (L.faults dev.old) (L.faults dev.new) result }
     {
-        let place = self.end;
-        let len = payload.len() + FRAME_EXTRA;
-        write_frame(kind, place, payload, &mut self.frame[..len]);
-        dev.write_log(place.seg, place.off as u64, &self.frame[..len])?;
-        self.end.off += len as u32;
-        Ok(place)
+        self.tried = false;
+        self.make_room(dev, payload.len())?;
+        self.add(dev, kind, payload)
     }
 
     /// Forces the last segment, so that the log is lasting up to its end. After `Failed` what was
@@ -113,4 +164,138 @@ impl Log {
     {
         dev.force_log(self.end.seg)
     }
+
+    // Rolls the log where a record with so many bytes of payload doesn't fit.
+    fn make_room<L: LogFile>(&mut self, dev: &mut L, payload_len: usize) -> Result<(), Failed>
+        requires short { payload_len ≤ longest }
+        requires end { L.tells → EndsThere self.old (L.history dev.old).world }
+        ensures roomy { OnOk result (self.new ≡ roomy self.old payload_len) }
+        ensures room { OnOk result (HasRoom self.new payload_len) }
+        ensures unmoved { OnErr result (self.new ≡ self.old) }
+        ensures ends { L.tells → OnOk result (EndsThere self.new (L.history dev.new).world) }
+        ensures steps { L.tells → DoesSteps (L.history dev.old) (L.history dev.new) result
+            (room_steps self.old payload_len) self.old.end }
+        ensures cause { HasCause (L.faults dev.old) (L.faults dev.new) result }
+    {
+        let _ = &self.first;
+        if self.has_room(payload_len) {
+            return Ok(());
+        }
+        self.roll(dev)
+    }
+
+    // Goes on in the next segment.
+    fn roll<L: LogFile>(&mut self, dev: &mut L) -> Result<(), Failed>
+        requires end { L.tells → EndsThere self.old (L.history dev.old).world }
+        ensures rolled { OnOk result (self.new ≡ rolled self.old) }
+        ensures unmoved { OnErr result (self.new ≡ self.old) }
+        ensures ends { L.tells → OnOk result (EndsThere self.new (L.history dev.new).world) }
+        ensures steps { L.tells → DoesSteps (L.history dev.old) (L.history dev.new) result
+            (roll_steps self.old.end) self.old.end }
+        ensures cause { HasCause (L.faults dev.old) (L.faults dev.new) result }
+    {
+        let sealed = self.seal(dev)?;
+        let behind = Place {
+            seg: self.end.seg,
+            off: self.end.off + sealed,
+        };
+        self.end = turn(dev, behind)?;
+        self.total = self.total.saturating_add(sealed as u64);
+        Ok(())
+    }
+
+    // Writes a SEAL at the log's end where it fits, and tells how many bytes it has.
+    fn seal<L: LogFile>(&mut self, dev: &mut L) -> Result<u32, Failed>
+        requires end { L.tells → EndsThere self.old (L.history dev.old).world }
+        ensures len { IfOk result (λ len. len ≡ seal_len self.old.end) }
+        ensures unmoved { self.new ≡ self.old }
+        ensures steps { L.tells → DoesSteps (L.history dev.old) (L.history dev.new) result
+            (seal_steps self.old.end) self.old.end }
+        ensures cause { HasCause (L.faults dev.old) (L.faults dev.new) result }
+    {
+        if self.end.off > FRAME_END_MAX {
+            return Ok(0);
+        }
+        self.write(dev, SEAL, &[])?;
+        Ok(FRAME_EXTRA as u32)
+    }
+
+    // Writes a record at the log's end, which is behind it then, and gives its place.
+    fn add<L: LogFile>(&mut self, dev: &mut L, kind: u8, payload: &[u8]) -> Result<Place, Failed>
+        requires known_from { LOGICAL ≤ kind }
+        requires known_to { kind < SEAL }
+        requires short { length payload.now ≤ longest }
+        requires room { HasRoom self.old (length payload.now) }
+        requires end { L.tells → EndsThere self.old (L.history dev.old).world }
+        ensures place { IfOk result (λ place. place ≡ self.old.end) }
+        ensures moved { OnOk result (self.new ≡ moved self.old (record { kind = kind; payload = payload.now })) }
+        ensures unmoved { OnErr result (self.new ≡ tried_log self.old) }
+        ensures tried { self.new.tried ≡ true }
+        ensures ends { L.tells → OnOk result (EndsThere self.new (L.history dev.new).world) }
+        ensures does { L.tells → Does (L.history dev.old) (L.history dev.new) result
+            (written self.old.end (record { kind = kind; payload = payload.now }) (L.history dev.old).world) }
+        ensures cause { HasCause (L.faults dev.old) (L.faults dev.new) result }
+    {
+        self.tried = true;
+        let place = self.end;
+        let len = self.write(dev, kind, payload)?;
+        self.end = Place {
+            seg: place.seg,
+            off: place.off + len,
+        };
+        self.total = self.total.saturating_add(len as u64);
+        Ok(place)
+    }
+
+    // Writes a frame at the log's end, and tells how many bytes it has. The log's end stays before it.
+    fn write<L: LogFile>(&mut self, dev: &mut L, kind: u8, payload: &[u8]) -> Result<u32, Failed>
+        requires frame { IsFrame self.old.end (record { kind = kind; payload = payload.now }) }
+        requires end { L.tells → EndsThere self.old (L.history dev.old).world }
+        ensures len { IfOk result (λ len. len ≡ frame_len (record { kind = kind; payload = payload.now })) }
+        ensures unmoved { self.new ≡ self.old }
+        ensures does { L.tells → Does (L.history dev.old) (L.history dev.new) result
+            (written self.old.end (record { kind = kind; payload = payload.now }) (L.history dev.old).world) }
+        ensures cause { HasCause (L.faults dev.old) (L.faults dev.new) result }
+    {
+        let place = self.end;
+        let len = payload.len() + FRAME_EXTRA;
+        write_frame(kind, place, payload, &mut self.frame[..len]);
+        dev.write_log(place.seg, place.off as u64, &self.frame[..len])?;
+        Ok(len as u32)
+    }
+}
+
+// Forces the segment that the log ended in, cuts the next one to nothing, forces it, and gives its begin.
+fn turn<L: LogFile>(dev: &mut L, behind: Place) -> Result<Place, Failed>
+    ensures begin { IfOk result (λ begin. begin ≡ next_begin behind) }
+    ensures empty { L.tells → OnOk result
+        (length (bytes_of (segment_in (L.history dev.new).world (next_segment behind.seg))) ≡ 0) }
+    ensures steps { L.tells →
+        DoesSteps (L.history dev.old) (L.history dev.new) result turn_steps behind }
+    ensures cause { HasCause (L.faults dev.old) (L.faults dev.new) result }
+{
+    dev.force_log(behind.seg)?;
+    begin_next(dev, behind)
+}
+
+// Cuts the segment behind the one of the log's end to nothing, forces it, and gives its begin.
+fn begin_next<L: LogFile>(dev: &mut L, end: Place) -> Result<Place, Failed>
+    ensures begin { IfOk result (λ begin. begin ≡ next_begin end) }
+    ensures empty { L.tells → OnOk result
+        (length (bytes_of (segment_in (L.history dev.new).world (next_segment end.seg))) ≡ 0) }
+    ensures steps { L.tells →
+        DoesSteps (L.history dev.old) (L.history dev.new) result begin_steps end }
+    ensures cause { HasCause (L.faults dev.old) (L.faults dev.new) result }
+{
+    let seg = next_segment(end.seg);
+    dev.cut_log(seg, 0)?;
+    dev.force_log(seg)?;
+    Ok(Place { seg, off: 0 })
+}
+
+// The segment that comes behind this one: behind the last number comes the first one again.
+fn next_segment(seg: u64) -> u64
+    ensures { result ≡ next_segment seg }
+{
+    if seg == u64::MAX { 1 } else { seg + 1 }
 }

@@ -1,6 +1,6 @@
 //! The log's reader.
 
-ghost use Rattle.std.specs.Prelude.{◌≡◌, ◌≤◌, ◌<◌, ◌+◌, ◌-◌, length, take, drop, [], false, None, IfOk, OnOk};
+ghost use Rattle.std.specs.Prelude.{◌≡◌, ◌≤◌, ◌<◌, ◌+◌, ◌-◌, length, take, drop, [], true, false, None, IfOk, OnOk};
 ghost use Rattle.std.specs.Borrow.{sem};
 ghost use Rattle.std.specs.Io.BufRead.{Rests};
 ghost use Rattle.pm_types.specs.Causes.{HasCause};
@@ -10,10 +10,10 @@ ghost use Rattle.pm_frame.specs.Views.{frame_in};
 ghost use Rattle.pm_frame.specs.Frames.{frame_at};
 ghost use Rattle.pm_disk.specs.Files.{ReadsFrom};
 ghost use Rattle.pm_disk.specs.Worlds.{segment_in};
-ghost use Rattle.pm_segments.specs.Scans.{IsAhead, SeesFrame, StaysAt, StepsOver, stands_next, Advances};
+ghost use Rattle.pm_segments.specs.Scans.{IsAhead, SeesFrame, StaysAt, StepsTo, StepsOver, behind_place, stands_next, turned, Advances};
 
 use pm_disk::{Failed, LogReader};
-use pm_frame::{FRAME_EXTRA, FRAME_MAX, FrameView, read_frame};
+use pm_frame::{FRAME_EXTRA, FRAME_MAX, FrameView, HEAD_LEN, SEAL, read_frame};
 use pm_types::Place;
 use std::alloc::{AllocError, Global};
 use std::marker::Model;
@@ -23,8 +23,9 @@ const PIECE: usize = 65_536;
 // The start of a frame that goes on stands before the piece that follows it.
 const BUFFER: usize = PIECE + FRAME_MAX;
 
-/// Reads a segment of the log frame after frame from a place on, through a buffer and in one pass. It
-/// takes its memory when it is made.
+/// Reads the log frame after frame from a place on, through a buffer and in one pass: behind a SEAL it goes
+/// on in the next segment. It asks a segment for bytes at most once per 64 KiB, and once more. It takes its
+/// memory when it is made.
 #[derive(Drop)]
 pub struct Scan {
     place: Place,
@@ -34,6 +35,8 @@ pub struct Scan {
     at: usize,
     end: usize,
     is_whole: bool,
+    // A SEAL in the last segment ends the log.
+    is_over: bool,
     // The frame that was given last, if one was.
     has_found: bool,
     kind: u8,
@@ -52,6 +55,7 @@ impl Model for Scan {
       next = s.next;
       ahead = take (s.end - s.at) (drop s.at s.buffer.items);
       is_whole = s.is_whole;
+      is_over = s.is_over;
       found = shown s.has_found s.buffer.items s.kind s.payload_at s.payload_len;
     } };
 
@@ -70,6 +74,7 @@ impl Scan {
           next = from;
           ahead = [];
           is_whole = false;
+          is_over = false;
           found = None;
         }) }
     {
@@ -80,6 +85,7 @@ impl Scan {
             at: 0,
             end: 0,
             is_whole: false,
+            is_over: false,
             has_found: false,
             kind: 0,
             payload_at: 0,
@@ -94,8 +100,8 @@ impl Scan {
         self.place
     }
 
-    /// The next frame of the segment, whatever its kind; none exactly where no frame stands. After
-    /// `Failed` the scan is not to be used any more.
+    /// The next frame of the log, whatever its kind; none exactly at the log's end, where no frame stands, or
+    /// behind a SEAL in segment 2^64 - 1. After `Failed` the scan is not to be used any more.
     pub fn next<L: LogReader>(&mut self, dev: &mut L) -> Result<Option<FrameView<'_>>, Failed>
         requires ahead { L.tells → IsAhead self.old (L.history dev.old).world }
         ensures* gives { sem 𝓛 (Rests the_row self.entry (λ left. IfOk result (λ found.
@@ -109,7 +115,7 @@ impl Scan {
         Ok(self.found())
     }
 
-    // Reads on, and goes on by the frame ahead, if there is one.
+    // Goes on by the next frame, if there is one.
     fn advance<L: LogReader>(&mut self, dev: &mut L) -> Result<(), Failed>
         requires ahead { L.tells → IsAhead self.old (L.history dev.old).world }
         ensures advances { OnOk result (Advances self.old self.new self.new.found) }
@@ -120,8 +126,29 @@ impl Scan {
         ensures does { L.tells → Does (L.history dev.old) (L.history dev.new) result (L.history dev.old).world }
         ensures cause { HasCause (L.faults dev.old) (L.faults dev.new) result }
     {
+        if self.is_over {
+            self.place = self.next;
+            self.has_found = false;
+            return Ok(());
+        }
+        self.go_on(dev)
+    }
+
+    // Goes on by the frame ahead, if there is one, and from a SEAL to the next segment.
+    fn go_on<L: LogReader>(&mut self, dev: &mut L) -> Result<(), Failed>
+        requires going { self.old.is_over ≡ false }
+        requires ahead { L.tells → IsAhead self.old (L.history dev.old).world }
+        ensures advances { OnOk result (Advances self.old self.new self.new.found) }
+        ensures bound { OnOk result (self.new.next.off ≤ last_end) }
+        ensures found { L.tells → OnOk result
+            (self.new.found ≡ frame_at self.old.next (behind_place self.old.next (L.history dev.old).world)) }
+        ensures ahead { L.tells → OnOk result (IsAhead self.new (L.history dev.new).world) }
+        ensures does { L.tells → Does (L.history dev.old) (L.history dev.new) result (L.history dev.old).world }
+        ensures cause { HasCause (L.faults dev.old) (L.faults dev.new) result }
+    {
         self.fill(dev)?;
         self.step();
+        self.turn();
         Ok(())
     }
 
@@ -139,10 +166,32 @@ impl Scan {
         })
     }
 
+    // Goes on to the next segment, where a SEAL was found.
+    fn turn(&mut self)
+        ensures turned { self.new ≡ turned self.old }
+        ensures bound { self.new.next.off ≤ last_end }
+    {
+        if !self.has_found || self.kind != SEAL {
+            return;
+        }
+        if self.next.seg == u64::MAX {
+            self.is_over = true;
+            return;
+        }
+        self.next = Place {
+            seg: self.next.seg + 1,
+            off: 0,
+        };
+        // What is left of the segment behind its SEAL isn't of the log.
+        self.at = self.end;
+        self.is_whole = false;
+    }
+
     // Goes on by the frame ahead, if there is one.
     fn step(&mut self)
         requires sees { SeesFrame self.old }
-        ensures advances { Advances self.old self.new self.new.found }
+        ensures steps { StepsTo self.old self.new self.new.found }
+        ensures is_over { self.new.is_over ≡ self.old.is_over }
         ensures bound { self.new.next.off ≤ last_end }
         ensures found { self.new.found ≡ frame_at self.old.next self.old.ahead }
         ensures ahead { StepsOver self.old self.new self.new.found }
@@ -155,8 +204,7 @@ impl Scan {
                 self.has_found = true;
                 self.kind = view.kind;
                 self.payload_len = view.payload.len();
-                // Of a frame's own bytes 4 are its sum, which stands behind the payload.
-                self.payload_at = self.at + FRAME_EXTRA - 4;
+                self.payload_at = self.at + HEAD_LEN;
                 self.next.off += view.len as u32;
                 self.at += view.len;
             }

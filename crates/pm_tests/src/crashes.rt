@@ -5,15 +5,15 @@ use pm_disk_mem::{MemDisk, Pick};
 use std::process::Abort;
 use std::test::Fail;
 
-/// The run's script: twelve puts, seven gets, and a bad line.
+/// The run's script: twelve lines that are accepted, of which one is a remove, and eight that are not.
 const SCRIPT: &[u8] =
-    b"put 0 a 1\nget 0 a\nput 0 b 2\nput 0 a 3\nget 0 b\nput 1 a 4\nbad\nput 0 c 5\nget 1 a\nput 0 b 6\n\
-put 0 a 7\nget 0 c\nput 1 a 8\nput 0 c 9\nget 0 d\nput 0 a 10\nget 0 a\nput 0 b 11\nput 1 a 12\nget 1 a\n";
+    b"put 0 a 1\nget 0 a\nput 0 b 2\nput 0 a 3\nget 0 b\nput 1 a 4\nremove 0 z\nput 0 c 5\nget 1 a\nput 0 b 6\n\
+remove 0 a\nget 0 c\nput 1 a 8\nput 0 c 9\nget 0 d\nput 0 a 10\nget 0 a\nput 0 b 11\nput 1 a 12\nget 1 a\n";
 
 /// The script of each restart.
 const QUESTIONS: &[u8] = b"get 0 a\nget 0 b\nget 0 c\nget 1 a\n";
 
-/// What the questions are answered after each number of the script's puts.
+/// What the questions are answered after each number of the accepted lines.
 const ANSWERS: [&[u8]; 13] = [
     b"none\nnone\nnone\nnone\n",
     b"value 1\nnone\nnone\nnone\n",
@@ -22,9 +22,9 @@ const ANSWERS: [&[u8]; 13] = [
     b"value 3\nvalue 2\nnone\nvalue 4\n",
     b"value 3\nvalue 2\nvalue 5\nvalue 4\n",
     b"value 3\nvalue 6\nvalue 5\nvalue 4\n",
-    b"value 7\nvalue 6\nvalue 5\nvalue 4\n",
-    b"value 7\nvalue 6\nvalue 5\nvalue 8\n",
-    b"value 7\nvalue 6\nvalue 9\nvalue 8\n",
+    b"none\nvalue 6\nvalue 5\nvalue 4\n",
+    b"none\nvalue 6\nvalue 5\nvalue 8\n",
+    b"none\nvalue 6\nvalue 9\nvalue 8\n",
     b"value 10\nvalue 6\nvalue 9\nvalue 8\n",
     b"value 10\nvalue 11\nvalue 9\nvalue 8\n",
     b"value 10\nvalue 11\nvalue 9\nvalue 12\n",
@@ -33,7 +33,7 @@ const ANSWERS: [&[u8]; 13] = [
 /// More calls than any of these runs makes.
 const CALLS_MAX: u64 = 100;
 
-/// The most bytes that a frame of the script's puts has.
+/// The most bytes that a frame of the script has.
 const FRAME_BYTES: u64 = 31;
 
 /// Whether a crash of this run leaves the log as it is.
@@ -55,7 +55,7 @@ fn picks(rt: &impl AllocGlobal, run: &Run) -> Result<Vec<Pick>, Fail> {
     Ok(picks)
 }
 
-/// How many puts a crash may leave at least and at most: those whose reply was begun, and those that were accepted.
+/// How many accepted lines a crash may leave at least and at most: those whose reply was begun, and all.
 #[derive(Clone, Copy)]
 struct Bounds {
     least: usize,
@@ -81,10 +81,10 @@ fn bounds_of(run: &Run) -> Bounds {
     }
 }
 
-/// Whether a restart answered as one of the numbers of puts within the bounds has it.
+/// Whether a restart answered as one of the numbers within the bounds has it.
 fn is_within(said: &[u8], bounds: Bounds) -> bool {
-    ANSWERS.iter().enumerate().any(|(puts, answers)| bounds.least <= puts
-        && puts <= bounds.most
+    ANSWERS.iter().enumerate().any(|(count, answers)| bounds.least <= count
+        && count <= bounds.most
         && said == *answers)
 }
 

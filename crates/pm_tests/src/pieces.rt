@@ -2,8 +2,11 @@
 
 ghost use Rattle.std.specs.Prelude.{◌<◌};
 
-use pm_disk::{Device, Failed, Host, LogFile, LogReader};
+use pm_disk::{
+    Device, Failed, Host, LogFile, LogReader, MarkFile, PageReader, PageWriter, SLOT_LEN,
+};
 use pm_disk_mem::MemHost;
+use pm_types::PageId;
 
 /// A host in memory whose reads take at most so many bytes of the input. All else is passed on.
 #[derive(Drop)]
@@ -50,9 +53,55 @@ impl LogFile for PieceHost {
     }
 }
 
+impl PageReader for PieceHost {
+    fn read_page(&mut self, page: PageId, into: &mut [u8]) -> Result<bool, Failed> {
+        self.host.read_page(page, into)
+    }
+}
+
+impl PageWriter for PieceHost {
+    fn write_page(&mut self, page: PageId, bytes: &[u8]) -> Result<(), Failed> {
+        self.host.write_page(page, bytes)
+    }
+
+    fn force_pages(&mut self, part: u16) -> Result<(), Failed> {
+        self.host.force_pages(part)
+    }
+}
+
 impl Host for PieceHost {
     fn bind(&mut self, dir: &str) -> Result<(), Failed> {
         self.host.bind(dir)
+    }
+
+    fn read_config(&mut self, into: &mut [u8]) -> Result<usize, Failed> {
+        self.host.read_config(into)
+    }
+
+    fn drop_log(&mut self, seg: u64) -> Result<(), Failed> {
+        self.host.drop_log(seg)
+    }
+
+    fn read_mark(
+        &mut self,
+        file: MarkFile,
+        slot: u8,
+        into: &mut [u8; SLOT_LEN],
+    ) -> Result<bool, Failed> {
+        self.host.read_mark(file, slot, into)
+    }
+
+    fn write_mark(
+        &mut self,
+        file: MarkFile,
+        slot: u8,
+        bytes: &[u8; SLOT_LEN],
+    ) -> Result<(), Failed> {
+        self.host.write_mark(file, slot, bytes)
+    }
+
+    fn force_mark(&mut self, file: MarkFile) -> Result<(), Failed> {
+        self.host.force_mark(file)
     }
 
     fn read(&mut self, into: &mut [u8]) -> Result<usize, Failed> {

@@ -60,15 +60,41 @@ fn each_line_has_its_reply(rt: HostRuntime) -> Result<(), Fail> {
             b"error line\nerror line\nerror line\n",
             3,
         ),
+        (b"get 0 a\nremove 0 a\n", b"none\nfalse\n", 2),
         (
-            b"put 0 a x:31\nput 0 x:61 1\n",
-            b"error line\nerror line\n",
-            2,
+            b"put 0 a 1\nput 0 a 1\nremove 0 a\nremove 0 a\n",
+            b"ok\nok\ntrue\nfalse\n",
+            4,
+        ),
+        (
+            b"put 0 x:00ff x:\nscan 0\nscan 2\n",
+            b"ok\npair x:00ff x:\nend 1\nend 0\n",
+            3,
+        ),
+        (
+            b"\nget 00 a\nget 16 a\nget  0 a\nget 0 x:4\nput 0 x: 1\n",
+            b"error line\nerror line\nerror line\nerror line\nerror line\nerror line\n",
+            6,
+        ),
+        (
+            b"put 0 x:41 x:4A4b\nget 0 A\nput 0 a x:783a\nget 0 a\n",
+            b"ok\nvalue JK\nok\nvalue x:783a\n",
+            4,
+        ),
+        (
+            b"put 0 b 2\nput 0 a 1\nput 1 c 3\nscan 0\n",
+            b"ok\nok\nok\npair a 1\npair b 2\nend 2\n",
+            4,
+        ),
+        (
+            b"put 0 a \x00\nput 0 a 1\x7f\nput 0 \xff 1\n",
+            b"error line\nerror line\nerror line\n",
+            3,
         ),
         (b"put 0 a xx:31\nget 0 a\n", b"ok\nvalue xx:31\n", 2),
         (b"put 0 a 1\r\nget 0 a\n", b"error line\nnone\n", 2),
         (
-            b"remove 0 a\nscan 0\ncheckpoint\n",
+            b"checkpoint\nscan 16\nremove 0\n",
             b"error line\nerror line\nerror line\n",
             3,
         ),
@@ -99,8 +125,8 @@ fn lines_are_measured_to_the_byte(rt: HostRuntime) -> Result<(), Fail> {
         (908, b"ok\nvalue ".as_slice()),
         (909, b"error line\nnone\n"),
         (4_096, b"error line\nnone\n"),
-        (4_097, b"error line\nnone\n"),
-        (70_000, b"error line\nnone\n"),
+        (4_097, b"error long\nnone\n"),
+        (70_000, b"error long\nnone\n"),
     ];
     for (length, wanted) in cases {
         for piece in [1_000, 65_536] {
@@ -167,7 +193,7 @@ fn after_a_refused_call_none_is_made(rt: HostRuntime) -> Result<(), Fail> {
         assert_eq!(rt; report.lines, lines, "{refused}");
         assert_eq!(rt; report.order.as_slice(), order, "{refused}");
         assert_eq!(rt; host.said(), wanted, "{refused}");
-        assert_eq!(rt; host.calls(), refused + 1, "{refused}");
+        assert_eq!(rt; host.calls(), refused.saturating_add(1), "{refused}");
     }
     let (report, host) = run(&rt, &["run", "d"], script, 10, &[15])?;
     assert_eq!(rt; report.status, 0);

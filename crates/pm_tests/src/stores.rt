@@ -23,13 +23,17 @@ fn the_next_run_finds_what_was_put(rt: HostRuntime) -> Result<(), Fail> {
         &rt,
         &[
             (
-                b"put 0 a 1\nremove 0 a\nget 0 a\n",
+                b"put 0 a 1\ncheckpoint\nget 0 a\n",
                 b"ok\nerror line\nvalue 1\n",
             ),
-            (b"get 0 a\n", b"value 1\n"),
+            (b"get 0 a\nremove 0 a\n", b"value 1\ntrue\n"),
+            (b"get 0 a\nremove 0 a\n", b"none\nfalse\n"),
             (b"", b""),
-            (b"put 0 a 2\nput 1 a 3\n", b"ok\nok\n"),
-            (b"get 0 a\nget 1 a\nget 2 a\n", b"value 2\nvalue 3\nnone\n"),
+            (b"put 0 a 2\nput 1 a x:00ff\n", b"ok\nok\n"),
+            (
+                b"get 0 a\nget 1 a\nget 2 a\n",
+                b"value 2\nvalue x:00ff\nnone\n",
+            ),
         ],
     )
 }

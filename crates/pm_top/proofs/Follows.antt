@@ -6,25 +6,25 @@ use Rattle.std.proofs.lemmas.List.Concat.{flat_map-append}
 use Rattle.pm_types.specs.declared.limits.TheConstants.{SCRIPT_BYTES_MAX, LINES_MAX}
 use Rattle.pm_model.specs.declared.line.Line.{Line}
 use Rattle.pm_model.specs.declared.reply.Reply.{Reply}
-use Rattle.pm_model.specs.Eval.{Pairs, reply_to, after, replies_to, after_all, accepted}
+use Rattle.pm_model.specs.Eval.{Pairs}
+use Rattle.pm_top.specs.declared.shape.TheConstants.{SHAPE}
+use Rattle.pm_top.specs.Evaluation.{reply_to, after, replies_to, after_all, accepted}
 use Rattle.pm_model.proofs.Runs.{replies_to-append, after_all-append, length-replies_to, accepted-append}
 use Rattle.pm_disk.specs.Worlds.{World}
 use Rattle.pm_frame.specs.declared.limits.TheConstants.{FRAME_EXTRA, SEGMENT_END_MAX}
 use Rattle.pm_disk.specs.Files.{File}
 use Rattle.pm_disk.specs.Images.{NothingPending}
-use Rattle.pm_model.specs.declared.line.Line.TheVariants.{Good, Bad}
-use Rattle.pm_model.specs.declared.line.Cmd.TheVariants.{Put, Get}
 use Rattle.pm_segments.specs.Ends.{LogEnd}
 use Rattle.pm_segments.specs.Rests.{first_alone}
 use Rattle.pm_segments.proofs.Laws.{grammar_laws}
 use Rattle.pm_segments.proofs.Opening.{rests_log}
-use Rattle.pm_top.specs.Puts.{put_frames, is_put, Holds, log_bytes, line_bytes, HasRoomFor, record_of_line}
+use Rattle.pm_top.specs.Changes.{change_frames, is_change, Holds, log_bytes, line_bytes}
 use Rattle.pm_top.specs.Openings.{KeepsOthers}
 use Rattle.pm_top.proofs.Keeps.{no_seal}
 use Rattle.pm_script.specs.Lines.{lines_of, first_line, after_line}
-use Rattle.pm_script.specs.Grammar.{line_of, script_of}
+use Rattle.pm_top.specs.Served.{line_of, script_of}
 use Rattle.pm_script.specs.Texts.{text_of, texts_of}
-use Rattle.pm_script.proofs.ScriptLines.{script_of-first}
+use Rattle.pm_top.proofs.ServedLines.{script_of-first}
 use Rattle.pm_top.specs.Promises.{replies_of, Answers, IsOrder, IsDone, IsBroken, IsStopped}
 use Rattle.pm_top.specs.Scripts.{after_lines, PassesLimit}
 use Rattle.pm_top.specs.Sessions.{Progress, Stands, ordered}
@@ -32,22 +32,9 @@ use Rattle.pm_top.specs.declared.session.Session.{Session}
 
 -- ---- the log
 
-log_bytes-append : (xs ys : List Line) → log_bytes (xs ++ ys) ≡ log_bytes xs + log_bytes ys
-log_bytes-append [] ys = omega arith
-log_bytes-append (x ∷ xs) ys = omega (arith, log_bytes-append xs ys)
-
--- a line that has room leaves room for a SEAL
-line_room : (log later : LogEnd) (line : Line) → later.end.off ≡ log.end.off + line_bytes line → HasRoomFor log (record_of_line line) → log.segment_bytes ≡ SEGMENT_END_MAX
-    → log.end.off + FRAME_EXTRA ≤ SEGMENT_END_MAX → later.end.off + FRAME_EXTRA ≤ SEGMENT_END_MAX
-line_room log later (Good (Put cache key value)) grows has full room = omega (arith, grows, has, full)
-line_room log later (Good (Get cache key)) grows has full room = omega (arith, grows, room)
-line_room log later Bad grows has full room = omega (arith, grows, room)
-
--- a line that has no room takes more than there is
-no_room : (log : LogEnd) (line : Line) → log.segment_bytes ≡ SEGMENT_END_MAX → (HasRoomFor log (record_of_line line) → ⊥) → SEGMENT_END_MAX < log.end.off + line_bytes line + FRAME_EXTRA
-no_room log (Good (Put cache key value)) full none = omega (arith, full, none)
-no_room log (Good (Get cache key)) full none = absurd (none tt)
-no_room log Bad full none = absurd (none tt)
+log_bytes-append : (xs ys : List Line) (pairs : Pairs) → log_bytes (xs ++ ys) pairs ≡ log_bytes xs pairs + log_bytes ys (after_all xs pairs)
+log_bytes-append [] ys pairs = omega arith
+log_bytes-append (x ∷ xs) ys pairs = omega (arith, log_bytes-append xs ys (after x pairs))
 
 eq_cases : (m n : ℕ) → (m ≡ n) ⊎ (m ≢ n)
 eq_cases m n = elim (cases_eq m n) [ inl is ↦ inl is | inr apart ↦ inr apart ]
@@ -75,8 +62,8 @@ quiet_after old new others first nothing = record {
 
 stands_hold : (world : World) (pairs : Pairs) (log : LogEnd) → Stands pairs log world → Holds world pairs
 stands_hold world pairs log stands = record {
-  frames = stands.puts;
-  log = rests_log put_frames (grammar_laws is_put) no_seal (first_alone world.log) stands.puts stands.ready.rests;
+  frames = stands.changes;
+  log = rests_log change_frames (grammar_laws is_change) no_seal (first_alone world.log) stands.changes stands.ready.rests;
   map = sym stands.map;
 }
 
@@ -88,10 +75,10 @@ after_lines-more (suc n) bytes = after_lines-more n (after_line bytes)
 module _ {old now : World} {rest : List ℕ} {pairs : Pairs} {size : ℕ} {session : Session} {log : LogEnd} (progress : Progress old now rest pairs size session log) where
   -- the whole script's replies: those of what is done, and those of the rest
   pub parted : replies_of old.input pairs ≡ replies_to progress.done pairs ++ replies_to (script_of rest) session.pairs
-  parted = ap (λ s. replies_to s pairs) progress.script ∙ replies_to-append progress.done (script_of rest) pairs ∙ ap (λ m. replies_to progress.done pairs ++ replies_to (script_of rest) m) progress.pairs_are
+  parted = ap (λ s. replies_to s pairs) progress.script ∙ replies_to-append SHAPE progress.done (script_of rest) pairs ∙ ap (λ m. replies_to progress.done pairs ++ replies_to (script_of rest) m) progress.pairs_are
 
   counted : length (replies_to progress.done pairs) ≡ session.lines
-  counted = length-replies_to progress.done pairs ∙ progress.count
+  counted = length-replies_to SHAPE progress.done pairs ∙ progress.count
 
   told : take session.lines (replies_of old.input pairs) ≡ replies_to progress.done pairs
   told = ap (take session.lines) parted ∙ take_at _ _ session.lines counted
@@ -134,7 +121,7 @@ module _ {old now : World} {rest : List ℕ} {pairs : Pairs} {size : ℕ} {sessi
         all = omega (arith, script_len, no_more);
         read = read;
         limits = record { bytes = bytes; lines = omega (arith, lines_len, no_more, few) };
-        fits = omega (arith, progress.room, progress.end, ap log_bytes all_done);
+        fits = omega (arith, progress.room, progress.end, ap (λ s. log_bytes s pairs) all_done);
         holds = stands_hold new (after_all (script_of old.input) pairs) log (subst (λ m. Stands m log new) (sym (ap (λ s. after_all s pairs) all_done ∙ progress.pairs_are)) stands);
         quiet = λ nothing. quiet_after old new (others_more old now new progress.others others) (stands.ready.quiet) nothing;
       }
@@ -156,11 +143,15 @@ module _ {old now : World} {rest : List ℕ} {pairs : Pairs} {size : ℕ} {sessi
   pub too_many_lines : 0 < length rest → session.lines ≡ LINES_MAX → PassesLimit old.input
   too_many_lines some full = inr (omega (arith, lines_len, ap length (script_of-first rest some), full))
 
+  -- the log's bytes with one line more
+  more_bytes : (line : Line) → log_bytes (progress.done ++ (line ∷ [])) pairs ≡ log_bytes progress.done pairs + line_bytes line session.pairs
+  more_bytes line = omega (arith, log_bytes-append progress.done (line ∷ []) pairs, ap (λ m. line_bytes line m) progress.pairs_are)
+
 -- the line that is next doesn't fit in the log
 module _ {old now : World} {rest : List ℕ} {pairs : Pairs} {size : ℕ} {session : Session} {log : LogEnd} (progress : Progress old now rest pairs size session log)
     (line : Line) (some : 0 < length rest) (says : line ≡ line_of (first_line rest)) where
-  pub stopped_full : (new : World) → new.said ≡ now.said → log.segment_bytes ≡ SEGMENT_END_MAX → (HasRoomFor log (record_of_line line) → ⊥) → IsStopped old new pairs size session.lines session.order.items []
-  stopped_full new same full none =
+  pub stopped_full : (new : World) → new.said ≡ now.said → SEGMENT_END_MAX < log.end.off + line_bytes line session.pairs + FRAME_EXTRA → IsStopped old new pairs size session.lines session.order.items []
+  stopped_full new same full =
       let next_script : script_of rest ≡ line ∷ script_of (after_line rest) = script_of-first rest some ∙ ap (λ l. l ∷ script_of (after_line rest)) (sym says) in
       let longer : script_of old.input ≡ (progress.done ++ (line ∷ [])) ++ script_of (after_line rest) =
       progress.script ∙ ap (λ s. progress.done ++ s) next_script ∙ sym (append_assoc progress.done (line ∷ []) (script_of (after_line rest))) in
@@ -170,8 +161,8 @@ module _ {old now : World} {rest : List ℕ} {pairs : Pairs} {size : ℕ} {sessi
         answers = same_answers progress new same;
         order_is = order_so_far progress;
         stops = inr (record {
-          fits = omega (arith, progress.room, progress.end, ap log_bytes (done_is progress));
-          full = omega (arith, no_room log line full none, progress.end, log_bytes-append progress.done (line ∷ []), ap log_bytes next_done);
+          fits = omega (arith, progress.room, progress.end, ap (λ s. log_bytes s pairs) (done_is progress));
+          full = omega (arith, full, progress.end, more_bytes progress line, ap (λ s. log_bytes s pairs) next_done);
         });
       }
 
@@ -196,12 +187,12 @@ module _ {old now : World} {rest : List ℕ} {pairs : Pairs} {size : ℕ} {sessi
       ap (λ o. o ++ accepted (session.lines + 1) (line ∷ []) session.pairs) progress.order_is
       ∙ ap (λ n. accepted 1 progress.done pairs ++ accepted n (line ∷ []) session.pairs) number
       ∙ ap (λ m. accepted 1 progress.done pairs ++ accepted (1 + length progress.done) (line ∷ []) m) (sym progress.pairs_are)
-      ∙ sym (accepted-append 1 progress.done (line ∷ []) pairs)
+      ∙ sym (accepted-append SHAPE 1 progress.done (line ∷ []) pairs)
 
   -- the line was answered
-  pub one_more : {new : World} {now_rest : List ℕ} {after_it : Session} {log_after : LogEnd} → log_after.end.off ≡ log.end.off + line_bytes line → HasRoomFor log (record_of_line line) → log.segment_bytes ≡ SEGMENT_END_MAX → KeepsOthers now new → now_rest ≡ after_line rest → new.said ≡ now.said ++ text_of (reply_to line session.pairs)
+  pub one_more : {new : World} {now_rest : List ℕ} {after_it : Session} {log_after : LogEnd} → log_after.end.off ≡ log.end.off + line_bytes line session.pairs → log_after.end.off + FRAME_EXTRA ≤ SEGMENT_END_MAX → KeepsOthers now new → now_rest ≡ after_line rest → new.said ≡ now.said ++ text_of (reply_to line session.pairs)
       → after_it.pairs ≡ after line session.pairs → after_it.order.items ≡ ordered session line → after_it.lines ≡ session.lines + 1 → Progress old new now_rest pairs size after_it log_after
-  one_more {new = new} {after_it = after_it} {log_after = log_after} grows has full kept others said_is pairs_is order_is lines_is = record {
+  one_more {new = new} {after_it = after_it} {log_after = log_after} grows room kept others said_is pairs_is order_is lines_is = record {
     done = progress.done ++ (line ∷ []);
     script = longer ∙ ap (λ r. (progress.done ++ (line ∷ [])) ++ script_of r) (sym others);
     count = length-append progress.done (line ∷ []) ∙ ap (λ n. n + 1) progress.count ∙ sym lines_is;
@@ -209,11 +200,11 @@ module _ {old now : World} {rest : List ℕ} {pairs : Pairs} {size : ℕ} {sessi
         ∙ append_assoc old.said (texts_of (replies_to progress.done pairs)) (text_of (reply_to line session.pairs))
         ∙ ap (λ t. old.said ++ t) (sym (texts_more (replies_to progress.done pairs) (reply_to line session.pairs))
         ∙ ap (λ m. texts_of (replies_to progress.done pairs ++ (reply_to line m ∷ []))) (sym progress.pairs_are)
-        ∙ ap texts_of (sym (replies_to-append progress.done (line ∷ []) pairs)));
-    pairs_are = after_all-append progress.done (line ∷ []) pairs ∙ ap (after line) progress.pairs_are ∙ sym pairs_is;
+        ∙ ap texts_of (sym (replies_to-append SHAPE progress.done (line ∷ []) pairs)));
+    pairs_are = after_all-append SHAPE progress.done (line ∷ []) pairs ∙ ap (after line) progress.pairs_are ∙ sym pairs_is;
     order_is = order_is ∙ next_order;
-    end = omega (arith, grows, progress.end, log_bytes-append progress.done (line ∷ []));
-    room = line_room log log_after line grows has full progress.room;
+    end = omega (arith, grows, progress.end, more_bytes progress line);
+    room = room;
     others = others_more old now new progress.others kept;
     place = others ∙ ap after_line progress.place ∙ sym (after_lines-more session.lines old.input) ∙ ap (λ n. after_lines n old.input) (sym (add-one session.lines) ∙ sym lines_is);
   }

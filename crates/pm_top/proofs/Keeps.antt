@@ -1,4 +1,4 @@
--- What a crash leaves of the log's one segment: the map of what is lasting, or of one put more.
+-- What a crash leaves of the log's one segment: the map of what is lasting, or of one change more.
 use Rattle.std.proofs.Common.{◌≡◌, ◌⊎◌, inl, inr, ℕ, zero, suc, ◌≤◌, List, [], ◌∷◌, ◌++◌, length, Option, Some, None, refl, sym, ◌∙◌, ap, subst, arith, Bool, true, false}
 use Rattle.std.specs.Prelude.{◌==◌, if◌then◌else◌, is_some}
 use Rattle.std.specs.FinMap.{empty}
@@ -11,26 +11,27 @@ use Rattle.pm_disk.specs.Files.{File, Write, bytes_of, at_change, with_change, a
 use Rattle.pm_disk.specs.Worlds.{World, with_file, log_changed, log_forced}
 use Rattle.pm_disk.specs.Images.{Image, Leaves, LeavesAll, IsTrueOf}
 use Rattle.pm_model.specs.declared.line.Line.{Line}
-use Rattle.pm_model.specs.Eval.{after, after_all}
+use Rattle.pm_top.specs.declared.shape.TheConstants.{SHAPE}
+use Rattle.pm_top.specs.Evaluation.{after, after_all}
 use Rattle.pm_model.proofs.Runs.{after_all-append}
 use Rattle.pm_segments.specs.Grammars.{kept, all_frames}
 use Rattle.pm_segments.specs.Logs.{Tail, is_seal, sizes}
-use Rattle.pm_segments.specs.Rests.{HasNoSeal, StandsFor, Rests, Pends, first_alone, left_alone}
+use Rattle.pm_segments.specs.Rests.{StandsFor, Rests, first_alone, left_alone}
 use Rattle.pm_segments.proofs.Laws.{grammar_laws, kept_some, kept_passing}
 use Rattle.pm_segments.proofs.Runs.{none_past}
-use Rattle.pm_segments.proofs.OneSegment.{lasting_image, pending_image, append_pends, force_rests, ClearAbove}
-use Rattle.pm_top.specs.Puts.{line_of_record, line_of_frame, is_put, put_frames, or_bad, lines_of_frames, pairs_of, HoldsImage, IsTrueImage}
+use Rattle.pm_segments.proofs.OneSegment.{HasNoSeal, Pends, lasting_image, pending_image, append_pends, force_rests, ClearAbove}
+use Rattle.pm_top.specs.Changes.{line_of_record, line_of_frame, is_change, change_frames, or_bad, lines_of_frames, pairs_of, HoldsImage, IsTrueImage}
 
--- ---- a put ends no segment
+-- ---- a change ends no segment
 
-put_kind : (found : Option Record) → is_some (line_of_record found) ≡ true → (r : Record) × (found ≡ Some r) × (kind_of r ≡ LOGICAL)
-put_kind None is = absurd cc
-put_kind (Some (Logical op cache key value)) is = (Logical op cache key value, refl, refl)
-put_kind (Some (Snapshot page bytes)) is = absurd cc
-put_kind (Some (Delta page ranges)) is = absurd cc
-put_kind (Some (CpBegin number replay)) is = absurd cc
-put_kind (Some (Restart shape)) is = absurd cc
-put_kind (Some Seal) is = absurd cc
+change_kind : (found : Option Record) → is_some (line_of_record found) ≡ true → (r : Record) × (found ≡ Some r) × (kind_of r ≡ LOGICAL)
+change_kind None is = absurd cc
+change_kind (Some (Logical op cache key value)) is = (Logical op cache key value, refl, refl)
+change_kind (Some (Snapshot page bytes)) is = absurd cc
+change_kind (Some (Delta page ranges)) is = absurd cc
+change_kind (Some (CpBegin number replay)) is = absurd cc
+change_kind (Some (Restart shape)) is = absurd cc
+change_kind (Some Seal) is = absurd cc
 
 kind_is : (kind : ℕ) (payload : List ℕ) (r : Record) → record_of kind payload ≡ Some r → kind ≡ kind_of r
 unfolding record_of
@@ -39,14 +40,14 @@ kind_is kind payload r is =
     let c = cond_some _ found r is in
     eqb-true _ _ (and_parts _ _ (and_parts _ _ c.0).0).0 ∙ ap kind_of c.1
 
-pub put_plain : (f : Frame) → is_put f ≡ true → is_seal f ≡ false
-put_plain f is =
-    let p = put_kind (record_of f.kind f.payload) is in
+pub change_plain : (f : Frame) → is_change f ≡ true → is_seal f ≡ false
+change_plain f is =
+    let p = change_kind (record_of f.kind f.payload) is in
     let logical : f.kind ≡ LOGICAL = kind_is f.kind f.payload p.0 p.1 ∙ p.2 in
     ap (λ n. n == SEAL) logical
 
-pub no_seal : HasNoSeal put_frames
-no_seal seg off bytes f is = put_plain f (kept_some is_put _ f is).1
+pub no_seal : HasNoSeal change_frames
+no_seal seg off bytes f is = change_plain f (kept_some is_change _ f is).1
 
 -- ---- the first segment alone
 
@@ -76,51 +77,51 @@ leaves_alone world image leaves seg = each (seg == 1)
     each true = leaves.log 1
     each false = (0, omega arith, refl)
 
--- a frame that is no put isn't read as one
-true_puts : (file : File) (left : Option (List ℕ)) (seg : ℕ) → IsTrueOf (all_frames.frame_at seg) file left → IsTrueOf (put_frames.frame_at seg) file left
-true_puts file left seg honest = record {
+-- a frame that is no change isn't read as one
+true_changes : (file : File) (left : Option (List ℕ)) (seg : ℕ) → IsTrueOf (all_frames.frame_at seg) file left → IsTrueOf (change_frames.frame_at seg) file left
+true_changes file left seg honest = record {
   stood = λ at x is.
-      let k = kept_some is_put _ x is in
+      let k = kept_some is_change _ x is in
       let was = honest.stood at x (ap (kept (λ _. true)) k.0) in
-      (was.0, was.1, ap (kept is_put) (kept_some (λ _. true) _ x was.2).0 ∙ kept_passing is_put x k.1);
+      (was.0, was.1, ap (kept is_change) (kept_some (λ _. true) _ x was.2).0 ∙ kept_passing is_change x k.1);
 }
 
-true_alone : (world : World) (image : Image) → IsTrueImage world image → (seg : ℕ) → IsTrueOf (put_frames.frame_at seg) (first_alone world.log seg) (left_alone image.log seg)
+true_alone : (world : World) (image : Image) → IsTrueImage world image → (seg : ℕ) → IsTrueOf (change_frames.frame_at seg) (first_alone world.log seg) (left_alone image.log seg)
 true_alone world image honest seg = each (seg == 1) refl
   where
-    each : (b : Bool) → (seg == 1) ≡ b → IsTrueOf (put_frames.frame_at seg) (if b then world.log 1 else absent) (if b then image.log 1 else None)
-    each true is = subst (λ s. IsTrueOf (put_frames.frame_at s) (world.log 1) (image.log 1)) (sym (eqb-true seg 1 is)) (true_puts (world.log 1) (image.log 1) 1 (honest.frames 1))
-    each false is = record { stood = λ at x reads. let no_frame : None ≡ Some x = sym (none_past put_frames (grammar_laws is_put) seg at [] (omega arith)) ∙ reads in absurd cc }
+    each : (b : Bool) → (seg == 1) ≡ b → IsTrueOf (change_frames.frame_at seg) (if b then world.log 1 else absent) (if b then image.log 1 else None)
+    each true is = subst (λ s. IsTrueOf (change_frames.frame_at s) (world.log 1) (image.log 1)) (sym (eqb-true seg 1 is)) (true_changes (world.log 1) (image.log 1) 1 (honest.frames 1))
+    each false is = record { stood = λ at x reads. let no_frame : None ≡ Some x = sym (none_past change_frames (grammar_laws is_change) seg at [] (omega arith)) ∙ reads in absurd cc }
 
 -- ---- what images hold
 
-pub holds_lasting : (world : World) (fs : List Frame) (tail : Tail) (image : Image) → StandsFor put_frames (first_alone world.log) fs [] tail → LeavesAll world image → IsTrueImage world image → HoldsImage image (pairs_of fs)
+pub holds_lasting : (world : World) (fs : List Frame) (tail : Tail) (image : Image) → StandsFor change_frames (first_alone world.log) fs [] tail → LeavesAll world image → IsTrueImage world image → HoldsImage image (pairs_of fs)
 holds_lasting world fs tail image stands leaves honest = record {
   frames = fs;
-  log = lasting_image put_frames (grammar_laws is_put) no_seal (first_alone world.log) fs tail (left_alone image.log) stands (leaves_alone world image leaves) (true_alone world image honest);
+  log = lasting_image change_frames (grammar_laws is_change) no_seal (first_alone world.log) fs tail (left_alone image.log) stands (leaves_alone world image leaves) (true_alone world image honest);
   map = refl;
 }
 
-pub holds_pending : (world : World) (fs : List Frame) (f : Frame) (image : Image) → Pends put_frames (first_alone world.log) fs f → LeavesAll world image → IsTrueImage world image
+pub holds_pending : (world : World) (fs : List Frame) (f : Frame) (image : Image) → Pends change_frames (first_alone world.log) fs f → LeavesAll world image → IsTrueImage world image
     → HoldsImage image (pairs_of fs) ⊎ HoldsImage image (pairs_of (fs ++ f ∷ []))
 holds_pending world fs f image stands leaves honest =
-    elim (pending_image put_frames (grammar_laws is_put) no_seal (first_alone world.log) fs f (left_alone image.log) stands (leaves_alone world image leaves) (true_alone world image honest)) [
+    elim (pending_image change_frames (grammar_laws is_change) no_seal (first_alone world.log) fs f (left_alone image.log) stands (leaves_alone world image leaves) (true_alone world image honest)) [
       | inl without ↦ inl (record { frames = fs; log = without; map = refl })
       | inr within ↦ inr (record { frames = fs ++ f ∷ []; log = within; map = refl })
     ]
 
 -- ---- steps of the world
 
-pub appended_pends : (world : World) (fs : List Frame) (f : Frame) (bytes : List ℕ) → Rests put_frames (first_alone world.log) fs → put_frames.fits 1 (sizes fs) f ≡ true → bytes ≡ put_frames.frame_bytes 1 (sizes fs) f
-    → Pends put_frames (first_alone (log_changed 1 (Write (sizes fs) bytes) world).log) fs f
+pub appended_pends : (world : World) (fs : List Frame) (f : Frame) (bytes : List ℕ) → Rests change_frames (first_alone world.log) fs → change_frames.fits 1 (sizes fs) f ≡ true → bytes ≡ change_frames.frame_bytes 1 (sizes fs) f
+    → Pends change_frames (first_alone (log_changed 1 (Write (sizes fs) bytes) world).log) fs f
 appended_pends world fs f bytes rests fits is_bytes =
-    subst (λ log. Pends put_frames log fs f) (sym (first_alone-with world.log (with_change (world.log 1) (Write (sizes fs) bytes))))
-    (append_pends put_frames (grammar_laws is_put) no_seal (first_alone world.log) fs f bytes rests fits is_bytes)
+    subst (λ log. Pends change_frames log fs f) (sym (first_alone-with world.log (with_change (world.log 1) (Write (sizes fs) bytes))))
+    (append_pends change_frames (grammar_laws is_change) no_seal (first_alone world.log) fs f bytes rests fits is_bytes)
 
-pub forced_rests : (world : World) (fs : List Frame) (f : Frame) → Pends put_frames (first_alone world.log) fs f → Rests put_frames (first_alone (log_forced 1 world).log) (fs ++ f ∷ [])
+pub forced_rests : (world : World) (fs : List Frame) (f : Frame) → Pends change_frames (first_alone world.log) fs f → Rests change_frames (first_alone (log_forced 1 world).log) (fs ++ f ∷ [])
 forced_rests world fs f pends =
-    subst (λ log. Rests put_frames log (fs ++ f ∷ [])) (sym (first_alone-with world.log (all_forced (world.log 1))))
-    (force_rests put_frames (grammar_laws is_put) no_seal (first_alone world.log) fs f pends)
+    subst (λ log. Rests change_frames log (fs ++ f ∷ [])) (sym (first_alone-with world.log (all_forced (world.log 1))))
+    (force_rests change_frames (grammar_laws is_change) no_seal (first_alone world.log) fs f pends)
 
 -- ---- the map of frames
 
@@ -132,8 +133,8 @@ lines-append (x ∷ xs) ys = ap (λ l. or_bad (line_of_frame x) ∷ l) (lines-ap
 pub pairs_of-more : (fs : List Frame) (f : Frame) → pairs_of (fs ++ f ∷ []) ≡ after (or_bad (line_of_frame f)) (pairs_of fs)
 pairs_of-more fs f =
     ap (λ ls. after_all ls empty) (lines-append fs (f ∷ []))
-    ∙ after_all-append (lines_of_frames fs) (lines_of_frames (f ∷ [])) empty
+    ∙ after_all-append SHAPE (lines_of_frames fs) (lines_of_frames (f ∷ [])) empty
 
--- one put more
+-- one change more
 pub pairs_of-append : (fs : List Frame) (f : Frame) (line : Line) → line_of_frame f ≡ Some line → pairs_of (fs ++ f ∷ []) ≡ after line (pairs_of fs)
 pairs_of-append fs f line is = pairs_of-more fs f ∙ ap (λ o. after (or_bad o) (pairs_of fs)) is

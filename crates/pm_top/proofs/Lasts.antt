@@ -2,19 +2,21 @@
 use Rattle.std.proofs.Common.{◌≡◌, ℕ, zero, suc, ◌+◌, ◌<◌, ◌≤◌, List, [], ◌∷◌, ◌++◌, length, take, drop, refl, ap, sym, ◌∙◌, subst, inl, inr, append_assoc, append-nil, arith, length-append}
 use Rattle.std.proofs.lemmas.List.{take_at, drop_at, take_all, take-append-le}
 use Rattle.pm_model.specs.declared.line.Line.{Line}
-use Rattle.pm_model.specs.Eval.{Pairs, reply_to, after, replies_to, accepted}
+use Rattle.pm_model.specs.Eval.{Pairs}
+use Rattle.pm_top.specs.declared.shape.TheConstants.{SHAPE}
+use Rattle.pm_top.specs.Evaluation.{reply_to, after, replies_to, accepted}
 use Rattle.pm_model.proofs.Runs.{after_all-append, length-replies_to}
 use Rattle.pm_disk.specs.Worlds.{World, with_said}
 use Rattle.pm_disk.specs.Images.{Image}
 use Rattle.pm_segments.specs.Ends.{LogEnd}
 use Rattle.pm_segments.specs.Logs.{Ready}
 use Rattle.pm_script.specs.Lines.{first_line, after_line}
-use Rattle.pm_script.specs.Grammar.{line_of, script_of}
+use Rattle.pm_top.specs.Served.{line_of, script_of}
 use Rattle.pm_script.specs.Reading.{OnlyTakes}
 use Rattle.pm_script.specs.Texts.{text_of, texts_of}
 use Rattle.pm_top.specs.Crashes.{KeepsMap, KeepsEither, KeepsLine, KeepsAcknowledged, HoldsAfter, begun, after_numbers, acknowledged}
 use Rattle.pm_top.specs.Promises.{replies_of}
-use Rattle.pm_top.specs.Puts.{HoldsImage}
+use Rattle.pm_top.specs.Changes.{HoldsImage}
 use Rattle.pm_top.specs.Sessions.{Progress, Stands, ordered}
 use Rattle.pm_top.specs.declared.session.Session.{Session}
 use Rattle.pm_top.proofs.Follows.{parted, order_so_far, next_script, longer, next_order, next_done}
@@ -42,7 +44,7 @@ keeps_taken old pairs order now w takes keeps =
 -- an open log holds its map, whatever a crash leaves
 pub stands_keep : (pairs : Pairs) (log : LogEnd) (world : World) → Stands pairs log world → KeepsMap world pairs
 stands_keep pairs log world stands image leaves honest =
-    subst (HoldsImage image) (sym stands.map) (holds_lasting world stands.puts Ready image stands.ready.rests leaves honest)
+    subst (HoldsImage image) (sym stands.map) (holds_lasting world stands.changes Ready image stands.ready.rests leaves honest)
 
 -- the same while more is said
 pub map_said : (pairs : Pairs) (world : World) (bytes : List ℕ) → KeepsMap world pairs → KeepsMap (with_said bytes world) pairs
@@ -66,7 +68,7 @@ module _ {old now : World} {rest : List ℕ} {pairs : Pairs} {size : ℕ} {sessi
       ap (begun (replies_of old.input pairs)) (said_since w tail is)
       ∙ ap (λ r. begun r (texts_of replies ++ tail)) (parted progress)
       ∙ begun-texts replies more tail
-      ∙ ap (λ n. n + begun more tail) (length-replies_to progress.done pairs ∙ progress.count)
+      ∙ ap (λ n. n + begun more tail) (length-replies_to SHAPE progress.done pairs ∙ progress.count)
 
   -- the lines of the order are acknowledged, and no more
   acknowledged_since : (w : World) (tail : List ℕ) → w.said ≡ now.said ++ tail → begun (replies_to (script_of rest) session.pairs) tail ≡ 0
@@ -112,7 +114,7 @@ module _ {old now : World} {rest : List ℕ} {pairs : Pairs} {size : ℕ} {sessi
       ap (λ o. after_numbers o (script_of old.input) pairs) (next_order progress line some says)
       ∙ ap (λ s. after_numbers (accepted 1 done pairs) s pairs) (longer progress line some says)
       ∙ after_accepted [] done (script_of (after_line rest)) pairs
-      ∙ after_all-append progress.done (line ∷ []) pairs
+      ∙ after_all-append SHAPE progress.done (line ∷ []) pairs
       ∙ ap (after line) progress.pairs_are
 
   holds_before : (w : World) (image : Image) → acknowledged old pairs w ≡ length session.order.items → HoldsImage image session.pairs → HoldsAfter old pairs (ordered session line) w image

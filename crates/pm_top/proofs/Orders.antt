@@ -1,19 +1,29 @@
 -- The lines of an order, and those whose replies began.
-use Rattle.std.proofs.Common.{◌≡◌, ℕ, zero, suc, ◌+◌, ◌-◌, ◌<◌, ◌≤◌, List, [], ◌∷◌, ◌++◌, length, take, drop, cond, Some, refl, sym, ◌∙◌, ap, arith, Bool, true, false, length-append, append_assoc, append-nil}
-use Rattle.std.specs.Prelude.{slice_get, unwrap_or}
+use Rattle.std.proofs.Common.{◌≡◌, ◌⊎◌, inl, inr, Option, Some, None, ℕ, zero, suc, ◌+◌, ◌-◌, ◌<◌, ◌≤◌, List, [], ◌∷◌, ◌++◌, length, take, drop, cond, refl, sym, ◌∙◌, ap, arith, Bool, true, false, length-append, append_assoc, append-nil}
+use Rattle.std.specs.Prelude.{slice_get, unwrap_or, if◌then◌else◌}
 use Rattle.std.specs.List.{starts_with}
 use Rattle.std.specs.Bool.{nat_eq}
 use Rattle.std.proofs.lemmas.Bool.Decides.{Decides-eqb}
 use Rattle.std.proofs.lemmas.Slice.Eq.{starts_is}
 use Rattle.std.proofs.lemmas.List.{take_all, drop_at, drop_all, length-take}
 use Rattle.pm_model.specs.declared.line.Line.{Line}
-use Rattle.pm_model.specs.declared.line.Line.TheVariants.{Good, Bad}
-use Rattle.pm_model.specs.declared.line.Cmd.TheVariants.{Put, Get}
+use Rattle.pm_model.specs.declared.line.Line.TheVariants.{Good, Bad, Long}
+use Rattle.pm_model.specs.declared.line.Cmd.TheVariants.{Put, Get, Remove, Scan, Checkpoint}
 use Rattle.pm_model.specs.declared.reply.Reply.{Reply}
-use Rattle.pm_model.specs.declared.reply.Reply.TheVariants.{Done, Found, Absent, BadLine}
-use Rattle.pm_model.specs.Eval.{Pairs, after, is_accepted, after_all, accepted}
+use Rattle.pm_model.specs.declared.reply.Reply.TheVariants as reply
+use Rattle.pm_model.specs.declared.reply.Reply.TheVariants.{Done, Found, Absent, Was, Full, BadLine, LongLine}
+use Rattle.pm_model.specs.Eval.{Pairs}
+use Rattle.pm_model.specs.Eval.{found}
+use Rattle.pm_top.specs.Evaluation.{reply_to, after, is_accepted, replies_to, after_all, accepted}
+use Rattle.pm_model.proofs.Runs.{after-not_accepted}
+use Rattle.pm_top.specs.declared.shape.TheConstants.{SHAPE}
 use Rattle.pm_script.specs.Texts.{text_of, texts_of}
 use Rattle.pm_top.specs.Crashes.{begun, after_numbers}
+
+-- the first none of a list
+pub take_none : {A : Type 0} (xs : List A) → take 0 xs ≡ []
+take_none [] = refl
+take_none (x ∷ xs) = refl
 
 -- the first element behind others
 pub slice_get-behind : (xs ys : List Line) (y : Line) → slice_get (xs ++ y ∷ ys) (length xs) ≡ Some y
@@ -22,9 +32,7 @@ slice_get-behind (x ∷ xs) ys y = slice_get-behind xs ys y
 
 -- a line that isn't accepted changes nothing
 unchanged : (line : Line) (pairs : Pairs) → is_accepted line pairs ≡ false → after line pairs ≡ pairs
-unchanged (Good (Put cache key value)) pairs isnt = absurd cc
-unchanged (Good (Get cache key)) pairs isnt = refl
-unchanged Bad pairs isnt = refl
+unchanged line pairs isnt = after-not_accepted SHAPE line pairs isnt
 
 -- the numbers of the accepted lines, by whether the first is one
 order_true : (number : ℕ) (line : Line) (lines : List Line) (pairs : Pairs) → is_accepted line pairs ≡ true → accepted number (line ∷ lines) pairs ≡ number ∷ accepted (number + 1) lines (after line pairs)
@@ -72,7 +80,13 @@ pub first_byte : (reply : Reply) → HasFirst reply
 first_byte Done = record { first = 111; others = _; is = refl }
 first_byte (Found value) = record { first = 118; others = _; is = refl }
 first_byte Absent = record { first = 110; others = _; is = refl }
+first_byte (Was true) = record { first = 116; others = _; is = refl }
+first_byte (Was false) = record { first = 102; others = _; is = refl }
+first_byte (reply.Pairs []) = record { first = 101; others = _; is = refl }
+first_byte (reply.Pairs (pair ∷ pairs)) = record { first = 112; others = _; is = refl }
+first_byte Full = record { first = 101; others = _; is = refl }
 first_byte BadLine = record { first = 101; others = _; is = refl }
+first_byte LongLine = record { first = 101; others = _; is = refl }
 
 -- bytes that begin with some of a reply's text begin with its first byte
 starts_with_first : (text : List ℕ) (first : ℕ) (others bytes rest : List ℕ) (k : ℕ) → text ≡ first ∷ others → 0 < k → bytes ≡ take k text ++ rest → starts_with nat_eq bytes (take 1 text) ≡ true
@@ -119,15 +133,106 @@ begun_part reply more k some le =
     let none : drop (length text) (take k text) ≡ [] = drop_all (length text) (take k text) (omega (arith, length-take k text)) in
     begun_if true reply more (take k text) starts ∙ ap (λ b. 1 + begun more b) none ∙ ap (λ n. 1 + n) (begun_nothing more)
 
--- no reply begins as a line does that tells a fault
-no_fault_begins : (reply : Reply) (bytes : List ℕ) → starts_with nat_eq (102 ∷ bytes) (take 1 (text_of reply)) ≡ false
-no_fault_begins Done bytes = refl
-no_fault_begins (Found value) bytes = refl
-no_fault_begins Absent bytes = refl
-no_fault_begins BadLine bytes = refl
+-- ---- a line that tells a fault
 
--- no reply begins in a line that tells a fault, or in a part of one
-pub begun_fault : (replies : List Reply) (k : ℕ) (bytes : List ℕ) → begun replies (take k (102 ∷ bytes)) ≡ 0
-begun_fault [] k bytes = refl
-begun_fault (reply ∷ replies) zero bytes = begun_nothing (reply ∷ replies)
-begun_fault (reply ∷ replies) (suc k) bytes = begun_if false reply replies (take (suc k) (102 ∷ bytes)) (no_fault_begins reply (take k bytes))
+-- no reply begins with this byte
+abbrev pub BeginsNone : ℕ → Type 0
+BeginsNone c = (reply : Reply) (bytes : List ℕ) → starts_with nat_eq (c ∷ bytes) (take 1 (text_of reply)) ≡ false
+
+-- none begins with an l
+pub none_with_l : BeginsNone 108
+none_with_l Done bytes = refl
+none_with_l (Found value) bytes = refl
+none_with_l Absent bytes = refl
+none_with_l (Was true) bytes = refl
+none_with_l (Was false) bytes = refl
+none_with_l (reply.Pairs []) bytes = refl
+none_with_l (reply.Pairs (pair ∷ pairs)) bytes = refl
+none_with_l Full bytes = refl
+none_with_l BadLine bytes = refl
+none_with_l LongLine bytes = refl
+
+-- none begins with a u
+pub none_with_u : BeginsNone 117
+none_with_u Done bytes = refl
+none_with_u (Found value) bytes = refl
+none_with_u Absent bytes = refl
+none_with_u (Was true) bytes = refl
+none_with_u (Was false) bytes = refl
+none_with_u (reply.Pairs []) bytes = refl
+none_with_u (reply.Pairs (pair ∷ pairs)) bytes = refl
+none_with_u Full bytes = refl
+none_with_u BadLine bytes = refl
+none_with_u LongLine bytes = refl
+
+-- only the reply `false` begins with an f
+begins_with_f : (reply : Reply) (bytes : List ℕ) → (starts_with nat_eq (102 ∷ bytes) (take 1 (text_of reply)) ≡ false) ⊎ (reply ≡ Was false)
+begins_with_f Done bytes = inl refl
+begins_with_f (Found value) bytes = inl refl
+begins_with_f Absent bytes = inl refl
+begins_with_f (Was true) bytes = inl refl
+begins_with_f (Was false) bytes = inr refl
+begins_with_f (reply.Pairs []) bytes = inl refl
+begins_with_f (reply.Pairs (pair ∷ pairs)) bytes = inl refl
+begins_with_f Full bytes = inl refl
+begins_with_f BadLine bytes = inl refl
+begins_with_f LongLine bytes = inl refl
+
+begun_none : (c : ℕ) → BeginsNone c → (replies : List Reply) (k : ℕ) (bytes : List ℕ) → begun replies (take k (c ∷ bytes)) ≡ 0
+begun_none c none [] k bytes = refl
+begun_none c none (reply ∷ replies) zero bytes = begun_nothing (reply ∷ replies)
+begun_none c none (reply ∷ replies) (suc k) bytes = begun_if false reply replies (take (suc k) (c ∷ bytes)) (none reply (take k bytes))
+
+-- what follows the first word of a fault line
+behind_fault : (k : ℕ) (rest : List ℕ) → (m : ℕ) × (drop 6 (take k (102 ∷ 97 ∷ 117 ∷ 108 ∷ 116 ∷ 32 ∷ rest)) ≡ take m rest)
+behind_fault zero rest = (0, sym (take_none rest))
+behind_fault (suc zero) rest = (0, sym (take_none rest))
+behind_fault (suc (suc zero)) rest = (0, sym (take_none rest))
+behind_fault (suc (suc (suc zero))) rest = (0, sym (take_none rest))
+behind_fault (suc (suc (suc (suc zero)))) rest = (0, sym (take_none rest))
+behind_fault (suc (suc (suc (suc (suc zero))))) rest = (0, sym (take_none rest))
+behind_fault (suc (suc (suc (suc (suc (suc m)))))) rest = (m, refl)
+
+-- the reply to a line that is accepted isn't `false`
+full_or_done : (b : Bool) → (if b then Full else Done) ≡ Was false → ⊥
+full_or_done true is = absurd cc
+full_or_done false is = absurd cc
+
+found_or_absent : (o : Option (List ℕ)) → found o ≡ Was false → ⊥
+found_or_absent None is = absurd cc
+found_or_absent (Some value) is = absurd cc
+
+was_is : (b : Bool) → Was b ≡ Was false → b ≡ false
+was_is true is = absurd cc
+was_is false is = refl
+
+false_unaccepted : (line : Line) (pairs : Pairs) → reply_to line pairs ≡ Was false → is_accepted line pairs ≡ false
+false_unaccepted (Good (Put cache key value)) pairs is = absurd (full_or_done _ is)
+false_unaccepted (Good (Get cache key)) pairs is = refl
+false_unaccepted (Good (Remove cache key)) pairs is = was_is _ is
+false_unaccepted (Good (Scan cache)) pairs is = refl
+false_unaccepted (Good Checkpoint) pairs is = refl
+false_unaccepted Bad pairs is = refl
+false_unaccepted Long pairs is = refl
+
+-- where a line that tells a fault stands in place of replies, no accepted line is taken to be acknowledged by it
+pub none_acknowledged : (number : ℕ) (lines : List Line) (pairs : Pairs) (k c : ℕ) (bytes : List ℕ) → BeginsNone c
+    → accepted number (take (begun (replies_to lines pairs) (take k (102 ∷ 97 ∷ 117 ∷ 108 ∷ 116 ∷ 32 ∷ c ∷ bytes))) lines) pairs ≡ []
+none_acknowledged number [] pairs k c bytes none = refl
+none_acknowledged number (line ∷ lines) pairs zero c bytes none = ap (λ n. accepted number (take n (line ∷ lines)) pairs) (begun_nothing (replies_to (line ∷ lines) pairs))
+none_acknowledged number (line ∷ lines) pairs (suc k) c bytes none =
+    let tail : List ℕ = take (suc k) (102 ∷ 97 ∷ 117 ∷ 108 ∷ 116 ∷ 32 ∷ c ∷ bytes) in
+    let reply = reply_to line pairs in
+    let others = replies_to lines (after line pairs) in
+    elim (begins_with_f reply (take k (97 ∷ 117 ∷ 108 ∷ 116 ∷ 32 ∷ c ∷ bytes))) [
+      | inl isnt ↦ ap (λ n. accepted number (take n (line ∷ lines)) pairs) (begun_if false reply others tail isnt)
+      | inr is ↦
+          let behind = behind_fault (suc k) (c ∷ bytes) in
+          let starts : starts_with nat_eq tail (take 1 (text_of reply)) ≡ true = ap (λ r. starts_with nat_eq tail (take 1 (text_of r))) is in
+          let rest : drop (length (text_of reply)) tail ≡ take behind.0 (c ∷ bytes) = ap (λ r. drop (length (text_of r)) tail) is ∙ behind.1 in
+          let one : begun (reply ∷ others) tail ≡ 1 =
+          begun_if true reply others tail starts ∙ ap (λ b. 1 + begun others b) rest ∙ ap (λ n. 1 + n) (begun_none c none others behind.0 bytes) in
+          ap (λ n. accepted number (take n (line ∷ lines)) pairs) one
+          ∙ ap (λ ls. accepted number (line ∷ ls) pairs) (take_none lines)
+          ∙ order_false number line [] pairs (false_unaccepted line pairs is)
+    ]

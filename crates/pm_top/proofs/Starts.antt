@@ -1,5 +1,5 @@
 -- What is said of a run from the open store on is said of it from its start on.
-use Rattle.std.proofs.Common.{◌≡◌, ◌⊎◌, inl, ℕ, ◌≤◌, ◌+◌, List, [], ◌∷◌, ◌++◌, take, drop, length, refl, ap, sym, ◌∙◌, subst, append-nil, arith}
+use Rattle.std.proofs.Common.{◌≡◌, ◌⊎◌, inl, ℕ, ◌≤◌, ◌+◌, List, [], ◌++◌, take, drop, length, ap, sym, ◌∙◌, subst, append-nil, arith}
 use Rattle.std.proofs.lemmas.List.{drop_all}
 use Rattle.pm_frame.specs.Frames.{Frame}
 use Rattle.pm_disk.specs.Worlds.{World}
@@ -7,8 +7,9 @@ use Rattle.pm_disk.specs.Images.{NothingPending}
 use Rattle.pm_disk.specs.Moments.{History, AllMoments}
 use Rattle.pm_disk.proofs.Chain.{weaker, joined}
 use Rattle.pm_model.specs.declared.reply.Reply.{Reply}
-use Rattle.pm_model.specs.Eval.{Pairs, accepted, after_all}
-use Rattle.pm_script.specs.Grammar.{script_of}
+use Rattle.pm_model.specs.Eval.{Pairs}
+use Rattle.pm_top.specs.Evaluation.{accepted, after_all}
+use Rattle.pm_top.specs.Served.{script_of}
 use Rattle.pm_script.specs.Texts.{texts_of}
 use Rattle.pm_segments.specs.Ends.{LogEnd}
 use Rattle.pm_segments.specs.Grammars.{place}
@@ -20,19 +21,14 @@ use Rattle.pm_types.specs.declared.place.Place.{Place}
 use Rattle.pm_top.specs.Crashes.{KeepsStart, KeepsAcknowledged, acknowledged, after_numbers, begun}
 use Rattle.pm_top.specs.Openings.{IsOpened}
 use Rattle.pm_top.specs.Promises.{Answers, IsOrder, IsTail, IsDone, IsBroken, IsShort, IsStopped, IsFullAt, FitsLog, Stops, replies_of}
-use Rattle.pm_top.specs.Puts.{Holds, HoldsImage, HoldsPuts, is_put, pairs_of, put_frames}
+use Rattle.pm_top.specs.Changes.{Holds, HoldsImage, HoldsChanges, is_change, pairs_of, change_frames}
 use Rattle.pm_top.specs.Scripts.{AreWithin, IsWithinLimits, PassesLimit}
 use Rattle.pm_top.specs.Sessions.{Stands}
 use Rattle.pm_top.specs.declared.status.Status.{Status}
 use Rattle.pm_top.specs.declared.status.Status.TheVariants.{Done, Usage, Failed, Memory, Long}
 use Rattle.pm_top.proofs.Follows.{quiet_after}
 use Rattle.pm_top.proofs.Keeps.{no_seal}
-use Rattle.pm_top.proofs.Orders.{begun_nothing}
-
--- the first none of a list
-pub take_none : {A : Type 0} (xs : List A) → take 0 xs ≡ []
-take_none [] = refl
-take_none (x ∷ xs) = refl
+use Rattle.pm_top.proofs.Orders.{begun_nothing, take_none}
 
 -- ---- before anything was said
 
@@ -93,7 +89,7 @@ module _ {old mid : World} (said : mid.said ≡ old.said) (input : mid.input ≡
   stopped_since {pairs = pairs} {size = size} {lines = lines} {order = order} stopped = record {
     answers = answers_since stopped.answers;
     order_is = subst (λ i. IsOrder i pairs lines order) input stopped.order_is;
-    stops = subst (λ i. (PassesLimit i × AreWithin i lines) ⊎ IsFullAt size i lines) input stopped.stops;
+    stops = subst (λ i. (PassesLimit i × AreWithin i lines) ⊎ IsFullAt size pairs i lines) input stopped.stops;
   }
 
   pub done_since : {new : World} {pairs : Pairs} {size lines : ℕ} {order : List ℕ} → (NothingPending old → NothingPending mid) → IsDone mid new pairs size lines order → IsDone old new pairs size lines order
@@ -103,7 +99,7 @@ module _ {old mid : World} (said : mid.said ≡ old.said) (input : mid.input ≡
     all = subst (λ i. lines ≡ length (script_of i)) input done.all;
     read = done.read;
     limits = subst IsWithinLimits input done.limits;
-    fits = subst (FitsLog size) input done.fits;
+    fits = subst (FitsLog size pairs) input done.fits;
     holds = subst (λ i. Holds new (after_all (script_of i) pairs)) input done.holds;
     quiet = λ nothing. done.quiet (quiet nothing);
   }
@@ -123,24 +119,24 @@ module _ {old mid : World} (said : mid.said ≡ old.said) (input : mid.input ≡
 
 module _ {log : LogEnd} {pairs : Pairs} {old mid : World} (opened : IsOpened log pairs old mid) where
   pub opened_stands : Stands pairs log mid
-  opened_stands = record { puts = opened.puts; ready = opened.ready; map = opened.map }
+  opened_stands = record { changes = opened.changes; ready = opened.ready; map = opened.map }
 
   opened_quiet : NothingPending old → NothingPending mid
   opened_quiet nothing = quiet_after old mid opened.others opened.ready.quiet nothing
 
-  module _ {puts : List Frame} (was : HoldsPuts old puts) where
-    one : opened.puts ≡ puts
-    one = one_log put_frames (grammar_laws is_put) no_seal (contents (first_alone old.log)) (place 1 0) opened.puts puts opened.was was
+  module _ {changes : List Frame} (was : HoldsChanges old changes) where
+    one : opened.changes ≡ changes
+    one = one_log change_frames (grammar_laws is_change) no_seal (contents (first_alone old.log)) (place 1 0) opened.changes changes opened.was was
 
-    pairs_is : pairs ≡ pairs_of puts
+    pairs_is : pairs ≡ pairs_of changes
     pairs_is = opened.map ∙ ap pairs_of one
 
-    size_is : log.end.off ≡ sizes puts
+    size_is : log.end.off ≡ sizes changes
     size_is = ap (λ (p : Place). p.off) opened.ready.end ∙ ap sizes one
 
-    pub opened_stops : (status : Status) (new : World) (lines : ℕ) (order : List ℕ) → Stops status mid new pairs log.end.off lines order → Stops status old new (pairs_of puts) (sizes puts) lines order
+    pub opened_stops : (status : Status) (new : World) (lines : ℕ) (order : List ℕ) → Stops status mid new pairs log.end.off lines order → Stops status old new (pairs_of changes) (sizes changes) lines order
     opened_stops status new lines order stops =
-        subst (λ p. Stops status old new p (sizes puts) lines order) pairs_is
+        subst (λ p. Stops status old new p (sizes changes) lines order) pairs_is
         (subst (λ n. Stops status old new pairs n lines order) size_is (by status stops))
       where
         by : (s : Status) → Stops s mid new pairs log.end.off lines order → Stops s old new pairs log.end.off lines order
@@ -150,20 +146,20 @@ module _ {log : LogEnd} {pairs : Pairs} {old mid : World} (opened : IsOpened log
         by Memory none = none
         by Long stopped = stopped_since opened.said opened.input stopped
 
-    pub opened_broken : {new : World} {lines : ℕ} {order : List ℕ} → IsBroken mid new pairs lines order → IsBroken old new (pairs_of puts) lines order
+    pub opened_broken : {new : World} {lines : ℕ} {order : List ℕ} → IsBroken mid new pairs lines order → IsBroken old new (pairs_of changes) lines order
     opened_broken {new = new} {lines = lines} {order = order} broken = subst (λ p. IsBroken old new p lines order) pairs_is (broken_since opened.said opened.input broken)
 
-    pub opened_short : {new : World} {lines : ℕ} {order : List ℕ} → IsShort mid new pairs lines order → IsShort old new (pairs_of puts) lines order
+    pub opened_short : {new : World} {lines : ℕ} {order : List ℕ} → IsShort mid new pairs lines order → IsShort old new (pairs_of changes) lines order
     opened_short {new = new} {lines = lines} {order = order} short = subst (λ p. IsShort old new p lines order) pairs_is (short_since opened.said opened.input short)
 
-    pub opened_keeps : (order : List ℕ) (w : World) → KeepsAcknowledged mid pairs order w → KeepsAcknowledged old (pairs_of puts) order w
+    pub opened_keeps : (order : List ℕ) (w : World) → KeepsAcknowledged mid pairs order w → KeepsAcknowledged old (pairs_of changes) order w
     opened_keeps order w keeps = subst (λ p. KeepsAcknowledged old p order w) pairs_is (keeps_since opened.said opened.input pairs order w keeps)
 
 -- the moments of the whole run
-pub opened_moments : (old mid new : History) (log : LogEnd) (pairs : Pairs) (puts : List Frame) (order : List ℕ) → IsOpened log pairs old.world mid.world → HoldsPuts old.world puts
-    → AllMoments old mid (KeepsStart old.world (pairs_of puts)) → AllMoments mid new (KeepsAcknowledged mid.world pairs order) → AllMoments old new (KeepsAcknowledged old.world (pairs_of puts) order)
-opened_moments old mid new log pairs puts order opened was first second =
-    let P : World → Type 0 = KeepsAcknowledged old.world (pairs_of puts) order in
+pub opened_moments : (old mid new : History) (log : LogEnd) (pairs : Pairs) (changes : List Frame) (order : List ℕ) → IsOpened log pairs old.world mid.world → HoldsChanges old.world changes
+    → AllMoments old mid (KeepsStart old.world (pairs_of changes)) → AllMoments mid new (KeepsAcknowledged mid.world pairs order) → AllMoments old new (KeepsAcknowledged old.world (pairs_of changes) order)
+opened_moments old mid new log pairs changes order opened was first second =
+    let P : World → Type 0 = KeepsAcknowledged old.world (pairs_of changes) order in
     joined old mid new P
-    (weaker old mid (KeepsStart old.world (pairs_of puts)) P (λ w keeps. start_keeps old.world (pairs_of puts) order w keeps) first)
+    (weaker old mid (KeepsStart old.world (pairs_of changes)) P (λ w keeps. start_keeps old.world (pairs_of changes) order w keeps) first)
     (weaker mid new (KeepsAcknowledged mid.world pairs order) P (λ w keeps. opened_keeps opened was order w keeps) second)

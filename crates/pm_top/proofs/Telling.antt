@@ -1,18 +1,29 @@
 -- A limit is told behind the replies to the first lines.
-use Rattle.std.proofs.Common.{◌≡◌, inl, inr, ℕ, ◌+◌, List, [], ◌++◌, length, take, drop, refl, ap, sym, ◌∙◌, subst, append-nil, append_assoc, arith}
+use Rattle.std.proofs.Common.{◌≡◌, inl, inr, ℕ, suc, ◌+◌, List, [], ◌∷◌, ◌++◌, length, take, drop, refl, ap, sym, ◌∙◌, subst, append-nil, append_assoc, arith}
 use Rattle.std.specs.Prelude.{codes}
-use Rattle.std.proofs.lemmas.List.{drop_at, take-append-drop}
+use Rattle.std.proofs.lemmas.List.{drop_at, take_at, take-append-drop, length-take}
 use Rattle.pm_disk.specs.Worlds.{World, with_said}
 use Rattle.pm_disk.specs.Moments.{History, IsHistory, AllMoments}
 use Rattle.pm_disk.proofs.Chain.{weaker, joined, at_last}
-use Rattle.pm_model.specs.Eval.{Pairs, accepted}
-use Rattle.pm_script.specs.Grammar.{script_of}
+use Rattle.pm_model.specs.declared.line.Line.{Line}
+use Rattle.pm_model.specs.Eval.{Pairs}
+use Rattle.pm_model.proofs.Runs.{replies_to-append, length-replies_to, accepted-append}
+use Rattle.pm_top.specs.Evaluation.{accepted, replies_to, after_all}
+use Rattle.pm_top.specs.Served.{script_of}
 use Rattle.pm_script.specs.Texts.{texts_of}
 use Rattle.pm_top.specs.Crashes.{KeepsAcknowledged, acknowledged, begun}
 use Rattle.pm_top.specs.Promises.{Answers, IsBroken, IsStopped, SaysPart, replies_of, Ends, Stops}
 use Rattle.pm_top.specs.declared.status.Status.{Status}
 use Rattle.pm_top.specs.declared.status.Status.TheVariants.{Done, Usage, Failed, Memory, Long}
-use Rattle.pm_top.proofs.Orders.{begun-texts, begun_nothing, begun_fault}
+use Rattle.pm_top.specs.declared.shape.TheConstants.{SHAPE}
+use Rattle.pm_top.proofs.Orders.{begun-texts, begun_nothing, take_none, none_acknowledged, none_with_l}
+
+-- a list, and some first ones of another behind it
+take-behind : (xs ys : List Line) (n : ℕ) → take (length xs + n) (xs ++ ys) ≡ xs ++ take n ys
+take-behind [] ys n = ap (λ m. take m ys) (let same : 0 + n ≡ n = omega arith in same)
+take-behind (x ∷ xs) ys n =
+    let count : length (x ∷ xs) + n ≡ suc (length xs + n) = omega arith in
+    ap (λ m. take m (x ∷ (xs ++ ys))) count ∙ ap (λ l. x ∷ l) (take-behind xs ys n)
 
 -- more is said behind the replies
 more_said : (old mid new : World) (pairs : Pairs) (lines : ℕ) (tail : List ℕ) → Answers old mid pairs lines [] → new.said ≡ mid.said ++ tail → Answers old new pairs lines tail
@@ -38,28 +49,64 @@ told_part old mid new pairs size lines order stopped part = record {
   order_is = inl stopped.order_is;
 }
 
--- only the replies to the first lines have begun
-begun_told : (old w : World) (pairs : Pairs) (lines : ℕ) (tail : List ℕ) → Answers old w pairs lines tail → begun (drop lines (replies_of old.input pairs)) tail ≡ 0
-    → begun (replies_of old.input pairs) (drop (length old.said) w.said) ≡ length (take lines (replies_of old.input pairs))
-begun_told old w pairs lines tail answers none =
-    let replies = replies_of old.input pairs in
-    let texts = texts_of (take lines replies) in
-    let behind : drop (length old.said) w.said ≡ texts ++ tail =
-    ap (drop (length old.said)) (answers.said ∙ append_assoc old.said texts tail) ∙ drop_at old.said (texts ++ tail) (length old.said) refl in
-    ap (begun replies) behind
-    ∙ ap (λ r. begun r (texts ++ tail)) (sym (take-append-drop lines replies))
-    ∙ begun-texts (take lines replies) (drop lines replies) tail
-    ∙ (let sum : length (take lines replies) + begun (drop lines replies) tail ≡ length (take lines replies) = omega (arith, none) in sum)
+-- the lines that are acknowledged, where something stands behind the replies to the first ones
+acknowledged_told : (first others : List Line) (pairs : Pairs) (tail : List ℕ)
+    → accepted (1 + length first) (take (begun (replies_to others (after_all first pairs)) tail) others) (after_all first pairs) ≡ []
+    → accepted 1 (take (begun (replies_to (first ++ others) pairs) (texts_of (replies_to first pairs) ++ tail)) (first ++ others)) pairs ≡ accepted 1 first pairs
+acknowledged_told first others pairs tail none =
+    let map = after_all first pairs in
+    let many = begun (replies_to others map) tail in
+    let count : begun (replies_to (first ++ others) pairs) (texts_of (replies_to first pairs) ++ tail) ≡ length first + many =
+    ap (λ r. begun r (texts_of (replies_to first pairs) ++ tail)) (replies_to-append SHAPE first others pairs)
+    ∙ begun-texts (replies_to first pairs) (replies_to others map) tail
+    ∙ ap (λ n. n + many) (length-replies_to SHAPE first pairs) in
+    ap (λ n. accepted 1 (take n (first ++ others)) pairs) count
+    ∙ ap (λ ls. accepted 1 ls pairs) (take-behind first others many)
+    ∙ accepted-append SHAPE 1 first (take many others) pairs
+    ∙ ap (λ o. accepted 1 first pairs ++ o) none
+    ∙ append-nil (accepted 1 first pairs)
+
+module _ (old w : World) (pairs : Pairs) (lines : ℕ) (tail : List ℕ) (answers : Answers old w pairs lines tail) where
+  abbrev first : List Line
+  first = take lines (script_of old.input)
+
+  abbrev others : List Line
+  others = drop lines (script_of old.input)
+
+  parts : first ++ others ≡ script_of old.input
+  parts = take-append-drop lines (script_of old.input)
+
+  replies_are : take lines (replies_of old.input pairs) ≡ replies_to first pairs
+  replies_are =
+      let count : length (replies_to first pairs) ≡ lines = length-replies_to SHAPE first pairs ∙ omega (arith, length-take lines (script_of old.input), answers.within) in
+      ap (λ s. take lines (replies_to s pairs)) (sym parts)
+      ∙ ap (take lines) (replies_to-append SHAPE first others pairs)
+      ∙ take_at (replies_to first pairs) (replies_to others (after_all first pairs)) lines count
+
+  pub acknowledged_is : accepted (1 + length first) (take (begun (replies_to others (after_all first pairs)) tail) others) (after_all first pairs) ≡ []
+      → acknowledged old pairs w ≡ length (accepted 1 first pairs)
+  acknowledged_is none =
+      let texts = texts_of (take lines (replies_of old.input pairs)) in
+      let behind : drop (length old.said) w.said ≡ texts_of (replies_to first pairs) ++ tail =
+      ap (drop (length old.said)) (answers.said ∙ append_assoc old.said texts tail) ∙ drop_at old.said (texts ++ tail) (length old.said) refl
+      ∙ ap (λ r. texts_of r ++ tail) replies_are in
+      ap (λ b. length (accepted 1 (take (begun (replies_of old.input pairs) b) (script_of old.input)) pairs)) behind
+      ∙ ap (λ s. length (accepted 1 (take (begun (replies_to s pairs) (texts_of (replies_to first pairs) ++ tail)) s) pairs)) (sym parts)
+      ∙ ap length (acknowledged_told first others pairs tail none)
 
 told_keeps : (old mid : World) (pairs : Pairs) (lines : ℕ) (order : List ℕ) (w : World) → Answers old mid pairs lines [] → SaysPart (codes "fault long\n") mid w
     → KeepsAcknowledged old pairs order mid → KeepsAcknowledged old pairs order w
 told_keeps old mid pairs lines order w answers part keeps =
     let tail = take part.0 (codes "fault long\n") in
-    let more = drop lines (replies_of old.input pairs) in
     let now : World = with_said tail mid in
-    let before = begun_told old mid pairs lines [] answers (begun_nothing more) in
-    let behind = begun_told old now pairs lines tail (more_said old mid now pairs lines tail answers refl) (begun_fault more part.0 (codes "ault long\n")) in
-    let same : acknowledged old pairs now ≡ acknowledged old pairs mid = ap (λ n. length (accepted 1 (take n (script_of old.input)) pairs)) (behind ∙ sym before) in
+    let head = take lines (script_of old.input) in
+    let more = drop lines (script_of old.input) in
+    let map = after_all head pairs in
+    let before = acknowledged_is old mid pairs lines [] answers
+    (ap (λ n. accepted (1 + length head) (take n more) map) (begun_nothing (replies_to more map)) ∙ ap (λ ls. accepted (1 + length head) ls map) (take_none more)) in
+    let behind = acknowledged_is old now pairs lines tail (more_said old mid now pairs lines tail answers refl)
+    (none_acknowledged (1 + length head) more map part.0 108 (codes "ong\n") none_with_l) in
+    let same : acknowledged old pairs now ≡ acknowledged old pairs mid = behind ∙ sym before in
     subst (λ v. KeepsAcknowledged old pairs order v) (sym part.1) (λ image leaves honest.
     let h = keeps image (record { log = leaves.log; pages = leaves.pages; starts = leaves.starts; ends = leaves.ends }) (record { frames = honest.frames }) in
     record { count = h.count; fits = h.fits; has = omega (arith, h.has, same); holds = h.holds })

@@ -2,13 +2,14 @@
 use Rattle.std.proofs.Common.{◌≡◌, ◌⊎◌, ℕ, ◌+◌, ◌<◌, ◌≤◌, List, [], ◌∷◌, ◌++◌, length, Result, Err, refl, ap, sym, ◌∙◌, subst, inl, inr, append-nil, arith}
 use Rattle.pm_frame.specs.declared.limits.TheConstants.{FRAME_EXTRA, SEGMENT_END_MAX}
 use Rattle.pm_model.specs.declared.line.Line.{Line}
-use Rattle.pm_model.specs.Eval.{Pairs, accepted}
+use Rattle.pm_model.specs.Eval.{Pairs}
+use Rattle.pm_top.specs.Evaluation.{accepted}
 use Rattle.pm_disk.specs.Worlds.{World}
 use Rattle.pm_disk.specs.Moments.{History, IsHistory, AllMoments}
 use Rattle.pm_disk.proofs.Chain.{started, weaker, joined}
 use Rattle.pm_segments.specs.Ends.{LogEnd}
 use Rattle.pm_script.specs.Lines.{first_line}
-use Rattle.pm_script.specs.Grammar.{line_of}
+use Rattle.pm_top.specs.Served.{line_of}
 use Rattle.pm_script.specs.Reading.{OnlyTakes}
 use Rattle.pm_top.specs.Crashes.{KeepsLine, KeepsAcknowledged}
 use Rattle.pm_top.specs.Openings.{KeepsOthers}
@@ -47,7 +48,7 @@ taken_said old new takes = ap (λ (w : World). w.said) takes.1
 
 pub taken_stands : (pairs : Pairs) (log : LogEnd) (old new : World) → OnlyTakes old new → Stands pairs log old → Stands pairs log new
 taken_stands pairs log old new takes stands = subst (λ w. Stands pairs log w) (sym takes.1) record {
-  puts = stands.puts;
+  changes = stands.changes;
   ready = record { rests = stands.ready.rests; quiet = stands.ready.quiet; end = stands.ready.end; size = stands.ready.size };
   map = stands.map;
 }

@@ -8,10 +8,11 @@ use Rattle.pm_disk.specs.Images.{Image, LeavesAll}
 use Rattle.pm_model.specs.declared.line.Line.{Line}
 use Rattle.pm_model.specs.declared.line.Line.TheVariants.{Bad}
 use Rattle.pm_model.specs.declared.reply.Reply.{Reply}
-use Rattle.pm_model.specs.Eval.{Pairs, after, reply_to, replies_to, accepted}
-use Rattle.pm_script.specs.Grammar.{script_of}
+use Rattle.pm_model.specs.Eval.{Pairs}
+use Rattle.pm_top.specs.Evaluation.{after, reply_to, replies_to, accepted}
+use Rattle.pm_top.specs.Served.{script_of}
 use Rattle.pm_script.specs.Texts.{text_of}
-use Rattle.pm_top.specs.Puts.{HoldsImage, IsTrueImage}
+use Rattle.pm_top.specs.Changes.{HoldsImage, IsTrueImage}
 
 -- how many of these replies begin in the bytes: the first byte of each stands there, behind the texts of those before it
 abbrev pub begun : List Reply → List ℕ → ℕ

@@ -1,13 +1,14 @@
 -- What a run promises.
 use Rattle.std.specs.Prelude.{◌≡◌, ◌⊎◌, ℕ, ◌+◌, ◌<◌, ◌≤◌, List, [], ◌++◌, take, drop, length, codes}
 use Rattle.pm_model.specs.declared.reply.Reply.{Reply}
-use Rattle.pm_model.specs.Eval.{Pairs, replies_to, after_all, accepted}
+use Rattle.pm_model.specs.Eval.{Pairs}
+use Rattle.pm_top.specs.Evaluation.{replies_to, after_all, accepted}
 use Rattle.pm_disk.specs.Worlds.{World, with_said}
-use Rattle.pm_script.specs.Grammar.{script_of}
+use Rattle.pm_top.specs.Served.{script_of}
 use Rattle.pm_script.specs.Texts.{texts_of}
 use Rattle.pm_frame.specs.declared.limits.TheConstants.{FRAME_EXTRA, SEGMENT_END_MAX}
 use Rattle.pm_disk.specs.Images.{NothingPending}
-use Rattle.pm_top.specs.Puts.{Holds, log_bytes}
+use Rattle.pm_top.specs.Changes.{Holds, log_bytes}
 use Rattle.pm_top.specs.Scripts.{IsWithinLimits, PassesLimit, AreWithin}
 use Rattle.pm_top.specs.declared.status.Status.{Status}
 use Rattle.pm_top.specs.declared.status.Status.TheVariants.{Done, Usage, Failed, Memory, Long}
@@ -16,18 +17,18 @@ use Rattle.pm_top.specs.declared.status.Status.TheVariants.{Done, Usage, Failed,
 abbrev pub replies_of : List ℕ → Pairs → List Reply
 replies_of input pairs = replies_to (script_of input) pairs
 
--- the log, which has this size at the start, has room for all puts of the script, and for a SEAL behind them
-abbrev pub FitsLog : ℕ → List ℕ → Type 0
-FitsLog size input = size + log_bytes (script_of input) + FRAME_EXTRA ≤ SEGMENT_END_MAX
+-- the log, which has this size and this map at the start, has room for all accepted lines of the script, and for a SEAL behind them
+abbrev pub FitsLog : ℕ → Pairs → List ℕ → Type 0
+FitsLog size pairs input = size + log_bytes (script_of input) pairs + FRAME_EXTRA ≤ SEGMENT_END_MAX
 
--- the puts of the script don't fit in the log
-abbrev pub FillsLog : ℕ → List ℕ → Type 0
-FillsLog size input = SEGMENT_END_MAX < size + log_bytes (script_of input) + FRAME_EXTRA
+-- the accepted lines of the script don't fit in the log
+abbrev pub FillsLog : ℕ → Pairs → List ℕ → Type 0
+FillsLog size pairs input = SEGMENT_END_MAX < size + log_bytes (script_of input) pairs + FRAME_EXTRA
 
--- those of so many lines fit in the log, and not that of the next line
-pub record IsFullAt (size : ℕ) (input : List ℕ) (lines : ℕ) : Type 0 where
-  pub fits : size + log_bytes (take lines (script_of input)) + FRAME_EXTRA ≤ SEGMENT_END_MAX
-  pub full : SEGMENT_END_MAX < size + log_bytes (take (lines + 1) (script_of input)) + FRAME_EXTRA
+-- so many lines fit in the log, and not the next one
+pub record IsFullAt (size : ℕ) (pairs : Pairs) (input : List ℕ) (lines : ℕ) : Type 0 where
+  pub fits : size + log_bytes (take lines (script_of input)) pairs + FRAME_EXTRA ≤ SEGMENT_END_MAX
+  pub full : SEGMENT_END_MAX < size + log_bytes (take (lines + 1) (script_of input)) pairs + FRAME_EXTRA
 
 -- nothing happened but that some first bytes of a text were said
 abbrev pub SaysPart : List ℕ → World → World → Type 0
@@ -49,7 +50,7 @@ pub record IsDone (old new : World) (pairs : Pairs) (size lines : ℕ) (order : 
   pub all : lines ≡ length (script_of old.input)
   pub read : new.input ≡ []
   pub limits : IsWithinLimits old.input
-  pub fits : FitsLog size old.input
+  pub fits : FitsLog size pairs old.input
   pub holds : Holds new (after_all (script_of old.input) pairs)
   pub quiet : NothingPending old → NothingPending new
 
@@ -75,12 +76,12 @@ pub record IsShort (old new : World) (pairs : Pairs) (lines : ℕ) (order : List
   pub answers : Answers old new pairs lines []
   pub order_is : IsOrder old.input pairs lines order
 
--- the first lines were answered, and this was said behind their replies: the next line isn't within the limits, or it is a
--- put that doesn't fit in the log
+-- the first lines were answered, and this was said behind their replies: the next line isn't within the limits, or it would be
+-- accepted and doesn't fit in the log
 pub record IsStopped (old new : World) (pairs : Pairs) (size lines : ℕ) (order : List ℕ) (tail : List ℕ) : Type 0 where
   pub answers : Answers old new pairs lines tail
   pub order_is : IsOrder old.input pairs lines order
-  pub stops : (PassesLimit old.input × AreWithin old.input lines) ⊎ IsFullAt size old.input lines
+  pub stops : (PassesLimit old.input × AreWithin old.input lines) ⊎ IsFullAt size pairs old.input lines
 
 -- what each status says of a `run`
 abbrev pub Ends : Status → World → World → Pairs → ℕ → ℕ → List ℕ → Type 0

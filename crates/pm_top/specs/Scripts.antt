@@ -2,10 +2,10 @@
 use Rattle.std.specs.Prelude.{◌≡◌, ◌⊎◌, ℕ, zero, suc, ◌+◌, ◌≤◌, ◌<◌, List, length}
 use Rattle.pm_types.specs.declared.limits.TheConstants.{SCRIPT_BYTES_MAX, LINES_MAX}
 use Rattle.pm_script.specs.Lines.{lines_of, first_line, after_line}
-use Rattle.pm_script.specs.Grammar.{line_of}
+use Rattle.pm_top.specs.Served.{line_of}
 use Rattle.pm_script.specs.Reading.{Unread, TakesLine, IsAtEnd, IsOver, CountsLine}
 use Rattle.pm_model.specs.declared.line.Line.{Line}
-use Rattle.pm_top.specs.Puts.{IsNumbered}
+use Rattle.pm_model.specs.Batches.{HasCache}
 use Rattle.pm_top.specs.declared.run.Next.{Next}
 use Rattle.pm_top.specs.declared.run.Next.TheVariants as next
 
@@ -46,8 +46,8 @@ Counts old new (next.Line line) = CountsLine old new
 Counts old new next.End = Unit {0}
 Counts old new next.Over = Unit {0}
 
--- a line that was taken names one of the caches
-abbrev pub IsNumberedNext : Next → Type 0
-IsNumberedNext (next.Line line) = IsNumbered line
-IsNumberedNext next.End = Unit {0}
-IsNumberedNext next.Over = Unit {0}
+-- a line that was taken names no cache that isn't there
+abbrev pub HasCacheNext : Next → Type 0
+HasCacheNext (next.Line line) = HasCache line
+HasCacheNext next.End = Unit {0}
+HasCacheNext next.Over = Unit {0}

@@ -10,7 +10,7 @@ ghost use Rattle.pm_disk.specs.Worlds.{with_said};
 ghost use Rattle.pm_segments.specs.Logs.{sizes};
 ghost use Rattle.pm_top.specs.Crashes.{KeepsAcknowledged};
 ghost use Rattle.pm_top.specs.Promises.{Ends, EndsRefused, FillsLog, FitsLog, SaysPart};
-ghost use Rattle.pm_top.specs.Puts.{HoldsPuts, pairs_of};
+ghost use Rattle.pm_top.specs.Changes.{HoldsChanges, pairs_of};
 ghost use Rattle.pm_top.specs.Scripts.{IsWithinLimits, PassesLimit};
 ghost use Rattle.pm_top.specs.Statuses.{status_of, code_of};
 ghost use Rattle.pm_top.specs.Words.{is_command};
@@ -35,37 +35,37 @@ pub fn top<Q: AllocGlobal, H: Host>(rt: &Q, words: &[String], host: &mut H) -> R
 
     // Which lines are answered, and with what.
     ensures replies { H.tells → IsTrue (is_command (map string_bytes words.now)) →
-        (puts : List Frame) → HoldsPuts (H.history host.old).world puts →
+        (changes : List Frame) → HoldsChanges (H.history host.old).world changes →
         Ends (status_of result.status) (H.history host.old).world
-        (H.history host.new).world (pairs_of puts) (sizes puts) result.lines result.order.items }
+        (H.history host.new).world (pairs_of changes) (sizes changes) result.lines result.order.items }
     ensures refusal { H.tells → is_command (map string_bytes words.now) ≡ false →
         EndsRefused (status_of result.status) (H.history host.old).world
         (H.history host.new).world result.lines result.order.items }
 
     // Whatever a crash at any moment leaves holds each line that was acknowledged, and no line that the order lacks.
-    ensures crash { H.tells → NothingPending (H.history host.old).world → (puts : List Frame) →
-        HoldsPuts (H.history host.old).world puts →
+    ensures crash { H.tells → NothingPending (H.history host.old).world → (changes : List Frame) →
+        HoldsChanges (H.history host.old).world changes →
         AllMoments (H.history host.old) (H.history host.new)
-        (KeepsAcknowledged (H.history host.old).world (pairs_of puts) result.order.items) }
+        (KeepsAcknowledged (H.history host.old).world (pairs_of changes) result.order.items) }
 
     // When each status comes: 1 and 6 exactly where the words or the script ask for it, 3 only after a failed call.
     ensures usage { result.status ≡ 1 → is_command (map string_bytes words.now) ≡ false }
     ensures refused { is_command (map string_bytes words.now) ≡ false →
         (result.status ≡ 1) ⊎ (result.status ≡ 3) }
     ensures failed { result.status ≡ 3 → Rose (H.faults host.old) (H.faults host.new) }
-    ensures long { H.tells → result.status ≡ 6 → (puts : List Frame) →
-        HoldsPuts (H.history host.old).world puts →
-        PassesLimit (H.history host.old).world.input ⊎ FillsLog (sizes puts) (H.history host.old).world.input }
-    ensures passes { H.tells → IsTrue (is_command (map string_bytes words.now)) → (puts : List Frame) →
-        HoldsPuts (H.history host.old).world puts →
-        PassesLimit (H.history host.old).world.input ⊎ FillsLog (sizes puts) (H.history host.old).world.input →
+    ensures long { H.tells → result.status ≡ 6 → (changes : List Frame) →
+        HoldsChanges (H.history host.old).world changes →
+        PassesLimit (H.history host.old).world.input ⊎ FillsLog (sizes changes) (pairs_of changes) (H.history host.old).world.input }
+    ensures passes { H.tells → IsTrue (is_command (map string_bytes words.now)) → (changes : List Frame) →
+        HoldsChanges (H.history host.old).world changes →
+        PassesLimit (H.history host.old).world.input ⊎ FillsLog (sizes changes) (pairs_of changes) (H.history host.old).world.input →
         (Rose (H.faults host.old) (H.faults host.new) → ⊥) →
         (result.status ≡ 6) ⊎ (result.status ≡ 4) }
 
     // Where nothing fails and the script is within its limits, it is answered whole, or memory runs out.
-    ensures complete { H.tells → IsTrue (is_command (map string_bytes words.now)) → (puts : List Frame) →
-        HoldsPuts (H.history host.old).world puts →
-        IsWithinLimits (H.history host.old).world.input → FitsLog (sizes puts) (H.history host.old).world.input →
+    ensures complete { H.tells → IsTrue (is_command (map string_bytes words.now)) → (changes : List Frame) →
+        HoldsChanges (H.history host.old).world changes →
+        IsWithinLimits (H.history host.old).world.input → FitsLog (sizes changes) (pairs_of changes) (H.history host.old).world.input →
         (Rose (H.faults host.old) (H.faults host.new) → ⊥) →
         (result.status ≡ 0) ⊎ (result.status ≡ 4) }
 {
@@ -84,16 +84,16 @@ fn command<H: Host>(alloc: Global, words: &[String], host: &mut H, session: &mut
     requires order { session.old.order.items ≡ [] }
     requires lines { session.old.lines ≡ 0 }
     ensures replies { H.tells → IsTrue (is_command (map string_bytes words.now)) →
-        (puts : List Frame) → HoldsPuts (H.history host.old).world puts →
+        (changes : List Frame) → HoldsChanges (H.history host.old).world changes →
         Ends result (H.history host.old).world
-        (H.history host.new).world (pairs_of puts) (sizes puts) session.new.lines session.new.order.items }
+        (H.history host.new).world (pairs_of changes) (sizes changes) session.new.lines session.new.order.items }
     ensures refusal { H.tells → is_command (map string_bytes words.now) ≡ false →
         EndsRefused result (H.history host.old).world
         (H.history host.new).world session.new.lines session.new.order.items }
-    ensures crash { H.tells → NothingPending (H.history host.old).world → (puts : List Frame) →
-        HoldsPuts (H.history host.old).world puts →
+    ensures crash { H.tells → NothingPending (H.history host.old).world → (changes : List Frame) →
+        HoldsChanges (H.history host.old).world changes →
         AllMoments (H.history host.old) (H.history host.new)
-        (KeepsAcknowledged (H.history host.old).world (pairs_of puts) session.new.order.items) }
+        (KeepsAcknowledged (H.history host.old).world (pairs_of changes) session.new.order.items) }
     ensures usage { result ≡ Status.Usage → is_command (map string_bytes words.now) ≡ false }
     ensures refused { is_command (map string_bytes words.now) ≡ false →
         (result ≡ Status.Usage) ⊎ (result ≡ Status.Failed) }

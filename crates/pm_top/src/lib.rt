@@ -4,10 +4,11 @@
 mod call;
 mod fault;
 mod open;
-mod put;
+mod record;
 mod report;
 mod run;
 mod session;
+mod shape;
 mod status;
 mod words;
 

@@ -9,12 +9,13 @@ ghost use Rattle.pm_disk.specs.Images.{NothingPending};
 ghost use Rattle.pm_disk.specs.Moments.{Does, AllMoments};
 ghost use Rattle.pm_segments.specs.Scans.{IsAhead};
 ghost use Rattle.pm_top.specs.Faults.{HasFault};
-ghost use Rattle.pm_top.specs.Puts.{HoldsPuts, pairs_of};
+ghost use Rattle.pm_top.specs.Changes.{HoldsChanges, pairs_of};
 ghost use Rattle.pm_top.specs.Openings.{AppliesFrame, AppliesNext, Moves, AppliesAll, IsSame, IsOpened};
 ghost use Rattle.pm_top.specs.Crashes.{KeepsStart};
 
 use crate::fault::Fault;
-use crate::put::put_of;
+use crate::record::line_of_frame;
+use crate::shape::SHAPE;
 use pm_disk::Host;
 use pm_frame::FrameView;
 use pm_model::PlainMap;
@@ -23,24 +24,24 @@ use pm_segments::{Log, Scan};
 use pm_types::Place;
 use std::alloc::{AllocError, Global};
 
-/// Applies the puts of the log to the pairs, which are none, and makes the log ready for more: it is cut behind its last
-/// put, and forced.
+/// Applies the changes of the log to the pairs, which are none, and makes the log ready for more: it is cut behind its last
+/// change, and forced.
 pub fn open<H: Host>(alloc: Global, host: &mut H, pairs: &mut PlainMap) -> Result<Log, Fault>
     requires { pairs.old ≡ empty }
     ensures opened { H.tells → IfOk result (λ log.
         IsOpened log pairs.new (H.history host.old).world (H.history host.new).world) }
-    ensures moments { H.tells → NothingPending (H.history host.old).world → (puts : List Frame) →
-        HoldsPuts (H.history host.old).world puts →
+    ensures moments { H.tells → NothingPending (H.history host.old).world → (changes : List Frame) →
+        HoldsChanges (H.history host.old).world changes →
         AllMoments (H.history host.old) (H.history host.new)
-        (KeepsStart (H.history host.old).world (pairs_of puts)) }
+        (KeepsStart (H.history host.old).world (pairs_of changes)) }
     ensures unsaid { H.tells → (H.history host.new).world.said ≡ (H.history host.old).world.said }
     ensures cause { HasFault (H.faults host.old) (H.faults host.new) result }
 {
     let end = read_log(alloc, host, pairs)?;
-    Ok(Log::cut_tail(host, end, SEGMENT_BYTES_MAX)?)
+    Ok(Log::cut_tail(host, 1, end, SEGMENT_BYTES_MAX)?)
 }
 
-// Applies the puts of the log to the pairs, which are none, and tells where they end.
+// Applies the changes of the log to the pairs, which are none, and tells where they end.
 fn read_log<H: Host>(alloc: Global, host: &mut H, pairs: &mut PlainMap) -> Result<Place, Fault>
     requires { pairs.old ≡ empty }
     ensures applies { H.tells → IfOk result (λ end.
@@ -51,14 +52,14 @@ fn read_log<H: Host>(alloc: Global, host: &mut H, pairs: &mut PlainMap) -> Resul
     ensures cause { HasFault (H.faults host.old) (H.faults host.new) result }
 {
     let mut scan = Scan::new(alloc, Place { seg: 1, off: 0 })?;
-    'puts: loop {
+    'changes: loop {
         if !apply_next(alloc, host, &mut scan, pairs)? {
             return Ok(scan.place());
         }
     }
 }
 
-// Applies the next put of the log, and tells whether there is one.
+// Applies the next change of the log, and tells whether there is one.
 
 fn apply_next<H: Host>(
     alloc: Global,
@@ -81,14 +82,14 @@ fn apply_next<H: Host>(
     }
 }
 
-// Applies a put, and tells whether the frame is one.
-#[tactic(auto, using(crate::proofs::Opens::applies_put, crate::proofs::Opens::applies_none))]
+// Applies a change, and tells whether the frame is one.
+#[tactic(auto, using(crate::proofs::Opens::applies_change, crate::proofs::Opens::applies_none))]
 fn apply(alloc: Global, pairs: &mut PlainMap, frame: FrameView<'_>) -> Result<bool, AllocError>
-    ensures { IfOk result (λ is_put. AppliesFrame is_put (frame_of frame.entry) pairs.old pairs.new) }
+    ensures { IfOk result (λ is_change. AppliesFrame is_change (frame_of frame.entry) pairs.old pairs.new) }
 {
-    match put_of(alloc, frame.kind, frame.payload)? {
+    match line_of_frame(alloc, frame.kind, frame.payload)? {
         Some(line) => {
-            pairs.answer(alloc, line)?;
+            pairs.answer(alloc, SHAPE, line)?;
             Ok(true)
         }
         None => Ok(false),

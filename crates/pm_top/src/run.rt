@@ -13,17 +13,17 @@ ghost use Rattle.pm_segments.specs.Logs.{sizes};
 ghost use Rattle.pm_top.specs.Crashes.{KeepsAcknowledged};
 ghost use Rattle.pm_top.specs.Faults.{HasFault};
 ghost use Rattle.pm_top.specs.Promises.{Ends, Stops, IsBroken, IsShort, SaysPart};
-ghost use Rattle.pm_top.specs.Puts.{HoldsPuts, pairs_of};
+ghost use Rattle.pm_top.specs.Changes.{HoldsChanges, pairs_of};
+ghost use Rattle.pm_top.specs.Served.{served};
 ghost use Rattle.pm_top.specs.Sessions.{Stands};
-ghost use Rattle.pm_top.specs.Scripts.{Reads, Counts, IsNumberedNext};
+ghost use Rattle.pm_top.specs.Scripts.{Reads, Counts, HasCacheNext};
 
 use crate::fault::Fault;
 use crate::open::open;
-use crate::put::has_room;
 use crate::session::Session;
 use crate::status::Status;
 use pm_disk::Host;
-use pm_model::Line;
+use pm_model::{Cmd, Line};
 use pm_script::{Item, Lines, read_line};
 use pm_segments::Log;
 use std::alloc::Global;
@@ -44,13 +44,13 @@ pub fn run<H: Host>(alloc: Global, host: &mut H, session: &mut Session) -> Statu
     requires pairs { session.old.pairs ≡ empty }
     requires order { session.old.order.items ≡ [] }
     requires lines { session.old.lines ≡ 0 }
-    ensures ends { H.tells → (puts : List Frame) → HoldsPuts (H.history host.old).world puts →
+    ensures ends { H.tells → (changes : List Frame) → HoldsChanges (H.history host.old).world changes →
         Ends result (H.history host.old).world
-        (H.history host.new).world (pairs_of puts) (sizes puts) session.new.lines session.new.order.items }
-    ensures moments { H.tells → NothingPending (H.history host.old).world → (puts : List Frame) →
-        HoldsPuts (H.history host.old).world puts →
+        (H.history host.new).world (pairs_of changes) (sizes changes) session.new.lines session.new.order.items }
+    ensures moments { H.tells → NothingPending (H.history host.old).world → (changes : List Frame) →
+        HoldsChanges (H.history host.old).world changes →
         AllMoments (H.history host.old) (H.history host.new)
-        (KeepsAcknowledged (H.history host.old).world (pairs_of puts) session.new.order.items) }
+        (KeepsAcknowledged (H.history host.old).world (pairs_of changes) session.new.order.items) }
     ensures known { result ≢ Status.Usage }
     ensures failed { result ≡ Status.Failed → Rose (H.faults host.old) (H.faults host.new) }
     ensures later { H.faults host.old ≤ H.faults host.new }
@@ -68,19 +68,19 @@ fn run_lines<H: Host>(alloc: Global, host: &mut H, session: &mut Session) -> Res
     requires pairs { session.old.pairs ≡ empty }
     requires order { session.old.order.items ≡ [] }
     requires lines { session.old.lines ≡ 0 }
-    ensures stops { H.tells → IfOk result (λ status. (puts : List Frame) →
-        HoldsPuts (H.history host.old).world puts → Stops status (H.history host.old).world
-        (H.history host.new).world (pairs_of puts) (sizes puts) session.new.lines session.new.order.items) }
-    ensures broken { H.tells → IsErrOf result Fault.Failed → (puts : List Frame) →
-        HoldsPuts (H.history host.old).world puts → IsBroken (H.history host.old).world
-        (H.history host.new).world (pairs_of puts) session.new.lines session.new.order.items }
-    ensures short { H.tells → IsErrOf result Fault.Memory → (puts : List Frame) →
-        HoldsPuts (H.history host.old).world puts → IsShort (H.history host.old).world
-        (H.history host.new).world (pairs_of puts) session.new.lines session.new.order.items }
-    ensures moments { H.tells → NothingPending (H.history host.old).world → (puts : List Frame) →
-        HoldsPuts (H.history host.old).world puts →
+    ensures stops { H.tells → IfOk result (λ status. (changes : List Frame) →
+        HoldsChanges (H.history host.old).world changes → Stops status (H.history host.old).world
+        (H.history host.new).world (pairs_of changes) (sizes changes) session.new.lines session.new.order.items) }
+    ensures broken { H.tells → IsErrOf result Fault.Failed → (changes : List Frame) →
+        HoldsChanges (H.history host.old).world changes → IsBroken (H.history host.old).world
+        (H.history host.new).world (pairs_of changes) session.new.lines session.new.order.items }
+    ensures short { H.tells → IsErrOf result Fault.Memory → (changes : List Frame) →
+        HoldsChanges (H.history host.old).world changes → IsShort (H.history host.old).world
+        (H.history host.new).world (pairs_of changes) session.new.lines session.new.order.items }
+    ensures moments { H.tells → NothingPending (H.history host.old).world → (changes : List Frame) →
+        HoldsChanges (H.history host.old).world changes →
         AllMoments (H.history host.old) (H.history host.new)
-        (KeepsAcknowledged (H.history host.old).world (pairs_of puts) session.new.order.items) }
+        (KeepsAcknowledged (H.history host.old).world (pairs_of changes) session.new.order.items) }
     ensures cause { HasFault (H.faults host.old) (H.faults host.new) result }
 {
     let mut log = open(alloc, host, &mut session.pairs)?;
@@ -112,10 +112,9 @@ fn answer_lines<H: Host>(
     'script: loop {
         match next_line(alloc, &mut input, host)? {
             Next::Line(line) => {
-                if !has_room(log, &line) {
+                if !session.answer(alloc, host, log, line)? {
                     return Ok(Status::Long);
                 }
-                session.answer(alloc, host, log, line)?;
             }
             Next::End => return Ok(Status::Done),
             Next::Over => return Ok(Status::Long),
@@ -129,16 +128,26 @@ fn next_line<H: Host>(alloc: Global, input: &mut Lines, host: &mut H) -> Result<
         (rest_of input.old (H.history host.old).world) (rest_of input.new
         (H.history host.new).world)) }
     ensures counts { IfOk result (Counts input.old input.new) }
-    ensures numbered { IfOk result IsNumberedNext }
+    ensures numbered { IfOk result HasCacheNext }
     ensures takes { H.tells → AllMoments (H.history host.old) (H.history host.new) (OnlyTakes
         (H.history host.old).world) }
     ensures cause { HasFault (H.faults host.old) (H.faults host.new) result }
 {
     match input.next(host)? {
-        Item::Text(bytes) => Ok(Next::Line(read_line(alloc, bytes)?)),
-        Item::Long => Ok(Next::Line(Line::Bad)),
+        Item::Text(bytes) => Ok(Next::Line(served(read_line(alloc, bytes)?))),
+        Item::Long => Ok(Next::Line(Line::Long)),
         Item::End => Ok(Next::End),
         Item::Over => Ok(Next::Over),
+    }
+}
+
+// The line as it is served: there are no checkpoints yet, so one that asks for one is bad.
+fn served(line: Line) -> Line
+    ensures { result ≡ served line }
+{
+    match line {
+        Line::Good(Cmd::Checkpoint) => Line::Bad,
+        other => other,
     }
 }
 

@@ -91,7 +91,7 @@ impl PartialOrd for Key {
 /// A value: at most `VALUE_MAX` bytes.
 #[derive(Debug, Drop)]
 pub struct Value {
-    bytes: Vec<u8>,
+    pub(crate) bytes: Vec<u8>,
 }
 
 impl Model for Value {

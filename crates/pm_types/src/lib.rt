@@ -11,16 +11,19 @@ mod patch;
 mod place;
 mod shape;
 mod spans;
+mod value_room;
 
 pub use fault::{Field, OpenFault, PageFault, StoreFault};
 pub use flag::{Flag, FrameNo, Tag};
 pub use key::{Key, Value};
 pub use limits::{
-    KEY_MAX, LAST_VERSION, LINE_MAX, LINES_MAX, OP_EXTRA, OP_PAGES, OUTBOX, PAGE_SIZE_MAX,
-    PAGE_SIZE_MIN, PATCH_SPANS_MAX, RING_SLOTS, SCRIPT_BYTES_MAX, VALUE_MAX,
+    BATCH_LINES_MAX, CACHES, KEY_MAX, LAST_VERSION, LINE_MAX, LINES_MAX, OP_EXTRA, OP_PAGES,
+    OUTBOX, PAGE_SIZE_MAX, PAGE_SIZE_MIN, PARTITIONS_MAX, PATCH_SPANS_MAX, RING_SLOTS,
+    SCRIPT_BYTES_MAX, VALUE_MAX,
 };
 pub use page::Page;
 pub use page_id::{Link, PageId, packing_agrees};
 pub use patch::Patch;
 pub use place::Place;
 pub use shape::{Mark, Shape};
+pub use value_room::ValueRoom;

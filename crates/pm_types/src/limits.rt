@@ -10,6 +10,12 @@ pub const LINE_MAX: usize = 4_096;
 pub const LINES_MAX: u64 = 4_000_000;
 /// The most bytes of a script, newlines counted: `LINES_MAX` lines of more than `LINE_MAX` bytes fit.
 pub const SCRIPT_BYTES_MAX: u64 = 17_179_869_184;
+/// The most lines of a batch, whose replies are kept in memory until its end.
+pub const BATCH_LINES_MAX: usize = 1_024;
+/// How many caches there are. They are numbered from 0.
+pub const CACHES: u8 = 16;
+/// The most partitions of a store. Each has a file of its own.
+pub const PARTITIONS_MAX: u16 = 64;
 /// The most pages that one operation touches.
 pub const OP_PAGES: u32 = 32;
 /// The bytes of outbox that one operation needs beside its pages: its own record fits.

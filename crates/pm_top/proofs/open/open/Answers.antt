@@ -2,17 +2,17 @@ use Rattle.std.proofs.Common.{◌≤◌, length, ap, sym, subst}
 use Rattle.pm_disk.specs.Worlds.{World, segment_in}
 use Rattle.pm_disk.specs.Files.{bytes_of}
 use Rattle.pm_disk.proofs.Chain.{weaker, at_last}
-use Rattle.pm_top.specs.Puts.{pairs_of}
+use Rattle.pm_top.specs.Changes.{pairs_of}
 use Rattle.pm_top.specs.Openings.{IsSame}
 use Rattle.pm_top.specs.Crashes.{KeepsMap, KeepsStart}
 use Rattle.pm_top.proofs.Opens.{keeps_quiet, opening_moments, opening_unsaid, opened_is, all_within}
 use Rattle.pm_top.proofs.open.open.Goals as goal
 
 pub returns-in_err-end-clause-moments : goal.returns-in_err-end-clause-moments
-returns-in_err-end-clause-moments g c t nothing puts holds =
+returns-in_err-end-clause-moments g c t nothing changes holds =
     let old = g.H.Device.history c.args.host.now in
-    weaker old (g.H.Device.history c.read_log.new.host) (IsSame old.world) (KeepsStart old.world (pairs_of puts))
-    (λ w is. (ap (λ (v : World). v.said) is, subst (λ v. KeepsMap v (pairs_of puts)) (sym is) (keeps_quiet old.world puts holds nothing))) (c.read_log.ensures.same t)
+    weaker old (g.H.Device.history c.read_log.new.host) (IsSame old.world) (KeepsStart old.world (pairs_of changes))
+    (λ w is. (ap (λ (v : World). v.said) is, subst (λ v. KeepsMap v (pairs_of changes)) (sym is) (keeps_quiet old.world changes holds nothing))) (c.read_log.ensures.same t)
 
 pub cut_tail-requires-clause-long : goal.cut_tail-requires-clause-long
 cut_tail-requires-clause-long g c t =
@@ -22,10 +22,10 @@ cut_tail-requires-clause-long g c t =
     subst (λ (w : World). c.in_ok-end.end.off ≤ length (bytes_of (segment_in w c.in_ok-end.end.seg))) (sym same) (all_within old.world c.read_log.new.pairs c.in_ok-end.end (c.in_ok-end.ensures.applies t))
 
 pub returns-in_err-cut_tail-clause-moments : goal.returns-in_err-cut_tail-clause-moments
-returns-in_err-cut_tail-clause-moments g c t nothing puts holds =
+returns-in_err-cut_tail-clause-moments g c t nothing changes holds =
     let old = g.H.Device.history c.args.host.now in
     let mid = g.H.Device.history c.read_log.new.host in
-    opening_moments old mid (g.H.Device.history c.cut_tail.new.dev) puts c.read_log.new.pairs c.in_ok-end.end (g.H.Device.sound c.read_log.new.host t) nothing holds
+    opening_moments old mid (g.H.Device.history c.cut_tail.new.dev) changes c.read_log.new.pairs c.in_ok-end.end (g.H.Device.sound c.read_log.new.host t) nothing holds
     (c.read_log.ensures.same t) (c.in_ok-end.ensures.applies t) (c.cut_tail.ensures.moments t)
 
 pub returns-in_err-cut_tail-clause-unsaid : goal.returns-in_err-cut_tail-clause-unsaid
@@ -44,10 +44,10 @@ returns-clause-opened g c t =
     (c.in_ok-end.ensures.applies t) c.in_ok-cut_tail.ensures.log (c.in_ok-cut_tail.ensures.world t)
 
 pub returns-clause-moments : goal.returns-clause-moments
-returns-clause-moments g c t nothing puts holds =
+returns-clause-moments g c t nothing changes holds =
     let old = g.H.Device.history c.args.host.now in
     let mid = g.H.Device.history c.read_log.new.host in
-    opening_moments old mid (g.H.Device.history c.cut_tail.new.dev) puts c.read_log.new.pairs c.in_ok-end.end (g.H.Device.sound c.read_log.new.host t) nothing holds
+    opening_moments old mid (g.H.Device.history c.cut_tail.new.dev) changes c.read_log.new.pairs c.in_ok-end.end (g.H.Device.sound c.read_log.new.host t) nothing holds
     (c.read_log.ensures.same t) (c.in_ok-end.ensures.applies t) (c.cut_tail.ensures.moments t)
 
 pub returns-clause-unsaid : goal.returns-clause-unsaid

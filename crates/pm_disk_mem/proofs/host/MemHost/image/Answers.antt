@@ -1,28 +1,25 @@
--- What is left of the segments is left of the disk.
-use Rattle.std.proofs.Common.{ℕ}
-use Rattle.std.proofs.lemmas.Result.{IfOk-weaker}
-use Rattle.pm_disk.specs.Images.{Leaves, LeavesAll}
-use Rattle.pm_disk_mem.specs.Segments.{file_at}
-use Rattle.pm_disk_mem.specs.Disks.{Store, segment_of, image_of}
+-- What is left of the files is left of the disk.
+use Rattle.std.proofs.Common.{sym, ◌∙◌, ap, subst}
+use Rattle.pm_disk.specs.Images.{LeavesAll}
+use Rattle.pm_disk_mem.specs.Changes.{bytes_in}
+use Rattle.pm_disk_mem.specs.Disks.{Store, image_of, config_file}
 use Rattle.pm_disk_mem.specs.Picks.{IsPicked}
-use Rattle.pm_disk_mem.specs.Hosts.{world_of}
+use Rattle.pm_disk_mem.specs.Hosts.{world_of, first_world, steps_of}
+use Rattle.pm_disk_mem.proofs.Recording.{config-replay}
 use Rattle.pm_disk_mem.proofs.Whole.{picked_world, leaves_all}
 use Rattle.pm_disk_mem.proofs.host.MemHost.image.Goals as goal
 
 pub returns-clause-picked : goal.returns-clause-picked
 returns-clause-picked c =
     let now = c.args.self.now in
-    IfOk-weaker c.image.result
-    (λ (disk : Store). IsPicked c.args.pick (file_at now.segments) disk)
-    (λ (disk : Store). IsPicked c.args.pick (world_of now).log disk)
-    (λ disk picked. picked_world now.segments now.console (world_of now) now.stands c.args.pick disk picked)
-    c.image.ensures.picked
+    let parts = c.in_ok-parts.parts in
+    let config = bytes_in c.in_ok-config.config in
+    subst (λ (store : Store). IsPicked c.args.pick (world_of now) store) (sym c.from_parts.ensures)
+    (picked_world now.files now.console (world_of now) now.stands c.args.pick parts config c.in_ok-parts.ensures.picked
+    (c.in_ok-config.ensures ∙ ap config_file (c.deref.ensures.value ∙ sym (config-replay (steps_of now) (first_world now)))))
 
 pub returns-clause-leaves : goal.returns-clause-leaves
 returns-clause-leaves c =
     let now = c.args.self.now in
-    IfOk-weaker c.image.result
-    (λ (disk : Store). (seg : ℕ) → Leaves (file_at now.segments seg) (segment_of disk seg))
-    (λ (disk : Store). LeavesAll (world_of now) (image_of disk))
-    (λ disk leaves. leaves_all now.segments now.console now.config.items now.steps.items disk now.stands leaves)
-    c.image.ensures.leaves
+    subst (λ (store : Store). LeavesAll (world_of now) (image_of store)) (sym c.from_parts.ensures)
+    (leaves_all now.files now.console (world_of now) now.stands c.in_ok-parts.parts (bytes_in c.in_ok-config.config) c.in_ok-parts.ensures.leaves)

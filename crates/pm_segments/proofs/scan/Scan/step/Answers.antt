@@ -26,12 +26,12 @@ returns-in-Some-clause-ahead c =
     let same : take (end - at) (drop at buffer) ≡ take (end - at) (drop at c.deref.result.now) = ap (λ b. take (end - at) (drop at b)) (sym c.deref.ensures.value) in
     let payload = payload_there c.self.inside.next (frame_of view) buffer (drop view.len (take (end - at) (drop at c.deref.result.now))) at end (same ∙ c.in-Some.ensures.spelled) in
     let within : view.len ≤ end - at = omega (arith, c.in-Some.ensures.within, length-take (end - at) (drop at c.deref.result.now)) in
-    let count : view.len ≡ length (take (length view.payload.now) (drop (at + 21 - 4) buffer)) + 21 = c.in-Some.ensures.len ∙ ap (λ (p : List ℕ). length p + 21) (sym payload) in
+    let count : view.len ≡ length (take (length view.payload.now) (drop (at + 17) buffer)) + 21 = c.in-Some.ensures.len ∙ ap (λ (p : List ℕ). length p + 21) (sym payload) in
     let less : end - (at + view.len) ≡ end - at - view.len = omega arith in (
       ap (λ n. take n (drop (at + view.len) buffer)) less
           ∙ ap (take (end - at - view.len)) (sym (drop-drop view.len at buffer))
           ∙ sym (less_first view.len (end - at) (drop at buffer) within)
           ∙ ap (λ n. drop n (take (end - at) (drop at buffer))) count
-          ∙ ap (λ (s : Scanned). drop (length (take (length view.payload.now) (drop (at + 21 - 4) buffer)) + 21) s.ahead) c.self.view_is,
+          ∙ ap (λ (s : Scanned). drop (length (take (length view.payload.now) (drop (at + 17) buffer)) + 21) s.ahead) c.self.view_is,
       ap (λ (s : Scanned). s.is_whole) c.self.view_is,
     )

@@ -1,0 +1,102 @@
+//! The paths of the store's folder and of the files in it.
+
+ghost use Rattle.std.specs.Prelude.{◌≡◌, ◌<◌, ◌++◌, IfOk, OnOk, codes};
+ghost use Rattle.std.specs.String.{string_bytes};
+ghost use Rattle.pm_disk.specs.declared.names.TheConstants.{PARTITIONS_MAX};
+ghost use Rattle.pm_disk.specs.Names.{segment_name, partition_name};
+ghost use Rattle.pm_disk_fs.specs.Paths.{name_of};
+
+use pm_disk::{MarkFile, PARTITIONS_MAX, StoreFile, partition_name, segment_name};
+use std::alloc::{AllocError, Global};
+use std::fs::{self, OpenFile};
+use std::io::{self, ErrorKind};
+use std::path::{Path, PathBuf};
+use std::rt::Files;
+use std::str;
+
+/// Makes the folder, and those above it, where they aren't there, and the name of each that was made
+/// lasting in the folder above it. Of one that is there already the name is taken to last.
+pub fn make_folder<R: Files + AllocGlobal>(rt: &R, dir: &str) -> io::Result<()> {
+    let store = Path::new(dir);
+    if store.is_dir(rt) {
+        return Ok(());
+    }
+    let mut folder = PathBuf::new(rt.alloc());
+    for part in store.components() {
+        let above = folder.as_path().to_path_buf(rt.alloc())?;
+        folder.push(part.as_os_str())?;
+        if make_one(rt, folder.as_path())? {
+            sync_folder(rt, above.as_path())?;
+        }
+    }
+    if store.is_dir(rt) {
+        Ok(())
+    } else {
+        Err(io::Error::from(ErrorKind::NotADirectory))
+    }
+}
+
+/// Makes the names in the folder lasting. No path is the folder where the process runs.
+pub fn sync_folder<R: Files>(rt: &R, dir: Path<'_>) -> io::Result<()> {
+    let folder = if dir.as_str().is_empty() {
+        Path::new(".")
+    } else {
+        dir
+    };
+    fs::open(rt, folder)?.sync_all()
+}
+
+/// The path of a file of the store. A partition whose number no name has is refused.
+pub fn file_path(alloc: Global, dir: &str, file: StoreFile) -> io::Result<String>
+    ensures { IfOk result (λ path. string_bytes path ≡ dir.now ++ codes "/" ++ name_of file) }
+{
+    let mut path = String::from_str(alloc, dir)?;
+    path.push('/')?;
+    push_name(&mut path, file)?;
+    Ok(path)
+}
+
+// Puts the name of a file behind the path.
+fn push_name(path: &mut String, file: StoreFile) -> io::Result<()>
+    ensures { OnOk result (string_bytes path.new ≡ string_bytes path.old ++ name_of file) }
+{
+    match file {
+        StoreFile::Config => path.push_str("config.json")?,
+        StoreFile::Marks(MarkFile::Start) => path.push_str("cp.start")?,
+        StoreFile::Marks(MarkFile::End) => path.push_str("cp.end")?,
+        StoreFile::Segment(seg) => push_segment(path, seg)?,
+        StoreFile::Pages(part) => {
+            if part >= PARTITIONS_MAX {
+                return Err(io::Error::from(ErrorKind::InvalidInput));
+            }
+            push_partition(path, part)?;
+        }
+    }
+    Ok(())
+}
+
+fn push_segment(path: &mut String, seg: u64) -> Result<(), AllocError>
+    ensures { OnOk result (string_bytes path.new ≡ string_bytes path.old ++ segment_name seg) }
+{
+    let name = segment_name(seg);
+    path.push_str(str::from_utf8(&name).unwrap())?;
+    Ok(())
+}
+
+fn push_partition(path: &mut String, part: u16) -> Result<(), AllocError>
+    requires { part < PARTITIONS_MAX }
+    ensures { OnOk result (string_bytes path.new ≡ string_bytes path.old ++ partition_name part) }
+{
+    let name = partition_name(part);
+    path.push_str(str::from_utf8(&name).unwrap())?;
+    Ok(())
+}
+
+// Makes the folder, and answers whether it wasn't there before.
+fn make_one<R: Files>(rt: &R, folder: Path<'_>) -> io::Result<bool> {
+    match fs::create_dir(rt, folder) {
+        Ok(()) => Ok(true),
+        Err(e) if e.kind() == ErrorKind::AlreadyExists => Ok(false),
+        Err(e) => Err(e),
+    }
+}

@@ -1,0 +1,124 @@
+//! The calls on the console, the configuration and the markers, in memory.
+
+ghost use Rattle.std.specs.Prelude.{◌≡◌, ◌<◌, ◌≤◌, [], length, take, Some, IfOk, OnErr};
+ghost use Rattle.std.specs.Result.{result_unwrap_or};
+ghost use Rattle.pm_types.specs.Causes.{HasCause};
+ghost use Rattle.pm_disk.specs.Files.{Drop, ReadsFrom, ReadsWhole};
+ghost use Rattle.pm_disk.specs.Worlds.{log_changed, marks_in, marks_changed, marks_forced, slot_at, slot_change, with_taken};
+ghost use Rattle.pm_disk.specs.Moments.{Does, Says};
+
+use crate::bytes::copy_front;
+use crate::change::FileChange;
+use crate::host::MemHost;
+use crate::step::{ChangedFile, Step};
+use pm_disk::{Failed, Host, MarkFile, SLOT_LEN};
+
+impl Host for MemHost {
+    ghost use Rattle.pm_disk_mem.specs.Hosts.{world_of, history_of, faults_of, Counts};
+
+    /// Only counts the call: there is one folder, and it is there.
+    fn bind(&mut self, _dir: &str) -> Result<(), Failed>
+        ensures does { Does (history_of self.old) (history_of self.new) result (world_of self.old) }
+        ensures cause { HasCause (faults_of self.old) (faults_of self.new) result }
+        ensures counts { Counts self.old self.new result }
+    {
+        self.failures.begin()
+    }
+
+    fn read_config(&mut self, into: &mut [u8]) -> Result<usize, Failed>
+        ensures bound { IfOk result (λ n. n ≤ length into.new) }
+        ensures reads { IfOk result
+            (λ n. ReadsFrom (Some (world_of self.old).config) 0 n into.new) }
+        ensures does { Does (history_of self.old) (history_of self.new) result (world_of self.old) }
+        ensures cause { HasCause (faults_of self.old) (faults_of self.new) result }
+        ensures counts { Counts self.old self.new result }
+    {
+        self.failures.begin()?;
+        Ok(copy_front(&self.config, into))
+    }
+
+    /// A failed call has removed nothing.
+    fn drop_log(&mut self, seg: u64) -> Result<(), Failed>
+        ensures does { Does (history_of self.old) (history_of self.new) result
+            (log_changed seg Drop (world_of self.old)) }
+        ensures unchanged { OnErr result (world_of self.new ≡ world_of self.old) }
+        ensures cause { HasCause (faults_of self.old) (faults_of self.new) result }
+        ensures counts { Counts self.old self.new result }
+    {
+        self.failures.begin()?;
+        self.run(Step::Change(ChangedFile::Segment(seg), FileChange::Remove))
+    }
+
+    fn read_mark(
+        &mut self,
+        file: MarkFile,
+        slot: u8,
+        into: &mut [u8; SLOT_LEN],
+    ) -> Result<bool, Failed>
+        requires { slot < 2 }
+        ensures reads { IfOk result (λ whole. ReadsWhole
+            (marks_in (world_of self.old) file) (slot_at slot) whole into.new) }
+        ensures does { Does (history_of self.old) (history_of self.new) result (world_of self.old) }
+        ensures cause { HasCause (faults_of self.old) (faults_of self.new) result }
+        ensures counts { Counts self.old self.new result }
+    {
+        self.failures.begin()?;
+        let at = slot as u64 * SLOT_LEN as u64;
+        Ok(self.files.read_whole(ChangedFile::Marks(file), at, into))
+    }
+
+    /// A failed call has written nothing.
+    fn write_mark(&mut self, file: MarkFile, slot: u8, bytes: &[u8; SLOT_LEN]) -> Result<(), Failed>
+        requires { slot < 2 }
+        ensures does { Does (history_of self.old) (history_of self.new) result
+            (marks_changed file (slot_change (marks_in (world_of self.old) file) slot bytes.now)
+            (world_of self.old)) }
+        ensures unchanged { OnErr result (world_of self.new ≡ world_of self.old) }
+        ensures cause { HasCause (faults_of self.old) (faults_of self.new) result }
+        ensures counts { Counts self.old self.new result }
+    {
+        self.failures.begin()?;
+        let at = slot as u64 * SLOT_LEN as u64;
+        self.write_at(ChangedFile::Marks(file), at, bytes)
+    }
+
+    /// A failed call has made nothing lasting.
+    fn force_mark(&mut self, file: MarkFile) -> Result<(), Failed>
+        ensures does { Does (history_of self.old) (history_of self.new) result
+            (marks_forced file (world_of self.old)) }
+        ensures unchanged { OnErr result (world_of self.new ≡ world_of self.old) }
+        ensures cause { HasCause (faults_of self.old) (faults_of self.new) result }
+        ensures counts { Counts self.old self.new result }
+    {
+        self.failures.begin()?;
+        self.run(Step::Force(ChangedFile::Marks(file)))
+    }
+
+    fn read(&mut self, into: &mut [u8]) -> Result<usize, Failed>
+        requires { 0 < length into.old }
+        ensures bound { IfOk result (λ n. n ≤ length into.new) }
+        ensures taken { IfOk result (λ n. take n into.new ≡ take n (world_of self.old).input) }
+        ensures some { IfOk result (λ n. n ≡ 0 → (world_of self.old).input ≡ []) }
+        ensures does { Does (history_of self.old) (history_of self.new) result
+            (with_taken (result_unwrap_or result 0) (world_of self.old)) }
+        ensures cause { HasCause (faults_of self.old) (faults_of self.new) result }
+        ensures counts { Counts self.old self.new result }
+    {
+        self.failures.begin()?;
+        let count = self.console.peek(into);
+        self.run(Step::Take(count))?;
+        Ok(count)
+    }
+
+    /// A failed call has said nothing.
+    fn print(&mut self, bytes: &[u8]) -> Result<(), Failed>
+        ensures says { Says (history_of self.old) (history_of self.new) result bytes.now }
+        ensures unchanged { OnErr result (world_of self.new ≡ world_of self.old) }
+        ensures cause { HasCause (faults_of self.old) (faults_of self.new) result }
+        ensures counts { Counts self.old self.new result }
+    {
+        self.failures.begin()?;
+        let copy = self.failures.counted(Vec::from_slice(self.alloc, bytes))?;
+        self.run(Step::Print(copy))
+    }
+}

@@ -1,0 +1,10 @@
+use Rattle.std.proofs.Common.{◌≡◌, ◌≤◌, ◌+◌, ◌++◌, Some, map, vec_len, vec_capacity}
+use Rattle.std.specs.Prelude.{reverse}
+use Rattle.pm_locks.proofs.locks.out_of_slots.Given as goal
+
+abbrev pub invariant-moves : goal.invariant-moves
+invariant-moves l = (map Some l.leases.items ++ reverse l.slots.items ≡ l.fn.slots.items)
+    × (vec_len l.slots + vec_len l.leases ≤ vec_capacity l.leases)
+
+abbrev pub decreases-moves : goal.decreases-moves
+decreases-moves l = goal.left-moves l

@@ -1,0 +1,10 @@
+pub mod Words
+pub mod Views
+pub mod Rule
+pub mod Steps
+pub mod Kinds
+pub mod Opening
+pub mod Sight
+pub mod Answers
+pub mod Shares
+pub mod Rounds

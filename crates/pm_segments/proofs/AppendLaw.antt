@@ -1,0 +1,117 @@
+-- An append may be made wherever the tail was cut, and leaves the log ready for the next one.
+use Rattle.std.proofs.Common.{◌≡◌, inl, inr, ℕ, ◌+◌, ◌^◌, ◌<◌, ◌≤◌, List, [], ◌∷◌, ◌++◌, length, take, Option, refl, sym, ◌∙◌, ap, subst, arith, Bool, true, false}
+use Rattle.std.specs.Prelude.{◌&&◌, if◌then◌else◌}
+use Rattle.std.proofs.lemmas.Bool.{leb-true}
+use Rattle.std.proofs.lemmas.Bool.Decides.{nat_tests}
+use Rattle.pm_types.specs.declared.place.Place.{Place}
+use Rattle.pm_frame.specs.declared.kinds.TheConstants.{LOGICAL, SEAL}
+use Rattle.pm_frame.specs.declared.limits.TheConstants.{FRAME_EXTRA, PAYLOAD_MAX, FRAME_END_MAX, SEGMENT_END_MAX}
+use Rattle.pm_frame.specs.Frames.{Frame, IsFrame, end_max}
+use Rattle.pm_frame.proofs.FrameAt.{is_frame-from}
+use Rattle.pm_disk.specs.Worlds.{World}
+use Rattle.pm_disk.specs.Files.{bytes_of}
+use Rattle.pm_disk.specs.Images.{Leaves, IsTrueOf}
+use Rattle.pm_segments.specs.Ends.{LogEnd, IsLogEnd, HasRoom, has_room}
+use Rattle.pm_segments.specs.Grammars.{place, grammar}
+use Rattle.pm_segments.specs.Logs.{IsLog, Loose, Ready, Plain, is_seal}
+use Rattle.pm_segments.specs.Steps.{Step, Append, Force, NextSegment, next_segment, end_after, world_after, DoesSome, seal_frame, turn_steps, roll_steps, room_steps, append_steps, steps_of}
+use Rattle.pm_segments.proofs.Runs.{bool_cases}
+use Rattle.pm_segments.proofs.Sealing.{fits_seal}
+use Rattle.pm_segments.proofs.Standing.{is_sealed}
+use Rattle.pm_segments.proofs.Tracing.{some_first}
+use Rattle.pm_segments.proofs.Writing.{Written, written_after, tail_forced, frames_in, IsWritten, CanAll, steps_keep, crash_law}
+
+is_sealed-last : (fs : List Frame) → is_sealed (fs ++ seal_frame ∷ []) ≡ true
+is_sealed-last [] = refl
+is_sealed-last (f ∷ []) = refl
+is_sealed-last (f ∷ h ∷ fs) = is_sealed-last (h ∷ fs)
+
+plain-append : (fs : List Frame) (f : Frame) → Plain fs → is_seal f ≡ false → Plain (fs ++ f ∷ [])
+plain-append [] f plain open_ = (open_, tt)
+plain-append (h ∷ fs) f plain open_ = (plain.0, plain-append fs f plain.1 open_)
+
+-- a record that isn't a SEAL, of the kinds that a log takes
+pub record IsRecordFrame (keep : Frame → Bool) (frame : Frame) : Type 0 where
+  pub known_from : LOGICAL ≤ frame.kind
+  pub known_to : frame.kind < SEAL
+  pub short : length frame.payload ≤ PAYLOAD_MAX
+  pub kept : keep frame ≡ true
+
+-- The log's tail was cut and forced, and only whole frames were written behind it; the end isn't behind the SEAL of the
+-- last segment.
+pub record IsOpen (log : LogEnd) (s : Written) : Type 0 where
+  pub limits : IsLogEnd log
+  pub ready : s.tail ≡ Ready
+  pub plain : Plain s.pending
+  pub room_to_seal : log.end.off ≤ FRAME_END_MAX
+  pub numbered : log.end.seg + 1 < 2 ^ 64
+
+module _ (keep : Frame → Bool) (seals : keep seal_frame ≡ true) (log : LogEnd) (frame : Frame) (is : IsRecordFrame keep frame) (s : Written) (is_open : IsOpen log s) where
+  abbrev end : Place
+  end = log.end
+
+  no_seal : is_seal frame ≡ false
+  no_seal = let lt = is.known_to in grind (arith, nat_tests)
+
+  latest : end_max frame.kind ≡ FRAME_END_MAX
+  latest = ap (λ (b : Bool). if b then SEGMENT_END_MAX else FRAME_END_MAX) no_seal
+
+  fits_at : (seg off : ℕ) → off + length frame.payload + FRAME_EXTRA ≤ FRAME_END_MAX → seg < 2 ^ 64 → (grammar keep).fits seg off frame ≡ true
+  fits_at seg off ends numbered =
+      let head : IsFrame (place seg off) frame = record { known_from = is.known_from; known_to = omega (arith, is.known_to); short = is.short; ends = omega (arith, ends, latest); numbered = numbered } in
+      ap (λ b. b && keep frame) (is_frame-from (place seg off) frame head) ∙ is.kept
+
+  seal_fits : (grammar keep).fits end.seg end.off seal_frame ≡ true
+  seal_fits =
+      let head : IsFrame (place end.seg end.off) seal_frame = record { known_from = omega arith; known_to = omega arith; short = omega arith; ends = omega (arith, is_open.room_to_seal); numbered = omega (arith, is_open.numbered) } in
+      ap (λ b. b && keep seal_frame) (is_frame-from (place end.seg end.off) seal_frame head) ∙ seals
+
+  next_numbered : next_segment end.seg < 2 ^ 64
+  next_numbered = let lt = is_open.numbered in let later : next_segment end.seg ≡ end.seg + 1 = grind (arith, nat_tests) in omega (arith, later, lt)
+
+  sealed_loose : tail_forced s.tail (s.pending ++ seal_frame ∷ []) ≡ Loose
+  sealed_loose = ap (λ tail. tail_forced tail (s.pending ++ seal_frame ∷ [])) is_open.ready ∙ ap (λ (b : Bool). if b then Loose else Ready) (is_sealed-last s.pending)
+
+  abbrev rolling : List Step
+  rolling = Append seal_frame ∷ Force ∷ NextSegment ∷ Force ∷ Append frame ∷ []
+
+  -- the steps of the append, by cases
+  append_cases : (P : List Step → Type 0) → (HasRoom log (length frame.payload) → P (Append frame ∷ [])) → P rolling → P (append_steps log frame)
+  append_cases P fitting roll = elim (bool_cases (has_room log (length frame.payload))) [
+    | inl room ↦
+        subst P (sym (ap (λ (b : Bool). let steps : List Step = if b then [] else roll_steps end in steps ++ Append frame ∷ []) room)) (fitting (leb-true _ _ room))
+    | inr full ↦
+        let sealed = fits_seal end is_open.room_to_seal in
+        let same : append_steps log frame ≡ rolling =
+        ap (λ (b : Bool). let steps : List Step = if b then [] else roll_steps end in steps ++ Append frame ∷ []) full
+        ∙ ap (λ (b : Bool). let steps : List Step = if b then Append seal_frame ∷ [] else [] in (steps ++ turn_steps) ++ Append frame ∷ []) sealed in
+        subst P (sym same) roll
+  ]
+
+  -- each of them may be made
+  pub append_can : CanAll keep (append_steps log frame) end s
+  append_can = append_cases (λ steps. CanAll keep steps end s)
+      (λ room. ((is_open.ready, is_open.plain, fits_at end.seg end.off (omega (arith, room, is_open.limits.size_to)) (omega (arith, is_open.numbered))), tt))
+      ((is_open.ready, is_open.plain, seal_fits), (inl is_open.ready, ((sealed_loose, is_open.numbered), (inr refl, ((refl, tt, fits_at (next_segment end.seg) 0 (omega (arith, is.short)) next_numbered), tt)))))
+
+  -- they append the frame, behind a SEAL where it didn't fit
+  pub append_tail : (written_after (append_steps log frame) s).tail ≡ Ready
+  append_tail = append_cases (λ steps. (written_after steps s).tail ≡ Ready) (λ room. is_open.ready) refl
+
+  pub append_plain : Plain (written_after (append_steps log frame) s).pending
+  append_plain = append_cases (λ steps. Plain (written_after steps s).pending) (λ room. plain-append s.pending frame is_open.plain no_seal) (no_seal, tt)
+
+  some_append : (tried : Bool) (old now : World) → DoesSome (steps_of tried log frame) end old now → DoesSome (append_steps log frame) end old now
+  some_append true old now some = some
+  some_append false old now some = some_first (room_steps log (length frame.payload)) (Append frame ∷ []) end old now some
+
+  -- once it is done, one frame more stands at the log's end, and all others as they stood
+  pub append_written : (old : World) (low : ℕ) (from : Place) → IsWritten keep old low from end s → IsWritten keep (world_after (append_steps log frame) end old) low from (end_after (append_steps log frame) end) (written_after (append_steps log frame) s)
+  append_written old low from written = steps_keep keep (append_steps log frame) old low from end s written append_can
+
+  -- at each moment of it a crash leaves a first part of the log that has all that was lasting
+  pub append_crash : (tried : Bool) (old now : World) (low : ℕ) (from : Place) → IsWritten keep old low from end s → DoesSome (steps_of tried log frame) end old now
+      → (left : ℕ → Option (List ℕ)) → ((seg : ℕ) → Leaves (now.log seg) (left seg)) → ((seg : ℕ) → IsTrueOf ((grammar keep).frame_at seg) (now.log seg) (left seg))
+      → (n : ℕ) × (length s.lasting ≤ n) × IsLog (grammar keep) (λ seg. bytes_of (left seg)) from (take n ((s.lasting ++ s.pending) ++ frames_in (append_steps log frame)))
+  append_crash tried old now low from written some left leaves honest =
+      crash_law keep (append_steps log frame) old now low from end s written append_can (some_append tried old now some) left leaves honest
