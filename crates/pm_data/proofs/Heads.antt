@@ -9,25 +9,11 @@ use Rattle.pm_types.specs.Pages.{SameOutside}
 use Rattle.pm_types.specs.declared.page_id.PageId.{PageId}
 use Rattle.pm_data.specs.declared.slots.Slot.{Slot}
 use Rattle.pm_types.proofs.PageSizeBounds.{page_size_bounds}
-use Rattle.pm_data.specs.Fields.{bytes_at, u16_at, u32_at, u64_at}
+use Rattle.pm_types.specs.Fields.{bytes_at, u16_at, u32_at, u64_at}
 use Rattle.pm_data.specs.DataPages.{count_of, low_of, slot_at, is_empty, rows_of, row_in, data_of, empty_page, HoldsRow, AreApart, IsDataPage, row_bytes}
-use Rattle.pm_data.proofs.Unchanged.{get_or-bytes_at, length-bytes_at, bytes_same, u16_same, u32_same, u64_same, slot_same}
+use Rattle.pm_types.proofs.Unchanged.{get_or-bytes_at, length-bytes_at, bytes_same, u16_same, u32_same, u64_same, zeros_at, zero_u16, zero_u32}
+use Rattle.pm_data.proofs.SlotsKept.{slot_same}
 use Rattle.pm_data.proofs.RowsByItem.{rows_by_item, length-rows_of, get_or-rows_of, row_bytes_same, holds_same, low_within, row_in_same}
-
--- bytes that are all zero
-zeros_at : (page : List ℕ) (at len : ℕ) → at + len ≤ length page → ((k : ℕ) → at ≤ k → k < at + len → get_or page k 0 ≡ 0) → bytes_at page at len ≡ replicate len 0
-zeros_at page at len fits zeros =
-    let l = length-bytes_at page at len fits in
-    same_number_lists (bytes_at page at len) (replicate len 0) (l ∙ sym (length-replicate len 0))
-    (λ k lt. get_or-bytes_at page at len k (omega (arith, l)) ∙ zeros (at + k) (omega arith) (omega (arith, l)) ∙ sym (get_or-replicate len k 0 0 (omega (arith, l))))
-
-zero_u16 : (page : List ℕ) (at : ℕ) → at + 2 ≤ length page → ((k : ℕ) → at ≤ k → k < at + 2 → get_or page k 0 ≡ 0) → u16_at page at ≡ 0
-unfolding u16_at
-zero_u16 page at fits zeros = ap (from_le_bytes w16) (zeros_at page at 2 fits zeros)
-
-zero_u32 : (page : List ℕ) (at : ℕ) → at + 4 ≤ length page → ((k : ℕ) → at ≤ k → k < at + 4 → get_or page k 0 ≡ 0) → u32_at page at ≡ 0
-unfolding u32_at
-zero_u32 page at fits zeros = ap (from_le_bytes w32) (zeros_at page at 4 fits zeros)
 
 pub record IsFresh (page : List ℕ) (id : PageId) : Type 0 where
   pub well_made : IsDataPage page

@@ -7,11 +7,12 @@ use Rattle.pm_types.specs.Pages.{SameOutside}
 use Rattle.pm_types.proofs.PageSizeBounds.{page_size_bounds}
 use Rattle.pm_types.proofs.Changes.{outside_then}
 use Rattle.pm_data.specs.declared.slots.Slot.{Slot}
-use Rattle.pm_data.specs.Fields.{bytes_at}
+use Rattle.pm_types.specs.Fields.{bytes_at}
 use Rattle.pm_data.specs.Rows.{IsRow}
 use Rattle.pm_data.specs.DataPages.{row_at, count_of, low_of, slot_at, is_empty, row_in, rows_of, free_item, with_row, HoldsRow, AreApart, IsDataPage, AddsRow, row_bytes}
 use Rattle.pm_data.proofs.RowLaws.{length-with_row, row_at-with_row_here, row_at-with_row_other}
-use Rattle.pm_data.proofs.Unchanged.{bytes_same, u16_same, u32_same, u64_same, slot_same}
+use Rattle.pm_types.proofs.Unchanged.{bytes_same, u16_same, u32_same, u64_same}
+use Rattle.pm_data.proofs.SlotsKept.{slot_same}
 use Rattle.pm_data.proofs.RowsByItem.{rows_by_item, length-rows_of, get_or-rows_of, row_bytes_same, row_bytes_one, holds_same, low_within, row_in_same, row_in_live, free_item-le, free_slot, empty_slot, live_by_len}
 
 -- the bytes that a row and its slot are written over: the row, the slot, where the rows begin, the count

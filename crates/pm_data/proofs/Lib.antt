@@ -1,5 +1,5 @@
 pub mod RowLaws
-pub mod Unchanged
+pub mod SlotsKept
 pub mod RowsByItem
 pub mod Heads
 pub mod Insertion

@@ -7,7 +7,7 @@ use Rattle.pm_types.proofs.Changes.{outside_then, outside_wider}
 use Rattle.pm_data.specs.declared.slots.Slot.{Slot}
 use Rattle.pm_data.specs.DataPages.{slot_at, is_empty}
 use Rattle.pm_data.specs.Removal.{lifted}
-use Rattle.pm_data.proofs.Unchanged.{slot_same}
+use Rattle.pm_data.proofs.SlotsKept.{slot_same}
 
 -- a slot that is lifted, and the two kinds that stay
 pub lifted_below : (gone slot : Slot) → is_empty slot ≡ false → slot.start < gone.start → lifted gone slot ≡ record { start = slot.start + gone.len; len = slot.len }

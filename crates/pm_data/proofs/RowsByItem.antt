@@ -6,8 +6,8 @@ use Rattle.std.proofs.lemmas.List.Sums.{position_or_len_is, passes_at_first, pre
 use Rattle.std.proofs.lemmas.List.FromFn.{length-map-range_with_len, get_or-map-range_with_len, fill_by_all}
 use Rattle.pm_data.specs.declared.slots.Slot.{Slot}
 use Rattle.pm_data.specs.Rows.{IsRow}
-use Rattle.pm_data.specs.Fields.{bytes_at}
-use Rattle.pm_data.proofs.Unchanged.{length-bytes_at}
+use Rattle.pm_types.specs.Fields.{bytes_at}
+use Rattle.pm_types.proofs.Unchanged.{length-bytes_at}
 use Rattle.pm_data.specs.DataPages.{count_of, low_of, slot_at, is_empty, row_in, rows_of, row_at, free_item, Fits, HoldsRow, AreApart, HasRows, row_bytes}
 
 pub length-rows_of : (page : List ℕ) → length (rows_of page) ≡ count_of page

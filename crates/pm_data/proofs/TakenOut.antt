@@ -10,11 +10,12 @@ use Rattle.pm_types.specs.Pages.{SameOutside}
 use Rattle.pm_types.proofs.PageSizeBounds.{page_size_bounds}
 use Rattle.pm_types.proofs.Changes.{outside_then}
 use Rattle.pm_data.specs.declared.slots.Slot.{Slot}
-use Rattle.pm_data.specs.Fields.{bytes_at}
+use Rattle.pm_types.specs.Fields.{bytes_at}
 use Rattle.pm_data.specs.Rows.{IsRow}
 use Rattle.pm_data.specs.DataPages.{count_of, low_of, slot_at, is_empty, end_of, row_in, rows_of, row_at, with_row, without_row, HasRows, HoldsRow, AreApart, IsDataPage, DropsRow, row_bytes}
 use Rattle.pm_data.specs.Removal.{lifted, LeavesSlots, EndsAtLast}
-use Rattle.pm_data.proofs.Unchanged.{get_or-bytes_at, bytes_agree, bytes_same, u16_same, u32_same, u64_same, slot_same}
+use Rattle.pm_types.proofs.Unchanged.{get_or-bytes_at, bytes_agree, bytes_same, u16_same, u32_same, u64_same}
+use Rattle.pm_data.proofs.SlotsKept.{slot_same}
 use Rattle.pm_data.proofs.RowsByItem.{rows_by_item, length-rows_of, get_or-rows_of, row_bytes_one, row_bytes_end, holds_some, low_within, row_in_same, row_in_empty, row_in_live, is_none-row_in, empty_slot, live_by_len, apart_from_empty}
 use Rattle.pm_data.proofs.Lifting.{lifted_below, lifted_empty, lifted_above}
 use Rattle.pm_data.proofs.RowLaws.{length-with_row, row_at-with_row_here, row_at-with_row_other, row_at-without_row_here, row_at-without_row_other}

@@ -20,7 +20,7 @@ use Rattle.pm_types.specs.PageSizes.{IsPageSize}
 use Rattle.pm_types.specs.declared.page_id.PageId.{PageId}
 use Rattle.pm_data.specs.declared.layout.TheConstants.{KIND_AT, DATA_KIND, COUNT_AT, PREV_AT, NEXT_AT, LOW_AT, SLOTS_AT, SLOT_LEN, SLOTS_MAX}
 use Rattle.pm_data.specs.declared.slots.Slot.{Slot}
-use Rattle.pm_data.specs.Fields.{bytes_at, u16_at, u32_at, u64_at}
+use Rattle.pm_types.specs.Fields.{bytes_at, u16_at, u32_at, u64_at}
 use Rattle.pm_data.specs.Rows.{IsRow}
 
 -- how many slots the page has

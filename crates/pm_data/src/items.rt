@@ -4,9 +4,9 @@ ghost use Rattle.std.specs.Prelude.{◌≡◌, ℕ, ◌+◌, ◌≤◌, ◌↔�
 ghost use Rattle.pm_data.specs.Rows.{IsRow};
 ghost use Rattle.pm_data.specs.DataPages.{rows_of, row_at, free_item, room_of, Fits, IsDataPage};
 
-use crate::fields::get_u16;
 use crate::layout::{COUNT_AT, LOW_AT, SLOT_LEN, SLOTS_AT, SLOTS_MAX};
 use crate::slots::get_slot;
+use pm_types::fields::get_u16;
 
 /// The row of an item, if there is one.
 pub fn row(page: &[u8], item: u8) -> Option<&[u8]>

@@ -3,15 +3,15 @@
 ghost use Rattle.std.specs.Prelude.{◌≡◌, ◌+◌, ◌*◌, ◌<◌, ◌≤◌, length, max};
 ghost use Rattle.pm_types.specs.Spans.{span_of};
 ghost use Rattle.pm_types.specs.Pages.{IsNoted};
-ghost use Rattle.pm_data.specs.Fields.{Writes};
+ghost use Rattle.pm_types.specs.Fields.{Writes};
 ghost use Rattle.pm_data.specs.Rows.{IsRow};
 ghost use Rattle.pm_data.specs.DataPages.{count_of, low_of, rows_of, free_item, Fits, IsDataPage, AddsRow};
 
-use crate::fields::{get_u16, set_bytes, set_u16};
 use crate::items::free_item;
 use crate::layout::{COUNT_AT, LOW_AT, SLOT_LEN, SLOTS_AT, SLOTS_MAX};
 use crate::slots::{Slot, set_slot};
 use pm_types::Patch;
+use pm_types::fields::{get_u16, set_bytes, set_u16};
 
 /// Puts a row into the page, and gives its item: the lowest without a row, or a new one.
 pub fn insert(page: &mut [u8], row: &[u8], patch: &mut Patch) -> u8

@@ -3,13 +3,13 @@
 ghost use Rattle.std.specs.Prelude.{◌≡◌, ℕ, ◌+◌, ◌*◌, ◌<◌, ◌≤◌, IsSome, length};
 ghost use Rattle.pm_types.specs.Spans.{Holds, span_of};
 ghost use Rattle.pm_types.specs.Pages.{SameOutside, IsNoted};
-ghost use Rattle.pm_data.specs.Fields.{Writes};
+ghost use Rattle.pm_types.specs.Fields.{Writes};
 ghost use Rattle.pm_data.specs.DataPages.{count_of, slot_at, rows_of, row_at, HoldsRow, IsDataPage, DropsRow};
 ghost use Rattle.pm_data.specs.Removal.{lifted, LeavesSlots, EndsAtLast};
 
-use crate::fields::{get_u16, move_up, set_u16};
 use crate::layout::{COUNT_AT, LOW_AT, SLOT_LEN, SLOTS_AT, SLOTS_MAX};
 use crate::slots::{Slot, get_slot, put_slot};
+use pm_types::fields::{get_u16, move_up, set_u16};
 use pm_types::{PAGE_SIZE_MAX, Patch};
 
 /// Takes the row of an item out of the page. All other rows keep their items; those below it move up.

@@ -3,8 +3,8 @@
 ghost use Rattle.std.specs.Prelude.{◌↔◌, IsTrue};
 ghost use Rattle.pm_data.specs.Rows.{IsRow};
 
-use crate::fields::get_u16;
 use crate::layout::{CACHES, ROW_HEAD_LEN};
+use pm_types::fields::get_u16;
 use pm_types::{KEY_MAX, VALUE_MAX};
 
 /// Whether these bytes are a row.

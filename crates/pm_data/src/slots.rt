@@ -4,11 +4,11 @@ ghost use Rattle.std.specs.Prelude.{◌≡◌, ◌+◌, ◌*◌, ◌<◌, ◌≤
 ghost use Rattle.pm_types.specs.Spans.{Holds, span_of};
 ghost use Rattle.pm_types.specs.Pages.{SameOutside};
 ghost use Rattle.pm_data.specs.DataPages.{is_empty, slot_at};
-ghost use Rattle.pm_data.specs.Fields.{Writes};
+ghost use Rattle.pm_types.specs.Fields.{Writes};
 
-use crate::fields::{get_u16, put_u16};
 use crate::layout::{SLOT_LEN, SLOTS_AT, SLOTS_MAX};
 use pm_types::Patch;
+use pm_types::fields::{get_u16, put_u16};
 
 /// Where a row stands: `len` bytes from `start` on. Both are 0 where there is no row.
 #[derive(Clone, Copy, Debug, PartialEq, Eq, PartialOrd, Ord)]

@@ -1,2 +1,4 @@
-pub mod Faults
+pub mod Gathered
+pub mod Host
 pub mod Paths
+pub mod Stands

@@ -1,16 +1,21 @@
 //! The store's files in its folder.
 
-ghost use Rattle.std.specs.Prelude.{◌≡◌, ◌<◌, ◌≤◌, ◌↔◌, false, length, take, replicate, IsTrue, IsErr, OnOk, IfOk};
+ghost use Rattle.std.specs.Prelude.{◌≡◌, ◌<◌, ◌≤◌, ◌+◌, ◌↔◌, [], false, length, take, replicate, IsTrue, IsErr, OnOk, IfOk};
 ghost use Rattle.std.specs.String.{string_bytes};
 ghost use Rattle.std.specs.Io.KnownBytes.{Consumes, IsAtEnd};
+ghost use Rattle.pm_disk_fs.specs.Stands.{WroteTo};
 
+use crate::gathered::Gathered;
+use crate::opened::Opened;
 use crate::paths::{file_path, make_folder, sync_folder};
 use pm_disk::StoreFile;
 use std::alloc::Global;
 use std::fs::{self, OpenFile, OpenOptions};
-use std::io::{self, ErrorKind, Read, Seek, SeekFrom, Write};
+use std::io::{self, ErrorKind, Read, Seek, SeekFrom};
 use std::path::Path;
 use std::rt::Files;
+
+mod log;
 
 /// The store's folder. Where a change or a force of one of its files has failed, each later one fails:
 /// nobody knows then what the disk holds.
@@ -18,43 +23,44 @@ use std::rt::Files;
 pub struct Folder<R: Files> {
     dir: String,
     // The file that was changed last. It stays open, so that its force is told of each failed write.
-    open: Option<Changed<R::File>>,
+    last: Option<Opened<R::File>>,
     // Whether each name in the folder lasts. An earlier run may have ended before it saw to that.
     names_last: bool,
     // Whether a change or a force of a file has failed.
     is_broken: bool,
-}
-
-// An open file.
-#[derive(Drop)]
-struct Changed<F: Drop> {
-    name: StoreFile,
-    file: F,
+    // What was written to the log and isn't with the system yet.
+    gathered: Gathered,
 }
 
 impl<R: Files + AllocGlobal> Folder<R> {
     /// No folder yet.
     pub fn new(alloc: Global) -> Folder<R>
         ensures whole { result.is_broken ≡ false }
+        ensures empty { result.gathered.bytes ≡ [] }
     {
         Folder {
             dir: String::new(alloc),
-            open: None,
+            last: None,
             names_last: false,
             is_broken: false,
+            gathered: Gathered::new(alloc),
         }
     }
 
-    /// Makes the folder where it isn't there. From now on the files are in it.
+    /// Makes the folder where it isn't there. From now on the files are in it. What was gathered is
+    /// written to the one before.
     pub fn bind(&mut self, rt: &R, dir: &str) -> io::Result<()>
-        ensures broken { self.new.is_broken ≡ self.old.is_broken }
+        ensures broken { OnOk result (self.new.is_broken ≡ self.old.is_broken) }
+        ensures still_broken { IsTrue self.old.is_broken → IsTrue self.new.is_broken }
+        ensures written { OnOk result (self.new.gathered.bytes ≡ []) }
         ensures dir { OnOk result (string_bytes self.new.dir ≡ dir.now) }
         ensures names { OnOk result (self.new.names_last ≡ false) }
     {
+        self.flush(rt)?;
         make_folder(rt, dir)?;
         self.dir = String::from_str(rt.alloc(), dir)?;
         self.names_last = false;
-        self.open = None;
+        self.last = None;
         Ok(())
     }
 
@@ -86,12 +92,11 @@ impl<R: Files + AllocGlobal> Folder<R> {
     pub fn write(&mut self, rt: &R, name: StoreFile, at: u64, bytes: &[u8]) -> io::Result<()>
         ensures refused { IsTrue self.old.is_broken → IsErr result }
         ensures broken { IsErr result ↔ IsTrue self.new.is_broken }
+        ensures wrote { OnOk result (WroteTo self.new.last name (at + length bytes.now)) }
+        ensures gathered { self.new.gathered ≡ self.old.gathered }
     {
         self.begin()?;
-        let mut file = self.take(rt, name)?;
-        file.seek(SeekFrom::Start(at))?;
-        file.write_all(bytes)?;
-        self.open = Some(Changed { name, file });
+        self.put(rt, name, at, bytes)?;
         self.is_broken = false;
         Ok(())
     }
@@ -100,11 +105,12 @@ impl<R: Files + AllocGlobal> Folder<R> {
     pub fn cut(&mut self, rt: &R, name: StoreFile, len: u64) -> io::Result<()>
         ensures refused { IsTrue self.old.is_broken → IsErr result }
         ensures broken { IsErr result ↔ IsTrue self.new.is_broken }
+        ensures gathered { self.new.gathered ≡ self.old.gathered }
     {
         self.begin()?;
         let file = self.take(rt, name)?;
-        file.set_len(len)?;
-        self.open = Some(Changed { name, file });
+        file.cut(len)?;
+        self.last = Some(file);
         self.is_broken = false;
         Ok(())
     }
@@ -114,6 +120,7 @@ impl<R: Files + AllocGlobal> Folder<R> {
         ensures refused { IsTrue self.old.is_broken → IsErr result }
         ensures broken { IsErr result ↔ IsTrue self.new.is_broken }
         ensures names { OnOk result (IsTrue self.new.names_last) }
+        ensures gathered { self.new.gathered ≡ self.old.gathered }
     {
         self.begin()?;
         self.sync(rt, name)?;
@@ -143,10 +150,11 @@ impl<R: Files + AllocGlobal> Folder<R> {
         ensures refused { IsTrue self.old.is_broken → IsErr result }
         ensures broken { IsErr result ↔ IsTrue self.new.is_broken }
         ensures names { OnOk result (self.new.names_last ≡ false) }
+        ensures gathered { self.new.gathered ≡ self.old.gathered }
     {
         self.begin()?;
         self.names_last = false;
-        let _ = self.open.take();
+        let _ = self.last.take();
         let path = file_path(rt.alloc(), &self.dir, name)?;
         remove_one(rt, &path)?;
         self.is_broken = false;
@@ -157,6 +165,7 @@ impl<R: Files + AllocGlobal> Folder<R> {
     fn begin(&mut self) -> io::Result<()>
         ensures refused { IsErr result ↔ IsTrue self.old.is_broken }
         ensures broken { IsTrue self.new.is_broken }
+        ensures gathered { self.new.gathered ≡ self.old.gathered }
     {
         if self.is_broken {
             return Err(io::Error::from(ErrorKind::Other));
@@ -165,19 +174,32 @@ impl<R: Files + AllocGlobal> Folder<R> {
         Ok(())
     }
 
+    // Writes the bytes from the offset on, and makes the file where it isn't there.
+    fn put(&mut self, rt: &R, name: StoreFile, at: u64, bytes: &[u8]) -> io::Result<()>
+        ensures broken { self.new.is_broken ≡ self.old.is_broken }
+        ensures wrote { OnOk result (WroteTo self.new.last name (at + length bytes.now)) }
+        ensures gathered { self.new.gathered ≡ self.old.gathered }
+    {
+        let mut file = self.take(rt, name)?;
+        file.write(at, bytes)?;
+        self.last = Some(file);
+        Ok(())
+    }
+
     // Makes the file's bytes and its length lasting, where it is there.
     fn sync(&mut self, rt: &R, name: StoreFile) -> io::Result<()>
         ensures broken { self.new.is_broken ≡ self.old.is_broken }
+        ensures gathered { self.new.gathered ≡ self.old.gathered }
     {
-        let Some(open) = self.open.take() else {
+        let Some(last) = self.last.take() else {
             return self.sync_closed(rt, name);
         };
-        if open.name == name {
-            open.file.sync_all()?;
+        if last.name == name {
+            last.sync()?;
         } else {
             self.sync_closed(rt, name)?;
         }
-        self.open = Some(open);
+        self.last = Some(last);
         Ok(())
     }
 
@@ -198,21 +220,23 @@ impl<R: Files + AllocGlobal> Folder<R> {
     }
 
     // The file to be changed, which the folder doesn't keep open from now on.
-    fn take(&mut self, rt: &R, name: StoreFile) -> io::Result<R::File>
+    fn take(&mut self, rt: &R, name: StoreFile) -> io::Result<Opened<R::File>>
+        ensures name { IfOk result (λ o. o.name ≡ name) }
         ensures broken { self.new.is_broken ≡ self.old.is_broken }
+        ensures gathered { self.new.gathered ≡ self.old.gathered }
     {
-        if let Some(open) = self.open.take() {
-            let Changed { name: held, file } = open;
-            if held == name {
-                return Ok(file);
-            }
+        if let Some(last) = self.last.take()
+            && last.name == name
+        {
+            return Ok(last);
         }
-        self.open_to_change(rt, name)
+        Ok(Opened::new(name, self.open_to_change(rt, name)?))
     }
 
     // The file to be changed, which is made where it isn't there.
     fn open_to_change(&mut self, rt: &R, name: StoreFile) -> io::Result<R::File>
         ensures broken { self.new.is_broken ≡ self.old.is_broken }
+        ensures gathered { self.new.gathered ≡ self.old.gathered }
     {
         let path = file_path(rt.alloc(), &self.dir, name)?;
         match OpenOptions::new().write(true).open(rt, &path) {
@@ -225,6 +249,7 @@ impl<R: Files + AllocGlobal> Folder<R> {
     fn make(&mut self, rt: &R, path: &str) -> io::Result<R::File>
         ensures broken { self.new.is_broken ≡ self.old.is_broken }
         ensures names { self.new.names_last ≡ false }
+        ensures gathered { self.new.gathered ≡ self.old.gathered }
     {
         self.names_last = false;
         OpenOptions::new()

@@ -1,9 +1,10 @@
 //! The host over the process's files and standard streams.
 
-ghost use Rattle.std.specs.Prelude.{◌≡◌, ◌≤◌, ◌↔◌, false, length, Ok, IsTrue, IsErr, IfOk};
+ghost use Rattle.std.specs.Prelude.{◌≡◌, ◌≤◌, ◌↔◌, [], false, length, Ok, IsTrue, IsErr, IfOk, OnOk};
 ghost use Rattle.pm_types.specs.declared.limits.TheConstants.{PAGE_SIZE_MAX};
 ghost use Rattle.pm_types.specs.Causes.{HasCause};
 ghost use Rattle.pm_disk.specs.Moments.{nothing_told};
+ghost use Rattle.pm_disk_fs.specs.Gathered.{Gathers, GoesOn, Joins};
 
 use crate::folder::Folder;
 use pm_disk::{
@@ -15,7 +16,7 @@ use std::marker::Model;
 use std::rt::Files;
 
 /// Disk and console of the process, which tell nothing of their content. A clause sees how often a call
-/// has failed, and whether a change or a force of a file has.
+/// has failed, whether a change or a force of a file has, and what of the log isn't with the system yet.
 #[derive(Drop)]
 pub struct FsHost<R: Files + Input> {
     rt: R,
@@ -26,11 +27,15 @@ pub struct FsHost<R: Files + Input> {
 }
 
 impl<R: Files + Input> Model for FsHost<R> {
-    ghost use Rattle.pm_disk_fs.specs.Faults.{HostFaults};
+    ghost use Rattle.pm_disk_fs.specs.Host.{HostView};
 
-    ghost Value = { HostFaults };
+    ghost Value = { HostView };
 
-    ghost view = { λ host. record { faults = host.faults; is_broken = host.folder.is_broken } };
+    ghost view = { λ host. record {
+      faults = host.faults;
+      is_broken = host.folder.is_broken;
+      gathered = host.folder.gathered;
+    } };
 }
 
 impl<R: Files + Input + Print + AllocGlobal + Clone + Send + Drop> FsHost<R> {
@@ -38,6 +43,7 @@ impl<R: Files + Input + Print + AllocGlobal + Clone + Send + Drop> FsHost<R> {
     pub fn new(rt: R) -> FsHost<R>
         ensures unfailed { result.faults ≡ 0 }
         ensures whole { result.is_broken ≡ false }
+        ensures empty { result.gathered.bytes ≡ [] }
     {
         let input = rt.reader();
         let folder = Folder::new(rt.alloc());
@@ -55,6 +61,7 @@ impl<R: Files + Input> FsHost<R> {
     fn counted<T>(&mut self, answer: io::Result<T>) -> Result<T, Failed>
         ensures cause { HasCause self.old.faults self.new.faults result }
         ensures broken { self.new.is_broken ≡ self.old.is_broken }
+        ensures gathered { self.new.gathered ≡ self.old.gathered }
         ensures value { IfOk result (λ v. answer ≡ Ok v) }
         ensures error { IsErr result → IsErr answer }
     {
@@ -78,23 +85,27 @@ impl<R: Files + Input> Device for FsHost<R> {
     ghost sound = { λ _ told. absurd told };
 }
 
+/// What was gathered is written first. Where that fails, the call fails, and so does each later one on
+/// the log.
 impl<R: Files + Input + AllocGlobal> LogReader for FsHost<R> {
     fn seg_len(&mut self, seg: u64) -> Result<Option<u64>, Failed>
         ensures cause { HasCause self.old.faults self.new.faults result }
-        ensures broken { self.new.is_broken ≡ self.old.is_broken }
+        ensures written { OnOk result (self.new.gathered.bytes ≡ []) }
+        ensures broken { OnOk result (self.new.is_broken ≡ self.old.is_broken) }
+        ensures still_broken { IsTrue self.old.is_broken → IsTrue self.new.is_broken }
     {
-        let len = self.folder.len(&self.rt, StoreFile::Segment(seg));
+        let len = self.folder.seg_len(&self.rt, seg);
         self.counted(len)
     }
 
     fn read_log(&mut self, seg: u64, at: u64, into: &mut [u8]) -> Result<usize, Failed>
         ensures bound { IfOk result (λ n. n ≤ length into.new) }
         ensures cause { HasCause self.old.faults self.new.faults result }
-        ensures broken { self.new.is_broken ≡ self.old.is_broken }
+        ensures written { OnOk result (self.new.gathered.bytes ≡ []) }
+        ensures broken { OnOk result (self.new.is_broken ≡ self.old.is_broken) }
+        ensures still_broken { IsTrue self.old.is_broken → IsTrue self.new.is_broken }
     {
-        let count = self
-            .folder
-            .read(&self.rt, StoreFile::Segment(seg), at, into);
+        let count = self.folder.read_log(&self.rt, seg, at, into);
         self.counted(count)
     }
 }
@@ -102,14 +113,18 @@ impl<R: Files + Input + AllocGlobal> LogReader for FsHost<R> {
 /// Where a change or a force of a file has failed, each later one fails: nobody knows then what the disk
 /// holds.
 impl<R: Files + Input + AllocGlobal> LogFile for FsHost<R> {
+    /// It may gather the bytes. What was gathered is written before another call on the log, so a write
+    /// that the system refuses may be a failure of that call. The file is made then too.
     fn write_log(&mut self, seg: u64, at: u64, bytes: &[u8]) -> Result<(), Failed>
         ensures cause { HasCause self.old.faults self.new.faults result }
         ensures refused { IsTrue self.old.is_broken → IsErr result }
         ensures broken { IsErr result ↔ IsTrue self.new.is_broken }
+        ensures gathers { OnOk result
+            (Gathers self.old.gathered self.new.gathered seg at bytes.now) }
+        ensures joins { OnOk result (GoesOn self.old.gathered seg at bytes.now
+            → Joins self.old.gathered self.new.gathered seg at bytes.now) }
     {
-        let written = self
-            .folder
-            .write(&self.rt, StoreFile::Segment(seg), at, bytes);
+        let written = self.folder.write_log(&self.rt, seg, at, bytes);
         self.counted(written)
     }
 
@@ -117,8 +132,9 @@ impl<R: Files + Input + AllocGlobal> LogFile for FsHost<R> {
         ensures cause { HasCause self.old.faults self.new.faults result }
         ensures refused { IsTrue self.old.is_broken → IsErr result }
         ensures broken { IsErr result ↔ IsTrue self.new.is_broken }
+        ensures written { OnOk result (self.new.gathered.bytes ≡ []) }
     {
-        let cut = self.folder.cut(&self.rt, StoreFile::Segment(seg), len);
+        let cut = self.folder.cut_log(&self.rt, seg, len);
         self.counted(cut)
     }
 
@@ -127,8 +143,9 @@ impl<R: Files + Input + AllocGlobal> LogFile for FsHost<R> {
         ensures cause { HasCause self.old.faults self.new.faults result }
         ensures refused { IsTrue self.old.is_broken → IsErr result }
         ensures broken { IsErr result ↔ IsTrue self.new.is_broken }
+        ensures written { OnOk result (self.new.gathered.bytes ≡ []) }
     {
-        let forced = self.folder.force(&self.rt, StoreFile::Segment(seg));
+        let forced = self.folder.force_log(&self.rt, seg);
         self.counted(forced)
     }
 }
@@ -138,6 +155,7 @@ impl<R: Files + Input + AllocGlobal> PageReader for FsHost<R> {
         requires { length into.old ≤ PAGE_SIZE_MAX }
         ensures cause { HasCause self.old.faults self.new.faults result }
         ensures broken { self.new.is_broken ≡ self.old.is_broken }
+        ensures gathered { self.new.gathered ≡ self.old.gathered }
     {
         let at = page.index() as u64 * into.len() as u64;
         let name = StoreFile::Pages(page.part());
@@ -154,6 +172,7 @@ impl<R: Files + Input + AllocGlobal> PageWriter for FsHost<R> {
         ensures cause { HasCause self.old.faults self.new.faults result }
         ensures refused { IsTrue self.old.is_broken → IsErr result }
         ensures broken { IsErr result ↔ IsTrue self.new.is_broken }
+        ensures gathered { self.new.gathered ≡ self.old.gathered }
     {
         let at = page.index() as u64 * bytes.len() as u64;
         let name = StoreFile::Pages(page.part());
@@ -166,6 +185,7 @@ impl<R: Files + Input + AllocGlobal> PageWriter for FsHost<R> {
         ensures cause { HasCause self.old.faults self.new.faults result }
         ensures refused { IsTrue self.old.is_broken → IsErr result }
         ensures broken { IsErr result ↔ IsTrue self.new.is_broken }
+        ensures gathered { self.new.gathered ≡ self.old.gathered }
     {
         let forced = self.folder.force(&self.rt, StoreFile::Pages(part));
         self.counted(forced)
@@ -173,10 +193,13 @@ impl<R: Files + Input + AllocGlobal> PageWriter for FsHost<R> {
 }
 
 impl<R: Files + Input + Print + AllocGlobal> Host for FsHost<R> {
-    /// Makes the folders above it too. A file of that name is a failure.
+    /// Makes the folders above it too. A file of that name is a failure. What was gathered is written to
+    /// the folder before.
     fn bind(&mut self, dir: &str) -> Result<(), Failed>
         ensures cause { HasCause self.old.faults self.new.faults result }
-        ensures broken { self.new.is_broken ≡ self.old.is_broken }
+        ensures written { OnOk result (self.new.gathered.bytes ≡ []) }
+        ensures broken { OnOk result (self.new.is_broken ≡ self.old.is_broken) }
+        ensures still_broken { IsTrue self.old.is_broken → IsTrue self.new.is_broken }
     {
         let made = self.folder.bind(&self.rt, dir);
         self.counted(made)
@@ -186,6 +209,7 @@ impl<R: Files + Input + Print + AllocGlobal> Host for FsHost<R> {
         ensures bound { IfOk result (λ n. n ≤ length into.new) }
         ensures cause { HasCause self.old.faults self.new.faults result }
         ensures broken { self.new.is_broken ≡ self.old.is_broken }
+        ensures gathered { self.new.gathered ≡ self.old.gathered }
     {
         let count = self.folder.read(&self.rt, StoreFile::Config, 0, into);
         self.counted(count)
@@ -195,8 +219,9 @@ impl<R: Files + Input + Print + AllocGlobal> Host for FsHost<R> {
         ensures cause { HasCause self.old.faults self.new.faults result }
         ensures refused { IsTrue self.old.is_broken → IsErr result }
         ensures broken { IsErr result ↔ IsTrue self.new.is_broken }
+        ensures written { OnOk result (self.new.gathered.bytes ≡ []) }
     {
-        let removed = self.folder.remove(&self.rt, StoreFile::Segment(seg));
+        let removed = self.folder.drop_log(&self.rt, seg);
         self.counted(removed)
     }
 
@@ -208,6 +233,7 @@ impl<R: Files + Input + Print + AllocGlobal> Host for FsHost<R> {
     ) -> Result<bool, Failed>
         ensures cause { HasCause self.old.faults self.new.faults result }
         ensures broken { self.new.is_broken ≡ self.old.is_broken }
+        ensures gathered { self.new.gathered ≡ self.old.gathered }
     {
         let at = slot as u64 * SLOT_LEN as u64;
         let is_whole = self
@@ -221,6 +247,7 @@ impl<R: Files + Input + Print + AllocGlobal> Host for FsHost<R> {
         ensures cause { HasCause self.old.faults self.new.faults result }
         ensures refused { IsTrue self.old.is_broken → IsErr result }
         ensures broken { IsErr result ↔ IsTrue self.new.is_broken }
+        ensures gathered { self.new.gathered ≡ self.old.gathered }
     {
         let at = slot as u64 * SLOT_LEN as u64;
         let written = self
@@ -234,6 +261,7 @@ impl<R: Files + Input + Print + AllocGlobal> Host for FsHost<R> {
         ensures cause { HasCause self.old.faults self.new.faults result }
         ensures refused { IsTrue self.old.is_broken → IsErr result }
         ensures broken { IsErr result ↔ IsTrue self.new.is_broken }
+        ensures gathered { self.new.gathered ≡ self.old.gathered }
     {
         let forced = self.folder.force(&self.rt, StoreFile::Marks(file));
         self.counted(forced)
@@ -244,6 +272,7 @@ impl<R: Files + Input + Print + AllocGlobal> Host for FsHost<R> {
         ensures bound { IfOk result (λ n. n ≤ length into.new) }
         ensures cause { HasCause self.old.faults self.new.faults result }
         ensures broken { self.new.is_broken ≡ self.old.is_broken }
+        ensures gathered { self.new.gathered ≡ self.old.gathered }
     {
         let taken = self.input.read(into);
         self.counted(taken)
@@ -254,6 +283,7 @@ impl<R: Files + Input + Print + AllocGlobal> Host for FsHost<R> {
     fn print(&mut self, bytes: &[u8]) -> Result<(), Failed>
         ensures cause { HasCause self.old.faults self.new.faults result }
         ensures broken { self.new.is_broken ≡ self.old.is_broken }
+        ensures gathered { self.new.gathered ≡ self.old.gathered }
     {
         let said = self.rt.write_all(bytes);
         self.counted(said)

@@ -2,7 +2,9 @@
 #![tactic(auto)]
 
 mod folder;
+mod gathered;
 mod host;
+mod opened;
 mod paths;
 
 pub use host::FsHost;

@@ -1,8 +1,16 @@
-//! Tests that cross crates: the top call over a host in memory.
+//! Tests that cross crates: the top call over a host in memory, both hosts call by call, and the log over small segments.
 #![tactic(auto)]
 
 #[cfg(test)]
+mod calls;
+#[cfg(test)]
+mod consoles;
+#[cfg(test)]
 mod crashes;
+#[cfg(test)]
+mod hosts;
+#[cfg(test)]
+mod logs;
 #[cfg(test)]
 mod pieces;
 #[cfg(test)]

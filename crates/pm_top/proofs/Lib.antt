@@ -13,3 +13,4 @@ pub mod Starts
 pub mod Telling
 pub mod Turns
 pub mod Storing
+pub mod Existing

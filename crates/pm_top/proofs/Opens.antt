@@ -62,7 +62,7 @@ applies_next false scan new world before now frame stands advances applies =
     (ap (kept is_change) stands ∙ ap (λ (b : Bool). let o : Option Frame = if b then Some frame else None in o) applies.0, applies.1)
 
 -- a change ends early enough for a SEAL behind it
-change_fits : (p : Place) (bytes : List ℕ) (f : Frame) → kept is_change (frame_at p bytes) ≡ Some f → p.off + frame_len f + FRAME_EXTRA ≤ SEGMENT_END_MAX
+pub change_fits : (p : Place) (bytes : List ℕ) (f : Frame) → kept is_change (frame_at p bytes) ≡ Some f → p.off + frame_len f + FRAME_EXTRA ≤ SEGMENT_END_MAX
 change_fits p bytes f is =
     let k = kept_some is_change _ f is in
     let head = (frame_at-some p bytes f k.0).0 in
@@ -70,7 +70,7 @@ change_fits p bytes f is =
     omega (arith, head.ends, latest)
 
 -- no segment but the first has bytes there
-alone_clear : (log : ℕ → File) (seg : ℕ) → 1 < seg → contents (first_alone log) seg ≡ []
+pub alone_clear : (log : ℕ → File) (seg : ℕ) → 1 < seg → contents (first_alone log) seg ≡ []
 alone_clear log seg later = each (seg == 1) refl
   where
     each : (b : Bool) → (seg == 1) ≡ b → bytes_of (content (if b then log 1 else absent)) ≡ []

@@ -33,6 +33,9 @@ use std::alloc::Global;
 pub fn top<Q: AllocGlobal, H: Host>(rt: &Q, words: &[String], host: &mut H) -> Report
     ensures known { result.status ≡ code_of (status_of result.status) }
 
+    // The disk has a log, of which the clauses below speak; it has no second one.
+    ensures log { H.tells → (changes : List Frame) × HoldsChanges (H.history host.old).world changes }
+
     // Which lines are answered, and with what.
     ensures replies { H.tells → IsTrue (is_command (map string_bytes words.now)) →
         (changes : List Frame) → HoldsChanges (H.history host.old).world changes →

@@ -1,5 +1,6 @@
 pub mod Causes
 pub mod Faults
+pub mod Fields
 pub mod Ids
 pub mod Keys
 pub mod PageSizes

@@ -2,6 +2,7 @@
 #![tactic(auto)]
 
 mod fault;
+pub mod fields;
 mod flag;
 mod key;
 mod limits;

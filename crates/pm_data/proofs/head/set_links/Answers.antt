@@ -3,7 +3,7 @@ use Rattle.pm_types.specs.Spans.{Holds, span_of}
 use Rattle.pm_types.proofs.Changes.{outside_then}
 use Rattle.pm_types.proofs.PageSizeBounds.{page_size_bounds}
 use Rattle.pm_data.proofs.Heads.{links_only}
-use Rattle.pm_data.proofs.Unchanged.{u32_same}
+use Rattle.pm_types.proofs.Unchanged.{u32_same}
 use Rattle.pm_data.proofs.head.set_links.Goals as goal
 
 pub returns-clause-page : goal.returns-clause-page

@@ -1,6 +1,6 @@
 use Rattle.std.proofs.Common.{◌+◌, ◌*◌, ◌∙◌, arith}
 use Rattle.pm_types.specs.Spans.{Holds, span_of}
-use Rattle.pm_data.proofs.Unchanged.{u16_same}
+use Rattle.pm_types.proofs.Unchanged.{u16_same}
 use Rattle.pm_data.proofs.slots.put_slot.Goals as goal
 
 pub returns-clause-slot : goal.returns-clause-slot

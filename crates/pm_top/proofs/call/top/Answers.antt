@@ -4,6 +4,7 @@ use Rattle.pm_top.specs.Promises.{FillsLog}
 use Rattle.pm_top.specs.Changes.{pairs_of}
 use Rattle.pm_top.specs.Scripts.{PassesLimit}
 use Rattle.pm_top.specs.Words.{is_command}
+use Rattle.pm_top.proofs.Existing.{log_exists}
 use Rattle.pm_top.proofs.Limits.{long_cause, refused_otherwise, whole_or_memory}
 use Rattle.pm_top.proofs.call.top.Goals as goal
 
@@ -23,3 +24,6 @@ returns-clause-complete g c t is changes was within fits sound =
     let session = c.command-status.new.session in
     whole_or_memory c.command-status.result c.code.result (g.H.Device.history c.args.host.now).world (g.H.Device.history c.command-status.new.host).world (pairs_of changes) (sizes changes) session.lines session.order.items
     c.code.ensures.number (c.command-status.ensures.replies t is changes was) within fits (λ failed. sound (c.command-status.ensures.failed failed))
+
+pub returns-clause-log : goal.returns-clause-log
+returns-clause-log g c t = log_exists (g.H.Device.history c.args.host.now).world

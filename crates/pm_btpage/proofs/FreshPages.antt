@@ -1,0 +1,85 @@
+-- A page of zeros, into which a name and a kind were written, and perhaps a link.
+use Rattle.std.proofs.Common.{◌≡◌, ℕ, ◌+◌, ◌^◌, ◌<◌, ◌≤◌, ◌⊎◌, List, [], ◌∷◌, length, get_or, replicate, sym, ap, subst, ◌∙◌, inl, inr, arith}
+use Rattle.pm_types.specs.PageSizes.{IsPageSize}
+use Rattle.pm_types.specs.Spans.{Holds, span_of}
+use Rattle.pm_types.specs.Pages.{SameOutside}
+use Rattle.pm_types.specs.declared.page_id.PageId.{PageId}
+use Rattle.pm_types.specs.Fields.{bytes_at, u64_at, AreZero}
+use Rattle.pm_types.proofs.PageSizeBounds.{page_size_bounds}
+use Rattle.pm_types.proofs.Unchanged.{get_or-bytes_at, u64_same, are_zeros, zero_u16, zero_u64}
+use Rattle.pm_btpage.specs.IndexPages.{items_of, count_of, IsBlank, IsIndexPage}
+use Rattle.pm_btpage.proofs.ItemsByIndex.{length-items_of, items_by_index}
+
+-- the page was written so, in this order
+pub record Steps (was p0 p1 p2 : List ℕ) (id : PageId) (kind : ℕ) : Type 0 where
+  pub zeros : bytes_at p0 0 (length was) ≡ replicate (length was) 0
+  pub size : length p0 ≡ length was
+  pub name : u64_at p1 0 ≡ id.0
+  pub after_name : SameOutside (Holds (span_of 0 8)) p0 p1
+  pub kind_is : bytes_at p2 8 1 ≡ kind ∷ []
+  pub after_kind : SameOutside (Holds (span_of 8 1)) p1 p2
+
+pub blank : (was p0 p1 p2 : List ℕ) (id : PageId) (kind : ℕ) → IsPageSize (length was) → Steps was p0 p1 p2 id kind → IsBlank id kind p2
+blank was p0 p1 p2 id kind size' s =
+    let long = (page_size_bounds (length was) size').0 in
+    let zero : AreZero p0 0 (0 + length was) = are_zeros p0 0 (length was) s.zeros in
+    let same_size : length p2 ≡ length was = s.after_kind.size ∙ s.after_name.size ∙ s.size in
+    record {
+      size = subst IsPageSize (sym same_size) size';
+      own = u64_same (Holds (span_of 8 1)) p1 p2 0 s.after_kind (omega (arith, long, s.after_name.size, s.size)) (λ k low high h. omega (arith, h.0)) ∙ s.name;
+      kind_is = sym (get_or-bytes_at p2 8 1 0 (omega arith)) ∙ ap (λ (t : List ℕ). get_or t 0 0) s.kind_is;
+      zeros = λ k low high. s.after_kind.bytes k (λ h. omega (arith, h.1)) ∙ s.after_name.bytes k (λ h. omega (arith, h.1)) ∙ zero k (omega arith) (omega (arith, same_size));
+    }
+
+-- what it then has, whatever its link is
+pub record HasWritten (page : List ℕ) (id : PageId) (kind : ℕ) : Type 0 where
+  pub size : IsPageSize (length page)
+  pub own : u64_at page 0 ≡ id.0
+  pub kind_is : get_or page 8 0 ≡ kind
+  pub zeros : (k : ℕ) → 9 ≤ k → k < length page → (k < 16) ⊎ (24 ≤ k) → get_or page k 0 ≡ 0
+
+pub without_link : (page : List ℕ) (id : PageId) (kind : ℕ) → IsBlank id kind page → HasWritten page id kind
+without_link page id kind is = record { size = is.size; own = is.own; kind_is = is.kind_is; zeros = λ k low high away. is.zeros k low high }
+
+pub no_link : (page : List ℕ) (id : PageId) (kind : ℕ) → IsBlank id kind page → u64_at page 16 ≡ 0
+no_link page id kind is =
+    let long = (page_size_bounds (length page) is.size).0 in
+    zero_u64 page 16 (omega (arith, long)) (λ k low high. is.zeros k (omega arith) (omega (arith, long)))
+
+pub with_link : (was now : List ℕ) (id : PageId) (kind : ℕ) → IsBlank id kind was → SameOutside (Holds (span_of 16 8)) was now → HasWritten now id kind
+with_link was now id kind is outside =
+    let long = (page_size_bounds (length was) is.size).0 in
+    record {
+      size = subst IsPageSize (sym outside.size) is.size;
+      own = u64_same (Holds (span_of 16 8)) was now 0 outside (omega (arith, long)) (λ k low high h. omega (arith, h.0)) ∙ is.own;
+      kind_is = outside.bytes 8 (λ h. omega (arith, h.0)) ∙ is.kind_is;
+      zeros = λ k low high away. outside.bytes k (λ h. elim away [ inl below ↦ omega (arith, h.0) | inr above ↦ omega (arith, h.1) ]) ∙ is.zeros k low (omega (arith, outside.size, high));
+    }
+
+pub record IsEmptyPage (page : List ℕ) : Type 0 where
+  pub well_made : IsIndexPage page
+  pub none : items_of page ≡ []
+
+pub fresh_page : (now : List ℕ) (id : PageId) (kind : ℕ) → HasWritten now id kind → (kind ≡ 2) ⊎ (kind ≡ 3) → (kind ≡ 2 → u64_at now 16 < 2 ^ 32) → IsEmptyPage now
+fresh_page now id kind w kinds short =
+    let long = (page_size_bounds (length now) w.size).0 in
+    let count : count_of now ≡ 0 = zero_u16 now 10 (omega (arith, long)) (λ k ge lt. w.zeros k (omega arith) (omega (arith, long)) (inl (omega arith))) in
+    record {
+      well_made = record {
+        size = w.size;
+        head = record {
+          kind = elim kinds [ inl leaf ↦ inl (w.kind_is ∙ leaf) | inr inner ↦ inr (w.kind_is ∙ inner) ];
+          zero_9 = w.zeros 9 (omega arith) (omega (arith, long)) (inl (omega arith));
+          zero_12 = λ k ge lt. w.zeros k (omega arith) (omega (arith, long)) (inl lt);
+          next = λ leaf. short (sym w.kind_is ∙ leaf);
+          behind_link = λ k ge lt. w.zeros k (omega arith) (omega (arith, long)) (inr ge);
+        };
+        items = record {
+          within = omega (arith, count, long);
+          each = λ i lt. absurd (omega (arith, count));
+          rising = λ i j less lt. absurd (omega (arith, count, length-items_of now));
+          behind = λ k ge lt. w.zeros k (omega arith) lt (inr (omega arith));
+        };
+      };
+      none = items_by_index now [] (record { key = []; word = 0 }) (sym count) (λ i lt. absurd (omega (arith, count)));
+    }

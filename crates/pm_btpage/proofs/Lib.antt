@@ -1,0 +1,14 @@
+pub mod Changed
+pub mod FreshPages
+pub mod Inserted
+pub mod ItemLists
+pub mod ItemsByIndex
+pub mod ItemWritten
+pub mod Sought
+pub mod WordChanged
+pub mod CutOff
+pub mod TakenOut
+pub mod Appended
+pub mod Neighbours
+pub mod Parts
+pub mod NamesKept

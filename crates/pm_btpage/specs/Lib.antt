@@ -1,0 +1,3 @@
+pub mod Finds
+pub mod IndexPages
+pub mod Stored

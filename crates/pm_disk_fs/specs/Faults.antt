@@ -1,9 +1,0 @@
--- What a clause sees of the host over files.
-use Rattle.std.specs.Prelude.{ℕ, Bool}
-
--- What the host's calls have met so far.
-pub record HostFaults : Type 0 where
-  -- how often a call has failed, up to 2^64 - 1, where the count stands still
-  pub faults : ℕ
-  -- whether a change or a force of a file has failed
-  pub is_broken : Bool

@@ -1,0 +1,97 @@
+-- A page of zeros, into which a name, a kind and one number were written.
+use Rattle.std.proofs.Common.{◌≡◌, ℕ, ◌+◌, ◌*◌, ◌<◌, ◌≤◌, ◌⊎◌, List, [], ◌∷◌, length, get_or, replicate, sym, ap, subst, ◌∙◌, inl, inr, arith}
+use Rattle.pm_types.specs.PageSizes.{IsPageSize}
+use Rattle.pm_types.specs.Spans.{Holds, span_of}
+use Rattle.pm_types.specs.Pages.{SameOutside}
+use Rattle.pm_types.specs.declared.page_id.PageId.{PageId}
+use Rattle.pm_types.specs.Fields.{bytes_at, u32_at, u64_at, AreZero}
+use Rattle.pm_types.proofs.PageSizeBounds.{page_size_bounds}
+use Rattle.pm_types.proofs.Unchanged.{get_or-bytes_at, u64_same, are_zeros, zero_u32}
+use Rattle.pm_meta.specs.declared.slots.MetaSlot.{MetaSlot}
+use Rattle.pm_meta.specs.declared.slots.MetaSlot.TheVariants.{Pages}
+use Rattle.pm_meta.proofs.PlacesApart.{place_bounds, apart}
+use Rattle.pm_meta.specs.MetaPages.{field_of, place_of, IsBlank, IsSlot, IsStoredMeta, IsStoredReuse}
+
+-- the page was written so, in this order
+pub record Steps (was p0 p1 p2 : List ℕ) (id : PageId) (kind : ℕ) : Type 0 where
+  pub zeros : bytes_at p0 0 (length was) ≡ replicate (length was) 0
+  pub size : length p0 ≡ length was
+  pub name : u64_at p1 0 ≡ id.0
+  pub after_name : SameOutside (Holds (span_of 0 8)) p0 p1
+  pub kind_is : bytes_at p2 8 1 ≡ kind ∷ []
+  pub after_kind : SameOutside (Holds (span_of 8 1)) p1 p2
+
+pub blank : (was p0 p1 p2 : List ℕ) (id : PageId) (kind : ℕ) → IsPageSize (length was) → Steps was p0 p1 p2 id kind → IsBlank id kind p2
+blank was p0 p1 p2 id kind size' s =
+    let long = (page_size_bounds (length was) size').0 in
+    let zero : AreZero p0 0 (0 + length was) = are_zeros p0 0 (length was) s.zeros in
+    let same_size : length p2 ≡ length was = s.after_kind.size ∙ s.after_name.size ∙ s.size in
+    record {
+      size = subst IsPageSize (sym same_size) size';
+      own = u64_same (Holds (span_of 8 1)) p1 p2 0 s.after_kind (omega (arith, s.after_name.size, s.size)) (λ k low high h. omega (arith, h.0)) ∙ s.name;
+      kind_is = sym (get_or-bytes_at p2 8 1 0 (omega arith)) ∙ ap (λ (t : List ℕ). get_or t 0 0) s.kind_is;
+      zeros = λ k low high. s.after_kind.bytes k (λ h. omega (arith, h.1)) ∙ s.after_name.bytes k (λ h. omega (arith, h.1)) ∙ zero k (omega arith) (omega (arith, same_size));
+    }
+
+-- what it then has, with a number of four bytes
+record HasWritten (was now : List ℕ) (id : PageId) (kind at : ℕ) : Type 0 where
+  pub size : length now ≡ length was
+  pub own : u64_at now 0 ≡ id.0
+  pub kind_is : get_or now 8 0 ≡ kind
+  pub zeros : (k : ℕ) → 9 ≤ k → k < length was → (k < at) ⊎ (at + 4 ≤ k) → get_or now k 0 ≡ 0
+
+written : (was now : List ℕ) (id : PageId) (kind at : ℕ) → IsPageSize (length was) → 9 ≤ at → IsBlank id kind was → SameOutside (Holds (span_of at 4)) was now → HasWritten was now id kind at
+written was now id kind at size' ge page outside =
+    let long = (page_size_bounds (length was) size').0 in
+    record {
+      size = outside.size;
+      own = u64_same (Holds (span_of at 4)) was now 0 outside (omega arith) (λ k low high h. omega (arith, h.0)) ∙ page.own;
+      kind_is = outside.bytes 8 (λ h. omega (arith, h.0)) ∙ page.kind_is;
+      zeros = λ k low high away. outside.bytes k (λ h. elim away [ inl below ↦ omega (arith, h.0) | inr above ↦ omega (arith, h.1) ]) ∙ page.zeros k low high;
+    }
+
+zero_field : (was now : List ℕ) (id : PageId) (at : ℕ) → IsPageSize (length was) → HasWritten was now id 1 164 → 32 ≤ at → at + 4 ≤ 172 → (at + 4 ≤ 164) ⊎ (168 ≤ at) → u32_at now at ≡ 0
+zero_field was now id at size' w low high away =
+    let long = (page_size_bounds (length was) size').0 in
+    zero_u32 now at (omega (arith, w.size)) (λ k ge lt. w.zeros k (omega arith) (omega arith) (elim away [ inl below ↦ inl (omega arith) | inr above ↦ inr (omega arith) ]))
+
+-- a meta page whose one number is a page count that every partition may have
+pub fresh_stored : (was now : List ℕ) (id : PageId) (n max_rows : ℕ) → IsBlank id 1 was → SameOutside (Holds (span_of 164 4)) was now → u32_at now 164 ≡ n → 1 ≤ n → n ≤ 256 → IsStoredMeta id max_rows now
+fresh_stored was now id n max_rows page outside pages some few =
+    let size' = page.size in
+    let w = written was now id 1 164 size' (omega arith) page outside in
+    let rows : u32_at now 168 ≡ 0 = zero_field was now id 168 size' w (omega arith) (omega arith) (inr (omega arith)) in
+    record {
+      own = w.own;
+      well_made = record {
+        size = subst IsPageSize (sym w.size) size';
+        form = record {
+          kind = w.kind_is;
+          before = λ k ge lt. w.zeros k ge (omega (arith, (page_size_bounds (length was) size').0)) (inl (omega arith));
+          behind = λ k ge lt. w.zeros k (omega arith) (omega (arith, w.size)) (inr (omega arith));
+        };
+      };
+      counts = record { some = omega (arith, pages); pages = omega (arith, pages); rows = omega (arith, rows) };
+      below = λ i lt. let none = zero_field was now id (32 + 4 * i) size' w (omega arith) (omega arith) (inl (omega arith)) in omega (arith, none, pages);
+    }
+
+pub fresh_zero : (was now : List ℕ) (id : PageId) (slot : MetaSlot) → IsBlank id 1 was → SameOutside (Holds (span_of 164 4)) was now → IsSlot slot → (slot ≡ Pages → ⊥) → field_of now slot ≡ 0
+fresh_zero was now id slot page outside is other =
+    let size' = page.size in
+    let w = written was now id 1 164 size' (omega arith) page outside in
+    let here = place_bounds slot is in
+    zero_field was now id (place_of slot) size' w here.0 here.1 (elim (apart slot Pages is tt other) [ inl below ↦ inl below | inr above ↦ inr above ])
+
+pub fresh_reuse_stored : (was now : List ℕ) (id : PageId) → IsBlank id 5 was → SameOutside (Holds (span_of 16 4)) was now → IsStoredReuse id now
+fresh_reuse_stored was now id page outside =
+    let size' = page.size in
+    let w = written was now id 5 16 size' (omega arith) page outside in
+    record {
+      own = w.own;
+      well_made = record {
+        size = subst IsPageSize (sym w.size) size';
+        kind = w.kind_is;
+        before = λ k ge lt. w.zeros k ge (omega (arith, (page_size_bounds (length was) size').0)) (inl (omega arith));
+        behind = λ k ge lt. w.zeros k (omega arith) (omega (arith, w.size)) (inr (omega arith));
+      };
+    }

@@ -1,0 +1,3 @@
+pub mod FreshPages
+pub mod OneField
+pub mod PlacesApart

@@ -1,0 +1,50 @@
+-- The numbers of a meta page stand apart, within the page's fields.
+use Rattle.std.proofs.Common.{◌≡◌, ℕ, ◌+◌, ◌*◌, ◌≤◌, ◌⊎◌, refl, ap, inl, inr, arith}
+use Rattle.std.proofs.lemmas.Bool.{cases_lt, cases_eq}
+use Rattle.pm_meta.specs.declared.slots.MetaSlot.{MetaSlot}
+use Rattle.pm_meta.specs.declared.slots.MetaSlot.TheVariants.{Root, Bucket, Reuse, Pages, Rows}
+use Rattle.pm_meta.specs.MetaPages.{place_of, IsSlot}
+
+pub place_bounds : (slot : MetaSlot) → IsSlot slot → (32 ≤ place_of slot) × (place_of slot + 4 ≤ 172)
+place_bounds (Root x) is = (omega arith, omega (arith, is))
+place_bounds (Bucket x) is = (omega arith, omega (arith, is))
+place_bounds Reuse is = (omega arith, omega arith)
+place_bounds Pages is = (omega arith, omega arith)
+place_bounds Rows is = (omega arith, omega arith)
+
+-- no byte is of both
+abbrev pub AreApart : ℕ → ℕ → Type 0
+AreApart a b = (a + 4 ≤ b) ⊎ (b + 4 ≤ a)
+
+by_number : (base x y : ℕ) → (x ≡ y → ⊥) → AreApart (base + 4 * x) (base + 4 * y)
+by_number base x y other = elim (cases_lt x y) [
+  | inl lt ↦ inl (omega arith)
+  | inr ge ↦ elim (cases_eq x y) [ inl same ↦ absurd (other same) | inr differ ↦ inr (omega (arith, differ)) ]
+]
+
+pub apart : (a b : MetaSlot) → IsSlot a → IsSlot b → (a ≡ b → ⊥) → AreApart (place_of a) (place_of b)
+apart (Root x) (Root y) is_a is_b other = by_number 32 x y (λ e. other (ap Root e))
+apart (Root x) (Bucket y) is_a is_b other = inl (omega (arith, is_a, is_b))
+apart (Root x) Reuse is_a is_b other = inl (omega (arith, is_a))
+apart (Root x) Pages is_a is_b other = inl (omega (arith, is_a))
+apart (Root x) Rows is_a is_b other = inl (omega (arith, is_a))
+apart (Bucket x) (Root y) is_a is_b other = inr (omega (arith, is_a, is_b))
+apart (Bucket x) (Bucket y) is_a is_b other = by_number 96 x y (λ e. other (ap Bucket e))
+apart (Bucket x) Reuse is_a is_b other = inl (omega (arith, is_a))
+apart (Bucket x) Pages is_a is_b other = inl (omega (arith, is_a))
+apart (Bucket x) Rows is_a is_b other = inl (omega (arith, is_a))
+apart Reuse (Root y) is_a is_b other = inr (omega (arith, is_b))
+apart Reuse (Bucket y) is_a is_b other = inr (omega (arith, is_b))
+apart Reuse Reuse is_a is_b other = absurd (other refl)
+apart Reuse Pages is_a is_b other = inl (omega arith)
+apart Reuse Rows is_a is_b other = inl (omega arith)
+apart Pages (Root y) is_a is_b other = inr (omega (arith, is_b))
+apart Pages (Bucket y) is_a is_b other = inr (omega (arith, is_b))
+apart Pages Reuse is_a is_b other = inr (omega arith)
+apart Pages Pages is_a is_b other = absurd (other refl)
+apart Pages Rows is_a is_b other = inl (omega arith)
+apart Rows (Root y) is_a is_b other = inr (omega (arith, is_b))
+apart Rows (Bucket y) is_a is_b other = inr (omega (arith, is_b))
+apart Rows Reuse is_a is_b other = inr (omega arith)
+apart Rows Pages is_a is_b other = inr (omega arith)
+apart Rows Rows is_a is_b other = absurd (other refl)

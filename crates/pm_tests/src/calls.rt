@@ -1,0 +1,160 @@
+//! The calls of a host as values, and what a host answers to each, as text.
+
+use pm_disk::{Failed, Host, LogFile, MarkFile};
+use pm_types::PageId;
+use std::alloc::{AllocError, Global};
+
+/// How many bytes a page has here.
+const PAGE: usize = 4;
+
+/// A call of a host.
+#[derive(Clone, Copy)]
+pub enum Call {
+    Bind(&'static str),
+    ReadConfig,
+    SegLen(u64),
+    /// From this offset on.
+    ReadLog(u64, u64),
+    /// The bytes are written at the segment's start.
+    WriteLog(u64, &'static [u8]),
+    /// The bytes are written at the segment's end.
+    AppendLog(u64, &'static [u8]),
+    /// The segment is cut to half its length.
+    HalveLog(u64),
+    ForceLog(u64),
+    DropLog(u64),
+    ReadPage(u16, u32),
+    /// Each byte of the page becomes this one.
+    WritePage(u16, u32, u8),
+    ForcePages(u16),
+    ReadMark(MarkFile, u8),
+    /// Each byte of the slot becomes this one.
+    WriteMark(MarkFile, u8, u8),
+    ForceMark(MarkFile),
+    Read,
+    Print(&'static [u8]),
+}
+
+impl Call {
+    /// Whether a host may make the change later, with the next other call on the log.
+    pub fn may_wait(&self) -> bool {
+        matches!(self, Call::WriteLog(..) | Call::AppendLog(..))
+    }
+}
+
+/// Writes the bytes at a segment's end.
+fn append_log<L: LogFile>(log: &mut L, seg: u64, bytes: &[u8]) -> Result<(), Failed> {
+    let len = log.seg_len(seg)?.unwrap_or(0);
+    log.write_log(seg, len, bytes)
+}
+
+/// Cuts a segment to half its length.
+fn halve_log<L: LogFile>(log: &mut L, seg: u64) -> Result<(), Failed> {
+    let len = log.seg_len(seg)?.unwrap_or(0);
+    log.cut_log(seg, len / 2)
+}
+
+/// A count of bytes that were read, and those.
+fn told(alloc: Global, count: Result<usize, Failed>, into: &[u8]) -> Result<String, AllocError> {
+    let read = &into[..count.unwrap_or(0).min(into.len())];
+    format!(in alloc; "{count:?} {read:?}")
+}
+
+/// Whether a slot was there, and how many of its bytes are as its first one.
+fn told_slot(
+    alloc: Global,
+    whole: Result<bool, Failed>,
+    slot: &[u8; 64],
+) -> Result<String, AllocError> {
+    let first = slot[0];
+    let same = slot.iter().filter(|byte| **byte == first).count();
+    format!(in alloc; "{whole:?} {same} of {first}")
+}
+
+/// What a host answers to a call on the log.
+fn answer_of_log<L: LogFile>(
+    alloc: Global,
+    log: &mut L,
+    call: &Call,
+) -> Result<Option<String>, AllocError> {
+    let mut into = [1; 8];
+    let done = match call {
+        Call::SegLen(seg) => {
+            let len = log.seg_len(*seg);
+            return Ok(Some(format!(in alloc; "{len:?}")?));
+        }
+        Call::ReadLog(seg, at) => {
+            let count = log.read_log(*seg, *at, &mut into);
+            return Ok(Some(told(alloc, count, &into)?));
+        }
+        Call::WriteLog(seg, bytes) => log.write_log(*seg, 0, bytes),
+        Call::AppendLog(seg, bytes) => append_log(log, *seg, bytes),
+        Call::HalveLog(seg) => halve_log(log, *seg),
+        Call::ForceLog(seg) => log.force_log(*seg),
+        _ => return Ok(None),
+    };
+    Ok(Some(format!(in alloc; "{done:?}")?))
+}
+
+/// What a host answers to a call that reads.
+fn answer_of_read<H: Host>(
+    alloc: Global,
+    host: &mut H,
+    call: &Call,
+) -> Result<Option<String>, AllocError> {
+    let mut into = [1; 8];
+    let mut page = [1; PAGE];
+    let mut slot = [1; 64];
+    let text = match call {
+        Call::ReadPage(part, index) => {
+            let whole = host.read_page(PageId::new(*part, *index), &mut page);
+            format!(in alloc; "{whole:?} {page:?}")?
+        }
+        Call::ReadMark(file, number) => {
+            let whole = host.read_mark(*file, (*number).min(1), &mut slot);
+            told_slot(alloc, whole, &slot)?
+        }
+        Call::ReadConfig => {
+            let count = host.read_config(&mut into);
+            told(alloc, count, &into)?
+        }
+        Call::Read => {
+            let count = host.read(&mut into);
+            told(alloc, count, &into)?
+        }
+        _ => return Ok(None),
+    };
+    Ok(Some(text))
+}
+
+/// What a host answers to any other call.
+fn answer_of_change<H: Host>(host: &mut H, call: &Call) -> Result<(), Failed> {
+    match call {
+        Call::Bind(dir) => host.bind(dir),
+        Call::DropLog(seg) => host.drop_log(*seg),
+        Call::WritePage(part, index, byte) => {
+            host.write_page(PageId::new(*part, *index), &[*byte; PAGE])
+        }
+        Call::ForcePages(part) => host.force_pages(*part),
+        Call::WriteMark(file, number, byte) => host.write_mark(
+            *file,
+            (*number).min(1),
+            &[*byte; 64],
+        ),
+        Call::ForceMark(file) => host.force_mark(*file),
+        Call::Print(bytes) => host.print(bytes),
+        _ => Err(Failed),
+    }
+}
+
+/// What a host answers to a call, and what it read, as text.
+pub fn answer<H: Host>(alloc: Global, host: &mut H, call: &Call) -> Result<String, AllocError> {
+    if let Some(text) = answer_of_log(alloc, host, call)? {
+        return Ok(text);
+    }
+    if let Some(text) = answer_of_read(alloc, host, call)? {
+        return Ok(text);
+    }
+    let done = answer_of_change(host, call);
+    format!(in alloc; "{done:?}")
+}

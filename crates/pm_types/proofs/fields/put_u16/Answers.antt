@@ -1,0 +1,11 @@
+use Rattle.std.proofs.Common.{◌≡◌, length, sym, ap, ◌∙◌, w16}
+use Rattle.std.specs.Int.{from_le_bytes}
+use Rattle.std.proofs.lemmas.Nat.{from_le_bytes-to_le_bytes_2}
+use Rattle.pm_types.specs.Fields.{bytes_at, u16_at}
+use Rattle.pm_types.proofs.fields.put_u16.Goals as goal
+
+pub returns-clause-value : goal.returns-clause-value
+unfolding u16_at
+returns-clause-value c =
+    let len : length c.to_le_bytes.result ≡ 2 = ap length c.to_le_bytes.ensures in
+    ap (λ n. from_le_bytes w16 (bytes_at c.put_bytes.new.page c.args.at n)) (sym len) ∙ ap (from_le_bytes w16) (c.put_bytes.ensures.bytes ∙ c.to_le_bytes.ensures) ∙ from_le_bytes-to_le_bytes_2 c.args.value c.ranges.value.fits
