@@ -22,7 +22,8 @@ use Rattle.pm_types.specs.PageSizes.{IsPageSize}
 use Rattle.pm_types.specs.declared.limits.TheConstants.{KEY_MAX}
 use Rattle.pm_types.specs.declared.page_id.PageId.{PageId}
 use Rattle.pm_types.specs.Fields.{bytes_at, u16_at, u64_at, AreZero}
-use Rattle.pm_btpage.specs.declared.layout.TheConstants.{LEAF_KIND, INNER_KIND, KIND_AT, COUNT_AT, LINK_AT, LINK_END, ITEMS_AT, ITEM_LEN, WORD_IN_ITEM}
+use Rattle.pm_types.specs.declared.head.TheConstants.{KIND_AT}
+use Rattle.pm_btpage.specs.declared.layout.TheConstants.{LEAF_KIND, INNER_KIND, COUNT_AT, LINK_AT, LINK_END, ITEMS_AT, ITEM_LEN, WORD_IN_ITEM}
 
 -- a key with its word
 pub record Item : Type 0 where
@@ -84,13 +85,6 @@ empty_leaf id = record { id = id; leaf = true; link = 0; items = [] }
 -- an inner page of this name with this first child and without items
 abbrev pub empty_inner : PageId → PageId → IndexPage
 empty_inner id first = record { id = id; leaf = false; link = first.0; items = [] }
-
--- a page of this name and kind, and else of zeros
-pub record IsBlank (id : PageId) (kind : ℕ) (page : List ℕ) : Type 0 where
-  pub size : IsPageSize (length page)
-  pub own : u64_at page 0 ≡ id.0
-  pub kind_is : slice_index page KIND_AT ≡ kind
-  pub zeros : AreZero page 9 (length page)
 
 -- one key is below another
 abbrev pub IsBelow : List ℕ → List ℕ → Type 0

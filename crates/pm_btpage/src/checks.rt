@@ -8,9 +8,10 @@ ghost use Rattle.pm_btpage.specs.Stored.{IsPageOf, IsWord, NamesPagesOf, IsStore
 use crate::head::{capacity, count, first, is_leaf};
 use crate::items::{place, stored_key, word_at};
 use crate::layout::{
-    COUNT_AT, INNER_KIND, ITEM_LEN, ITEMS_AT, KIND_AT, LEAF_KIND, LINK_AT, LINK_END, WORD_IN_ITEM,
+    COUNT_AT, INNER_KIND, ITEM_LEN, ITEMS_AT, LEAF_KIND, LINK_AT, LINK_END, WORD_IN_ITEM,
 };
 use pm_types::fields::{are_zero, get_u16, get_u64};
+use pm_types::head::KIND_AT;
 use pm_types::{KEY_MAX, Link, PAGE_SIZE_MAX, PageId};
 
 /// Whether these bytes are a leaf or an inner page of this name, with at least one item.

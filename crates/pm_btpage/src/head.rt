@@ -5,10 +5,11 @@ ghost use Rattle.pm_types.specs.PageSizes.{IsPageSize};
 ghost use Rattle.pm_types.specs.Pages.{IsNoted};
 ghost use Rattle.pm_types.specs.Spans.{span_of};
 ghost use Rattle.pm_types.specs.Fields.{Writes};
-ghost use Rattle.pm_btpage.specs.IndexPages.{index_of, items_of, count_of, empty_leaf, empty_inner, with_link, capacity_of, IsBlank, IsIndexPage};
+ghost use Rattle.pm_btpage.specs.IndexPages.{index_of, items_of, count_of, empty_leaf, empty_inner, with_link, capacity_of, IsIndexPage};
 
-use crate::layout::{COUNT_AT, INNER_KIND, ITEM_LEN, ITEMS_AT, KIND_AT, LEAF_KIND, LINK_AT};
-use pm_types::fields::{get_u16, get_u64, put_bytes, put_u64, put_zeros, set_u16, set_u64};
+use crate::layout::{COUNT_AT, INNER_KIND, ITEM_LEN, ITEMS_AT, LEAF_KIND, LINK_AT};
+use pm_types::fields::{get_u16, get_u64, put_u64, set_u16, set_u64};
+use pm_types::head::{KIND_AT, put_head};
 use pm_types::{PageId, Patch};
 
 /// Makes a leaf of this name without items and without a next leaf.
@@ -32,17 +33,6 @@ pub fn fresh_inner(page: &mut [u8], id: PageId, first: PageId)
 {
     put_head(page, id, INNER_KIND);
     put_u64(page, LINK_AT, first.0);
-}
-
-// Writes zeros over a page, and then its name and its kind. No patch notes it.
-fn put_head(page: &mut [u8], id: PageId, kind: u8)
-    requires { IsPageSize (length page.old) }
-    ensures { IsBlank id kind page.new }
-{
-    let size = page.len() as u16;
-    put_zeros(page, 0, size);
-    put_u64(page, 0, id.0);
-    put_bytes(page, KIND_AT, &[kind]);
 }
 
 /// How many items the page has.

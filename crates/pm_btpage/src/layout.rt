@@ -4,8 +4,6 @@
 pub const LEAF_KIND: u8 = 2;
 /// The kind of an inner page.
 pub const INNER_KIND: u8 = 3;
-/// Where the page's kind stands.
-pub const KIND_AT: u16 = 8;
 /// Where the number of items stands.
 pub const COUNT_AT: u16 = 10;
 /// Where the index of the next leaf stands, or the name of an inner page's first child.

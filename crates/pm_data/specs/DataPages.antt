@@ -18,7 +18,8 @@ use Rattle.std.specs.Prelude.{◌≡◌, ◌≢◌, ℕ, zero, suc, ◌+◌, ◌
 use Rattle.std.specs.List.{range_with_len, slice_index_or, position_or_len, suffix_len}
 use Rattle.pm_types.specs.PageSizes.{IsPageSize}
 use Rattle.pm_types.specs.declared.page_id.PageId.{PageId}
-use Rattle.pm_data.specs.declared.layout.TheConstants.{KIND_AT, DATA_KIND, COUNT_AT, PREV_AT, NEXT_AT, LOW_AT, SLOTS_AT, SLOT_LEN, SLOTS_MAX}
+use Rattle.pm_types.specs.declared.head.TheConstants.{KIND_AT}
+use Rattle.pm_data.specs.declared.layout.TheConstants.{DATA_KIND, COUNT_AT, PREV_AT, NEXT_AT, LOW_AT, SLOTS_AT, SLOT_LEN, SLOTS_MAX}
 use Rattle.pm_data.specs.declared.slots.Slot.{Slot}
 use Rattle.pm_types.specs.Fields.{bytes_at, u16_at, u32_at, u64_at}
 use Rattle.pm_data.specs.Rows.{IsRow}

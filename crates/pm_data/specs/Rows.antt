@@ -8,7 +8,8 @@
 --    4 + k     v  the value
 use Rattle.std.specs.Prelude.{◌≡◌, ℕ, ◌+◌, ◌<◌, ◌≤◌, List, length, slice_index}
 use Rattle.pm_types.specs.declared.limits.TheConstants.{KEY_MAX, VALUE_MAX}
-use Rattle.pm_data.specs.declared.layout.TheConstants.{CACHES, ROW_HEAD_LEN}
+use Rattle.pm_types.specs.declared.limits.TheConstants.{CACHES}
+use Rattle.pm_data.specs.declared.layout.TheConstants.{ROW_HEAD_LEN}
 use Rattle.pm_types.specs.Fields.{bytes_at, u16_at}
 
 -- the cache of a row

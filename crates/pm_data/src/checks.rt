@@ -7,11 +7,12 @@ ghost use Rattle.pm_data.specs.Following.{Follow};
 ghost use Rattle.pm_types.specs.PageSizes.{IsPageSize};
 ghost use Rattle.pm_data.specs.DataPages.{low_of, slot_at, row_bytes, IsSound, AllApart, HasHead, HasRows, IsStoredPage};
 
-use crate::layout::{COUNT_AT, DATA_KIND, KIND_AT, LOW_AT, SLOT_LEN, SLOTS_AT, SLOTS_MAX};
+use crate::layout::{COUNT_AT, DATA_KIND, LOW_AT, SLOT_LEN, SLOTS_AT, SLOTS_MAX};
 use crate::rows::is_row;
 use crate::slots::{Slot, get_slot};
 use pm_types::PageId;
 use pm_types::fields::{get_u16, get_u32, get_u64};
+use pm_types::head::KIND_AT;
 
 /// Whether these bytes are a data page of this name, with at least one row.
 pub fn check(page: &[u8], id: PageId) -> bool

@@ -5,8 +5,9 @@ ghost use Rattle.pm_types.specs.PageSizes.{IsPageSize};
 ghost use Rattle.pm_types.specs.Pages.{IsNoted};
 ghost use Rattle.pm_data.specs.DataPages.{data_of, empty_page, with_links, IsDataPage};
 
-use crate::layout::{DATA_KIND, KIND_AT, LOW_AT, NEXT_AT, PREV_AT, SLOTS_AT};
+use crate::layout::{DATA_KIND, LOW_AT, NEXT_AT, PREV_AT, SLOTS_AT};
 use pm_types::fields::{get_u32, put_bytes, put_u16, put_u64, set_u32};
+use pm_types::head::KIND_AT;
 use pm_types::{PageId, Patch};
 
 /// Makes a data page of this name without rows and neighbours.

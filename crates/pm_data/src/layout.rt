@@ -1,13 +1,9 @@
 //! Where the fields of a data page stand. On the disk: do not change.
 
-/// The number of caches. A row's cache is below it.
-pub const CACHES: u8 = 16;
 /// What a row has before its key, in bytes: the cache, and the lengths of key and value.
 pub const ROW_HEAD_LEN: usize = 4;
 /// The kind of a data page.
 pub const DATA_KIND: u8 = 4;
-/// Where the page's kind stands.
-pub const KIND_AT: u16 = 8;
 /// Where the number of slots stands.
 pub const COUNT_AT: u16 = 10;
 /// Where the index of the page before it in the chain stands.

@@ -3,9 +3,9 @@
 ghost use Rattle.std.specs.Prelude.{◌↔◌, IsTrue};
 ghost use Rattle.pm_data.specs.Rows.{IsRow};
 
-use crate::layout::{CACHES, ROW_HEAD_LEN};
+use crate::layout::ROW_HEAD_LEN;
 use pm_types::fields::get_u16;
-use pm_types::{KEY_MAX, VALUE_MAX};
+use pm_types::{CACHES, KEY_MAX, VALUE_MAX};
 
 /// Whether these bytes are a row.
 pub fn is_row(row: &[u8]) -> bool

@@ -10,7 +10,7 @@ use Rattle.std.specs.Prelude.{◌≡◌, ◌<◌, ◌≤◌, ◌+◌, ◌/◌, �
 use Rattle.pm_disk.specs.declared.mark.MarkFile.TheVariants as mark
 use Rattle.pm_disk.specs.declared.names.StoreFile.{StoreFile}
 use Rattle.pm_disk.specs.declared.names.StoreFile.TheVariants.{Config, Marks, Segment, Pages}
-use Rattle.pm_disk.specs.declared.names.TheConstants.{PARTITIONS_MAX}
+use Rattle.pm_types.specs.declared.limits.TheConstants.{PARTITIONS_MAX}
 
 -- the digit of a number below 16: `0` to `9`, then `a` to `f`
 abbrev pub hex_digit : ℕ → ℕ

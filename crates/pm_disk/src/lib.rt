@@ -17,7 +17,7 @@ pub use laws::{a_page_is_written_alone, a_slot_is_written_alone};
 pub use log::{LogFile, LogReader};
 pub use mark::{MarkFile, SLOT_LEN};
 pub use names::{
-    PARTITION_NAME_LEN, PARTITIONS_MAX, SEGMENT_NAME_LEN, StoreFile, file_named, partition_name,
-    partition_number, segment_name, segment_number,
+    PARTITION_NAME_LEN, SEGMENT_NAME_LEN, StoreFile, file_named, partition_name, partition_number,
+    segment_name, segment_number,
 };
 pub use pages::{PageReader, PageWriter};

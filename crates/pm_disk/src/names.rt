@@ -1,10 +1,12 @@
 //! The names of the store's files in its folder.
 
 ghost use Rattle.std.specs.Prelude.{◌≡◌, ◌<◌, ℕ, MatchOption};
+ghost use Rattle.pm_types.specs.declared.limits.TheConstants.{PARTITIONS_MAX};
 ghost use Rattle.pm_disk.specs.declared.names.StoreFile.{StoreFile};
 ghost use Rattle.pm_disk.specs.Names.{hex_digit, segment_name, IsSegmentName, partition_name, IsPartitionName, IsNameOf};
 
 use crate::mark::MarkFile;
+use pm_types::PARTITIONS_MAX;
 
 /// How many bytes the name of a segment has.
 pub const SEGMENT_NAME_LEN: usize = 24;
@@ -42,9 +44,6 @@ pub fn segment_number(name: &[u8]) -> Option<u64>
         None
     }
 }
-
-/// The most partitions of a store. A partition's file has a name of three digits.
-pub const PARTITIONS_MAX: u16 = 64;
 
 /// How many bytes the name of a partition's file has.
 pub const PARTITION_NAME_LEN: usize = 14;

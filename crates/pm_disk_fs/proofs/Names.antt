@@ -4,7 +4,7 @@ use Rattle.std.specs.Prelude.{codes}
 use Rattle.std.specs.Str.{IsUtf8, IsAscii}
 use Rattle.std.proofs.lemmas.Str.{IsUtf8-append, IsUtf8-from_ascii}
 use Rattle.pm_disk.specs.Names.{hex_digit, hex_digits, segment_name, partition_name}
-use Rattle.pm_disk.specs.declared.names.TheConstants.{PARTITIONS_MAX}
+use Rattle.pm_types.specs.declared.limits.TheConstants.{PARTITIONS_MAX}
 
 pub IsAscii-cons : (x : ℕ) (xs : List ℕ) → x < 128 → IsAscii xs → IsAscii (x ∷ xs)
 IsAscii-cons x xs lt rest zero = lt

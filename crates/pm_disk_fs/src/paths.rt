@@ -2,11 +2,12 @@
 
 ghost use Rattle.std.specs.Prelude.{◌≡◌, ◌<◌, ◌++◌, IfOk, OnOk, codes};
 ghost use Rattle.std.specs.String.{string_bytes};
-ghost use Rattle.pm_disk.specs.declared.names.TheConstants.{PARTITIONS_MAX};
+ghost use Rattle.pm_types.specs.declared.limits.TheConstants.{PARTITIONS_MAX};
 ghost use Rattle.pm_disk.specs.Names.{segment_name, partition_name};
 ghost use Rattle.pm_disk_fs.specs.Paths.{name_of};
 
-use pm_disk::{MarkFile, PARTITIONS_MAX, StoreFile, partition_name, segment_name};
+use pm_disk::{MarkFile, StoreFile, partition_name, segment_name};
+use pm_types::PARTITIONS_MAX;
 use std::alloc::{AllocError, Global};
 use std::fs::{self, OpenFile};
 use std::io::{self, ErrorKind};

@@ -24,7 +24,8 @@ use Rattle.pm_types.specs.PageSizes.{IsPageSize}
 use Rattle.pm_types.specs.declared.limits.TheConstants.{CACHES}
 use Rattle.pm_types.specs.declared.page_id.PageId.{PageId}
 use Rattle.pm_types.specs.Fields.{u32_at, u64_at, AreZero}
-use Rattle.pm_meta.specs.declared.layout.TheConstants.{KIND_AT, META_KIND, REUSE_KIND, FIELDS_AT, HEADS_AT, REUSE_AT, PAGES_AT, ROWS_AT, FIELDS_END, INDEXES, BUCKETS, NEXT_AT, REUSE_END, EXTRA_PAGES}
+use Rattle.pm_types.specs.declared.head.TheConstants.{KIND_AT}
+use Rattle.pm_meta.specs.declared.layout.TheConstants.{META_KIND, REUSE_KIND, FIELDS_AT, HEADS_AT, REUSE_AT, PAGES_AT, ROWS_AT, FIELDS_END, INDEXES, BUCKETS, NEXT_AT, REUSE_END, EXTRA_PAGES}
 use Rattle.pm_meta.specs.declared.slots.MetaSlot.{MetaSlot}
 use Rattle.pm_meta.specs.declared.slots.MetaSlot.TheVariants.{Root, Bucket, Reuse, Pages, Rows}
 
@@ -47,13 +48,6 @@ place_of Rows = ROWS_AT
 -- the number in a slot
 abbrev pub field_of : List ℕ → MetaSlot → ℕ
 field_of page slot = u32_at page (place_of slot)
-
--- a page of this name and kind, and else of zeros
-pub record IsBlank (id : PageId) (kind : ℕ) (page : List ℕ) : Type 0 where
-  pub size : IsPageSize (length page)
-  pub own : u64_at page 0 ≡ id.0
-  pub kind_is : slice_index page KIND_AT ≡ kind
-  pub zeros : AreZero page 9 (length page)
 
 -- the kind, and the bytes that are zero
 pub record HasForm (page : List ℕ) : Type 0 where

@@ -6,11 +6,10 @@ ghost use Rattle.pm_types.specs.Fields.{u32_at};
 ghost use Rattle.pm_meta.specs.declared.slots.MetaSlot.TheVariants.{Pages};
 ghost use Rattle.pm_meta.specs.MetaPages.{field_of, HasForm, HasCounts, AllBelow, IsStoredMeta};
 
-use crate::layout::{
-    EXTRA_PAGES, FIELDS_AT, FIELDS_END, INDEXES, KIND_AT, META_KIND, PAGES_AT, ROWS_AT,
-};
+use crate::layout::{EXTRA_PAGES, FIELDS_AT, FIELDS_END, INDEXES, META_KIND, PAGES_AT, ROWS_AT};
 use pm_types::PageId;
 use pm_types::fields::{are_zero, get_u32, get_u64};
+use pm_types::head::KIND_AT;
 
 /// Whether these bytes are a meta page of this name, of a store with so many rows at most.
 pub fn check(page: &[u8], id: PageId, max_rows: u32) -> bool

@@ -4,8 +4,6 @@
 pub const META_KIND: u8 = 1;
 /// The kind of a reuse page.
 pub const REUSE_KIND: u8 = 5;
-/// Where a page's kind stands.
-pub const KIND_AT: u16 = 8;
 /// Where the numbers of a meta page begin, four bytes each: the roots of the caches come first.
 pub const FIELDS_AT: u16 = 32;
 /// Where the heads of the buckets begin.

@@ -2,7 +2,6 @@
 #![tactic(auto)]
 
 mod checks;
-mod head;
 mod layout;
 mod meta;
 mod reuse;

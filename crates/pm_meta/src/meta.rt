@@ -8,10 +8,10 @@ ghost use Rattle.pm_meta.specs.declared.slots.MetaSlot.{MetaSlot};
 ghost use Rattle.pm_meta.specs.declared.slots.MetaSlot.TheVariants.{Pages};
 ghost use Rattle.pm_meta.specs.MetaPages.{field_of, IsSlot, IsMetaPage, IsStoredMeta};
 
-use crate::head::put_head;
 use crate::layout::{META_KIND, PAGES_AT};
 use crate::slots::{MetaSlot, place};
 use pm_types::fields::{get_u32, put_u32, set_u32};
+use pm_types::head::put_head;
 use pm_types::{PageId, Patch};
 
 /// Makes a meta page of this name: a partition with no other page, and without rows.

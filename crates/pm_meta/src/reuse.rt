@@ -4,10 +4,10 @@ ghost use Rattle.std.specs.Prelude.{◌≡◌, ◌↔◌, IsTrue, length};
 ghost use Rattle.pm_types.specs.PageSizes.{IsPageSize};
 ghost use Rattle.pm_meta.specs.MetaPages.{next_of, IsReusePage, IsStoredReuse};
 
-use crate::head::put_head;
-use crate::layout::{KIND_AT, NEXT_AT, REUSE_END, REUSE_KIND};
+use crate::layout::{NEXT_AT, REUSE_END, REUSE_KIND};
 use pm_types::PageId;
 use pm_types::fields::{are_zero, get_u32, get_u64, put_u32};
+use pm_types::head::{KIND_AT, put_head};
 
 /// Makes a reuse page of this name, with the index of the next one in the chain, 0 where there is none.
 ///

@@ -1,2 +1,3 @@
 pub mod CacheKeys
+pub mod CountedRows
 pub mod Runs

@@ -1,4 +1,5 @@
 pub mod Batches
+pub mod Counts
 pub mod Eval
 pub mod Partitions
 pub mod ReplyLists

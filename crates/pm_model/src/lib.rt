@@ -10,6 +10,7 @@ mod plain_batcher;
 mod plain_map;
 mod replies;
 mod reply;
+mod row_counts;
 
 pub use batcher::Batcher;
 pub use cache_key::CacheKey;

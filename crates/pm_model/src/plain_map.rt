@@ -3,7 +3,7 @@
 ghost use Rattle.std.specs.Prelude.{◌≡◌, IfOk, OnOk, OnErr};
 ghost use Rattle.std.specs.Option.{option_copied};
 ghost use Rattle.std.specs.FinMap as map;
-ghost use Rattle.pm_model.specs.Eval.{cache_key, found, rows_of, is_full, pairs_of, reply_to, is_accepted, after};
+ghost use Rattle.pm_model.specs.Eval.{cache_key, found, is_full, pairs_of, reply_to, is_accepted, after};
 ghost use Rattle.pm_model.specs.Partitions.{ArePartitions};
 
 use crate::cache_key::CacheKey;
@@ -11,6 +11,7 @@ use crate::line::{Cmd, Line};
 use crate::pair_list::PairList;
 use crate::partition::part_of;
 use crate::reply::{Answer, Reply};
+use crate::row_counts::{RowCounts, put_counted, remove_counted, rows_counted};
 use pm_types::{Key, Shape, Value};
 use std::alloc::{AllocError, Global};
 use std::collections::BTreeMap;
@@ -20,11 +21,15 @@ use std::marker::Model;
 #[derive(Drop)]
 pub struct PlainMap {
     pairs: BTreeMap<CacheKey, Value>,
+    // The rows of each partition, from the first time on that they are asked for.
+    counts: Option<RowCounts>,
 }
 
 impl Model for PlainMap {
     ghost use Rattle.std.specs.Prelude.{ℕ, List};
+    ghost use Rattle.std.specs.BTreeMap.{keys};
     ghost use Rattle.std.specs.FinMap as map;
+    ghost use Rattle.pm_model.specs.Counts.{AreKept};
     ghost use Rattle.pm_model.specs.Eval.{cache_key_cmp, coded_pairs};
 
     ghost Value = { map.FinMap cache_key_cmp (List ℕ) };
@@ -32,6 +37,8 @@ impl Model for PlainMap {
     ghost coded = { coded_pairs };
 
     ghost view = { λ m. map.from_entries m.pairs.entries };
+
+    ghost invariant = { λ m. AreKept m.counts (keys m.pairs) };
 }
 
 impl PlainMap {
@@ -41,6 +48,7 @@ impl PlainMap {
     {
         PlainMap {
             pairs: BTreeMap::new(alloc),
+            counts: None,
         }
     }
 
@@ -51,8 +59,8 @@ impl PlainMap {
             (self.new ≡ map.insert self.old (cache_key cache key) value) }
         ensures unchanged { OnErr result (self.new ≡ self.old) }
     {
-        self.pairs.insert(CacheKey { cache, key }, value)?;
-        Ok(())
+        let at = CacheKey { cache, key };
+        put_counted(&mut self.pairs, &mut self.counts, at, value)
     }
 
     /// The value of a key, or none where it has none.
@@ -69,7 +77,7 @@ impl PlainMap {
         ensures was { result ≡ map.contains_key self.old at.now }
         ensures removed { self.new ≡ map.remove self.old at.now }
     {
-        self.pairs.remove(at).is_some()
+        remove_counted(&mut self.pairs, &mut self.counts, at)
     }
 
     /// The pairs of a cache, by rising key.
@@ -141,10 +149,10 @@ impl PlainMap {
     }
 
     // Whether the key is new, and its partition has as many rows as it may have.
-    #[tactic(auto, using(crate::proofs::CacheKeys::few_rows))]
-    fn is_full(&self, shape: Shape, at: &CacheKey) -> bool
+    fn is_full(&mut self, shape: Shape, at: &CacheKey) -> bool
         requires { ArePartitions shape.partitions }
-        ensures { result ≡ is_full shape at.now self.now }
+        ensures full { result ≡ is_full shape at.now self.old }
+        ensures unchanged { self.new ≡ self.old }
     {
         if self.get(at).is_some() {
             return false;
@@ -155,18 +163,8 @@ impl PlainMap {
             return false;
         }
         let part = part_of(at.key.bytes(), shape.partitions);
-        self.rows_of(shape.partitions, part) >= most
-    }
-
-    // How many rows the partition has, over all caches.
-    #[tactic(auto, using(crate::proofs::CacheKeys::entries_are))]
-    fn rows_of(&self, partitions: u16, part: u16) -> usize
-        requires { ArePartitions partitions }
-        ensures { result ≡ rows_of partitions part self.now }
-    {
-        let keys = self.pairs.keys();
-        keys.filter(|at| part_of(at.key.bytes(), partitions) == part)
-            .count()
+        let rows = rows_counted(&self.pairs, &mut self.counts, shape.partitions, part);
+        rows >= most
     }
 }
 

@@ -15,9 +15,9 @@ none-logical : (payload : List ℕ)
     → record_of LOGICAL payload ≡ None
 none-logical payload h = record_of-none LOGICAL payload (λ r. elim r as (λ r. IsRecord r → LOGICAL ≡ kind_of r → payload ≡ payload_of r → ⊥) [
   | Logical op cache key value ↦ λ fits k e. h op cache key value fits e
-  | Snapshot page bytes ↦ λ fits k e. fits
-  | Delta page ranges ↦ λ fits k e. fits
-  | CpBegin number replay ↦ λ fits k e. fits
+  | Snapshot page bytes ↦ λ fits k e. absurd (omega (arith, k))
+  | Delta page ranges ↦ λ fits k e. absurd (omega (arith, k))
+  | CpBegin number replay ↦ λ fits k e. absurd (omega (arith, k))
   | Restart shape ↦ λ fits k e. absurd (omega (arith, k))
   | Seal ↦ λ fits k e. absurd (omega (arith, k))
 ])

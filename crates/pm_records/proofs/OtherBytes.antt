@@ -1,11 +1,11 @@
 -- The bytes of restarts and seals: what each test rules out.
-use Rattle.std.proofs.Common.{◌≡◌, ℕ, List, [], length, None, sym, ap, subst, ◌∙◌, arith}
+use Rattle.std.proofs.Common.{◌≡◌, ℕ, ◌≤◌, List, [], length, None, sym, ap, subst, ◌∙◌, arith}
 use Rattle.pm_types.specs.declared.shape.Shape.{Shape}
 use Rattle.pm_frame.specs.declared.kinds.TheConstants.{LOGICAL, RESTART, SEAL}
 use Rattle.pm_records.specs.declared.limits.TheConstants.{SHAPE_LEN}
 use Rattle.pm_records.specs.Shapes.{IsShape, shape_bytes}
 use Rattle.pm_records.specs.Records.{Logical, Snapshot, Delta, CpBegin, Restart, Seal, kind_of, payload_of, IsRecord, record_of}
-use Rattle.pm_records.proofs.RecordOf.{record_of-none}
+use Rattle.pm_records.proofs.RecordOf.{record_of-none, kind_of-known}
 use Rattle.pm_records.proofs.ShapeBytes.{ShapeFits, ShapeFits-from, shape_bytes-same, length-shape_bytes}
 
 -- where no restart is spelled, none is found
@@ -14,9 +14,9 @@ none-restart : (payload : List ℕ) → ((shape : Shape) → IsShape shape → p
 unfolding payload_of
 none-restart payload h = record_of-none RESTART payload (λ r. elim r as (λ r. IsRecord r → RESTART ≡ kind_of r → payload ≡ payload_of r → ⊥) [
   | Logical op cache key value ↦ λ fits k e. absurd (omega (arith, k))
-  | Snapshot page bytes ↦ λ fits k e. fits
-  | Delta page ranges ↦ λ fits k e. fits
-  | CpBegin number replay ↦ λ fits k e. fits
+  | Snapshot page bytes ↦ λ fits k e. absurd (omega (arith, k))
+  | Delta page ranges ↦ λ fits k e. absurd (omega (arith, k))
+  | CpBegin number replay ↦ λ fits k e. absurd (omega (arith, k))
   | Restart shape ↦ λ fits k e. h shape fits e
   | Seal ↦ λ fits k e. absurd (omega (arith, k))
 ])
@@ -34,21 +34,16 @@ pub none-seal : (payload : List ℕ) → (payload ≡ [] → ⊥) → record_of 
 unfolding payload_of
 none-seal payload other = record_of-none SEAL payload (λ r. elim r as (λ r. IsRecord r → SEAL ≡ kind_of r → payload ≡ payload_of r → ⊥) [
   | Logical op cache key value ↦ λ fits k e. absurd (omega (arith, k))
-  | Snapshot page bytes ↦ λ fits k e. fits
-  | Delta page ranges ↦ λ fits k e. fits
-  | CpBegin number replay ↦ λ fits k e. fits
+  | Snapshot page bytes ↦ λ fits k e. absurd (omega (arith, k))
+  | Delta page ranges ↦ λ fits k e. absurd (omega (arith, k))
+  | CpBegin number replay ↦ λ fits k e. absurd (omega (arith, k))
   | Restart shape ↦ λ fits k e. absurd (omega (arith, k))
   | Seal ↦ λ fits k e. other e
 ])
 
--- no other kind has a grammar
-pub none-other_kind : (kind : ℕ) (payload : List ℕ) → (kind ≡ LOGICAL → ⊥) → (kind ≡ RESTART → ⊥) → (kind ≡ SEAL → ⊥)
-    → record_of kind payload ≡ None
-none-other_kind kind payload logical restart seal = record_of-none kind payload (λ r. elim r as (λ r. IsRecord r → kind ≡ kind_of r → payload ≡ payload_of r → ⊥) [
-  | Logical op cache key value ↦ λ fits k e. logical k
-  | Snapshot page bytes ↦ λ fits k e. fits
-  | Delta page ranges ↦ λ fits k e. fits
-  | CpBegin number replay ↦ λ fits k e. fits
-  | Restart shape ↦ λ fits k e. restart k
-  | Seal ↦ λ fits k e. seal k
-])
+-- there is no other kind
+pub none-other_kind : (kind : ℕ) (payload : List ℕ) → (LOGICAL ≤ kind → kind ≤ SEAL → ⊥) → record_of kind payload ≡ None
+none-other_kind kind payload other =
+    record_of-none kind payload (λ r fits k e.
+    let known = kind_of-known r in
+    other (omega (arith, k, known.0)) (omega (arith, k, known.1)))

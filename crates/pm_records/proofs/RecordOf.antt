@@ -7,21 +7,28 @@ use Rattle.std.proofs.lemmas.Bool.Decides.{Decides-eqb}
 use Rattle.std.proofs.lemmas.List.{length-append, take_at, drop_at}
 use Rattle.std.proofs.lemmas.Option.{cond_some, same_Some}
 use Rattle.std.proofs.lemmas.Slice.Eq.{slice_eq-Decides}
+use Rattle.std.proofs.lemmas.Nat.{from_le_bytes-to_le_bytes_4, from_le_bytes-to_le_bytes_8}
+use Rattle.std.specs.Int.{w64, to_le_bytes}
+use Rattle.pm_types.specs.declared.page_id.PageId.{PageId}
+use Rattle.pm_types.proofs.PageSizeBounds.{page_size_bounds}
+use Rattle.pm_records.specs.PageNames.{IsPageName}
+use Rattle.pm_records.specs.PageRecords.{IsCpBegin}
+use Rattle.pm_records.proofs.DeltaLengths.{delta_short}
 use Rattle.pm_types.specs.declared.place.Place.{Place}
 use Rattle.pm_frame.specs.declared.kinds.TheConstants.{LOGICAL, SEAL}
 use Rattle.pm_frame.specs.declared.limits.TheConstants.{PAYLOAD_MAX, FRAME_EXTRA}
 use Rattle.pm_frame.specs.Frames.{IsFrame, end_max}
 use Rattle.pm_records.specs.declared.limits.TheConstants.{LOGICAL_HEAD_LEN}
 use Rattle.pm_records.specs.Shapes.{shape_bytes}
-use Rattle.pm_records.specs.Records.{Record, Logical, Snapshot, Delta, CpBegin, Restart, Seal, kind_of, logical_head, payload_of, IsRecord, is_record, named_record, record_of}
+use Rattle.pm_records.specs.Records.{Record, Logical, Snapshot, Delta, CpBegin, Restart, Seal, kind_of, logical_head, payload_of, IsRecord, is_record, named_logical, named_page, named_cp_begin, named_record, record_of}
 use Rattle.pm_records.proofs.GrammarTests.{record_passes, IsRecord-from}
 use Rattle.pm_records.proofs.ShapeBytes.{ShapeFits-from, named_shape-bytes}
 
 -- ---- what is spelled names itself
 
 named_logical-bytes : (op cache : ℕ) (key value : List ℕ)
-    → named_record LOGICAL (payload_of (Logical op cache key value)) ≡ Logical op cache key value
-unfolding named_record payload_of
+    → named_logical (payload_of (Logical op cache key value)) ≡ Logical op cache key value
+unfolding named_logical payload_of
 named_logical-bytes op cache key value =
     let n = length key in
     let head = logical_head op cache n (length value) in
@@ -35,12 +42,26 @@ named_logical-bytes op cache key value =
     in
     λ i. Logical op cache (key_is i) (value_is i)
 
-named_record-payload : (r : Record) → IsRecord r → named_record (kind_of r) (payload_of r) ≡ r
+page_again : (page : PageId) (bytes : List ℕ) → IsPageName page → named_page (to_le_bytes w64 page.0 ++ bytes) ≡ page
+page_again page bytes h =
+    let back = from_le_bytes-to_le_bytes_8 page.0 (omega (arith, h.flag)) in
+    λ i. record { 0 = back i }
+
+named_cp_begin-bytes : (number : ℕ) (replay : Place) → IsCpBegin number replay
+    → named_cp_begin (payload_of (CpBegin number replay)) ≡ CpBegin number replay
+unfolding named_cp_begin payload_of
+named_cp_begin-bytes number replay h =
+    let number_back = from_le_bytes-to_le_bytes_8 number h.number_fits in
+    let seg_back = from_le_bytes-to_le_bytes_8 replay.seg h.seg_fits in
+    let off_back = from_le_bytes-to_le_bytes_4 replay.off h.off_fits in
+    λ i. CpBegin (number_back i) (record { seg = seg_back i; off = off_back i })
+
+pub named_record-payload : (r : Record) → IsRecord r → named_record (kind_of r) (payload_of r) ≡ r
 unfolding named_record payload_of
 named_record-payload (Logical op cache key value) h = named_logical-bytes op cache key value
-named_record-payload (Snapshot page bytes) h = absurd h
-named_record-payload (Delta page ranges) h = absurd h
-named_record-payload (CpBegin number replay) h = absurd h
+named_record-payload (Snapshot page bytes) h = ap (λ p. Snapshot p bytes) (page_again page bytes h.named)
+named_record-payload (Delta page ranges) h = ap (λ p. Delta p ranges) (page_again page ranges h.named)
+named_record-payload (CpBegin number replay) h = named_cp_begin-bytes number replay h
 named_record-payload (Restart shape) h = ap Restart (named_shape-bytes shape (ShapeFits-from shape h))
 named_record-payload Seal h = refl
 
@@ -87,6 +108,14 @@ record_of-none kind payload h =
     in
     found refl
 
+-- where the record that the payload would be isn't spelled, none is found
+pub record_of-unnamed : (kind : ℕ) (payload : List ℕ)
+    → (IsRecord (named_record kind payload) → payload ≡ payload_of (named_record kind payload) → ⊥) → record_of kind payload ≡ None
+record_of-unnamed kind payload h =
+    record_of-none kind payload (λ r fits k p.
+    let is : r ≡ named_record kind payload = sym ((λ i. named_record (k i) (p i)) ∙ named_record-payload r fits) in
+    h (subst IsRecord is fits) (p ∙ ap payload_of is))
+
 -- one record at most is spelled by a payload of a kind
 pub one_record : (a b : Record) → IsRecord a → IsRecord b → kind_of a ≡ kind_of b → payload_of a ≡ payload_of b → a ≡ b
 one_record a b h g k p = same_Some a b (sym (record_of-payload a h) ∙ (λ i. record_of (k i) (p i)) ∙ record_of-payload b g)
@@ -98,13 +127,13 @@ unfolding payload_of shape_bytes
 payload_of-short (Logical op cache key value) h =
     let n = length-append (logical_head op cache (length key) (length value)) (key ++ value) in
     omega (arith, n, length-append key value, h.keyed.short, h.valued)
-payload_of-short (Snapshot page bytes) h = absurd h
-payload_of-short (Delta page ranges) h = absurd h
-payload_of-short (CpBegin number replay) h = absurd h
+payload_of-short (Snapshot page bytes) h = omega (arith, (page_size_bounds (length bytes) h.sized).1)
+payload_of-short (Delta page ranges) h = omega (arith, delta_short ranges h.ranges_are)
+payload_of-short (CpBegin number replay) h = omega arith
 payload_of-short (Restart shape) h = omega arith
 payload_of-short Seal h = omega arith
 
-kind_of-known : (r : Record) → (LOGICAL ≤ kind_of r) × (kind_of r ≤ SEAL)
+pub kind_of-known : (r : Record) → (LOGICAL ≤ kind_of r) × (kind_of r ≤ SEAL)
 kind_of-known (Logical op cache key value) = (omega arith, omega arith)
 kind_of-known (Snapshot page bytes) = (omega arith, omega arith)
 kind_of-known (Delta page ranges) = (omega arith, omega arith)

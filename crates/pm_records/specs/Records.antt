@@ -7,12 +7,12 @@
 --                 length of the value, at most 900  4    of a remove 0
 --                 key, value
 --   2 snapshot    name of the page                  8
---                 the page
+--                 the page, of a page size
 --   3 delta       name of the page                  8
 --                 number of ranges, 1 to 8          1
 --                 of each range: start, length      2, 2
 --                 and its bytes
---   4 CP_BEGIN    number of the checkpoint          8
+--   4 CP_BEGIN    number of the checkpoint, from 1  8
 --                 replay place: segment, offset     8, 4
 --   5 RESTART     page size                         4
 --                 partitions, version               2, 2
@@ -20,17 +20,18 @@
 --                 most bytes of a segment           4
 --   6 SEAL        nothing
 --
--- Nothing follows the last field. Records of kinds 2, 3 and 4 come with pages: until then they are in no grammar.
-use Rattle.std.specs.Prelude.{◌≡◌, ℕ, ◌+◌, ◌<◌, ◌⊎◌, Bool, true, false, ◌&&◌, ◌||◌, nat_eq, nat_lt, nat_le, ◌==◌, if◌then◌else◌, List, [], ◌∷◌, ◌++◌, length, drop, slice_index, slice_range, Option, Some, None}
+-- Nothing follows the last field.
+use Rattle.std.specs.Prelude.{◌≡◌, ℕ, ◌+◌, ◌<◌, ◌⊎◌, Bool, true, ◌&&◌, ◌||◌, nat_eq, nat_lt, nat_le, ◌==◌, if◌then◌else◌, List, [], ◌∷◌, ◌++◌, length, drop, slice_index, slice_range, Option, Some, None}
 use Rattle.std.specs.Cmp.Lexicographic.{pointwise}
-use Rattle.std.specs.Int.{w32, w64, to_le_bytes}
-use Rattle.pm_types.specs.declared.limits.TheConstants.{KEY_MAX, VALUE_MAX}
+use Rattle.std.specs.Int.{w32, w64, to_le_bytes, from_le_bytes}
+use Rattle.pm_types.specs.declared.limits.TheConstants.{CACHES, KEY_MAX, VALUE_MAX}
 use Rattle.pm_types.specs.declared.page_id.PageId.{PageId}
 use Rattle.pm_types.specs.declared.place.Place.{Place}
 use Rattle.pm_types.specs.declared.shape.Shape.{Shape}
 use Rattle.pm_types.specs.Keys.{HasKeyLength, HasValueLength}
 use Rattle.pm_frame.specs.declared.kinds.TheConstants.{LOGICAL, SNAPSHOT, DELTA, CP_BEGIN, RESTART, SEAL}
-use Rattle.pm_records.specs.declared.limits.TheConstants.{PUT, REMOVE, CACHES, LOGICAL_HEAD_LEN}
+use Rattle.pm_records.specs.declared.limits.TheConstants.{PUT, REMOVE, LOGICAL_HEAD_LEN, PAGE_NAME_LEN}
+use Rattle.pm_records.specs.PageRecords.{IsSnapshot, IsPageDelta, IsCpBegin, is_snapshot, is_page_delta, is_cp_begin}
 use Rattle.pm_records.specs.Shapes.{IsShape, is_shape, shape_bytes, named_shape}
 
 -- a record, without where it lies in memory
@@ -74,9 +75,9 @@ pub record IsLogical (op cache : ℕ) (key value : List ℕ) : Type 0 where
 -- the record is in the grammar of its kind
 abbrev pub IsRecord : Record → Type 0
 IsRecord (Logical op cache key value) = IsLogical op cache key value
-IsRecord (Snapshot page bytes) = ⊥
-IsRecord (Delta page ranges) = ⊥
-IsRecord (CpBegin number replay) = ⊥
+IsRecord (Snapshot page bytes) = IsSnapshot page bytes
+IsRecord (Delta page ranges) = IsPageDelta page ranges
+IsRecord (CpBegin number replay) = IsCpBegin number replay
 IsRecord (Restart shape) = IsShape shape
 IsRecord Seal = Unit {0}
 
@@ -88,20 +89,38 @@ is_logical op cache key value =
 
 abbrev pub is_record : Record → Bool
 is_record (Logical op cache key value) = is_logical op cache key value
-is_record (Snapshot page bytes) = false
-is_record (Delta page ranges) = false
-is_record (CpBegin number replay) = false
+is_record (Snapshot page bytes) = is_snapshot page bytes
+is_record (Delta page ranges) = is_page_delta page ranges
+is_record (CpBegin number replay) = is_cp_begin number replay
 is_record (Restart shape) = is_shape shape
 is_record Seal = true
 
--- the record that a payload of this kind would be, by the lengths that it names; a SEAL where the kind has no grammar
+-- the logical record that a payload would be, by the lengths that it names
+unfoldable pub named_logical : List ℕ → Record
+named_logical payload =
+    let key_end : ℕ = LOGICAL_HEAD_LEN + slice_index payload 2 in
+    Logical (slice_index payload 0) (slice_index payload 1) (slice_range payload LOGICAL_HEAD_LEN key_end) (drop key_end payload)
+
+-- the page that a payload begins with
+abbrev pub named_page : List ℕ → PageId
+named_page payload = record { 0 = from_le_bytes w64 (slice_range payload 0 PAGE_NAME_LEN) }
+
+-- the CP_BEGIN that a payload would be
+unfoldable pub named_cp_begin : List ℕ → Record
+named_cp_begin payload =
+    CpBegin (from_le_bytes w64 (slice_range payload 0 8)) (record {
+      seg = from_le_bytes w64 (slice_range payload 8 16);
+      off = from_le_bytes w32 (slice_range payload 16 20);
+    })
+
+-- the record that a payload of this kind would be; a SEAL where there is no such kind
 unfoldable pub named_record : ℕ → List ℕ → Record
 named_record kind payload =
-    let key_end : ℕ = LOGICAL_HEAD_LEN + slice_index payload 2 in
-    if kind == LOGICAL
-    then Logical (slice_index payload 0) (slice_index payload 1) (slice_range payload LOGICAL_HEAD_LEN key_end) (drop key_end payload)
-    else if kind == RESTART
-    then Restart (named_shape payload)
+    if kind == LOGICAL then named_logical payload
+    else if kind == SNAPSHOT then Snapshot (named_page payload) (drop PAGE_NAME_LEN payload)
+    else if kind == DELTA then Delta (named_page payload) (drop PAGE_NAME_LEN payload)
+    else if kind == CP_BEGIN then named_cp_begin payload
+    else if kind == RESTART then Restart (named_shape payload)
     else Seal
 
 -- the record that the payload is

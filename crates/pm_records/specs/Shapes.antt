@@ -8,10 +8,10 @@
 --       12     4  most bytes of a log segment
 use Rattle.std.specs.Prelude.{ℕ, ◌≤◌, Bool, ◌&&◌, ◌||◌, nat_le, ◌==◌, List, ◌++◌, slice_range}
 use Rattle.std.specs.Int.{w16, w32, to_le_bytes, from_le_bytes}
-use Rattle.pm_types.specs.declared.limits.TheConstants.{LAST_VERSION, PAGE_SIZE_MIN, PAGE_SIZE_MAX}
+use Rattle.pm_types.specs.declared.limits.TheConstants.{LAST_VERSION, PARTITIONS_MAX, PAGE_SIZE_MIN, PAGE_SIZE_MAX}
 use Rattle.pm_types.specs.declared.shape.Shape.{Shape}
 use Rattle.pm_types.specs.PageSizes.{IsPageSize}
-use Rattle.pm_records.specs.declared.limits.TheConstants.{PARTITIONS_MAX, ROWS_MAX, SEGMENT_BYTES_MIN, SEGMENT_BYTES_MAX}
+use Rattle.pm_records.specs.declared.limits.TheConstants.{ROWS_MAX, SEGMENT_BYTES_MIN, SEGMENT_BYTES_MAX}
 
 -- each number of the shape is within its limits
 pub record IsShape (shape : Shape) : Type 0 where

@@ -4,14 +4,13 @@
 mod decoding;
 mod encoding;
 mod limits;
+mod page_name;
 mod record;
 mod shape;
 
 pub use decoding::decode;
 pub use encoding::{encode, encoded_len};
-pub use limits::{
-    CACHES, PARTITIONS_MAX, PUT, REMOVE, ROWS_MAX, SEGMENT_BYTES_MAX, SEGMENT_BYTES_MIN, SHAPE_LEN,
-};
+pub use limits::{PUT, REMOVE, ROWS_MAX, SEGMENT_BYTES_MAX, SEGMENT_BYTES_MIN, SHAPE_LEN};
 pub use record::{BadPayload, LogRecord, kind_of};
 pub use shape::{is_page_size, is_shape, shape_bytes, shape_of};
 

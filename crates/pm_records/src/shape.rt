@@ -4,8 +4,8 @@ ghost use Rattle.std.specs.Prelude.{◌≡◌, ◌↔◌, IsTrue};
 ghost use Rattle.pm_types.specs.PageSizes.{IsPageSize};
 ghost use Rattle.pm_records.specs.Shapes.{IsShape, shape_bytes};
 
-use crate::limits::{PARTITIONS_MAX, ROWS_MAX, SEGMENT_BYTES_MAX, SEGMENT_BYTES_MIN, SHAPE_LEN};
-use pm_types::{LAST_VERSION, Shape};
+use crate::limits::{ROWS_MAX, SEGMENT_BYTES_MAX, SEGMENT_BYTES_MIN, SHAPE_LEN};
+use pm_types::{LAST_VERSION, PARTITIONS_MAX, Shape};
 
 /// Whether pages may have this size, in bytes.
 pub fn is_page_size(size: u32) -> bool

@@ -1,6 +1,6 @@
 use super::*;
 use pm_frame::{CP_BEGIN, DELTA, FRAME_EXTRA, LOGICAL, RESTART, SEAL, SNAPSHOT};
-use pm_types::Shape;
+use pm_types::{PageId, Place, Shape};
 use std::process::Abort;
 use std::test::Fail;
 
@@ -9,6 +9,25 @@ const PUT_BYTES: [u8; 9] = [1, 0, 1, 1, 0, 0, 0, 0x61, 0x31];
 
 // `remove 15 ab`
 const REMOVE_BYTES: [u8; 9] = [2, 15, 2, 0, 0, 0, 0, 0x61, 0x62];
+
+// page 5 of partition 2
+const PAGE: PageId = PageId(0x0001_0002_0000_0005);
+
+const NAME_BYTES: [u8; 8] = [5, 0, 0, 0, 2, 0, 1, 0];
+
+// its bytes 32 and 33 are 7 and 8 now, and byte 1,023 is 9
+const DELTA_BYTES: [u8; 20] = [
+    5, 0, 0, 0, 2, 0, 1, 0, 2, 0x20, 0, 2, 0, 7, 8, 0xff, 0x03, 1, 0, 9,
+];
+
+// one range: byte 32 is 7 now
+const RANGES: &[u8] = &[1, 32, 0, 1, 0, 7];
+
+// page 0xffff_ffff of partition 63; one range that ends at 16,384
+const LAST_DELTA_BYTES: [u8; 14] = [0xff, 0xff, 0xff, 0xff, 63, 0, 1, 0, 1, 0xff, 0x3f, 1, 0, 6];
+
+// checkpoint 3, with replay place 2:517
+const CP_BEGIN_BYTES: [u8; 20] = [3, 0, 0, 0, 0, 0, 0, 0, 2, 0, 0, 0, 0, 0, 0, 0, 5, 2, 0, 0];
 
 // 0x1000 bytes a page, 4 partitions, version 1, 0x61a80 rows, 0x0400_0000 bytes a segment
 const RESTART_BYTES: [u8; 16] = [
@@ -24,22 +43,29 @@ const SHAPE: Shape = Shape {
 };
 
 // The bytes are read as this record, and the record is written as these bytes.
-fn agrees(rt: &impl Abort, kind: u8, payload: &[u8], frame_len: usize, record: LogRecord<'_>) {
+fn agrees(
+    rt: &(impl Abort + AllocGlobal),
+    kind: u8,
+    payload: &[u8],
+    frame_len: usize,
+    record: LogRecord<'_>,
+) -> Result<(), Fail> {
     let read = decode(kind, payload);
-    assert_eq!(rt; read, Ok(record));
+    assert_eq!(rt; read, Ok(record), "kind {kind}");
     if let Ok(read) = read {
-        let mut bytes = [0; 16];
         let len = encoded_len(&read);
-        assert_eq!(rt; len + FRAME_EXTRA, frame_len);
-        assert!(rt; len <= 16);
+        assert_eq!(rt; len + FRAME_EXTRA, frame_len, "kind {kind}");
+        let mut bytes = Vec::from_slice(rt.alloc(), &[0xee; 16_392])?;
+        assert!(rt; len <= bytes.len(), "kind {kind}");
         encode(&read, &mut bytes[..len]);
-        assert_eq!(rt; &bytes[..len], payload);
+        assert_eq!(rt; &bytes[..len], payload, "kind {kind}");
         assert_eq!(rt; kind_of(&read), kind);
     }
+    Ok(())
 }
 
 #[test]
-fn each_record_has_its_bytes(rt: HostRuntime) {
+fn each_record_has_its_bytes(rt: HostRuntime) -> Result<(), Fail> {
     let put = LogRecord::Logical {
         op: PUT,
         cache: 0,
@@ -52,21 +78,118 @@ fn each_record_has_its_bytes(rt: HostRuntime) {
         key: b"ab",
         value: b"",
     };
-    agrees(&rt, LOGICAL, &PUT_BYTES, 30, put);
-    agrees(&rt, LOGICAL, &REMOVE_BYTES, 30, remove);
-    agrees(
-        &rt,
-        RESTART,
-        &RESTART_BYTES,
-        37,
-        LogRecord::Restart { shape: SHAPE },
-    );
-    agrees(&rt, SEAL, &[], 21, LogRecord::Seal);
+    let delta = LogRecord::Delta {
+        page: PAGE,
+        ranges: &[2, 0x20, 0, 2, 0, 7, 8, 0xff, 0x03, 1, 0, 9],
+    };
+    let last_delta = LogRecord::Delta {
+        page: PageId(0x0001_003f_ffff_ffff),
+        ranges: &[1, 0xff, 0x3f, 1, 0, 6],
+    };
+    let cp_begin = LogRecord::CpBegin {
+        number: 3,
+        replay: Place { seg: 2, off: 517 },
+    };
+    let restart = LogRecord::Restart { shape: SHAPE };
+    agrees(&rt, LOGICAL, &PUT_BYTES, 30, put)?;
+    agrees(&rt, LOGICAL, &REMOVE_BYTES, 30, remove)?;
+    agrees(&rt, DELTA, &DELTA_BYTES, 41, delta)?;
+    agrees(&rt, DELTA, &LAST_DELTA_BYTES, 35, last_delta)?;
+    agrees(&rt, CP_BEGIN, &CP_BEGIN_BYTES, 41, cp_begin)?;
+    agrees(&rt, RESTART, &RESTART_BYTES, 37, restart)?;
+    agrees(&rt, SEAL, &[], 21, LogRecord::Seal)
+}
+
+// The payload of a record of a page: its name, and these bytes.
+fn named(rt: &impl AllocGlobal, name: &[u8], bytes: &[u8]) -> Result<Vec<u8>, Fail> {
+    let mut payload = Vec::from_slice(rt.alloc(), name)?;
+    payload.extend_from_slice(bytes)?;
+    Ok(payload)
+}
+
+#[test]
+fn a_snapshot_has_one_of_the_five_page_sizes(rt: HostRuntime) -> Result<(), Fail> {
+    let sizes = [
+        (1024, 1053),
+        (2048, 2077),
+        (4096, 4125),
+        (8192, 8221),
+        (16_384, 16_413),
+    ];
+    for (page_len, frame_len) in sizes {
+        let mut bytes = Vec::new(rt.alloc());
+        bytes.resize(page_len, 0xab)?;
+        let payload = named(&rt, &NAME_BYTES, &bytes)?;
+        let snapshot = LogRecord::Snapshot {
+            page: PAGE,
+            bytes: &bytes,
+        };
+        agrees(&rt, SNAPSHOT, &payload, frame_len, snapshot)?;
+    }
+    for page_len in [0, 1023, 1025, 3072, 16_385, 32_768, 65_486] {
+        let mut bytes = Vec::new(rt.alloc());
+        bytes.resize(page_len, 0xab)?;
+        let payload = named(&rt, &NAME_BYTES, &bytes)?;
+        assert_eq!(rt; decode(SNAPSHOT, &payload), Err(BadPayload), "{page_len}");
+    }
+    Ok(())
+}
+
+// Where a page's name isn't one, no record of the page is read: the flag is 0 or 2, an item is named, the partition is 64
+// or 258.
+#[test]
+fn names_that_no_page_has_are_refused(rt: HostRuntime) -> Result<(), Fail> {
+    let names: [&[u8]; 5] = [
+        &[5, 0, 0, 0, 2, 0, 0, 0],
+        &[5, 0, 0, 0, 2, 0, 2, 0],
+        &[5, 0, 0, 0, 2, 0, 1, 1],
+        &[5, 0, 0, 0, 64, 0, 1, 0],
+        &[5, 0, 0, 0, 2, 1, 1, 0],
+    ];
+    let mut page = Vec::new(rt.alloc());
+    page.resize(1024, 0xab)?;
+    for name in names {
+        let payload = named(&rt, name, &page)?;
+        assert_eq!(rt; decode(SNAPSHOT, &payload), Err(BadPayload), "{name:?}");
+        let payload = named(&rt, name, RANGES)?;
+        assert_eq!(rt; decode(DELTA, &payload), Err(BadPayload), "{name:?}");
+    }
+    Ok(())
+}
+
+#[test]
+fn ranges_that_no_delta_has_are_refused(rt: HostRuntime) -> Result<(), Fail> {
+    let deltas: [&[u8]; 9] = [
+        &[],
+        // no range, and nine
+        &[0],
+        &[
+            9, 0, 0, 1, 0, 7, 1, 0, 1, 0, 7, 2, 0, 1, 0, 7, 3, 0, 1, 0, 7, 4, 0, 1, 0, 7, 5, 0, 1,
+            0, 7, 6, 0, 1, 0, 7, 7, 0, 1, 0, 7, 8, 0, 1, 0, 7,
+        ],
+        // the second begins within the first
+        &[2, 32, 0, 2, 0, 7, 8, 33, 0, 1, 0, 9],
+        // the second stands before the first
+        &[2, 32, 0, 1, 0, 7, 31, 0, 1, 0, 9],
+        // one ends at 16,385
+        &[1, 0xff, 0x3f, 2, 0, 7, 8],
+        // one has no byte
+        &[1, 32, 0, 0, 0],
+        // one isn't whole
+        &[1, 32, 0, 2, 0, 7],
+        // a byte stands behind the last
+        &[1, 32, 0, 1, 0, 7, 0],
+    ];
+    for ranges in deltas {
+        let payload = named(&rt, &NAME_BYTES, ranges)?;
+        assert_eq!(rt; decode(DELTA, &payload), Err(BadPayload), "{ranges:?}");
+    }
+    Ok(())
 }
 
 #[test]
 fn what_is_in_no_grammar_is_refused(rt: HostRuntime) {
-    let refused: [(u8, &[u8]); 12] = [
+    let refused: [(u8, &[u8]); 17] = [
         (LOGICAL, &[3, 0, 1, 1, 0, 0, 0, 0x61, 0x31]),
         (LOGICAL, &[1, 16, 1, 1, 0, 0, 0, 0x61, 0x31]),
         (LOGICAL, &[1, 0, 0, 1, 0, 0, 0, 0x31]),
@@ -76,9 +199,22 @@ fn what_is_in_no_grammar_is_refused(rt: HostRuntime) {
         (LOGICAL, &[1, 0, 1, 1, 0, 0]),
         (RESTART, &RESTART_BYTES[..15]),
         (SEAL, &[0]),
-        (SNAPSHOT, &PUT_BYTES),
-        (DELTA, &PUT_BYTES),
-        (CP_BEGIN, &PUT_BYTES),
+        (SNAPSHOT, &DELTA_BYTES[..7]),
+        (DELTA, &DELTA_BYTES[..7]),
+        (CP_BEGIN, &CP_BEGIN_BYTES[..19]),
+        (
+            CP_BEGIN,
+            &[
+                3, 0, 0, 0, 0, 0, 0, 0, 2, 0, 0, 0, 0, 0, 0, 0, 5, 2, 0, 0, 0,
+            ],
+        ),
+        (
+            CP_BEGIN,
+            &[0, 0, 0, 0, 0, 0, 0, 0, 2, 0, 0, 0, 0, 0, 0, 0, 5, 2, 0, 0],
+        ),
+        (CP_BEGIN, &[]),
+        (0, &[]),
+        (7, &[]),
     ];
     for (kind, payload) in refused {
         assert_eq!(rt;

@@ -4,22 +4,21 @@ use Rattle.std.specs.Prelude.{◌&&◌, if◌then◌else◌}
 use Rattle.std.proofs.lemmas.Bool.{leb-true}
 use Rattle.std.proofs.lemmas.Bool.Decides.{nat_tests}
 use Rattle.pm_types.specs.declared.place.Place.{Place}
-use Rattle.pm_frame.specs.declared.kinds.TheConstants.{LOGICAL, SEAL}
-use Rattle.pm_frame.specs.declared.limits.TheConstants.{FRAME_EXTRA, PAYLOAD_MAX, FRAME_END_MAX, SEGMENT_END_MAX}
+use Rattle.pm_frame.specs.declared.limits.TheConstants.{FRAME_EXTRA, FRAME_END_MAX, SEGMENT_END_MAX}
 use Rattle.pm_frame.specs.Frames.{Frame, IsFrame, end_max}
 use Rattle.pm_frame.proofs.FrameAt.{is_frame-from}
 use Rattle.pm_disk.specs.Worlds.{World}
 use Rattle.pm_disk.specs.Files.{bytes_of}
 use Rattle.pm_disk.specs.Images.{Leaves, IsTrueOf}
-use Rattle.pm_segments.specs.Ends.{LogEnd, IsLogEnd, HasRoom, has_room}
+use Rattle.pm_segments.specs.Ends.{LogEnd, HasRoom, has_room}
 use Rattle.pm_segments.specs.Grammars.{place, grammar}
 use Rattle.pm_segments.specs.Logs.{IsLog, Loose, Ready, Plain, is_seal}
 use Rattle.pm_segments.specs.Steps.{Step, Append, Force, NextSegment, next_segment, end_after, world_after, DoesSome, seal_frame, turn_steps, roll_steps, room_steps, append_steps, steps_of}
+use Rattle.pm_segments.specs.Written.{is_sealed, Written, tail_forced, written_after, IsWritten, IsRecordFrame, IsOpen}
 use Rattle.pm_segments.proofs.Runs.{bool_cases}
 use Rattle.pm_segments.proofs.Sealing.{fits_seal}
-use Rattle.pm_segments.proofs.Standing.{is_sealed}
 use Rattle.pm_segments.proofs.Tracing.{some_first}
-use Rattle.pm_segments.proofs.Writing.{Written, written_after, tail_forced, frames_in, IsWritten, CanAll, steps_keep, crash_law}
+use Rattle.pm_segments.proofs.Writing.{frames_in, CanAll, steps_keep, crash_law}
 
 is_sealed-last : (fs : List Frame) → is_sealed (fs ++ seal_frame ∷ []) ≡ true
 is_sealed-last [] = refl
@@ -29,22 +28,6 @@ is_sealed-last (f ∷ h ∷ fs) = is_sealed-last (h ∷ fs)
 plain-append : (fs : List Frame) (f : Frame) → Plain fs → is_seal f ≡ false → Plain (fs ++ f ∷ [])
 plain-append [] f plain open_ = (open_, tt)
 plain-append (h ∷ fs) f plain open_ = (plain.0, plain-append fs f plain.1 open_)
-
--- a record that isn't a SEAL, of the kinds that a log takes
-pub record IsRecordFrame (keep : Frame → Bool) (frame : Frame) : Type 0 where
-  pub known_from : LOGICAL ≤ frame.kind
-  pub known_to : frame.kind < SEAL
-  pub short : length frame.payload ≤ PAYLOAD_MAX
-  pub kept : keep frame ≡ true
-
--- The log's tail was cut and forced, and only whole frames were written behind it; the end isn't behind the SEAL of the
--- last segment.
-pub record IsOpen (log : LogEnd) (s : Written) : Type 0 where
-  pub limits : IsLogEnd log
-  pub ready : s.tail ≡ Ready
-  pub plain : Plain s.pending
-  pub room_to_seal : log.end.off ≤ FRAME_END_MAX
-  pub numbered : log.end.seg + 1 < 2 ^ 64
 
 module _ (keep : Frame → Bool) (seals : keep seal_frame ≡ true) (log : LogEnd) (frame : Frame) (is : IsRecordFrame keep frame) (s : Written) (is_open : IsOpen log s) where
   abbrev end : Place

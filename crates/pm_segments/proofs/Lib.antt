@@ -2,12 +2,12 @@ pub mod Ahead
 pub mod Appending
 pub mod AppendLaw
 pub mod Emptied
-pub mod Fitting
 pub mod GrammarLaws
 pub mod Laws
 pub mod LogSteps
-pub mod OneSegment
-pub mod Opening
+pub mod OpeningLaw
+pub mod OpenLog
+pub mod Quiet
 pub mod Reading
 pub mod Runs
 pub mod Sealing

@@ -11,47 +11,27 @@ use Rattle.pm_segments.specs.Ends.{place_behind}
 use Rattle.pm_segments.specs.Grammars.{place, kept, all_frames}
 use Rattle.pm_segments.specs.Logs.{Run, behind, next, is_seal, contents}
 use Rattle.pm_segments.specs.Scans.{Scanned, behind_place, stands_next, following, is_last, Advances}
+use Rattle.pm_segments.specs.Read.{point, log_end, HasScanned, IsLogFrom}
 use Rattle.pm_segments.proofs.Laws.{grammar_laws}
 use Rattle.pm_segments.proofs.LogSteps.{run_join}
 use Rattle.pm_segments.proofs.Runs.{bool_cases, option_cases, next-plain, next-seal}
 use Rattle.pm_segments.proofs.Standing.{behind-append}
 
--- The place from which a scan goes on. Behind a SEAL in segment 2^64 - 1 it is in a segment that no frame can name.
-abbrev pub point : Scanned → Place
-point scan = if scan.is_over then record { seg = scan.next.seg + 1; off = 0 } else scan.next
-
--- where a log ends that has these frames from the place on
-abbrev pub log_end : Place → List Frame → Place
-log_end p [] = p
-log_end p (f ∷ fs) = log_end (following p f) fs
-
--- These frames were given by a scan that began at this place.
-pub record HasScanned (world : World) (from : Place) (fs : List Frame) (scan : Scanned) : Type 0 where
-  pub run : Run all_frames (contents world.log) from fs
-  pub goes_on : behind from fs ≡ point scan
-  pub end : log_end from fs ≡ scan.next
-  pub last : scan.is_over ≡ true → scan.next.seg + 1 ≡ 2 ^ 64
-
--- These frames are the log from a place on: they stand one behind the other, and none behind them.
-pub record IsLogFrom (world : World) (from : Place) (fs : List Frame) : Type 0 where
-  pub run : Run all_frames (contents world.log) from fs
-  pub ends : all_frames.frame_at (behind from fs).seg (behind from fs).off (contents world.log (behind from fs).seg) ≡ None
-
 log_end-append : (p : Place) (fs : List Frame) (f : Frame) → log_end p (fs ++ f ∷ []) ≡ following (log_end p fs) f
 log_end-append p [] f = refl
 log_end-append p (x ∷ fs) f = log_end-append (following p x) fs f
 
-point_going : (scan : Scanned) → scan.is_over ≡ false → point scan ≡ scan.next
+pub point_going : (scan : Scanned) → scan.is_over ≡ false → point scan ≡ scan.next
 point_going scan going = ap (λ (b : Bool). let p : Place = if b then record { seg = scan.next.seg + 1; off = 0 } else scan.next in p) going
 
 point_over : (scan : Scanned) → scan.is_over ≡ true → point scan ≡ record { seg = scan.next.seg + 1; off = 0 }
 point_over scan over = ap (λ (b : Bool). let p : Place = if b then record { seg = scan.next.seg + 1; off = 0 } else scan.next in p) over
 
 -- the frame that stands next, by whether the log is over
-stands_going : (scan : Scanned) (world : World) → scan.is_over ≡ false → stands_next scan world ≡ frame_at scan.next (behind_place scan.next world)
+pub stands_going : (scan : Scanned) (world : World) → scan.is_over ≡ false → stands_next scan world ≡ frame_at scan.next (behind_place scan.next world)
 stands_going scan world going = ap (λ (b : Bool). if b then None else frame_at scan.next (behind_place scan.next world)) going
 
-going_on : (scan : Scanned) (world : World) (f : Frame) → stands_next scan world ≡ Some f → scan.is_over ≡ false
+pub going_on : (scan : Scanned) (world : World) (f : Frame) → stands_next scan world ≡ Some f → scan.is_over ≡ false
 going_on scan world f stands = elim (bool_cases scan.is_over) [
   | inr going ↦ going
   | inl over ↦

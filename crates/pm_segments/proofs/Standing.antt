@@ -1,6 +1,6 @@
 -- The log over its segments, from a place on: what of it is lasting, what was written behind that, and what a
 -- crash leaves.
-use Rattle.std.proofs.Common.{◌≡◌, ◌⊎◌, inl, inr, ℕ, ◌+◌, ◌<◌, ◌≤◌, List, [], ◌∷◌, ◌++◌, length, take, Option, None, refl, sym, ◌∙◌, ap, subst, arith, Bool, true, false}
+use Rattle.std.proofs.Common.{◌≡◌, ◌⊎◌, inl, inr, ℕ, ◌+◌, ◌<◌, ◌≤◌, List, [], ◌∷◌, ◌++◌, length, take, Option, None, refl, sym, ◌∙◌, ap, subst, arith, true, false}
 use Rattle.std.specs.Prelude.{slice_get}
 use Rattle.std.proofs.lemmas.List.{nil_from_length, append-nil}
 use Rattle.pm_types.specs.declared.place.Place.{Place}
@@ -11,22 +11,10 @@ use Rattle.pm_disk.specs.Images.{Leaves, IsTrueOf}
 use Rattle.pm_disk.proofs.Files.{quiet_content, at_change-last, content_same, content_long, quiet_below, below_less}
 use Rattle.pm_disk.proofs.Families.{file_here, file_there, file_cases}
 use Rattle.pm_segments.specs.Logs.{Grammar, IsLog, LogStands, Leads, Stood, RunIn, Tail, Loose, Cutting, Ready, Run, Plain, sizes, size, is_seal, next, behind, contents, forceds}
+use Rattle.pm_segments.specs.Written.{Standing, is_sealed}
 use Rattle.pm_segments.proofs.GrammarLaws.{IsGrammar}
 use Rattle.pm_segments.proofs.Runs.{Same, climbs, bool_cases, next-plain, next-seal, none_past, keeps_run, log_cons, log_join, log_image}
 use Rattle.pm_segments.proofs.LogSteps.{log_append, log_cut, log_force, log_force_sealed, log_force_cut}
-
--- Of the log from a place on these frames are lasting, these were written behind them, and so much is known of
--- what is behind.
-pub record Standing (g : Grammar) (log : ℕ → File) (low : ℕ) (from at : Place) (lasting pending : List Frame) (tail : Tail)
-    : Type 0 where
-  pub stands : LogStands g log low at pending tail
-  pub leads : Leads g log low at from lasting
-
--- whether the last frame is a SEAL
-abbrev pub is_sealed : List Frame → Bool
-is_sealed [] = false
-is_sealed (f ∷ []) = is_seal f
-is_sealed (f ∷ h ∷ fs) = is_sealed (h ∷ fs)
 
 pub behind-append : (p : Place) (xs ys : List Frame) → behind p (xs ++ ys) ≡ behind (behind p xs) ys
 behind-append p [] ys = refl

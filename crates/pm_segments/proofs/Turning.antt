@@ -1,12 +1,12 @@
 -- How a scan goes on behind a SEAL.
-use Rattle.std.proofs.Common.{◌≡◌, inl, inr, ◌+◌, Bool, true, false, [], Option, Some, None, refl, sym, ◌∙◌, ap, subst}
+use Rattle.std.proofs.Common.{◌≡◌, inl, inr, ◌+◌, Bool, true, false, Option, Some, None, refl, sym, ◌∙◌, ap, subst}
 use Rattle.std.specs.Prelude.{◌&&◌, not, if◌then◌else◌}
 use Rattle.pm_types.specs.declared.place.Place.{Place}
 use Rattle.pm_frame.specs.Frames.{Frame}
 use Rattle.pm_disk.specs.Worlds.{World}
 use Rattle.pm_segments.specs.Ends.{place_behind}
 use Rattle.pm_segments.specs.Logs.{is_seal}
-use Rattle.pm_segments.specs.Scans.{Scanned, IsAhead, StepsTo, Advances, found_seal, is_last, entered, sealed, turned, following}
+use Rattle.pm_segments.specs.Scans.{Scanned, IsAhead, StepsTo, Advances, found_seal, is_last, entered, turned, following}
 use Rattle.pm_segments.proofs.Runs.{bool_cases}
 
 abbrev over : Scanned → Scanned

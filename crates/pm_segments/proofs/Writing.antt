@@ -13,40 +13,10 @@ use Rattle.pm_segments.specs.Ends.{written}
 use Rattle.pm_segments.specs.Grammars.{grammar}
 use Rattle.pm_segments.specs.Logs.{Grammar, IsLog, Tail, Loose, Cutting, Ready, Plain, sizes, behind}
 use Rattle.pm_segments.specs.Steps.{Step, Append, Force, NextSegment, next_segment, next_begin, step_end, step_world, end_after, world_after, DoesSome}
+use Rattle.pm_segments.specs.Written.{Standing, Written, tail_forced, next_written, written_after, IsWritten}
 use Rattle.pm_segments.proofs.Laws.{grammar_laws}
 use Rattle.pm_segments.proofs.LogSteps.{sizes-append}
-use Rattle.pm_segments.proofs.Standing.{Standing, Open, Sealed, is_sealed, pending_cases, standing_append, standing_force, standing_force_sealed, standing_cut, standing_force_cut, standing_image}
-
--- How far the log was written, from a place on.
-pub record Written : Type 0 where
-  -- where the lasting log ends
-  pub at : Place
-  -- the frames that lead there
-  pub lasting : List Frame
-  -- the frames that were written behind them
-  pub pending : List Frame
-  pub tail : Tail
-
-abbrev pub tail_forced : Tail → List Frame → Tail
-tail_forced Loose fs = Loose
-tail_forced Cutting fs = Ready
-tail_forced Ready fs = if is_sealed fs then Loose else Ready
-
--- the same after a step
-abbrev pub next_written : Step → Written → Written
-next_written (Append frame) s = record s { pending = s.pending ++ frame ∷ [] }
-next_written Force s = record { at = behind s.at s.pending; lasting = s.lasting ++ s.pending; pending = []; tail = tail_forced s.tail s.pending }
-next_written NextSegment s = record s { tail = Cutting }
-
-abbrev pub written_after : List Step → Written → Written
-written_after [] s = s
-written_after (step ∷ steps) s = written_after steps (next_written step s)
-
--- the writer's end: behind what is pending, behind the forced SEAL of the segment before, or at the begin of the cut segment
-abbrev pub EndIs : Tail → Place → Place → List Frame → Type 0
-EndIs Ready end at pending = end ≡ record { seg = at.seg; off = at.off + sizes pending }
-EndIs Loose end at pending = (at ≡ record { seg = end.seg + 1; off = 0 }) × (pending ≡ [])
-EndIs Cutting end at pending = (end ≡ at) × (pending ≡ [])
+use Rattle.pm_segments.proofs.Standing.{Open, Sealed, pending_cases, standing_append, standing_force, standing_force_sealed, standing_cut, standing_force_cut, standing_image}
 
 -- the frames that steps append
 abbrev pub frames_in : List Step → List Frame
@@ -58,11 +28,6 @@ frames_in (NextSegment ∷ steps) = frames_in steps
 module _ (keep : Frame → Bool) where
   abbrev g : Grammar
   g = grammar keep
-
-  -- the world's log is written so far, and the writer stands there
-  pub record IsWritten (world : World) (low : ℕ) (from end : Place) (s : Written) : Type 0 where
-    pub standing : Standing g world.log low from s.at s.lasting s.pending s.tail
-    pub ends : EndIs s.tail end s.at s.pending
 
   -- when a step may be made
   abbrev pub CanStep : Step → Place → Written → Type 0
@@ -80,7 +45,7 @@ module _ (keep : Frame → Bool) where
     abbrev state : List Frame → Tail → Written
     state fs tail = record { at = at; lasting = lasting; pending = fs; tail = tail }
 
-    keeps_append : (f : Frame) → IsWritten world low from end (state pending Ready) → Plain pending → g.fits end.seg end.off f ≡ true → IsWritten (written end f world) low from (step_end (Append f) end) (state (pending ++ f ∷ []) Ready)
+    keeps_append : (f : Frame) → IsWritten keep world low from end (state pending Ready) → Plain pending → g.fits end.seg end.off f ≡ true → IsWritten keep (written end f world) low from (step_end (Append f) end) (state (pending ++ f ∷ []) Ready)
     keeps_append f s open_ fits =
         let there : Place = record { seg = at.seg; off = at.off + sizes pending } in
         let more : at.off + sizes pending + frame_len f ≡ at.off + sizes (pending ++ f ∷ []) = omega (arith, sizes-append pending (f ∷ [])) in
@@ -90,34 +55,34 @@ module _ (keep : Frame → Bool) where
           ends = ap (λ (p : Place). let q : Place = record { seg = p.seg; off = p.off + frame_len f } in q) s.ends ∙ ap (λ n. let q : Place = record { seg = at.seg; off = n } in q) more;
         }
 
-    keeps_force : IsWritten world low from end (state pending Ready) → IsWritten (log_forced end.seg world) low from end (next_written Force (state pending Ready))
+    keeps_force : IsWritten keep world low from end (state pending Ready) → IsWritten keep (log_forced end.seg world) low from end (next_written Force (state pending Ready))
     keeps_force s =
         let laws = grammar_laws keep in
         let same_seg : at.seg ≡ end.seg = sym (ap (λ (p : Place). p.seg) s.ends) in
-        subst (λ n. IsWritten (log_forced n world) low from end (next_written Force (state pending Ready))) same_seg
+        subst (λ n. IsWritten keep (log_forced n world) low from end (next_written Force (state pending Ready))) same_seg
         (elim (pending_cases g laws at.seg at.off (world.log at.seg) pending s.standing.stands.stood) [
           | Open plain last to ↦
               let there : Place = record { seg = at.seg; off = at.off + sizes pending } in
               let forced = standing_force g laws world.log low from at lasting pending s.standing plain to in
               let tail : Ready ≡ tail_forced Ready pending = ap (λ (b : Bool). if b then Loose else Ready) (sym last) in
               let nothing : at.off + sizes pending ≡ at.off + sizes pending + 0 = omega arith in
-              let done : IsWritten (log_forced at.seg world) low from end (record { at = there; lasting = lasting ++ pending; pending = []; tail = Ready }) = record {
+              let done : IsWritten keep (log_forced at.seg world) low from end (record { at = there; lasting = lasting ++ pending; pending = []; tail = Ready }) = record {
                 standing = forced;
                 ends = s.ends ∙ ap (λ n. let q : Place = record { seg = at.seg; off = n } in q) nothing;
               } in
-              subst (λ (p : Place × Tail). IsWritten (log_forced at.seg world) low from end (record { at = p.0; lasting = lasting ++ pending; pending = []; tail = p.1 })) (λ i. (sym to i, tail i)) done
+              subst (λ (p : Place × Tail). IsWritten keep (log_forced at.seg world) low from end (record { at = p.0; lasting = lasting ++ pending; pending = []; tail = p.1 })) (λ i. (sym to i, tail i)) done
           | Sealed last to ↦
               let there : Place = record { seg = at.seg + 1; off = 0 } in
               let forced = standing_force_sealed g laws world.log low from at lasting pending s.standing to in
               let tail : Loose ≡ tail_forced Ready pending = ap (λ (b : Bool). if b then Loose else Ready) (sym last) in
-              let done : IsWritten (log_forced at.seg world) low from end (record { at = there; lasting = lasting ++ pending; pending = []; tail = Loose }) = record {
+              let done : IsWritten keep (log_forced at.seg world) low from end (record { at = there; lasting = lasting ++ pending; pending = []; tail = Loose }) = record {
                 standing = forced;
                 ends = (ap (λ n. let q : Place = record { seg = n + 1; off = 0 } in q) same_seg, refl);
               } in
-              subst (λ (p : Place × Tail). IsWritten (log_forced at.seg world) low from end (record { at = p.0; lasting = lasting ++ pending; pending = []; tail = p.1 })) (λ i. (sym to i, tail i)) done
+              subst (λ (p : Place × Tail). IsWritten keep (log_forced at.seg world) low from end (record { at = p.0; lasting = lasting ++ pending; pending = []; tail = p.1 })) (λ i. (sym to i, tail i)) done
         ])
 
-    keeps_next : IsWritten world low from end (state pending Loose) → end.seg + 1 < 2 ^ 64 → IsWritten (log_changed (next_segment end.seg) (Cut 0) world) low from (next_begin end) (state pending Cutting)
+    keeps_next : IsWritten keep world low from end (state pending Loose) → end.seg + 1 < 2 ^ 64 → IsWritten keep (log_changed (next_segment end.seg) (Cut 0) world) low from (next_begin end) (state pending Cutting)
     keeps_next s numbered =
         let later : next_segment end.seg ≡ end.seg + 1 = grind (arith, nat_tests) in
         let there : at ≡ record { seg = next_segment end.seg; off = 0 } = s.ends.0 ∙ ap (λ n. let q : Place = record { seg = n; off = 0 } in q) (sym later) in
@@ -127,35 +92,35 @@ module _ (keep : Frame → Bool) where
         subst (λ (p : Place). Standing g (log_changed p.seg (Cut p.off) world).log low from at lasting [] Cutting) there cut in
         record { standing = subst (λ (l : List Frame). Standing g (log_changed (next_segment end.seg) (Cut 0) world).log low from at lasting l Cutting) (sym s.ends.1) named; ends = (sym there, s.ends.1) }
 
-    keeps_force_cut : IsWritten world low from end (state pending Cutting) → IsWritten (log_forced end.seg world) low from end (next_written Force (state pending Cutting))
+    keeps_force_cut : IsWritten keep world low from end (state pending Cutting) → IsWritten keep (log_forced end.seg world) low from end (next_written Force (state pending Cutting))
     keeps_force_cut s =
         let same_seg : at.seg ≡ end.seg = sym (ap (λ (p : Place). p.seg) s.ends.0) in
         let cut : Standing g world.log low from at lasting [] Cutting = subst (λ (l : List Frame). Standing g world.log low from at lasting l Cutting) s.ends.1 s.standing in
         let forced = standing_force_cut g (grammar_laws keep) world.log low from at lasting cut in
         let e : at.off ≡ at.off + 0 = omega arith in
-        let done : IsWritten (log_forced at.seg world) low from end (record { at = at; lasting = lasting ++ []; pending = []; tail = Ready }) = record {
+        let done : IsWritten keep (log_forced at.seg world) low from end (record { at = at; lasting = lasting ++ []; pending = []; tail = Ready }) = record {
           standing = subst (λ (l : List Frame). Standing g (log_forced at.seg world).log low from at l [] Ready) (sym (append-nil lasting)) forced;
           ends = s.ends.0 ∙ ap (λ n. let q : Place = record { seg = at.seg; off = n } in q) e;
         } in
-        subst (λ n. IsWritten (log_forced n world) low from end (next_written Force (state pending Cutting))) same_seg
-        (subst (λ (l : List Frame). IsWritten (log_forced at.seg world) low from end (record { at = behind at l; lasting = lasting ++ l; pending = []; tail = Ready })) (sym s.ends.1) done)
+        subst (λ n. IsWritten keep (log_forced n world) low from end (next_written Force (state pending Cutting))) same_seg
+        (subst (λ (l : List Frame). IsWritten keep (log_forced at.seg world) low from end (record { at = behind at l; lasting = lasting ++ l; pending = []; tail = Ready })) (sym s.ends.1) done)
 
   -- A step keeps the log written.
-  pub step_keeps : (step : Step) (world : World) (low : ℕ) (from end : Place) (s : Written) → IsWritten world low from end s → CanStep step end s → IsWritten (step_world step end world) low from (step_end step end) (next_written step s)
+  pub step_keeps : (step : Step) (world : World) (low : ℕ) (from end : Place) (s : Written) → IsWritten keep world low from end s → CanStep step end s → IsWritten keep (step_world step end world) low from (step_end step end) (next_written step s)
   step_keeps (Append f) world low from end s is can =
-      subst (λ tail. IsWritten (written end f world) low from (step_end (Append f) end) (record s { pending = s.pending ++ f ∷ []; tail = tail })) (sym can.0)
-      (keeps_append world low from end s.at s.lasting s.pending f (subst (λ tail. IsWritten world low from end (record s { tail = tail })) can.0 is) can.1 can.2)
+      subst (λ tail. IsWritten keep (written end f world) low from (step_end (Append f) end) (record s { pending = s.pending ++ f ∷ []; tail = tail })) (sym can.0)
+      (keeps_append world low from end s.at s.lasting s.pending f (subst (λ tail. IsWritten keep world low from end (record s { tail = tail })) can.0 is) can.1 can.2)
   step_keeps Force world low from end s is can = elim can [
-    | inl ready ↦ subst (λ tail. IsWritten (log_forced end.seg world) low from end (next_written Force (record s { tail = tail }))) (sym ready)
-        (keeps_force world low from end s.at s.lasting s.pending (subst (λ tail. IsWritten world low from end (record s { tail = tail })) ready is))
-    | inr cutting ↦ subst (λ tail. IsWritten (log_forced end.seg world) low from end (next_written Force (record s { tail = tail }))) (sym cutting)
-        (keeps_force_cut world low from end s.at s.lasting s.pending (subst (λ tail. IsWritten world low from end (record s { tail = tail })) cutting is))
+    | inl ready ↦ subst (λ tail. IsWritten keep (log_forced end.seg world) low from end (next_written Force (record s { tail = tail }))) (sym ready)
+        (keeps_force world low from end s.at s.lasting s.pending (subst (λ tail. IsWritten keep world low from end (record s { tail = tail })) ready is))
+    | inr cutting ↦ subst (λ tail. IsWritten keep (log_forced end.seg world) low from end (next_written Force (record s { tail = tail }))) (sym cutting)
+        (keeps_force_cut world low from end s.at s.lasting s.pending (subst (λ tail. IsWritten keep world low from end (record s { tail = tail })) cutting is))
   ]
   step_keeps NextSegment world low from end s is can =
-      keeps_next world low from end s.at s.lasting s.pending (subst (λ tail. IsWritten world low from end (record s { tail = tail })) can.0 is) can.1
+      keeps_next world low from end s.at s.lasting s.pending (subst (λ tail. IsWritten keep world low from end (record s { tail = tail })) can.0 is) can.1
 
   -- So do steps one after the other.
-  pub steps_keep : (steps : List Step) (world : World) (low : ℕ) (from end : Place) (s : Written) → IsWritten world low from end s → CanAll steps end s → IsWritten (world_after steps end world) low from (end_after steps end) (written_after steps s)
+  pub steps_keep : (steps : List Step) (world : World) (low : ℕ) (from end : Place) (s : Written) → IsWritten keep world low from end s → CanAll steps end s → IsWritten keep (world_after steps end world) low from (end_after steps end) (written_after steps s)
   steps_keep [] world low from end s is can = is
   steps_keep (step ∷ steps) world low from end s is can =
       steps_keep steps (step_world step end world) low from (step_end step end) (next_written step s) (step_keeps step world low from end s is can.0) can.1
@@ -166,11 +131,11 @@ module _ (keep : Frame → Bool) where
   can_first (suc k) (step ∷ steps) end s can = (can.0, can_first k steps (step_end step end) (next_written step s) can.1)
 
   -- at each moment among them the log is written so far
-  pub moment_keeps : (steps : List Step) (old now : World) (low : ℕ) (from end : Place) (s : Written) → IsWritten old low from end s → CanAll steps end s → DoesSome steps end old now
-      → (k : ℕ) × (k ≤ length steps) × IsWritten now low from (end_after (take k steps) end) (written_after (take k steps) s)
+  pub moment_keeps : (steps : List Step) (old now : World) (low : ℕ) (from end : Place) (s : Written) → IsWritten keep old low from end s → CanAll steps end s → DoesSome steps end old now
+      → (k : ℕ) × (k ≤ length steps) × IsWritten keep now low from (end_after (take k steps) end) (written_after (take k steps) s)
   moment_keeps steps old now low from end s is can some =
       let k = some.0 in
-      (k, some.1, subst (λ w. IsWritten w low from (end_after (take k steps) end) (written_after (take k steps) s)) (sym some.2) (steps_keep (take k steps) old low from end s is (can_first k steps end s can)))
+      (k, some.1, subst (λ w. IsWritten keep w low from (end_after (take k steps) end) (written_after (take k steps) s)) (sym some.2) (steps_keep (take k steps) old low from end s is (can_first k steps end s can)))
 
 -- ---- which frames they are
 
@@ -189,7 +154,7 @@ lasting_after (Append f ∷ steps) s = lasting_after steps (next_written (Append
 lasting_after (Force ∷ steps) s = let le = lasting_after steps (next_written Force s) in omega (arith, le, length-append s.lasting s.pending)
 lasting_after (NextSegment ∷ steps) s = lasting_after steps (next_written NextSegment s)
 
-frames_in-append : (xs ys : List Step) → frames_in (xs ++ ys) ≡ frames_in xs ++ frames_in ys
+pub frames_in-append : (xs ys : List Step) → frames_in (xs ++ ys) ≡ frames_in xs ++ frames_in ys
 frames_in-append [] ys = refl
 frames_in-append (Append f ∷ xs) ys = ap (λ l. f ∷ l) (frames_in-append xs ys)
 frames_in-append (Force ∷ xs) ys = frames_in-append xs ys

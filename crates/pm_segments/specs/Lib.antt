@@ -1,6 +1,7 @@
 pub mod Ends
 pub mod Grammars
 pub mod Logs
-pub mod Rests
+pub mod Read
 pub mod Scans
 pub mod Steps
+pub mod Written

@@ -71,64 +71,70 @@ fn told_slot(
     format!(in alloc; "{whole:?} {same} of {first}")
 }
 
-/// What a host answers to a call on the log.
-fn answer_of_log<L: LogFile>(
+/// What a host answers to `seg_len`.
+fn told_len<L: LogFile>(alloc: Global, log: &mut L, seg: u64) -> Result<String, AllocError> {
+    let len = log.seg_len(seg);
+    format!(in alloc; "{len:?}")
+}
+
+/// What a host answers to `read_log`, and what it read.
+fn told_log<L: LogFile>(
     alloc: Global,
     log: &mut L,
-    call: &Call,
-) -> Result<Option<String>, AllocError> {
+    seg: u64,
+    at: u64,
+) -> Result<String, AllocError> {
     let mut into = [1; 8];
-    let done = match call {
-        Call::SegLen(seg) => {
-            let len = log.seg_len(*seg);
-            return Ok(Some(format!(in alloc; "{len:?}")?));
-        }
-        Call::ReadLog(seg, at) => {
-            let count = log.read_log(*seg, *at, &mut into);
-            return Ok(Some(told(alloc, count, &into)?));
-        }
+    let count = log.read_log(seg, at, &mut into);
+    told(alloc, count, &into)
+}
+
+/// What a host answers to `read_page`, and what it read.
+fn told_page<H: Host>(alloc: Global, host: &mut H, page: PageId) -> Result<String, AllocError> {
+    let mut into = [1; PAGE];
+    let whole = host.read_page(page, &mut into);
+    format!(in alloc; "{whole:?} {into:?}")
+}
+
+/// What a host answers to `read_mark`, and what it read.
+fn told_mark<H: Host>(
+    alloc: Global,
+    host: &mut H,
+    file: MarkFile,
+    slot: u8,
+) -> Result<String, AllocError> {
+    let mut into = [1; 64];
+    let whole = host.read_mark(file, slot.min(1), &mut into);
+    told_slot(alloc, whole, &into)
+}
+
+/// What a host answers to `read_config`, and what it read.
+fn told_config<H: Host>(alloc: Global, host: &mut H) -> Result<String, AllocError> {
+    let mut into = [1; 8];
+    let count = host.read_config(&mut into);
+    told(alloc, count, &into)
+}
+
+/// What a host answers to `read`, and what it read.
+fn told_input<H: Host>(alloc: Global, host: &mut H) -> Result<String, AllocError> {
+    let mut into = [1; 8];
+    let count = host.read(&mut into);
+    told(alloc, count, &into)
+}
+
+/// What a host answers to a call that changes or forces the log.
+fn change_log<L: LogFile>(log: &mut L, call: &Call) -> Result<(), Failed> {
+    match call {
         Call::WriteLog(seg, bytes) => log.write_log(*seg, 0, bytes),
         Call::AppendLog(seg, bytes) => append_log(log, *seg, bytes),
         Call::HalveLog(seg) => halve_log(log, *seg),
         Call::ForceLog(seg) => log.force_log(*seg),
-        _ => return Ok(None),
-    };
-    Ok(Some(format!(in alloc; "{done:?}")?))
+        _ => Err(Failed),
+    }
 }
 
-/// What a host answers to a call that reads.
-fn answer_of_read<H: Host>(
-    alloc: Global,
-    host: &mut H,
-    call: &Call,
-) -> Result<Option<String>, AllocError> {
-    let mut into = [1; 8];
-    let mut page = [1; PAGE];
-    let mut slot = [1; 64];
-    let text = match call {
-        Call::ReadPage(part, index) => {
-            let whole = host.read_page(PageId::new(*part, *index), &mut page);
-            format!(in alloc; "{whole:?} {page:?}")?
-        }
-        Call::ReadMark(file, number) => {
-            let whole = host.read_mark(*file, (*number).min(1), &mut slot);
-            told_slot(alloc, whole, &slot)?
-        }
-        Call::ReadConfig => {
-            let count = host.read_config(&mut into);
-            told(alloc, count, &into)?
-        }
-        Call::Read => {
-            let count = host.read(&mut into);
-            told(alloc, count, &into)?
-        }
-        _ => return Ok(None),
-    };
-    Ok(Some(text))
-}
-
-/// What a host answers to any other call.
-fn answer_of_change<H: Host>(host: &mut H, call: &Call) -> Result<(), Failed> {
+/// What a host answers to a call that reads nothing.
+fn change<H: Host>(host: &mut H, call: &Call) -> Result<(), Failed> {
     match call {
         Call::Bind(dir) => host.bind(dir),
         Call::DropLog(seg) => host.drop_log(*seg),
@@ -143,18 +149,25 @@ fn answer_of_change<H: Host>(host: &mut H, call: &Call) -> Result<(), Failed> {
         ),
         Call::ForceMark(file) => host.force_mark(*file),
         Call::Print(bytes) => host.print(bytes),
-        _ => Err(Failed),
+        _ => change_log(host, call),
     }
+}
+
+/// What a host answers to a call that reads nothing, as text.
+fn told_change<H: Host>(alloc: Global, host: &mut H, call: &Call) -> Result<String, AllocError> {
+    let done = change(host, call);
+    format!(in alloc; "{done:?}")
 }
 
 /// What a host answers to a call, and what it read, as text.
 pub fn answer<H: Host>(alloc: Global, host: &mut H, call: &Call) -> Result<String, AllocError> {
-    if let Some(text) = answer_of_log(alloc, host, call)? {
-        return Ok(text);
+    match call {
+        Call::SegLen(seg) => told_len(alloc, host, *seg),
+        Call::ReadLog(seg, at) => told_log(alloc, host, *seg, *at),
+        Call::ReadPage(part, index) => told_page(alloc, host, PageId::new(*part, *index)),
+        Call::ReadMark(file, number) => told_mark(alloc, host, *file, *number),
+        Call::ReadConfig => told_config(alloc, host),
+        Call::Read => told_input(alloc, host),
+        _ => told_change(alloc, host, call),
     }
-    if let Some(text) = answer_of_read(alloc, host, call)? {
-        return Ok(text);
-    }
-    let done = answer_of_change(host, call);
-    format!(in alloc; "{done:?}")
 }

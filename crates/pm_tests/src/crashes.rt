@@ -1,14 +1,15 @@
 //! A run that is stopped at each of its calls, what each crash leaves, and the restarts over that.
 
-use crate::runs::{Run, SEGMENT, run_until};
+use crate::runs::{Run, log_left, run_until};
 use pm_disk_mem::{MemDisk, Pick};
 use std::process::Abort;
 use std::test::Fail;
 
-/// The run's script: twelve lines that are accepted, of which one is a remove, and eight that are not.
+/// The run's script: twelve lines that are accepted, of which one is a remove, and eleven that are not. Three of these are
+/// scans, each a batch by itself, between four batches of five lines.
 const SCRIPT: &[u8] =
-    b"put 0 a 1\nget 0 a\nput 0 b 2\nput 0 a 3\nget 0 b\nput 1 a 4\nremove 0 z\nput 0 c 5\nget 1 a\nput 0 b 6\n\
-remove 0 a\nget 0 c\nput 1 a 8\nput 0 c 9\nget 0 d\nput 0 a 10\nget 0 a\nput 0 b 11\nput 1 a 12\nget 1 a\n";
+    b"put 0 a 1\nget 0 a\nput 0 b 2\nput 0 a 3\nget 0 b\nscan 3\nput 1 a 4\nremove 0 z\nput 0 c 5\nget 1 a\nput 0 b 6\nscan 3\n\
+remove 0 a\nget 0 c\nput 1 a 8\nput 0 c 9\nget 0 d\nscan 3\nput 0 a 10\nget 0 a\nput 0 b 11\nput 1 a 12\nget 1 a\n";
 
 /// The script of each restart.
 const QUESTIONS: &[u8] = b"get 0 a\nget 0 b\nget 0 c\nget 1 a\n";
@@ -33,29 +34,28 @@ const ANSWERS: [&[u8]; 13] = [
 /// More calls than any of these runs makes.
 const CALLS_MAX: u64 = 100;
 
-/// The most bytes that a frame of the script has.
-const FRAME_BYTES: u64 = 31;
-
-/// Whether a crash of this run leaves the log as it is.
-fn is_lasting(rt: &impl AllocGlobal, run: &Run) -> Result<bool, Fail> {
-    let kept = run.host.image(rt.alloc(), Pick::Kept)?;
-    let lost = run.host.image(rt.alloc(), Pick::Lost)?;
-    Ok(kept.file(SEGMENT) == lost.file(SEGMENT))
+/// How many bytes of the log a crash of this run may lose.
+fn pending_bytes(rt: &impl AllocGlobal, run: &Run) -> Result<u64, Fail> {
+    let kept = log_left(rt, run, Pick::Kept)?.len();
+    let lost = log_left(rt, run, Pick::Lost)?.len();
+    Ok(kept.saturating_sub(lost) as u64)
 }
 
-/// The picks of a crash of this run: one where nothing is pending, and else each prefix of a frame besides.
+/// The picks of a crash of this run: one where nothing is pending, and else each first part of the pending bytes besides.
 fn picks(rt: &impl AllocGlobal, run: &Run) -> Result<Vec<Pick>, Fail> {
-    if is_lasting(rt, run)? {
+    let pending = pending_bytes(rt, run)?;
+    if pending == 0 {
         return Ok(Vec::from_slice(rt.alloc(), &[Pick::Lost])?);
     }
     let mut picks = Vec::from_slice(rt.alloc(), &[Pick::Kept, Pick::Lost, Pick::Fill(238)])?;
-    for count in 0..=FRAME_BYTES {
+    for count in 1..pending {
         picks.push(Pick::Cut(count))?;
     }
     Ok(picks)
 }
 
-/// How many accepted lines a crash may leave at least and at most: those whose reply was begun, and all.
+/// How many accepted lines a crash may leave at least and at most: those whose reply was printed, and all that were handed to
+/// the log.
 #[derive(Clone, Copy)]
 struct Bounds {
     least: usize,
@@ -117,16 +117,14 @@ fn restart_again(
     Ok(picks.len() as u32)
 }
 
-/// Restarts over what this crash left of the script's run, whole and stopped at each call. Answers how many restarts there
-/// were.
-fn restart_over(
+/// Restarts over what this crash left of the script's run, stopped at each call. Answers how many restarts there were.
+fn restart_stopped(
     rt: &(impl Abort + AllocGlobal),
     run: &Run,
     pick: Pick,
     bounds: Bounds,
 ) -> Result<u32, Fail> {
-    restart(rt, run.host.image(rt.alloc(), pick)?, bounds, b"")?;
-    let mut restarts: u32 = 1;
+    let mut restarts: u32 = 0;
     for stop in 0..CALLS_MAX {
         let disk = run.host.image(rt.alloc(), pick)?;
         let stopped = run_until(rt, QUESTIONS, disk, Some(stop))?;
@@ -137,33 +135,58 @@ fn restart_over(
         restarts = restarts.saturating_add(1);
         restarts = restarts.saturating_add(restart_again(rt, &stopped, bounds)?);
     }
-    Ok(0)
+    panic!(rt; "no restart was done")
 }
 
-/// Restarts over each crash of one run. Answers how many restarts there were.
+/// Whether restarts over a crash with this pick are stopped too, and not only made whole. Of the cuts that is each seventh,
+/// which falls on another byte of each frame: stopped restarts over each cut would take five times as long.
+fn is_stopped(pick: Pick) -> bool {
+    match pick {
+        Pick::Cut(count) => count % 7 == 0,
+        _ => true,
+    }
+}
+
+/// Restarts over each crash of one run, and over some of them with restarts that are stopped at each call. Answers how many
+/// restarts there were.
 fn crash(rt: &(impl Abort + AllocGlobal), run: &Run) -> Result<u32, Fail> {
     let bounds = bounds_of(run);
     let mut restarts: u32 = 0;
     for pick in picks(rt, run)? {
-        restarts = restarts.saturating_add(restart_over(rt, run, pick, bounds)?);
+        restart(rt, run.host.image(rt.alloc(), pick)?, bounds, b"")?;
+        restarts = restarts.saturating_add(1);
+        if is_stopped(pick) {
+            restarts = restarts.saturating_add(restart_stopped(rt, run, pick, bounds)?);
+        }
     }
     Ok(restarts)
 }
 
+/// Runs the script over an empty disk, stopped at this call where it makes one of this number.
+fn run_stopped(rt: &(impl Abort + AllocGlobal), stop: u64) -> Result<Run, Fail> {
+    let run = run_until(rt, SCRIPT, MemDisk::empty(rt.alloc()), Some(stop))?;
+    if run.report.status == 0 {
+        assert_eq!(rt; run.report.lines, 23);
+    } else {
+        assert_eq!(rt; run.report.status, 3);
+        assert_eq!(rt; run.host.calls(), stop.saturating_add(1));
+    }
+    Ok(run)
+}
+
+// The whole run makes 34 calls. Together with those that are stopped at each of these it leaves 957 crashes. Over 186 of them a
+// restart is stopped at each of its 10 calls, and what three crashes leave of it is restarted over: in all there are
+// 957 + 186 * 10 * (1 + 3) restarts.
 #[test]
 fn each_restart_after_a_crash_has_what_was_acknowledged(rt: HostRuntime) -> Result<(), Fail> {
     let mut restarts: u32 = 0;
     for stop in 0..CALLS_MAX {
-        let run = run_until(&rt, SCRIPT, MemDisk::empty(rt.alloc()), Some(stop))?;
+        let run = run_stopped(&rt, stop)?;
         restarts = restarts.saturating_add(crash(&rt, &run)?);
         if run.report.status == 0 {
-            assert_eq!(rt; run.report.lines, 20);
-            assert_eq!(rt; (stop, restarts), (50, 20_213));
+            assert_eq!(rt; (stop, restarts), (34, 8_397));
             return Ok(());
         }
-        assert_eq!(rt; run.report.status, 3);
-        assert_eq!(rt; run.host.calls(), stop + 1);
     }
-    assert!(rt; false);
-    Ok(())
+    panic!(rt; "no run was done")
 }

@@ -5,8 +5,11 @@ use crate::consoles::{FileConsole, INPUT, SAID};
 use pm_disk::{Host, MarkFile};
 use pm_disk_fs::FsHost;
 use pm_disk_mem::{MemDisk, MemHost, Pick};
+use std::alloc::{AllocError, Global};
 use std::fs;
-use std::io::ErrorKind;
+use std::io::{self, ErrorKind};
+use std::process::Abort;
+use std::rt::Files;
 use std::test::Fail;
 
 /// The folder of the host over files.
@@ -119,88 +122,187 @@ const ON_CONSOLE: [(Call, &str); 7] = [
     (Call::Print(b""), "Ok(())"),
 ];
 
-/// The host over real files, with a console of the test's own.
-type Files = FsHost<FileConsole<HostRuntime>>;
+/// The path of a file of the folder.
+fn path_of(alloc: Global, name: &str) -> Result<String, AllocError> {
+    format!(in alloc; "{FOLDER}/{name}")
+}
 
-/// The bytes of a file of the folder, none where it isn't there.
-fn file_of(rt: &HostRuntime, name: &str) -> Result<Option<Vec<u8>>, Fail> {
-    let path = format!(in rt.alloc(); "{FOLDER}/{name}")?;
-    match fs::read(rt, &path) {
+/// What was read, none where there was no such file.
+fn if_there(read: io::Result<Vec<u8>>) -> io::Result<Option<Vec<u8>>> {
+    match read {
         Ok(bytes) => Ok(Some(bytes)),
         Err(e) if e.kind() == ErrorKind::NotFound => Ok(None),
-        Err(e) => Err(e.into()),
+        Err(e) => Err(e),
     }
 }
 
+/// The bytes of a file of the folder, none where it isn't there.
+fn file_of(rt: &(impl AllocGlobal + Files), name: &str) -> Result<Option<Vec<u8>>, Fail> {
+    let path = path_of(rt.alloc(), name)?;
+    Ok(if_there(fs::read(rt, &path))?)
+}
+
+/// Whether a file of the folder is as it is on this disk.
+fn is_alike(rt: &(impl AllocGlobal + Files), disk: &MemDisk, name: &str) -> Result<bool, Fail> {
+    let file = file_of(rt, name)?;
+    Ok(disk.file(name) == file.as_ref().map(|bytes| bytes.as_slice()))
+}
+
 /// The first of the files that the folder and the memory don't have alike.
-fn differing(rt: &HostRuntime, memory: &MemHost, pick: Pick) -> Result<Option<&'static str>, Fail> {
+fn differing(
+    rt: &(impl AllocGlobal + Files),
+    memory: &MemHost,
+    pick: Pick,
+) -> Result<Option<&'static str>, Fail> {
     let disk = memory.image(rt.alloc(), pick)?;
     for name in NAMES {
-        let file = file_of(rt, name)?;
-        if disk.file(name) != file.as_ref().map(|bytes| bytes.as_slice()) {
+        if !is_alike(rt, &disk, name)? {
             return Ok(Some(name));
         }
     }
     Ok(None)
 }
 
-/// Makes the calls on both, and looks at each answer and, behind each call that isn't a log write, at each file: such a write
-/// may be made with the next other call on the log. Answers what isn't as wanted.
-fn compare(
-    rt: &HostRuntime,
+/// Both answers to a call, where one of them isn't as wanted.
+fn unlike(
+    alloc: Global,
+    by_memory: &str,
+    by_files: &str,
+    wanted: &str,
+) -> Result<Option<String>, AllocError> {
+    if by_memory == wanted && by_files == wanted {
+        return Ok(None);
+    }
+    Ok(Some(format!(in alloc; "{by_memory}, {by_files}")?))
+}
+
+/// Makes a call on both. Answers what both say to it, where one of them doesn't answer as wanted.
+fn unlike_answers(
+    alloc: Global,
+    memory: &mut impl Host,
+    files: &mut impl Host,
+    call: &Call,
+    wanted: &str,
+) -> Result<Option<String>, AllocError> {
+    let by_memory = answer(alloc, memory, call)?;
+    let by_files = answer(alloc, files, call)?;
+    unlike(alloc, by_memory.as_str(), by_files.as_str(), wanted)
+}
+
+/// The first file that isn't alike behind this call. None is looked at behind a log write, which may be made with the next
+/// other call on the log.
+fn differing_behind(
+    rt: &(impl AllocGlobal + Files),
+    memory: &MemHost,
+    call: &Call,
+) -> Result<Option<&'static str>, Fail> {
+    if call.may_wait() {
+        return Ok(None);
+    }
+    differing(rt, memory, Pick::Kept)
+}
+
+/// Makes a call on both, and looks at each answer and at the files behind it. Answers what isn't as wanted.
+fn step(
+    rt: &(impl AllocGlobal + Files),
     memory: &mut MemHost,
-    files: &mut Files,
+    files: &mut impl Host,
+    call: &Call,
+    wanted: &str,
+) -> Result<Option<String>, Fail> {
+    if let Some(answers) = unlike_answers(rt.alloc(), memory, files, call, wanted)? {
+        return Ok(Some(answers));
+    }
+    match differing_behind(rt, memory, call)? {
+        Some(name) => Ok(Some(String::from_str(rt.alloc(), name)?)),
+        None => Ok(None),
+    }
+}
+
+/// Makes the calls on both up to the first one where something isn't as wanted. Answers its number and what that is.
+fn compare(
+    rt: &(impl AllocGlobal + Files),
+    memory: &mut MemHost,
+    files: &mut impl Host,
     calls: &[(Call, &str)],
 ) -> Result<Option<String>, Fail> {
-    for (step, (call, wanted)) in calls.iter().enumerate() {
-        let by_memory = answer(rt.alloc(), memory, call)?;
-        let by_files = answer(rt.alloc(), files, call)?;
-        let file = if call.may_wait() {
-            None
-        } else {
-            differing(rt, memory, Pick::Kept)?
-        };
-        if by_memory.as_str() != *wanted || by_files.as_str() != *wanted || file.is_some() {
-            return Ok(Some(format!(in rt.alloc(); "{step}: {by_memory}, {by_files}, {file:?}")?));
+    for (number, (call, wanted)) in calls.iter().enumerate() {
+        if let Some(unwanted) = step(rt, memory, files, call, wanted)? {
+            return Ok(Some(format!(in rt.alloc(); "{number}: {unwanted}")?));
         }
     }
     Ok(None)
 }
 
-/// The host in memory, over the files that stand there before the first call.
-fn in_memory(rt: &HostRuntime) -> Result<MemHost, Fail> {
+/// The files that stand there before the first call, on a disk in memory.
+fn standing_disk(rt: &impl AllocGlobal) -> Result<MemDisk, Fail> {
     let mut disk = MemDisk::empty(rt.alloc());
     for (name, bytes) in STANDING {
         disk.put_file(name, bytes)?;
     }
+    Ok(disk)
+}
+
+/// The host in memory, over the files that stand there before the first call.
+fn in_memory(rt: &impl AllocGlobal) -> Result<MemHost, Fail> {
+    let disk = standing_disk(rt)?;
     Ok(MemHost::new(rt.alloc(), INPUT, b"", disk, &[], None)?)
 }
 
+/// Puts a file into the folder.
+fn put_file(rt: &(impl AllocGlobal + Files), name: &str, bytes: &[u8]) -> Result<(), Fail> {
+    let path = path_of(rt.alloc(), name)?;
+    Ok(fs::write(rt, &path, bytes)?)
+}
+
 /// Puts the files that stand there before the first call into the folder.
-fn fill_folder(rt: &HostRuntime) -> Result<(), Fail> {
+fn fill_folder(rt: &(impl AllocGlobal + Files)) -> Result<(), Fail> {
     for (name, bytes) in STANDING {
-        let path = format!(in rt.alloc(); "{FOLDER}/{name}")?;
-        fs::write(rt, &path, bytes)?;
+        put_file(rt, name, bytes)?;
     }
     Ok(())
+}
+
+/// Names the folder to a host.
+fn bind(rt: &impl Abort, host: &mut impl Host) -> Result<(), Fail> {
+    assert_eq!(rt; host.bind(FOLDER), Ok(()));
+    Ok(())
+}
+
+/// Names the folder to both, fills it, and makes all the calls.
+fn make_calls(
+    rt: &(impl Abort + AllocGlobal + Files),
+    memory: &mut MemHost,
+    files: &mut impl Host,
+) -> Result<(), Fail> {
+    bind(rt, memory)?;
+    bind(rt, files)?;
+    fill_folder(rt)?;
+    for calls in [ON_CONSOLE.as_slice(), &ON_LOG, &ON_PAGES] {
+        assert_eq!(rt; compare(rt, memory, files, calls)?, None);
+    }
+    Ok(())
+}
+
+/// Looks at what both have in the end: all was forced, and the same was said.
+fn look_at_the_end(rt: &(impl Abort + AllocGlobal + Files), memory: &MemHost) -> Result<(), Fail> {
+    assert_eq!(rt; differing(rt, memory, Pick::Lost)?, None);
+    assert_eq!(rt; memory.said(), b"none\nok".as_slice());
+    assert_eq!(rt; fs::read(rt, SAID)?.as_slice(), memory.said());
+    Ok(())
+}
+
+/// Removes the folder and what was said.
+fn remove_files(rt: &(impl AllocGlobal + Files)) -> Result<(), Fail> {
+    fs::remove_dir_all(rt, FOLDER)?;
+    Ok(fs::remove_file(rt, SAID)?)
 }
 
 #[test]
 fn files_and_memory_answer_the_same(rt: HostRuntime) -> Result<(), Fail> {
     let mut memory = in_memory(&rt)?;
     let mut files = FsHost::new(FileConsole { rt: rt.clone()? });
-    assert_eq!(rt; memory.bind(FOLDER), Ok(()));
-    assert_eq!(rt; files.bind(FOLDER), Ok(()));
-    fill_folder(&rt)?;
-    for calls in [ON_CONSOLE.as_slice(), &ON_LOG, &ON_PAGES] {
-        assert_eq!(rt; compare(&rt, &mut memory, &mut files, calls)?, None);
-    }
-
-    // All was forced, and the same was said.
-    assert_eq!(rt; differing(&rt, &memory, Pick::Lost)?, None);
-    assert_eq!(rt; memory.said(), b"none\nok".as_slice());
-    assert_eq!(rt; fs::read(&rt, SAID)?.as_slice(), memory.said());
-    fs::remove_dir_all(&rt, FOLDER)?;
-    fs::remove_file(&rt, SAID)?;
-    Ok(())
+    make_calls(&rt, &mut memory, &mut files)?;
+    look_at_the_end(&rt, &memory)?;
+    remove_files(&rt)
 }

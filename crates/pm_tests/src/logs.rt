@@ -6,6 +6,7 @@ ghost use Rattle.pm_disk_mem.specs.Hosts.{world_of};
 ghost use Rattle.pm_segments.specs.Ends.{EndsThere};
 ghost use Rattle.pm_segments.specs.Scans.{IsAhead};
 
+use crate::runs::SEGMENT;
 use pm_disk::Failed;
 use pm_disk_mem::{MemDisk, MemHost, Pick};
 use pm_frame::{LOGICAL, SEAL};
@@ -13,6 +14,9 @@ use pm_segments::{Log, Scan};
 use pm_types::Place;
 use std::process::Abort;
 use std::test::Fail;
+
+/// The file of the log's second segment.
+const SECOND: &str = "wal-0000000000000002.seg";
 
 /// The smallest size of a segment.
 const SEGMENT_BYTES: u32 = 65_536;
@@ -96,65 +100,135 @@ fn empty_host(rt: &impl AllocGlobal) -> Result<MemHost, Fail> {
     Ok(MemHost::new(rt.alloc(), b"", b"", MemDisk::empty(rt.alloc()), &[], None)?)
 }
 
-/// Appends a record with so many bytes of payload behind a frame of 65,000 bytes, looks for its frame at this place, and
-/// answers the host.
-fn append_behind(rt: &(impl Abort + AllocGlobal), len: usize, place: Place) -> Result<MemHost, Fail>
+/// An empty log with segments of this size.
+fn empty_log(host: &mut MemHost, segment_bytes: u32) -> Result<Log, Failed>
+    requires from { 65536 ≤ segment_bytes }
+    requires to { segment_bytes ≤ 67108864 }
+    ensures { IfOk result (λ log. EndsThere log (world_of host.new)) }
+{
+    Log::cut_tail(host, 1, BEGIN, segment_bytes)
+}
+
+/// Appends a record with so many sevens. Answers its place.
+fn append_sevens(
+    rt: &impl AllocGlobal,
+    host: &mut MemHost,
+    log: &mut Log,
+    len: usize,
+) -> Result<Place, Fail>
+    requires short { len ≤ longest }
+    requires end { EndsThere log.old (world_of host.old) }
+    ensures { OnOk result (EndsThere log.new (world_of host.new)) }
+{
+    Ok(log.append(host, LOGICAL, &sevens(rt, len)?)?)
+}
+
+/// Appends a record with so many bytes of payload behind a frame of 65,000 bytes, and looks for its frame at this place.
+fn append_behind(
+    rt: &(impl Abort + AllocGlobal),
+    host: &mut MemHost,
+    len: usize,
+    place: Place,
+) -> Result<Log, Fail>
     requires { len ≤ 600 }
 {
-    let mut host = empty_host(rt)?;
-    let mut log = Log::cut_tail(&mut host, 1, BEGIN, SEGMENT_BYTES)?;
-    log.append(&mut host, LOGICAL, &sevens(rt, 64_979)?)?;
+    let mut log = empty_log(host, SEGMENT_BYTES)?;
+    append_sevens(rt, host, &mut log, 64_979)?;
     assert_eq!(rt; log.end(), END);
-    let at = log.append(&mut host, LOGICAL, &sevens(rt, len)?)?;
+    let at = append_sevens(rt, host, &mut log, len)?;
     assert_eq!(rt; at, place);
     assert!(rt; log.tried());
+    Ok(log)
+}
+
+/// Scans from `END` on, and looks for a frame at this place with so many bytes of payload: behind a SEAL in the next segment,
+/// and behind it none. Answers where the scan ended.
+fn scan_behind(
+    rt: &(impl Abort + AllocGlobal),
+    host: &mut MemHost,
+    len: usize,
+    place: Place,
+) -> Result<Place, Fail> {
     let mut scan = Scan::new(rt.alloc(), END)?;
     if place == NEXT {
-        let seal = next_of(&mut host, &mut scan)?;
-        assert_eq!(rt; seal, Some((END, SEAL, 0)));
-        assert_eq!(rt; log.appended(), 65_000 + 21 + 516);
+        assert_eq!(rt; next_of(host, &mut scan)?, Some((END, SEAL, 0)));
     }
-    let frame = next_of(&mut host, &mut scan)?;
-    assert_eq!(rt; frame, Some((place, LOGICAL, len)));
-    assert_eq!(rt; next_of(&mut host, &mut scan)?, None);
-    assert_eq!(rt; scan.place(), log.end());
-    Ok(host)
+    assert_eq!(rt; next_of(host, &mut scan)?, Some((place, LOGICAL, len)));
+    assert_eq!(rt; next_of(host, &mut scan)?, None);
+    Ok(scan.place())
+}
+
+/// Looks for a first segment of so many bytes that ends with this frame.
+fn look_at_first(rt: &impl Abort, disk: &MemDisk, len: usize, frame: &[u8]) -> Result<(), Fail> {
+    let first = disk.file(SEGMENT).unwrap_or(b"");
+    assert_eq!(rt; first.len(), len);
+    assert!(rt; first.ends_with(frame));
+    Ok(())
 }
 
 // A frame has 21 bytes beside its payload, so this one has 515: with a SEAL it ends at 65,536.
 #[test]
 fn a_frame_stands_where_a_seal_still_fits_behind_it(rt: HostRuntime) -> Result<(), Fail> {
-    let host = append_behind(&rt, 494, END)?;
+    let mut host = empty_host(&rt)?;
+    let log = append_behind(&rt, &mut host, 494, END)?;
+    assert_eq!(rt; scan_behind(&rt, &mut host, 494, END)?, log.end());
     let head = [1, 1, 0, 0, 0, 0, 0, 0, 0, 232, 253, 0, 0, 238, 1, 0, 0];
     let frame = with_sevens(&rt, &head, 494, &[188, 155, 207, 230])?;
     let disk = host.image(rt.alloc(), Pick::Kept)?;
-    let first = disk.file("wal-0000000000000001.seg").unwrap_or(b"");
-    assert_eq!(rt; first.len(), 65_515);
-    assert!(rt; first.ends_with(&frame));
-    assert!(rt; disk.file("wal-0000000000000002.seg").is_none());
+    look_at_first(&rt, &disk, 65_515, &frame)?;
+    assert!(rt; disk.file(SECOND).is_none());
+    Ok(())
+}
+
+/// Looks for a first segment that ends with a SEAL, and for these bytes as the second one, in what a crash leaves.
+fn look_at_rolled(
+    rt: &(impl Abort + AllocGlobal),
+    host: &MemHost,
+    pick: Pick,
+    second: &[u8],
+) -> Result<(), Fail> {
+    let disk = host.image(rt.alloc(), pick)?;
+    look_at_first(rt, &disk, 65_021, &SEAL_FRAME)?;
+    assert!(rt; disk.file(SECOND) == Some(second), "{pick:?}");
     Ok(())
 }
 
 // This one has 516. The SEAL is lasting, and so is the next segment, which is empty: the frame itself is pending.
 #[test]
 fn a_longer_frame_begins_the_next_segment_behind_a_seal(rt: HostRuntime) -> Result<(), Fail> {
-    let host = append_behind(&rt, 495, NEXT)?;
+    let mut host = empty_host(&rt)?;
+    let log = append_behind(&rt, &mut host, 495, NEXT)?;
+    assert_eq!(rt; log.appended(), 65_000 + 21 + 516);
+    assert_eq!(rt; scan_behind(&rt, &mut host, 495, NEXT)?, log.end());
     let head = [1, 2, 0, 0, 0, 0, 0, 0, 0, 0, 0, 0, 0, 239, 1, 0, 0];
     let frame = with_sevens(&rt, &head, 495, &[4, 176, 227, 59])?;
-    for (pick, next) in [(Pick::Kept, frame.as_slice()), (Pick::Lost, b"")] {
-        let disk = host.image(rt.alloc(), pick)?;
-        let first = disk.file("wal-0000000000000001.seg").unwrap_or(b"");
-        assert_eq!(rt; first.len(), 65_021, "{pick:?}");
-        assert!(rt; first.ends_with(&SEAL_FRAME), "{pick:?}");
-        assert!(rt;
-            disk.file("wal-0000000000000002.seg") == Some(next),
-            "{pick:?}"
-        );
-    }
-    Ok(())
+    look_at_rolled(&rt, &host, Pick::Kept, &frame)?;
+    look_at_rolled(&rt, &host, Pick::Lost, b"")
 }
 
-/// Where the log ends after so many records, how many frames a scan of it gives, and how many calls that takes.
+/// Makes a log of so many records. Answers where it ends.
+fn fill_log(
+    rt: &impl AllocGlobal,
+    host: &mut MemHost,
+    segment_bytes: u32,
+    records: u32,
+) -> Result<Place, Fail>
+    requires from { 65536 ≤ segment_bytes }
+    requires to { segment_bytes ≤ 67108864 }
+{
+    let mut log = empty_log(host, segment_bytes)?;
+    append_all(host, &mut log, &sevens(rt, 32_000)?, records)?;
+    Ok(log.end())
+}
+
+/// Scans the whole log. Answers where it ends and how many frames it has.
+fn scan_all(rt: &impl AllocGlobal, host: &mut MemHost) -> Result<(Place, u32), Fail> {
+    let mut scan = Scan::new(rt.alloc(), BEGIN)?;
+    let frames = count_frames(host, &mut scan, 1_000)?;
+    Ok((scan.place(), frames))
+}
+
+/// Where the log ends after so many records, where a scan of it ends, how many frames it gives, and how many calls that takes.
 fn scan_over(
     rt: &impl AllocGlobal,
     segment_bytes: u32,
@@ -164,17 +238,10 @@ fn scan_over(
     requires to { segment_bytes ≤ 67108864 }
 {
     let mut host = empty_host(rt)?;
-    let mut log = Log::cut_tail(&mut host, 1, BEGIN, segment_bytes)?;
-    append_all(&mut host, &mut log, &sevens(rt, 32_000)?, records)?;
+    let end = fill_log(rt, &mut host, segment_bytes, records)?;
     let before = host.calls();
-    let mut scan = Scan::new(rt.alloc(), BEGIN)?;
-    let frames = count_frames(&mut host, &mut scan, 1_000)?;
-    Ok((
-        log.end(),
-        scan.place(),
-        frames,
-        host.calls().saturating_sub(before),
-    ))
+    let (scanned, frames) = scan_all(rt, &mut host)?;
+    Ok((end, scanned, frames, host.calls().saturating_sub(before)))
 }
 
 // A frame has 32,021 bytes here. Each segment but the last one ends with a SEAL, which is a frame too.

@@ -3,43 +3,67 @@
 ghost use Rattle.std.specs.Prelude.{◌<◌};
 
 use crate::pieces::PieceHost;
+use crate::runs::{Run, call_with, look_at_refused};
 use pm_disk_mem::{MemDisk, MemHost};
-use pm_top::{Report, top};
+use std::process::Abort;
 use std::test::Fail;
+
+/// A host over an empty disk that gives this input in pieces of this size, and refuses the calls of these numbers.
+fn host_of(
+    rt: &impl AllocGlobal,
+    input: &[u8],
+    piece: usize,
+    refused: &[u64],
+) -> Result<PieceHost, Fail>
+    requires { 0 < piece }
+{
+    let disk = MemDisk::empty(rt.alloc());
+    let host = MemHost::new(rt.alloc(), input, b"", disk, refused, None)?;
+    Ok(PieceHost { host, piece })
+}
 
 /// The top call over an input in pieces of this size, where the calls of these numbers are refused.
 fn run(
-    rt: &HostRuntime,
+    rt: &impl AllocGlobal,
     words: &[&str],
     input: &[u8],
     piece: usize,
     refused: &[u64],
-) -> Result<(Report, MemHost), Fail>
+) -> Result<Run, Fail>
     requires { 0 < piece }
 {
-    let mut owned = Vec::new(rt.alloc());
-    for word in words {
-        owned.push(String::from_str(rt.alloc(), word)?)?;
-    }
-    let disk = MemDisk::empty(rt.alloc());
-    let mut pieces = PieceHost {
-        host: MemHost::new(rt.alloc(), input, b"", disk, refused, None)?,
-        piece,
-    };
-    let report = top(rt, &owned, &mut pieces);
+    let mut pieces = host_of(rt, input, piece, refused)?;
+    let report = call_with(rt, words, &mut pieces)?;
     let PieceHost { host, piece: _ } = pieces;
-    Ok((report, host))
+    Ok(Run { report, host })
+}
+
+/// Runs a script in pieces of this size, and looks at how many lines were answered and at what was said.
+fn answer(
+    rt: &(impl Abort + AllocGlobal),
+    script: &[u8],
+    piece: usize,
+    lines: u64,
+    wanted: &[u8],
+) -> Result<(), Fail>
+    requires { 0 < piece }
+{
+    let run = run(rt, &["run", "d"], script, piece, &[])?;
+    assert_eq!(rt; run.report.status, 0, "{script:?}");
+    assert_eq!(rt; run.report.lines, lines, "{script:?}");
+    assert_eq!(rt; run.host.said(), wanted, "{script:?}");
+    Ok(())
 }
 
 #[test]
 fn a_put_is_answered_and_found(rt: HostRuntime) -> Result<(), Fail> {
     for piece in [1, 65_536] {
         let script = b"put 0 a 1\nget 0 a\n";
-        let (report, host) = run(&rt, &["run", "d"], script, piece, &[])?;
-        assert_eq!(rt; report.status, 0);
-        assert_eq!(rt; report.lines, 2);
-        assert_eq!(rt; report.order.as_slice(), [1].as_slice());
-        assert_eq!(rt; host.said(), b"ok\nvalue 1\n".as_slice());
+        let run = run(&rt, &["run", "d"], script, piece, &[])?;
+        assert_eq!(rt; run.report.status, 0);
+        assert_eq!(rt; run.report.lines, 2);
+        assert_eq!(rt; run.report.order.as_slice(), [1].as_slice());
+        assert_eq!(rt; run.host.said(), b"ok\nvalue 1\n".as_slice());
     }
     Ok(())
 }
@@ -101,22 +125,37 @@ fn each_line_has_its_reply(rt: HostRuntime) -> Result<(), Fail> {
     ];
     for (script, wanted, lines) in cases {
         for piece in [1, 3, 65_536] {
-            let (report, host) = run(&rt, &["run", "d"], script, piece, &[])?;
-            assert_eq!(rt; report.status, 0, "{script:?}");
-            assert_eq!(rt; report.lines, lines, "{script:?}");
-            assert_eq!(rt; host.said(), wanted, "{script:?}");
+            answer(&rt, script, piece, lines, wanted)?;
         }
     }
     Ok(())
 }
 
 /// `put 0 k V` with so many bytes in all, the value as long as it takes.
-fn put_of_length(rt: &HostRuntime, length: usize) -> Result<Vec<u8>, Fail> {
+fn put_of_length(rt: &impl AllocGlobal, length: usize) -> Result<Vec<u8>, Fail> {
     let mut line = Vec::from_slice(rt.alloc(), b"put 0 k ")?;
     for _ in 0..length.saturating_sub(8) {
         line.push(b'v')?;
     }
     Ok(line)
+}
+
+/// Puts a line of so many bytes and reads its key, and looks at how the replies begin.
+fn measure(
+    rt: &(impl Abort + AllocGlobal),
+    length: usize,
+    piece: usize,
+    wanted: &[u8],
+) -> Result<(), Fail>
+    requires { 0 < piece }
+{
+    let mut script = put_of_length(rt, length)?;
+    script.extend_from_slice(b"\nget 0 k\n")?;
+    let run = run(rt, &["run", "d"], &script, piece, &[])?;
+    assert_eq!(rt; run.report.status, 0, "{length}");
+    assert_eq!(rt; run.report.lines, 2, "{length}");
+    assert!(rt; run.host.said().starts_with(wanted), "{length}");
+    Ok(())
 }
 
 #[test]
@@ -130,14 +169,26 @@ fn lines_are_measured_to_the_byte(rt: HostRuntime) -> Result<(), Fail> {
     ];
     for (length, wanted) in cases {
         for piece in [1_000, 65_536] {
-            let mut script = put_of_length(&rt, length)?;
-            script.extend_from_slice(b"\nget 0 k\n")?;
-            let (report, host) = run(&rt, &["run", "d"], &script, piece, &[])?;
-            assert_eq!(rt; report.status, 0, "{length}");
-            assert_eq!(rt; report.lines, 2, "{length}");
-            assert!(rt; host.said().starts_with(wanted), "{length}");
+            measure(&rt, length, piece, wanted)?;
         }
     }
+    Ok(())
+}
+
+/// Runs other words, and looks for the fault.
+fn refuse_words(rt: &(impl Abort + AllocGlobal), words: &[&str]) -> Result<(), Fail> {
+    let run = run(rt, words, b"put 0 a 1\n", 100, &[])?;
+    assert_eq!(rt; run.report.status, 1, "{words:?}");
+    assert_eq!(rt; run.report.lines, 0, "{words:?}");
+    assert_eq!(rt; run.host.said(), b"fault usage\n".as_slice(), "{words:?}");
+    Ok(())
+}
+
+/// Runs other words where the first call is refused, which would say the fault, and looks for nothing said.
+fn refuse_words_unsaid(rt: &(impl Abort + AllocGlobal), words: &[&str]) -> Result<(), Fail> {
+    let run = run(rt, words, b"put 0 a 1\n", 100, &[0])?;
+    assert_eq!(rt; run.report.status, 3, "{words:?}");
+    assert!(rt; run.host.said().is_empty(), "{words:?}");
     Ok(())
 }
 
@@ -153,69 +204,66 @@ fn other_words_are_refused(rt: HostRuntime) -> Result<(), Fail> {
         &["--help"],
     ];
     for words in cases {
-        let (report, host) = run(&rt, words, b"put 0 a 1\n", 100, &[])?;
-        assert_eq!(rt; report.status, 1, "{words:?}");
-        assert_eq!(rt; report.lines, 0, "{words:?}");
-        assert_eq!(rt; host.said(), b"fault usage\n".as_slice(), "{words:?}");
-        let (report, host) = run(&rt, words, b"put 0 a 1\n", 100, &[0])?;
-        assert_eq!(rt; report.status, 3, "{words:?}");
-        assert!(rt; host.said().is_empty(), "{words:?}");
+        refuse_words(&rt, words)?;
+        refuse_words_unsaid(&rt, words)?;
     }
     Ok(())
 }
 
+// The folder is bound; the log is read, cut and forced, and the RESTART written; each line is read, and then the script's
+// end; the two frames are written and forced, and the replies printed; at last the log is forced once more.
 #[test]
 fn after_a_refused_call_none_is_made(rt: HostRuntime) -> Result<(), Fail> {
     let script = b"put 0 a 1\nput 0 b 2\nget 0 a\n";
-    // The folder is bound; the log is read, cut and forced; of each line a piece is read, the frame of a put written and
-    // forced, and the reply printed; at last the input's end is read.
-    // (refused call, lines answered, accepted, said)
+    // (refused call, lines answered, order, said)
     let cases = [
         (0, 0, [].as_slice(), b"".as_slice()),
         (1, 0, &[], b""),
         (2, 0, &[], b""),
         (3, 0, &[], b""),
         (4, 0, &[], b""),
-        (5, 0, &[1], b""),
-        (6, 0, &[1], b""),
-        (7, 0, &[1], b""),
-        (8, 1, &[1], b"ok\n"),
-        (9, 1, &[1, 2], b"ok\n"),
-        (10, 1, &[1, 2], b"ok\n"),
-        (11, 1, &[1, 2], b"ok\n"),
-        (12, 2, &[1, 2], b"ok\nok\n"),
-        (13, 2, &[1, 2], b"ok\nok\n"),
-        (14, 3, &[1, 2], b"ok\nok\nvalue 1\n"),
+        (5, 0, &[], b""),
+        (6, 0, &[], b""),
+        (7, 0, &[], b""),
+        (8, 0, &[], b""),
+        (9, 0, &[1], b""),
+        (10, 0, &[1, 2], b""),
+        (11, 0, &[1, 2], b""),
+        (12, 0, &[1, 2], b""),
+        (13, 3, &[1, 2], b"ok\nok\nvalue 1\n"),
     ];
     for (refused, lines, order, wanted) in cases {
-        let (report, host) = run(&rt, &["run", "d"], script, 10, &[refused])?;
-        assert_eq!(rt; report.status, 3, "{refused}");
-        assert_eq!(rt; report.lines, lines, "{refused}");
-        assert_eq!(rt; report.order.as_slice(), order, "{refused}");
-        assert_eq!(rt; host.said(), wanted, "{refused}");
-        assert_eq!(rt; host.calls(), refused.saturating_add(1), "{refused}");
+        let run = run(&rt, &["run", "d"], script, 10, &[refused])?;
+        look_at_refused(&rt, &run, refused, lines, order, wanted)?;
     }
-    let (report, host) = run(&rt, &["run", "d"], script, 10, &[15])?;
-    assert_eq!(rt; report.status, 0);
-    assert_eq!(rt; host.calls(), 15);
+    let whole = run(&rt, &["run", "d"], script, 10, &[14])?;
+    assert_eq!(rt; whole.report.status, 0);
+    assert_eq!(rt; whole.host.calls(), 14);
     Ok(())
 }
 
 /// So many empty lines.
-fn empty_lines(rt: &HostRuntime, count: usize) -> Result<Vec<u8>, Fail> {
+fn empty_lines(rt: &impl AllocGlobal, count: usize) -> Result<Vec<u8>, Fail> {
     Ok(vec![in rt.alloc(); b'\n'; count]?)
+}
+
+/// Runs so many empty lines, of which the first 4,000,000 are answered, and looks for this status and for how the replies end.
+fn run_to_the_limit(
+    rt: &(impl Abort + AllocGlobal),
+    lines: usize,
+    status: u8,
+    tail: &[u8],
+) -> Result<(), Fail> {
+    let run = run(rt, &["run", "d"], &empty_lines(rt, lines)?, 65_536, &[])?;
+    assert_eq!(rt; run.report.status, status);
+    assert_eq!(rt; run.report.lines, 4_000_000);
+    assert_eq!(rt; run.host.said().len(), lines.saturating_mul(11));
+    assert!(rt; run.host.said().ends_with(tail));
+    Ok(())
 }
 
 #[test]
 fn a_script_of_too_many_lines_is_answered_up_to_the_limit(rt: HostRuntime) -> Result<(), Fail> {
-    let last = b"error line\n".as_slice();
-    for (lines, status, tail) in [(4_000_000, 0, last), (4_000_001, 6, b"fault long\n")] {
-        let script = empty_lines(&rt, lines)?;
-        let (report, host) = run(&rt, &["run", "d"], &script, 65_536, &[])?;
-        assert_eq!(rt; report.status, status);
-        assert_eq!(rt; report.lines, 4_000_000);
-        assert_eq!(rt; host.said().len(), lines * 11);
-        assert!(rt; host.said().ends_with(tail));
-    }
-    Ok(())
+    run_to_the_limit(&rt, 4_000_000, 0, b"error line\n")?;
+    run_to_the_limit(&rt, 4_000_001, 6, b"fault long\n")
 }

@@ -1,18 +1,32 @@
 //! Runs one after another over one store.
 
-use crate::runs::{Run, SEGMENT, disk_of, run_over};
-use pm_disk_mem::{MemDisk, MemHost, Pick};
+use crate::runs::{
+    CP_BEGIN_3, DELTA_OF_A_PAGE, FIRST_FRAME, OTHER_PUT, PUT, Run, disk_of, lasting_len, log_after,
+    log_left, run_over, with_frame,
+};
+use pm_disk_mem::{MemDisk, Pick};
+use pm_frame::{CP_BEGIN, DELTA, LOGICAL, SNAPSHOT};
 use std::process::Abort;
 use std::test::Fail;
+
+/// Runs a script over a disk, and looks at what it says. Answers the disk that it leaves.
+fn run_next(
+    rt: &(impl Abort + AllocGlobal),
+    script: &[u8],
+    disk: MemDisk,
+    wanted: &[u8],
+) -> Result<MemDisk, Fail> {
+    let run = run_over(rt, script, disk)?;
+    assert_eq!(rt; run.report.status, 0);
+    assert_eq!(rt; run.host.said(), wanted);
+    run.disk(rt)
+}
 
 /// Runs scripts one after another over one disk, which is empty at first, and looks at what each says.
 fn run_in_turn(rt: &(impl Abort + AllocGlobal), runs: &[(&[u8], &[u8])]) -> Result<(), Fail> {
     let mut disk = MemDisk::empty(rt.alloc());
     for (script, wanted) in runs {
-        let run = run_over(rt, script, disk)?;
-        assert_eq!(rt; run.report.status, 0);
-        assert_eq!(rt; run.host.said(), *wanted);
-        disk = run.disk(rt)?;
+        disk = run_next(rt, script, disk, wanted)?;
     }
     Ok(())
 }
@@ -39,24 +53,45 @@ fn the_next_run_finds_what_was_put(rt: HostRuntime) -> Result<(), Fail> {
 }
 
 #[test]
-fn an_empty_script_leaves_an_empty_log_and_nothing_pending(rt: HostRuntime) -> Result<(), Fail> {
+fn an_empty_script_leaves_a_restart_and_nothing_pending(rt: HostRuntime) -> Result<(), Fail> {
     let run = run_over(&rt, b"", MemDisk::empty(rt.alloc()))?;
     assert_eq!(rt; run.report.status, 0);
+    assert_eq!(rt; run.report.lines, 0);
+    assert!(rt; run.host.said().is_empty());
     for pick in [Pick::Kept, Pick::Lost, Pick::Fill(238), Pick::Cut(9)] {
-        let left = run.host.image(rt.alloc(), pick)?;
-        assert!(rt; left.file(SEGMENT) == Some(b"".as_slice()), "{pick:?}");
+        let left = log_left(&rt, &run, pick)?;
+        assert_eq!(rt; left.as_slice(), FIRST_FRAME.as_slice(), "{pick:?}");
     }
     Ok(())
 }
 
-/// The log's bytes after a script.
-fn log_after(rt: &(impl Abort + AllocGlobal), script: &[u8]) -> Result<Vec<u8>, Fail> {
-    let run = run_over(rt, script, MemDisk::empty(rt.alloc()))?;
-    let disk = run.disk(rt)?;
-    match disk.file(SEGMENT) {
-        Some(bytes) => Ok(Vec::from_slice(rt.alloc(), bytes)?),
-        None => Ok(Vec::new(rt.alloc())),
+/// Runs a script over a disk, and looks for so many bytes of the log, none of them pending. Answers the disk that it leaves.
+fn run_to_length(
+    rt: &(impl Abort + AllocGlobal),
+    script: &[u8],
+    disk: MemDisk,
+    len: usize,
+) -> Result<MemDisk, Fail> {
+    let run = run_over(rt, script, disk)?;
+    assert_eq!(rt; run.report.status, 0);
+    assert_eq!(rt; log_left(rt, &run, Pick::Kept)?.len(), len);
+    assert_eq!(rt; lasting_len(rt, &run)?, len);
+    run.disk(rt)
+}
+
+// Each run appends a RESTART of 37 bytes, and each accepted put of one byte each of key and value 30 bytes.
+#[test]
+fn each_run_appends_a_restart(rt: HostRuntime) -> Result<(), Fail> {
+    let mut disk = MemDisk::empty(rt.alloc());
+    for (script, len) in [
+        (b"put 0 a 1\nput 0 b 2\n".as_slice(), 97),
+        (b"", 134),
+        (b"get 0 a\nremove 0 c\nput 0 a\nscan 0\n", 171),
+        (b"put 0 a 2\nremove 0 b\n", 267),
+    ] {
+        disk = run_to_length(&rt, script, disk, len)?;
     }
+    Ok(())
 }
 
 /// What a run says that reads two keys over this log.
@@ -66,22 +101,39 @@ fn told_by(rt: &(impl Abort + AllocGlobal), log: &[u8]) -> Result<Run, Fail> {
     Ok(run)
 }
 
-// The frame of a put of a key and a value of one byte each has 30 bytes.
+/// Looks at what is answered over a log that has these whole frames at its begin, and at the log that is left: a RESTART stands
+/// behind them.
+fn look_at(rt: &(impl Abort + AllocGlobal), log: &[u8], frames: &[u8]) -> Result<(), Fail> {
+    let run = told_by(rt, log)?;
+    let whole = frames.len();
+    let wanted = if whole < 67 {
+        b"none\nnone\n".as_slice()
+    } else {
+        b"value 1\nnone\n"
+    };
+    assert_eq!(rt; run.host.said(), wanted, "{whole}");
+    let left = log_left(rt, &run, Pick::Lost)?;
+    assert_eq!(rt; left.len(), whole.saturating_add(37), "{whole}");
+    assert!(rt; left.starts_with(frames), "{whole}");
+    Ok(())
+}
+
+/// How many bytes the frames have that stand whole within so many bytes of a log: a RESTART of 37 bytes, and a put of 30.
+fn whole_within(count: usize) -> usize {
+    match count {
+        0..=36 => 0,
+        37..=66 => 37,
+        _ => 67,
+    }
+}
+
 #[test]
 fn a_log_ends_before_its_first_torn_frame(rt: HostRuntime) -> Result<(), Fail> {
     let log = log_after(&rt, b"put 0 a 1\nput 0 b 2\n")?;
-    assert_eq!(rt; log.len(), 60);
+    assert_eq!(rt; log.len(), 97);
     for (count, _) in log.iter().enumerate() {
-        let run = told_by(&rt, &log[..count])?;
-        let wanted = if count < 30 {
-            b"none\nnone\n".as_slice()
-        } else {
-            b"value 1\nnone\n"
-        };
-        assert_eq!(rt; run.host.said(), wanted, "{count}");
-        let kept = run.disk(&rt)?;
-        let whole = if count < 30 { 0 } else { 30 };
-        assert!(rt; kept.file(SEGMENT) == Some(&log[..whole]), "{count}");
+        let whole = whole_within(count).min(log.len());
+        look_at(&rt, &log[..count], &log[..whole])?;
     }
     let run = told_by(&rt, &log)?;
     assert_eq!(rt; run.host.said(), b"value 1\nvalue 2\n".as_slice());
@@ -94,13 +146,39 @@ fn a_log_ends_before_its_first_damaged_frame(rt: HostRuntime) -> Result<(), Fail
     for (at, _) in log.iter().enumerate() {
         let mut damaged = Vec::from_slice(rt.alloc(), &log)?;
         damaged[at] ^= 0x10;
-        let run = told_by(&rt, &damaged)?;
-        let wanted = if at < 30 {
-            b"none\nnone\n".as_slice()
-        } else {
-            b"value 1\nnone\n"
-        };
-        assert_eq!(rt; run.host.said(), wanted, "{at}");
+        let whole = whole_within(at).min(log.len());
+        look_at(&rt, &damaged, &log[..whole])?;
     }
+    Ok(())
+}
+
+/// A log with records of a page and the begin of a checkpoint between two puts.
+fn log_with_pages(rt: &(impl Abort + AllocGlobal)) -> Result<Vec<u8>, Fail> {
+    let mut snapshot = Vec::from_slice(rt.alloc(), &DELTA_OF_A_PAGE[..8])?;
+    snapshot.resize(1032, 171)?;
+    let frames = [
+        (LOGICAL, PUT, 67),
+        (SNAPSHOT, snapshot.as_slice(), 1120),
+        (DELTA, DELTA_OF_A_PAGE, 1155),
+        (CP_BEGIN, CP_BEGIN_3, 1196),
+        (LOGICAL, OTHER_PUT, 1226),
+    ];
+    let mut log = Vec::from_slice(rt.alloc(), &FIRST_FRAME)?;
+    for (kind, payload, end) in frames {
+        log = with_frame(rt, &log, kind, payload)?;
+        assert_eq!(rt; log.len(), end, "{kind}");
+    }
+    Ok(log)
+}
+
+// They tell nothing of the map, and stay in the log.
+#[test]
+fn records_of_pages_and_checkpoints_are_passed_over(rt: HostRuntime) -> Result<(), Fail> {
+    let log = log_with_pages(&rt)?;
+    let run = told_by(&rt, &log)?;
+    assert_eq!(rt; run.host.said(), b"value 1\nvalue 2\n".as_slice());
+    let left = log_left(&rt, &run, Pick::Lost)?;
+    assert_eq!(rt; left.len(), 1263);
+    assert!(rt; left.starts_with(&log));
     Ok(())
 }

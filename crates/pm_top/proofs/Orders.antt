@@ -14,9 +14,9 @@ use Rattle.pm_model.specs.declared.reply.Reply.TheVariants as reply
 use Rattle.pm_model.specs.declared.reply.Reply.TheVariants.{Done, Found, Absent, Was, Full, BadLine, LongLine}
 use Rattle.pm_model.specs.Eval.{Pairs}
 use Rattle.pm_model.specs.Eval.{found}
-use Rattle.pm_top.specs.Evaluation.{reply_to, after, is_accepted, replies_to, after_all, accepted}
+use Rattle.pm_types.specs.declared.shape.Shape.{Shape}
+use Rattle.pm_model.specs.Eval.{reply_to, after, is_accepted, replies_to, after_all, accepted}
 use Rattle.pm_model.proofs.Runs.{after-not_accepted}
-use Rattle.pm_top.specs.declared.shape.TheConstants.{SHAPE}
 use Rattle.pm_script.specs.Texts.{text_of, texts_of}
 use Rattle.pm_top.specs.Crashes.{begun, after_numbers}
 
@@ -31,44 +31,44 @@ slice_get-behind [] ys y = refl
 slice_get-behind (x ∷ xs) ys y = slice_get-behind xs ys y
 
 -- a line that isn't accepted changes nothing
-unchanged : (line : Line) (pairs : Pairs) → is_accepted line pairs ≡ false → after line pairs ≡ pairs
-unchanged line pairs isnt = after-not_accepted SHAPE line pairs isnt
+unchanged : (shape : Shape) (line : Line) (pairs : Pairs) → is_accepted shape line pairs ≡ false → after shape line pairs ≡ pairs
+unchanged shape line pairs isnt = after-not_accepted shape line pairs isnt
 
 -- the numbers of the accepted lines, by whether the first is one
-order_true : (number : ℕ) (line : Line) (lines : List Line) (pairs : Pairs) → is_accepted line pairs ≡ true → accepted number (line ∷ lines) pairs ≡ number ∷ accepted (number + 1) lines (after line pairs)
-order_true number line lines pairs is = ap (λ t. cond t (number ∷ accepted (number + 1) lines (after line pairs)) (accepted (number + 1) lines (after line pairs))) is
+order_true : (shape : Shape) (number : ℕ) (line : Line) (lines : List Line) (pairs : Pairs) → is_accepted shape line pairs ≡ true → accepted shape number (line ∷ lines) pairs ≡ number ∷ accepted shape (number + 1) lines (after shape line pairs)
+order_true shape number line lines pairs is = ap (λ t. cond t (number ∷ accepted shape (number + 1) lines (after shape line pairs)) (accepted shape (number + 1) lines (after shape line pairs))) is
 
-order_false : (number : ℕ) (line : Line) (lines : List Line) (pairs : Pairs) → is_accepted line pairs ≡ false → accepted number (line ∷ lines) pairs ≡ accepted (number + 1) lines (after line pairs)
-order_false number line lines pairs is = ap (λ t. cond t (number ∷ accepted (number + 1) lines (after line pairs)) (accepted (number + 1) lines (after line pairs))) is
+order_false : (shape : Shape) (number : ℕ) (line : Line) (lines : List Line) (pairs : Pairs) → is_accepted shape line pairs ≡ false → accepted shape number (line ∷ lines) pairs ≡ accepted shape (number + 1) lines (after shape line pairs)
+order_false shape number line lines pairs is = ap (λ t. cond t (number ∷ accepted shape (number + 1) lines (after shape line pairs)) (accepted shape (number + 1) lines (after shape line pairs))) is
 
 -- one line more in front
-after_step : (t : Bool) (number : ℕ) (line : Line) (lines script : List Line) (pairs : Pairs) → is_accepted line pairs ≡ t → unwrap_or (slice_get script (number - 1)) Bad ≡ line
-    → after_numbers (accepted (number + 1) lines (after line pairs)) script (after line pairs) ≡ after_all lines (after line pairs)
-    → after_numbers (accepted number (line ∷ lines) pairs) script pairs ≡ after_all lines (after line pairs)
-after_step true number line lines script pairs is here rest =
-    ap (λ o. after_numbers o script pairs) (order_true number line lines pairs is)
-    ∙ ap (λ l. after_numbers (accepted (number + 1) lines (after line pairs)) script (after l pairs)) here
+after_step : (shape : Shape) (t : Bool) (number : ℕ) (line : Line) (lines script : List Line) (pairs : Pairs) → is_accepted shape line pairs ≡ t → unwrap_or (slice_get script (number - 1)) Bad ≡ line
+    → after_numbers shape (accepted shape (number + 1) lines (after shape line pairs)) script (after shape line pairs) ≡ after_all shape lines (after shape line pairs)
+    → after_numbers shape (accepted shape number (line ∷ lines) pairs) script pairs ≡ after_all shape lines (after shape line pairs)
+after_step shape true number line lines script pairs is here rest =
+    ap (λ o. after_numbers shape o script pairs) (order_true shape number line lines pairs is)
+    ∙ ap (λ l. after_numbers shape (accepted shape (number + 1) lines (after shape line pairs)) script (after shape l pairs)) here
     ∙ rest
-after_step false number line lines script pairs is here rest =
-    ap (λ o. after_numbers o script pairs) (order_false number line lines pairs is)
-    ∙ ap (λ p. after_numbers (accepted (number + 1) lines (after line pairs)) script p) (sym (unchanged line pairs is))
+after_step shape false number line lines script pairs is here rest =
+    ap (λ o. after_numbers shape o script pairs) (order_false shape number line lines pairs is)
+    ∙ ap (λ p. after_numbers shape (accepted shape (number + 1) lines (after shape line pairs)) script p) (sym (unchanged shape line pairs is))
     ∙ rest
 
 -- the lines with the numbers of the accepted ones leave the map that all lines leave
-pub after_accepted : (skipped lines more : List Line) (pairs : Pairs) → after_numbers (accepted (length skipped + 1) lines pairs) (skipped ++ (lines ++ more)) pairs ≡ after_all lines pairs
-after_accepted skipped [] more pairs = refl
-after_accepted skipped (line ∷ lines) more pairs =
+pub after_accepted : (shape : Shape) (skipped lines more : List Line) (pairs : Pairs) → after_numbers shape (accepted shape (length skipped + 1) lines pairs) (skipped ++ (lines ++ more)) pairs ≡ after_all shape lines pairs
+after_accepted shape skipped [] more pairs = refl
+after_accepted shape skipped (line ∷ lines) more pairs =
     let script : List Line = skipped ++ (line ∷ (lines ++ more)) in
     let number : length (skipped ++ line ∷ []) + 1 ≡ length skipped + 1 + 1 = omega (arith, length-append skipped (line ∷ [])) in
     let regrouped : (skipped ++ line ∷ []) ++ (lines ++ more) ≡ script = append_assoc skipped (line ∷ []) (lines ++ more) in
-    let rest : after_numbers (accepted (length skipped + 1 + 1) lines (after line pairs)) script (after line pairs) ≡ after_all lines (after line pairs) =
-    ap (λ n. after_numbers (accepted n lines (after line pairs)) script (after line pairs)) (sym number)
-    ∙ ap (λ s. after_numbers (accepted (length (skipped ++ line ∷ []) + 1) lines (after line pairs)) s (after line pairs)) (sym regrouped)
-    ∙ after_accepted (skipped ++ line ∷ []) lines more (after line pairs) in
+    let rest : after_numbers shape (accepted shape (length skipped + 1 + 1) lines (after shape line pairs)) script (after shape line pairs) ≡ after_all shape lines (after shape line pairs) =
+    ap (λ n. after_numbers shape (accepted shape n lines (after shape line pairs)) script (after shape line pairs)) (sym number)
+    ∙ ap (λ s. after_numbers shape (accepted shape (length (skipped ++ line ∷ []) + 1) lines (after shape line pairs)) s (after shape line pairs)) (sym regrouped)
+    ∙ after_accepted shape (skipped ++ line ∷ []) lines more (after shape line pairs) in
     let at : length skipped + 1 - 1 ≡ length skipped = omega arith in
     let here : unwrap_or (slice_get script (length skipped + 1 - 1)) Bad ≡ line =
     ap (λ n. unwrap_or (slice_get script n) Bad) at ∙ ap (λ o. unwrap_or o Bad) (slice_get-behind skipped (lines ++ more) line) in
-    after_step (is_accepted line pairs) (length skipped + 1) line lines script pairs refl here rest
+    after_step shape (is_accepted shape line pairs) (length skipped + 1) line lines script pairs refl here rest
 
 -- each reply's text has a first byte
 pub record HasFirst (reply : Reply) : Type 0 where
@@ -206,33 +206,53 @@ was_is : (b : Bool) → Was b ≡ Was false → b ≡ false
 was_is true is = absurd cc
 was_is false is = refl
 
-false_unaccepted : (line : Line) (pairs : Pairs) → reply_to line pairs ≡ Was false → is_accepted line pairs ≡ false
-false_unaccepted (Good (Put cache key value)) pairs is = absurd (full_or_done _ is)
-false_unaccepted (Good (Get cache key)) pairs is = refl
-false_unaccepted (Good (Remove cache key)) pairs is = was_is _ is
-false_unaccepted (Good (Scan cache)) pairs is = refl
-false_unaccepted (Good Checkpoint) pairs is = refl
-false_unaccepted Bad pairs is = refl
-false_unaccepted Long pairs is = refl
+false_unaccepted : (shape : Shape) (line : Line) (pairs : Pairs) → reply_to shape line pairs ≡ Was false → is_accepted shape line pairs ≡ false
+false_unaccepted shape (Good (Put cache key value)) pairs is = absurd (full_or_done _ is)
+false_unaccepted shape (Good (Get cache key)) pairs is = refl
+false_unaccepted shape (Good (Remove cache key)) pairs is = was_is _ is
+false_unaccepted shape (Good (Scan cache)) pairs is = refl
+false_unaccepted shape (Good Checkpoint) pairs is = refl
+false_unaccepted shape Bad pairs is = refl
+false_unaccepted shape Long pairs is = refl
 
 -- where a line that tells a fault stands in place of replies, no accepted line is taken to be acknowledged by it
-pub none_acknowledged : (number : ℕ) (lines : List Line) (pairs : Pairs) (k c : ℕ) (bytes : List ℕ) → BeginsNone c
-    → accepted number (take (begun (replies_to lines pairs) (take k (102 ∷ 97 ∷ 117 ∷ 108 ∷ 116 ∷ 32 ∷ c ∷ bytes))) lines) pairs ≡ []
-none_acknowledged number [] pairs k c bytes none = refl
-none_acknowledged number (line ∷ lines) pairs zero c bytes none = ap (λ n. accepted number (take n (line ∷ lines)) pairs) (begun_nothing (replies_to (line ∷ lines) pairs))
-none_acknowledged number (line ∷ lines) pairs (suc k) c bytes none =
+pub none_acknowledged : (shape : Shape) (number : ℕ) (lines : List Line) (pairs : Pairs) (k c : ℕ) (bytes : List ℕ) → BeginsNone c
+    → accepted shape number (take (begun (replies_to shape lines pairs) (take k (102 ∷ 97 ∷ 117 ∷ 108 ∷ 116 ∷ 32 ∷ c ∷ bytes))) lines) pairs ≡ []
+none_acknowledged shape number [] pairs k c bytes none = refl
+none_acknowledged shape number (line ∷ lines) pairs zero c bytes none = ap (λ n. accepted shape number (take n (line ∷ lines)) pairs) (begun_nothing (replies_to shape (line ∷ lines) pairs))
+none_acknowledged shape number (line ∷ lines) pairs (suc k) c bytes none =
     let tail : List ℕ = take (suc k) (102 ∷ 97 ∷ 117 ∷ 108 ∷ 116 ∷ 32 ∷ c ∷ bytes) in
-    let reply = reply_to line pairs in
-    let others = replies_to lines (after line pairs) in
+    let reply = reply_to shape line pairs in
+    let others = replies_to shape lines (after shape line pairs) in
     elim (begins_with_f reply (take k (97 ∷ 117 ∷ 108 ∷ 116 ∷ 32 ∷ c ∷ bytes))) [
-      | inl isnt ↦ ap (λ n. accepted number (take n (line ∷ lines)) pairs) (begun_if false reply others tail isnt)
+      | inl isnt ↦ ap (λ n. accepted shape number (take n (line ∷ lines)) pairs) (begun_if false reply others tail isnt)
       | inr is ↦
           let behind = behind_fault (suc k) (c ∷ bytes) in
           let starts : starts_with nat_eq tail (take 1 (text_of reply)) ≡ true = ap (λ r. starts_with nat_eq tail (take 1 (text_of r))) is in
           let rest : drop (length (text_of reply)) tail ≡ take behind.0 (c ∷ bytes) = ap (λ r. drop (length (text_of r)) tail) is ∙ behind.1 in
           let one : begun (reply ∷ others) tail ≡ 1 =
           begun_if true reply others tail starts ∙ ap (λ b. 1 + begun others b) rest ∙ ap (λ n. 1 + n) (begun_none c none others behind.0 bytes) in
-          ap (λ n. accepted number (take n (line ∷ lines)) pairs) one
-          ∙ ap (λ ls. accepted number (line ∷ ls) pairs) (take_none lines)
-          ∙ order_false number line [] pairs (false_unaccepted line pairs is)
+          ap (λ n. accepted shape number (take n (line ∷ lines)) pairs) one
+          ∙ ap (λ ls. accepted shape number (line ∷ ls) pairs) (take_none lines)
+          ∙ order_false shape number line [] pairs (false_unaccepted shape line pairs is)
     ]
+
+-- some first bytes behind others
+drop_take : (n k : ℕ) (xs : List ℕ) → drop k (take n xs) ≡ take (n - k) (drop k xs)
+drop_take n zero xs = ap (λ m. take m xs) (let same : n ≡ n - 0 = omega arith in same)
+drop_take n (suc k) [] = ap (drop (suc k)) (take_all n [] (omega arith)) ∙ sym (take_all (n - suc k) [] (omega arith))
+drop_take zero (suc k) (x ∷ xs) = sym (ap (λ m. take m (drop k xs)) (let none : 0 - suc k ≡ 0 = omega arith in none) ∙ take_none (drop k xs))
+drop_take (suc n) (suc k) (x ∷ xs) = drop_take n k xs ∙ ap (λ m. take m (drop k xs)) (let same : n - k ≡ suc n - suc k = omega arith in same)
+
+begun_more : (reply : Reply) (replies others : List Reply) (n : ℕ) (t : Bool) → begun others (take (n - length (text_of reply)) (texts_of replies)) ≤ length replies
+    → starts_with nat_eq (take n (texts_of (reply ∷ replies))) (take 1 (text_of reply)) ≡ t → begun (reply ∷ others) (take n (texts_of (reply ∷ replies))) ≤ length (reply ∷ replies)
+begun_more reply replies others n true inner is =
+    let rest : drop (length (text_of reply)) (take n (texts_of (reply ∷ replies))) ≡ take (n - length (text_of reply)) (texts_of replies) =
+    drop_take n (length (text_of reply)) (text_of reply ++ texts_of replies) ∙ ap (take (n - length (text_of reply))) (drop_at (text_of reply) (texts_of replies) (length (text_of reply)) refl) in
+    omega (arith, begun_if true reply others (take n (texts_of (reply ∷ replies))) is, ap (begun others) rest, inner)
+begun_more reply replies others n false inner is = omega (arith, begun_if false reply others (take n (texts_of (reply ∷ replies))) is)
+
+-- of some first bytes of replies no more than these begin
+pub begun_within : (replies more : List Reply) (n : ℕ) → begun (replies ++ more) (take n (texts_of replies)) ≤ length replies
+begun_within [] more n = omega (arith, ap (begun more) (take_all n [] (omega arith)), begun_nothing more)
+begun_within (reply ∷ replies) more n = begun_more reply replies (replies ++ more) n _ (begun_within replies more (n - length (text_of reply))) refl

@@ -1,11 +1,7 @@
-pub mod Changes
 pub mod Crashes
-pub mod Evaluation
-pub mod Faults
-pub mod Openings
 pub mod Promises
+pub mod Runs
 pub mod Scripts
 pub mod Served
-pub mod Sessions
 pub mod Statuses
 pub mod Words

@@ -1,13 +1,16 @@
 -- Whole scripts: their limits, and how their lines are taken one by one.
-use Rattle.std.specs.Prelude.{◌≡◌, ◌⊎◌, ℕ, zero, suc, ◌+◌, ◌≤◌, ◌<◌, List, length}
+use Rattle.std.specs.Prelude.{◌≡◌, ◌⊎◌, ℕ, zero, suc, ◌+◌, ◌≤◌, ◌<◌, List, [], ◌++◌, length}
 use Rattle.pm_types.specs.declared.limits.TheConstants.{SCRIPT_BYTES_MAX, LINES_MAX}
 use Rattle.pm_script.specs.Lines.{lines_of, first_line, after_line}
-use Rattle.pm_top.specs.Served.{line_of}
+use Rattle.pm_top.specs.Served.{line_of, script_of}
 use Rattle.pm_script.specs.Reading.{Unread, TakesLine, IsAtEnd, IsOver, CountsLine}
 use Rattle.pm_model.specs.declared.line.Line.{Line}
 use Rattle.pm_model.specs.Batches.{HasCache}
-use Rattle.pm_top.specs.declared.run.Next.{Next}
-use Rattle.pm_top.specs.declared.run.Next.TheVariants as next
+use Rattle.pm_top.specs.declared.batch.Batch.{Batch}
+use Rattle.pm_top.specs.declared.batch.Behind.{Behind}
+use Rattle.pm_top.specs.declared.batch.Behind.TheVariants as behind
+use Rattle.pm_top.specs.declared.script.Next.{Next}
+use Rattle.pm_top.specs.declared.script.Next.TheVariants as next
 
 -- a script that is within both limits
 pub record IsWithinLimits (input : List ℕ) : Type 0 where
@@ -51,3 +54,34 @@ abbrev pub HasCacheNext : Next → Type 0
 HasCacheNext (next.Line line) = HasCache line
 HasCacheNext next.End = Unit {0}
 HasCacheNext next.Over = Unit {0}
+
+-- the lines of a batch: those that are done together, and one that is a batch by itself
+abbrev pub batch_lines : Batch → List Line
+batch_lines batch = batch.lines.items ++ batch.alone.items
+
+-- the first lines of a script were taken off it
+pub record Gathers (old now : Unread) (rest left : List ℕ) (lines : List Line) : Type 0 where
+  pub script : script_of rest ≡ lines ++ script_of left
+  pub place : left ≡ after_lines (length lines) rest
+  pub bytes : now.bytes + length left ≡ old.bytes + length rest
+  pub few_bytes : old.bytes ≤ SCRIPT_BYTES_MAX → now.bytes ≤ SCRIPT_BYTES_MAX
+  pub count : now.lines ≡ old.lines + length lines
+
+-- How the script goes on behind a batch: with what the reader has now, or it ends, or with a line that isn't ended within the
+-- limits.
+abbrev pub GoesOnAs : Behind → Unread → Unread → List ℕ → List ℕ → Type 0
+GoesOnAs behind.More at new left now_rest = (at ≡ new) × (left ≡ now_rest)
+GoesOnAs behind.End at new left now_rest = (left ≡ []) × (now_rest ≡ [])
+GoesOnAs behind.Over at new left now_rest = IsOver at left
+
+-- the lines of a batch were taken off the script
+pub record GathersBatch (old new : Unread) (rest now_rest : List ℕ) (batch : Batch) : Type 0 where
+  pub at : Unread
+  pub left : List ℕ
+  pub gathers : Gathers old at rest left (batch_lines batch)
+  pub goes_on : GoesOnAs batch.behind at new left now_rest
+
+-- so many lines were counted
+pub record CountsLines (behind_is : Behind) (old new : Unread) (count : ℕ) : Type 0 where
+  pub few : old.lines ≤ LINES_MAX → old.lines + count ≤ LINES_MAX
+  pub lines : behind_is ≡ behind.More → new.lines ≡ old.lines + count

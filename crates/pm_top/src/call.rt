@@ -1,129 +1,227 @@
 //! The top call.
 
-ghost use Rattle.std.specs.Prelude.{◌≡◌, ◌⊎◌, List, [], length, codes, map, false, IsTrue, string_bytes, ◌<◌};
-ghost use Rattle.std.specs.FinMap.{empty};
+ghost use Rattle.std.specs.Prelude.{◌≡◌, ◌≢◌, ◌≤◌, ◌⊎◌, ◌^◌, [], map, false, IsTrue, string_bytes};
 ghost use Rattle.pm_types.specs.Causes.{Rose};
-ghost use Rattle.pm_frame.specs.Frames.{Frame};
+ghost use Rattle.pm_types.specs.declared.shape.Shape.{Shape};
+ghost use Rattle.pm_records.specs.Shapes.{IsShape};
 ghost use Rattle.pm_disk.specs.Images.{NothingPending};
 ghost use Rattle.pm_disk.specs.Moments.{AllMoments};
-ghost use Rattle.pm_disk.specs.Worlds.{with_said};
-ghost use Rattle.pm_segments.specs.Logs.{sizes};
+ghost use Rattle.pm_disk.specs.Worlds.{World};
+ghost use Rattle.pm_model.specs.Eval.{Pairs, after_all};
+ghost use Rattle.pm_segments.specs.Ends.{EndsThere};
+ghost use Rattle.pm_engine.specs.Engines.{running, Stands, HasSegments};
+ghost use Rattle.pm_engine.specs.Held.{Holds, HasNumbers};
+ghost use Rattle.pm_top.specs.declared.shape.TheConstants.{SHAPE};
 ghost use Rattle.pm_top.specs.Crashes.{KeepsAcknowledged};
-ghost use Rattle.pm_top.specs.Promises.{Ends, EndsRefused, FillsLog, FitsLog, SaysPart};
-ghost use Rattle.pm_top.specs.Changes.{HoldsChanges, pairs_of};
+ghost use Rattle.pm_top.specs.Promises.{Ends, EndsRefused, IsDamaged, IsLeft};
+ghost use Rattle.pm_top.specs.Runs.{SameConsole, SameFiles, LeavesStore};
 ghost use Rattle.pm_top.specs.Scripts.{IsWithinLimits, PassesLimit};
+ghost use Rattle.pm_top.specs.Served.{script_of};
 ghost use Rattle.pm_top.specs.Statuses.{status_of, code_of};
 ghost use Rattle.pm_top.specs.Words.{is_command};
 
 use crate::report::Report;
-use crate::run::run;
-use crate::session::Session;
+use crate::run::{Run, Stop};
+use crate::shape::SHAPE;
 use crate::status::Status;
+use crate::telling::{tell_limit, tell_record, tell_usage};
 use crate::words::is_run;
 use pm_disk::Host;
+use pm_engine::Engine;
+use pm_types::StoreFault;
 use std::alloc::Global;
 
 /// Does what the words of a command line ask for.
 ///
-/// The words are those after the program's name: `run` and a folder, which isn't empty and doesn't
-/// begin with `-`. The folder is made where it isn't there. Then the script on the host's input is
-/// answered line by line over the map that the folder's log holds. Each accepted line is in the log, and forced, before its
-/// reply is printed.
+/// The words are those after the program's name: `run` and a folder, which isn't empty and doesn't begin with `-`. The folder
+/// is made where it isn't there. Then the script on the host's input is answered, batch by batch, over the map that the
+/// folder's log holds. The records of a batch are in the log, and forced, before any of its replies is printed. A store whose
+/// log has a bad record is refused: the record is named, and nothing is changed.
 /// After the statuses 3 and 4 nothing more is printed.
 pub fn top<Q: AllocGlobal, H: Host>(rt: &Q, words: &[String], host: &mut H) -> Report
     ensures known { result.status ≡ code_of (status_of result.status) }
 
-    // The disk has a log, of which the clauses below speak; it has no second one.
-    ensures log { H.tells → (changes : List Frame) × HoldsChanges (H.history host.old).world changes }
-
     // Which lines are answered, and with what.
     ensures replies { H.tells → IsTrue (is_command (map string_bytes words.now)) →
-        (changes : List Frame) → HoldsChanges (H.history host.old).world changes →
-        Ends (status_of result.status) (H.history host.old).world
-        (H.history host.new).world (pairs_of changes) (sizes changes) result.lines result.order.items }
+        (shape : Shape) (pairs : Pairs) → Holds SHAPE (H.history host.old).world shape pairs →
+        Ends (status_of result.status) (H.history host.old).world (H.history host.new).world
+        shape pairs result.lines result.order.items }
     ensures refusal { H.tells → is_command (map string_bytes words.now) ≡ false →
         EndsRefused (status_of result.status) (H.history host.old).world
         (H.history host.new).world result.lines result.order.items }
+    ensures damaged { H.tells → result.status ≡ 5 → IsDamaged (H.history host.old).world
+        (H.history host.new).world result.lines result.order.items }
 
-    // Whatever a crash at any moment leaves holds each line that was acknowledged, and no line that the order lacks.
-    ensures crash { H.tells → NothingPending (H.history host.old).world → (changes : List Frame) →
-        HoldsChanges (H.history host.old).world changes →
+    // Whatever a crash at any moment leaves is sound, and holds each line that was acknowledged, and no line that the order
+    // lacks.
+    ensures crash { H.tells → (shape : Shape) (pairs : Pairs) →
+        (holds : Holds SHAPE (H.history host.old).world shape pairs) → HasNumbers holds.frames →
+        NothingPending (H.history host.old).world →
         AllMoments (H.history host.old) (H.history host.new)
-        (KeepsAcknowledged (H.history host.old).world (pairs_of changes) result.order.items) }
+        (KeepsAcknowledged (H.history host.old).world shape pairs result.order.items) }
+
+    // A script that is done leaves a sound store for the next call.
+    ensures leaves { H.tells → result.status ≡ 0 → (shape : Shape) (pairs : Pairs) →
+        (holds : Holds SHAPE (H.history host.old).world shape pairs) → HasNumbers holds.frames →
+        NothingPending (H.history host.old).world →
+        IsLeft holds.frames (2 ^ 23) (H.history host.new).world shape
+        (after_all shape (script_of (H.history host.old).world.input) pairs) }
 
     // When each status comes: 1 and 6 exactly where the words or the script ask for it, 3 only after a failed call.
     ensures usage { result.status ≡ 1 → is_command (map string_bytes words.now) ≡ false }
     ensures refused { is_command (map string_bytes words.now) ≡ false →
         (result.status ≡ 1) ⊎ (result.status ≡ 3) }
     ensures failed { result.status ≡ 3 → Rose (H.faults host.old) (H.faults host.new) }
-    ensures long { H.tells → result.status ≡ 6 → (changes : List Frame) →
-        HoldsChanges (H.history host.old).world changes →
-        PassesLimit (H.history host.old).world.input ⊎ FillsLog (sizes changes) (pairs_of changes) (H.history host.old).world.input }
-    ensures passes { H.tells → IsTrue (is_command (map string_bytes words.now)) → (changes : List Frame) →
-        HoldsChanges (H.history host.old).world changes →
-        PassesLimit (H.history host.old).world.input ⊎ FillsLog (sizes changes) (pairs_of changes) (H.history host.old).world.input →
+    ensures long { H.tells → result.status ≡ 6 → PassesLimit (H.history host.old).world.input }
+    ensures passes { H.tells → IsTrue (is_command (map string_bytes words.now)) →
+        (shape : Shape) (pairs : Pairs) → Holds SHAPE (H.history host.old).world shape pairs →
+        PassesLimit (H.history host.old).world.input →
         (Rose (H.faults host.old) (H.faults host.new) → ⊥) →
         (result.status ≡ 6) ⊎ (result.status ≡ 4) }
 
     // Where nothing fails and the script is within its limits, it is answered whole, or memory runs out.
-    ensures complete { H.tells → IsTrue (is_command (map string_bytes words.now)) → (changes : List Frame) →
-        HoldsChanges (H.history host.old).world changes →
-        IsWithinLimits (H.history host.old).world.input → FitsLog (sizes changes) (pairs_of changes) (H.history host.old).world.input →
+    ensures complete { H.tells → IsTrue (is_command (map string_bytes words.now)) →
+        (shape : Shape) (pairs : Pairs) → Holds SHAPE (H.history host.old).world shape pairs →
+        IsWithinLimits (H.history host.old).world.input →
         (Rose (H.faults host.old) (H.faults host.new) → ⊥) →
         (result.status ≡ 0) ⊎ (result.status ≡ 4) }
 {
-    let mut session = Session::new(rt.alloc());
-    let status = command(rt.alloc(), words, host, &mut session);
+    let outcome = command(rt.alloc(), words, host);
     Report {
-        status: status.code(),
-        lines: session.lines,
-        order: session.order,
+        status: outcome.status.code(),
+        lines: outcome.lines,
+        order: outcome.order,
+    }
+}
+
+// What a call did.
+#[derive(Drop)]
+struct Outcome {
+    status: Status,
+    lines: u64,
+    order: Vec<u32>,
+}
+
+impl Outcome {
+    // No line was done.
+    fn without(alloc: Global, status: Status) -> Outcome
+        ensures status { result.status ≡ status }
+        ensures lines { result.lines ≡ 0 }
+        ensures order { result.order.items ≡ [] }
+    {
+        Outcome {
+            status,
+            lines: 0,
+            order: Vec::new(alloc),
+        }
     }
 }
 
 // Does what the words ask for, or says that they aren't a command.
-fn command<H: Host>(alloc: Global, words: &[String], host: &mut H, session: &mut Session) -> Status
-    requires pairs { session.old.pairs ≡ empty }
-    requires order { session.old.order.items ≡ [] }
-    requires lines { session.old.lines ≡ 0 }
+fn command<H: Host>(alloc: Global, words: &[String], host: &mut H) -> Outcome
     ensures replies { H.tells → IsTrue (is_command (map string_bytes words.now)) →
-        (changes : List Frame) → HoldsChanges (H.history host.old).world changes →
-        Ends result (H.history host.old).world
-        (H.history host.new).world (pairs_of changes) (sizes changes) session.new.lines session.new.order.items }
+        (shape : Shape) (pairs : Pairs) → Holds SHAPE (H.history host.old).world shape pairs →
+        Ends result.status (H.history host.old).world (H.history host.new).world
+        shape pairs result.lines result.order.items }
     ensures refusal { H.tells → is_command (map string_bytes words.now) ≡ false →
-        EndsRefused result (H.history host.old).world
-        (H.history host.new).world session.new.lines session.new.order.items }
-    ensures crash { H.tells → NothingPending (H.history host.old).world → (changes : List Frame) →
-        HoldsChanges (H.history host.old).world changes →
+        EndsRefused result.status (H.history host.old).world
+        (H.history host.new).world result.lines result.order.items }
+    ensures damaged { H.tells → result.status ≡ Status.Damaged → IsDamaged (H.history host.old).world
+        (H.history host.new).world result.lines result.order.items }
+    ensures crash { H.tells → (shape : Shape) (pairs : Pairs) →
+        (holds : Holds SHAPE (H.history host.old).world shape pairs) → HasNumbers holds.frames →
+        NothingPending (H.history host.old).world →
         AllMoments (H.history host.old) (H.history host.new)
-        (KeepsAcknowledged (H.history host.old).world (pairs_of changes) session.new.order.items) }
-    ensures usage { result ≡ Status.Usage → is_command (map string_bytes words.now) ≡ false }
+        (KeepsAcknowledged (H.history host.old).world shape pairs result.order.items) }
+    ensures leaves { H.tells → result.status ≡ Status.Done → (shape : Shape) (pairs : Pairs) →
+        (holds : Holds SHAPE (H.history host.old).world shape pairs) → HasNumbers holds.frames →
+        NothingPending (H.history host.old).world →
+        IsLeft holds.frames (2 ^ 23) (H.history host.new).world shape
+        (after_all shape (script_of (H.history host.old).world.input) pairs) }
+    ensures usage { result.status ≡ Status.Usage → is_command (map string_bytes words.now) ≡ false }
     ensures refused { is_command (map string_bytes words.now) ≡ false →
-        (result ≡ Status.Usage) ⊎ (result ≡ Status.Failed) }
-    ensures failed { result ≡ Status.Failed → Rose (H.faults host.old) (H.faults host.new) }
+        (result.status ≡ Status.Usage) ⊎ (result.status ≡ Status.Failed) }
+    ensures failed { result.status ≡ Status.Failed → Rose (H.faults host.old) (H.faults host.new) }
+    ensures long { H.tells → result.status ≡ Status.Long →
+        PassesLimit (H.history host.old).world.input }
 {
     if !is_run(words) {
-        return refuse(host);
+        return Outcome::without(alloc, tell_usage(host));
     }
     match host.bind(words[1].as_str()) {
-        Ok(()) => run(alloc, host, session),
-        Err(_) => Status::Failed,
+        Ok(()) => run(alloc, host),
+        Err(_) => Outcome::without(alloc, Status::Failed),
     }
 }
 
-// Prints the line that says that the words aren't a command.
-fn refuse<H: Host>(host: &mut H) -> Status
-    ensures usage { H.tells → result ≡ Status.Usage →
-        (H.history host.new).world ≡ with_said (codes "fault usage\n") (H.history host.old).world }
-    ensures part { H.tells → result ≡ Status.Failed →
-        SaysPart (codes "fault usage\n") (H.history host.old).world (H.history host.new).world }
-    ensures moments { H.tells → AllMoments (H.history host.old) (H.history host.new)
-        (SaysPart (codes "fault usage\n") (H.history host.old).world) }
-    ensures cases { (result ≡ Status.Usage) ⊎ (result ≡ Status.Failed) }
-    ensures failed { result ≡ Status.Failed → Rose (H.faults host.old) (H.faults host.new) }
+// Opens the store and answers the script of the input, or names the record that is bad.
+fn run<H: Host>(alloc: Global, host: &mut H) -> Outcome
+    ensures ends { H.tells → (shape : Shape) (pairs : Pairs) →
+        Holds SHAPE (H.history host.old).world shape pairs →
+        Ends result.status (H.history host.old).world (H.history host.new).world
+        shape pairs result.lines result.order.items }
+    ensures damaged { H.tells → result.status ≡ Status.Damaged → IsDamaged (H.history host.old).world
+        (H.history host.new).world result.lines result.order.items }
+    ensures moments { H.tells → (shape : Shape) (pairs : Pairs) →
+        (holds : Holds SHAPE (H.history host.old).world shape pairs) → HasNumbers holds.frames →
+        NothingPending (H.history host.old).world →
+        AllMoments (H.history host.old) (H.history host.new)
+        (KeepsAcknowledged (H.history host.old).world shape pairs result.order.items) }
+    ensures leaves { H.tells → result.status ≡ Status.Done → (shape : Shape) (pairs : Pairs) →
+        (holds : Holds SHAPE (H.history host.old).world shape pairs) → HasNumbers holds.frames →
+        NothingPending (H.history host.old).world →
+        IsLeft holds.frames (2 ^ 23) (H.history host.new).world shape
+        (after_all shape (script_of (H.history host.old).world.input) pairs) }
+    ensures known { result.status ≢ Status.Usage }
+    ensures failed { result.status ≡ Status.Failed → Rose (H.faults host.old) (H.faults host.new) }
+    ensures long { H.tells → result.status ≡ Status.Long →
+        PassesLimit (H.history host.old).world.input }
+    ensures later { H.faults host.old ≤ H.faults host.new }
 {
-    match host.print(b"fault usage\n") {
-        Ok(()) => Status::Usage,
-        Err(_) => Status::Failed,
+    match Engine::open_store(alloc, host, SHAPE) {
+        Ok(engine) => answer_script(alloc, host, engine),
+        Err(StoreFault::Failed) => Outcome::without(alloc, Status::Failed),
+        Err(StoreFault::Memory) => Outcome::without(alloc, Status::Memory),
+        Err(StoreFault::BadRecord(at)) => Outcome::without(alloc, tell_record(alloc, host, at)),
+        Err(StoreFault::BadPage(_)) => unreachable!(),
+    }
+}
+
+// Answers the script of the input over an open store, and tells a limit.
+fn answer_script<H: Host>(alloc: Global, host: &mut H, engine: Engine) -> Outcome
+    requires shape { IsShape engine.shape }
+    requires order { engine.order.items ≡ [] }
+    requires end { H.tells → EndsThere engine.log (H.history host.old).world }
+    ensures same { H.tells → SameFiles (H.history host.old).world (H.history host.new).world }
+    ensures ends { H.tells → (start : World) → SameConsole start (H.history host.old).world →
+        Ends result.status start (H.history host.new).world engine.shape engine.map
+        result.lines result.order.items }
+    ensures moments { H.tells → (start : World) → SameConsole start (H.history host.old).world →
+        Stands SHAPE (running engine) (H.history host.old).world →
+        HasSegments (running engine) (2 ^ 24) →
+        AllMoments (H.history host.old) (H.history host.new)
+        (KeepsAcknowledged start engine.shape engine.map result.order.items) }
+    ensures leaves { H.tells → result.status ≡ Status.Done → (start : World) →
+        SameConsole start (H.history host.old).world →
+        Stands SHAPE (running engine) (H.history host.old).world →
+        HasSegments (running engine) (2 ^ 24) →
+        LeavesStore start (H.history host.new).world (running engine) }
+    ensures sound { result.status ≢ Status.Damaged }
+    ensures known { result.status ≢ Status.Usage }
+    ensures failed { result.status ≡ Status.Failed → Rose (H.faults host.old) (H.faults host.new) }
+    ensures later { H.faults host.old ≤ H.faults host.new }
+{
+    let mut run = Run::new(alloc, engine);
+    let status = match run.serve(alloc, host) {
+        Ok(Stop::Done) => Status::Done,
+        Ok(Stop::Limit) => tell_limit(host),
+        Err(StoreFault::Failed) => Status::Failed,
+        Err(StoreFault::Memory) => Status::Memory,
+        Err(StoreFault::BadPage(_) | StoreFault::BadRecord(_)) => unreachable!(),
+    };
+    Outcome {
+        status,
+        lines: run.lines,
+        order: run.engine.into_order(),
     }
 }

@@ -1,15 +1,14 @@
 //! The one public call of the store: it does what the words of a command line ask for.
 #![tactic(auto)]
 
+mod batch;
 mod call;
-mod fault;
-mod open;
-mod record;
 mod report;
 mod run;
-mod session;
+mod script;
 mod shape;
 mod status;
+mod telling;
 mod words;
 
 pub use call::top;

@@ -1,170 +1,229 @@
-//! A whole run over a script.
+//! A run over a script, a batch at a time.
 
-ghost use Rattle.std.specs.Prelude.{◌≡◌, ◌≢◌, ◌⊎◌, ◌≤◌, ◌+◌, List, [], codes, IfOk, IsErrOf};
-ghost use Rattle.std.specs.FinMap.{empty};
-ghost use Rattle.pm_types.specs.Causes.{Rose};
-ghost use Rattle.pm_frame.specs.Frames.{Frame};
-ghost use Rattle.pm_frame.specs.declared.limits.TheConstants.{FRAME_EXTRA, SEGMENT_END_MAX};
-ghost use Rattle.pm_disk.specs.Images.{NothingPending};
+ghost use Rattle.std.specs.Prelude.{◌≡◌, ◌≤◌, ◌<◌, ◌+◌, ◌^◌, ℕ, List, [], ◌++◌, length, IfOk, OnOk, OnErr, IsErrOf};
+ghost use Rattle.std.specs.List.{All};
+ghost use Rattle.pm_types.specs.declared.limits.TheConstants.{LINES_MAX as most_lines, BATCH_LINES_MAX as most_batch};
+ghost use Rattle.pm_types.specs.declared.shape.Shape.{Shape};
+ghost use Rattle.pm_records.specs.Shapes.{IsShape};
 ghost use Rattle.pm_disk.specs.Moments.{AllMoments};
-ghost use Rattle.pm_disk.specs.Worlds.{with_said};
-ghost use Rattle.pm_script.specs.Reading.{rest_of, OnlyTakes};
-ghost use Rattle.pm_segments.specs.Logs.{sizes};
+ghost use Rattle.pm_disk.specs.Worlds.{World};
+ghost use Rattle.pm_model.specs.declared.line.Line.{Line};
+ghost use Rattle.pm_model.specs.Batches.{HasCache};
+ghost use Rattle.pm_model.specs.Eval.{Pairs};
+ghost use Rattle.pm_script.specs.Reading.{rest_of};
+ghost use Rattle.pm_script.specs.Texts.{texts_of};
+ghost use Rattle.pm_segments.specs.Ends.{EndsThere};
+ghost use Rattle.pm_engine.specs.Batches.{HasPlainFault};
+ghost use Rattle.pm_engine.specs.Engines.{running, Stands, HasSegments};
+ghost use Rattle.pm_top.specs.declared.shape.TheConstants.{SHAPE};
 ghost use Rattle.pm_top.specs.Crashes.{KeepsAcknowledged};
-ghost use Rattle.pm_top.specs.Faults.{HasFault};
-ghost use Rattle.pm_top.specs.Promises.{Ends, Stops, IsBroken, IsShort, SaysPart};
-ghost use Rattle.pm_top.specs.Changes.{HoldsChanges, pairs_of};
-ghost use Rattle.pm_top.specs.Served.{served};
-ghost use Rattle.pm_top.specs.Sessions.{Stands};
-ghost use Rattle.pm_top.specs.Scripts.{Reads, Counts, HasCacheNext};
+ghost use Rattle.pm_top.specs.Promises.{IsBroken, IsShort, Stops};
+ghost use Rattle.pm_top.specs.Runs.{Progress, SameConsole, SameFiles, StandsSince, StandsOver, TurnsTo, LeavesRun};
+ghost use Rattle.pm_top.specs.Served.{script_of};
 
-use crate::fault::Fault;
-use crate::open::open;
-use crate::session::Session;
-use crate::status::Status;
+use crate::batch::{Behind, gather};
 use pm_disk::Host;
-use pm_model::{Cmd, Line};
-use pm_script::{Item, Lines, read_line};
-use pm_segments::Log;
-use std::alloc::Global;
+use pm_engine::Engine;
+use pm_model::{Line, Reply};
+use pm_script::{Lines, print_reply};
+use pm_types::StoreFault;
+use std::alloc::{AllocError, Global};
 
-/// How a script goes on.
+/// Where a run stops.
+#[derive(Clone, Copy, Debug, PartialEq, Eq)]
+pub enum Stop {
+    /// At the script's end.
+    Done,
+    /// At a line that isn't ended within the limits.
+    Limit,
+}
+
+/// A run over a script.
 #[derive(Drop)]
-pub enum Next {
-    /// With a line.
-    Line(Line),
-    /// It ends.
-    End,
-    /// With a line that isn't ended within the limits.
-    Over,
+pub struct Run {
+    /// The store.
+    pub engine: Engine,
+    /// The number of lines whose reply was printed.
+    pub lines: u64,
+    // The texts of the replies at hand: their memory serves all batches.
+    pub text: Vec<u8>,
 }
 
-/// Opens the store, answers the script of the input, up to its end or to a limit, and tells a limit.
-pub fn run<H: Host>(alloc: Global, host: &mut H, session: &mut Session) -> Status
-    requires pairs { session.old.pairs ≡ empty }
-    requires order { session.old.order.items ≡ [] }
-    requires lines { session.old.lines ≡ 0 }
-    ensures ends { H.tells → (changes : List Frame) → HoldsChanges (H.history host.old).world changes →
-        Ends result (H.history host.old).world
-        (H.history host.new).world (pairs_of changes) (sizes changes) session.new.lines session.new.order.items }
-    ensures moments { H.tells → NothingPending (H.history host.old).world → (changes : List Frame) →
-        HoldsChanges (H.history host.old).world changes →
-        AllMoments (H.history host.old) (H.history host.new)
-        (KeepsAcknowledged (H.history host.old).world (pairs_of changes) session.new.order.items) }
-    ensures known { result ≢ Status.Usage }
-    ensures failed { result ≡ Status.Failed → Rose (H.faults host.old) (H.faults host.new) }
-    ensures later { H.faults host.old ≤ H.faults host.new }
-{
-    match run_lines(alloc, host, session) {
-        Ok(Status::Long) => tell_limit(host),
-        Ok(_) => Status::Done,
-        Err(Fault::Failed) => Status::Failed,
-        Err(Fault::Memory) => Status::Memory,
-    }
-}
-
-// Opens the store, and answers the lines of the script, up to its end or to a limit.
-fn run_lines<H: Host>(alloc: Global, host: &mut H, session: &mut Session) -> Result<Status, Fault>
-    requires pairs { session.old.pairs ≡ empty }
-    requires order { session.old.order.items ≡ [] }
-    requires lines { session.old.lines ≡ 0 }
-    ensures stops { H.tells → IfOk result (λ status. (changes : List Frame) →
-        HoldsChanges (H.history host.old).world changes → Stops status (H.history host.old).world
-        (H.history host.new).world (pairs_of changes) (sizes changes) session.new.lines session.new.order.items) }
-    ensures broken { H.tells → IsErrOf result Fault.Failed → (changes : List Frame) →
-        HoldsChanges (H.history host.old).world changes → IsBroken (H.history host.old).world
-        (H.history host.new).world (pairs_of changes) session.new.lines session.new.order.items }
-    ensures short { H.tells → IsErrOf result Fault.Memory → (changes : List Frame) →
-        HoldsChanges (H.history host.old).world changes → IsShort (H.history host.old).world
-        (H.history host.new).world (pairs_of changes) session.new.lines session.new.order.items }
-    ensures moments { H.tells → NothingPending (H.history host.old).world → (changes : List Frame) →
-        HoldsChanges (H.history host.old).world changes →
-        AllMoments (H.history host.old) (H.history host.new)
-        (KeepsAcknowledged (H.history host.old).world (pairs_of changes) session.new.order.items) }
-    ensures cause { HasFault (H.faults host.old) (H.faults host.new) result }
-{
-    let mut log = open(alloc, host, &mut session.pairs)?;
-    answer_lines(alloc, host, session, &mut log)
-}
-
-// Answers the lines of the script over an open log, up to its end or to a limit.
-fn answer_lines<H: Host>(
-    alloc: Global,
-    host: &mut H,
-    session: &mut Session,
-    log: &mut Log,
-) -> Result<Status, Fault>
-    requires order { session.old.order.items ≡ [] }
-    requires lines { session.old.lines ≡ 0 }
-    requires stands { H.tells → Stands session.old.pairs log.old (H.history host.old).world }
-    requires room { H.tells → log.old.end.off + FRAME_EXTRA ≤ SEGMENT_END_MAX }
-    ensures stops { H.tells → IfOk result (λ status. Stops status (H.history host.old).world
-        (H.history host.new).world session.old.pairs log.old.end.off session.new.lines session.new.order.items) }
-    ensures broken { H.tells → IsErrOf result Fault.Failed → IsBroken (H.history host.old).world
-        (H.history host.new).world session.old.pairs session.new.lines session.new.order.items }
-    ensures short { H.tells → IsErrOf result Fault.Memory → IsShort (H.history host.old).world
-        (H.history host.new).world session.old.pairs session.new.lines session.new.order.items }
-    ensures moments { H.tells → AllMoments (H.history host.old) (H.history host.new)
-        (KeepsAcknowledged (H.history host.old).world session.old.pairs session.new.order.items) }
-    ensures cause { HasFault (H.faults host.old) (H.faults host.new) result }
-{
-    let mut input = Lines::new(alloc)?;
-    'script: loop {
-        match next_line(alloc, &mut input, host)? {
-            Next::Line(line) => {
-                if !session.answer(alloc, host, log, line)? {
-                    return Ok(Status::Long);
-                }
-            }
-            Next::End => return Ok(Status::Done),
-            Next::Over => return Ok(Status::Long),
+impl Run {
+    /// A run that has done nothing.
+    pub fn new(alloc: Global, engine: Engine) -> Run
+        ensures engine { result.engine ≡ engine }
+        ensures lines { result.lines ≡ 0 }
+    {
+        Run {
+            engine,
+            lines: 0,
+            text: Vec::new(alloc),
         }
     }
-}
 
-// Takes the next line off the script, and reads it.
-fn next_line<H: Host>(alloc: Global, input: &mut Lines, host: &mut H) -> Result<Next, Fault>
-    ensures reads { H.tells → IfOk result (Reads input.old input.new
-        (rest_of input.old (H.history host.old).world) (rest_of input.new
-        (H.history host.new).world)) }
-    ensures counts { IfOk result (Counts input.old input.new) }
-    ensures numbered { IfOk result HasCacheNext }
-    ensures takes { H.tells → AllMoments (H.history host.old) (H.history host.new) (OnlyTakes
-        (H.history host.old).world) }
-    ensures cause { HasFault (H.faults host.old) (H.faults host.new) result }
-{
-    match input.next(host)? {
-        Item::Text(bytes) => Ok(Next::Line(served(read_line(alloc, bytes)?))),
-        Item::Long => Ok(Next::Line(Line::Long)),
-        Item::End => Ok(Next::End),
-        Item::Over => Ok(Next::Over),
+    /// Answers the script of the input, batch after batch, up to its end or to a limit. At its end the log is forced.
+    pub fn serve<H: Host>(&mut self, alloc: Global, host: &mut H) -> Result<Stop, StoreFault>
+        requires shape { IsShape self.old.engine.shape }
+        requires lines { self.old.lines ≡ 0 }
+        requires order { self.old.engine.order.items ≡ [] }
+        requires end { H.tells → EndsThere self.old.engine.log (H.history host.old).world }
+        ensures same { H.tells → SameFiles (H.history host.old).world (H.history host.new).world }
+
+        // What was answered.
+        ensures stops { H.tells → (start : World) → SameConsole start (H.history host.old).world →
+            IfOk result (λ stop. Stops stop start (H.history host.new).world
+            self.old.engine.shape self.old.engine.map self.new.lines self.new.engine.order.items) }
+        ensures broken { H.tells → IsErrOf result StoreFault.Failed → (start : World) →
+            SameConsole start (H.history host.old).world → IsBroken start (H.history host.new).world
+            self.old.engine.shape self.old.engine.map self.new.lines self.new.engine.order.items }
+        ensures short { H.tells → IsErrOf result StoreFault.Memory → (start : World) →
+            SameConsole start (H.history host.old).world → IsShort start (H.history host.new).world
+            self.old.engine.shape self.old.engine.map self.new.lines self.new.engine.order.items }
+
+        // What a crash leaves, meanwhile and from then on.
+        ensures moments { H.tells → (start : World) → SameConsole start (H.history host.old).world →
+            Stands SHAPE (running self.old.engine) (H.history host.old).world →
+            HasSegments (running self.old.engine) (2 ^ 24) →
+            AllMoments (H.history host.old) (H.history host.new) (KeepsAcknowledged start
+            self.old.engine.shape self.old.engine.map self.new.engine.order.items) }
+        ensures leaves { H.tells → (start : World) → SameConsole start (H.history host.old).world →
+            Stands SHAPE (running self.old.engine) (H.history host.old).world →
+            HasSegments (running self.old.engine) (2 ^ 24) →
+            IfOk result (λ stop. stop ≡ Stop.Done → LeavesRun start
+            self.old.engine.shape self.old.engine.map self.old self.new (H.history host.new).world) }
+        ensures cause { HasPlainFault (H.faults host.old) (H.faults host.new) result }
+    {
+        let mut input = Lines::new(alloc)?;
+        'batches: loop {
+            match self.turn(alloc, host, &mut input)? {
+                Behind::More => {}
+                Behind::End => {
+                    self.engine.close(host)?;
+                    return Ok(Stop::Done);
+                }
+                Behind::Over => return Ok(Stop::Limit),
+            }
+        }
+    }
+
+    // Gathers the next lines of the script, does them, and tells how the script goes on.
+    fn turn<H: Host>(
+        &mut self,
+        alloc: Global,
+        host: &mut H,
+        input: &mut Lines,
+    ) -> Result<Behind, StoreFault>
+        requires shape { IsShape self.old.engine.shape }
+        requires counted { self.old.lines ≡ input.old.lines }
+        requires few { self.old.lines ≤ most_lines }
+        requires end { H.tells → EndsThere self.old.engine.log (H.history host.old).world }
+        ensures shape { self.new.engine.shape ≡ self.old.engine.shape }
+        ensures end { H.tells → OnOk result (EndsThere self.new.engine.log (H.history host.new).world) }
+        ensures few { OnOk result (self.new.lines ≤ most_lines) }
+        ensures more { IfOk result (λ behind. behind ≡ Behind.More →
+            (self.new.lines ≡ input.new.lines) × (self.old.lines < self.new.lines)) }
+        ensures same { H.tells → SameFiles (H.history host.old).world (H.history host.new).world }
+
+        // What was answered.
+        ensures turns { H.tells → IfOk result (λ behind. TurnsTo behind input.old input.new
+            (rest_of input.old (H.history host.old).world) (rest_of input.new (H.history host.new).world)
+            (H.history host.old).world (H.history host.new).world self.old self.new) }
+        ensures broken { H.tells → IsErrOf result StoreFault.Failed →
+            (start : World) (shape : Shape) (pairs : Pairs) → Progress start (H.history host.old).world
+            (script_of (rest_of input.old (H.history host.old).world)) shape pairs self.old →
+            IsBroken start (H.history host.new).world shape pairs self.new.lines self.new.engine.order.items }
+        ensures short { H.tells → IsErrOf result StoreFault.Memory →
+            (start : World) (shape : Shape) (pairs : Pairs) → Progress start (H.history host.old).world
+            (script_of (rest_of input.old (H.history host.old).world)) shape pairs self.old →
+            IsShort start (H.history host.new).world shape pairs self.new.lines self.new.engine.order.items }
+
+        // What a crash leaves.
+        ensures stands { H.tells → Stands SHAPE (running self.old.engine) (H.history host.old).world →
+            HasSegments (running self.old.engine) 2048 →
+            OnOk result (StandsOver self.old self.new (H.history host.new).world) }
+        ensures moments { H.tells → (start : World) (shape : Shape) (pairs : Pairs) →
+            Progress start (H.history host.old).world
+            (script_of (rest_of input.old (H.history host.old).world)) shape pairs self.old →
+            Stands SHAPE (running self.old.engine) (H.history host.old).world →
+            HasSegments (running self.old.engine) 2048 →
+            AllMoments (H.history host.old) (H.history host.new)
+            (KeepsAcknowledged start shape pairs self.new.engine.order.items) }
+        ensures extends { (more : List ℕ) ×
+            (self.new.engine.order.items ≡ self.old.engine.order.items ++ more) }
+        ensures cause { HasPlainFault (H.faults host.old) (H.faults host.new) result }
+    {
+        let batch = gather(alloc, host, input)?;
+        self.answer(alloc, host, &batch.lines)?;
+        self.answer(alloc, host, &batch.alone)?;
+        Ok(batch.behind)
+    }
+
+    // Does these lines as one batch, and prints their replies once the log is forced.
+    fn answer<H: Host>(
+        &mut self,
+        alloc: Global,
+        host: &mut H,
+        lines: &[Line],
+    ) -> Result<(), StoreFault>
+        requires shape { IsShape self.old.engine.shape }
+        requires caches { All HasCache lines.now }
+        requires few { length lines.now ≤ most_batch }
+        requires numbers { self.old.lines + length lines.now ≤ most_lines }
+        requires end { H.tells → EndsThere self.old.engine.log (H.history host.old).world }
+        ensures shape { self.new.engine.shape ≡ self.old.engine.shape }
+        ensures end { H.tells → OnOk result (EndsThere self.new.engine.log (H.history host.new).world) }
+        ensures lines { OnOk result (self.new.lines ≡ self.old.lines + length lines.now) }
+        ensures extends { (more : List ℕ) ×
+            (self.new.engine.order.items ≡ self.old.engine.order.items ++ more) }
+        ensures same { H.tells → SameFiles (H.history host.old).world (H.history host.new).world
+            × ((H.history host.new).world.input ≡ (H.history host.old).world.input) }
+
+        // What was answered.
+        ensures goes_on { H.tells → (start : World) (left : List Line) (shape : Shape) (pairs : Pairs) →
+            Progress start (H.history host.old).world (lines.now ++ left) shape pairs self.old →
+            OnOk result (Progress start (H.history host.new).world left shape pairs self.new) }
+        ensures broken { H.tells → IsErrOf result StoreFault.Failed →
+            (start : World) (left : List Line) (shape : Shape) (pairs : Pairs) →
+            Progress start (H.history host.old).world (lines.now ++ left) shape pairs self.old →
+            IsBroken start (H.history host.new).world shape pairs self.new.lines self.new.engine.order.items }
+        ensures short { H.tells → IsErrOf result StoreFault.Memory →
+            (start : World) (left : List Line) (shape : Shape) (pairs : Pairs) →
+            Progress start (H.history host.old).world (lines.now ++ left) shape pairs self.old →
+            IsShort start (H.history host.new).world shape pairs self.new.lines self.new.engine.order.items }
+
+        // What a crash leaves.
+        ensures stands { H.tells → Stands SHAPE (running self.old.engine) (H.history host.old).world →
+            HasSegments (running self.old.engine) (length lines.now) → OnOk result
+            (StandsSince self.old self.new (length lines.now) (H.history host.new).world) }
+        ensures moments { H.tells → (start : World) (left : List Line) (shape : Shape) (pairs : Pairs) →
+            Progress start (H.history host.old).world (lines.now ++ left) shape pairs self.old →
+            Stands SHAPE (running self.old.engine) (H.history host.old).world →
+            HasSegments (running self.old.engine) (length lines.now) →
+            AllMoments (H.history host.old) (H.history host.new)
+            (KeepsAcknowledged start shape pairs self.new.engine.order.items) }
+        ensures cause { HasPlainFault (H.faults host.old) (H.faults host.new) result }
+    {
+        if lines.is_empty() {
+            return Ok(());
+        }
+        let mut replies = Vec::with_capacity(alloc, lines.len())?;
+        self.engine
+            .batch(alloc, host, lines, self.lines as u32 + 1, &mut replies)?;
+        write_replies(&replies, &mut self.text)?;
+        host.print(&self.text)?;
+        self.lines += lines.len() as u64;
+        Ok(())
     }
 }
 
-// The line as it is served: there are no checkpoints yet, so one that asks for one is bad.
-fn served(line: Line) -> Line
-    ensures { result ≡ served line }
+// Writes the texts of replies in place of the bytes.
+fn write_replies(replies: &[Reply], into: &mut Vec<u8>) -> Result<(), AllocError>
+    ensures { OnOk result (into.new.items ≡ texts_of replies.now) }
 {
-    match line {
-        Line::Good(Cmd::Checkpoint) => Line::Bad,
-        other => other,
+    into.clear();
+    'each: for reply in replies {
+        print_reply(reply, into)?;
     }
-}
-
-// Prints the line that says that a limit is passed.
-fn tell_limit<H: Host>(host: &mut H) -> Status
-    ensures long { H.tells → result ≡ Status.Long →
-        (H.history host.new).world ≡ with_said (codes "fault long\n") (H.history host.old).world }
-    ensures part { H.tells → result ≡ Status.Failed →
-        SaysPart (codes "fault long\n") (H.history host.old).world (H.history host.new).world }
-    ensures moments { H.tells → AllMoments (H.history host.old) (H.history host.new)
-        (SaysPart (codes "fault long\n") (H.history host.old).world) }
-    ensures cases { (result ≡ Status.Long) ⊎ (result ≡ Status.Failed) }
-    ensures failed { result ≡ Status.Failed → Rose (H.faults host.old) (H.faults host.new) }
-    ensures later { H.faults host.old ≤ H.faults host.new }
-{
-    match host.print(b"fault long\n") {
-        Ok(()) => Status::Long,
-        Err(_) => Status::Failed,
-    }
+    Ok(())
 }

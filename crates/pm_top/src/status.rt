@@ -14,6 +14,8 @@ pub enum Status {
     Failed,
     /// Memory ran out.
     Memory,
+    /// A record of the store's log is bad.
+    Damaged,
     /// The script passes a limit.
     Long,
 }
@@ -29,6 +31,7 @@ impl Status {
             Status::Usage => 1,
             Status::Failed => 3,
             Status::Memory => 4,
+            Status::Damaged => 5,
             Status::Long => 6,
         }
     }

@@ -1,5 +1,5 @@
 -- Where a change left the bytes of a field, the field reads as before; where they are zero it is 0.
-use Rattle.std.proofs.Common.{◌≡◌, ℕ, ◌+◌, ◌-◌, ◌*◌, ◌<◌, ◌≤◌, List, length, take, drop, get_or, replicate, sym, ap, ◌∙◌, arith, w16, w32, w64}
+use Rattle.std.proofs.Common.{◌≡◌, ℕ, ◌+◌, ◌-◌, ◌<◌, ◌≤◌, List, length, take, drop, get_or, replicate, sym, ap, ◌∙◌, arith, w16, w32, w64}
 use Rattle.std.specs.Int.{from_le_bytes}
 use Rattle.std.proofs.lemmas.List.{length-take, length-drop, length-replicate, get_or-take, get_or-drop, get_or-replicate}
 use Rattle.std.proofs.lemmas.Grind.{same_number_lists}

@@ -1,6 +1,8 @@
 pub mod Causes
+pub mod DeltaRanges
 pub mod Faults
 pub mod Fields
+pub mod Heads
 pub mod Ids
 pub mod Keys
 pub mod PageSizes

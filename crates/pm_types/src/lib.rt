@@ -4,12 +4,14 @@
 mod fault;
 pub mod fields;
 mod flag;
+pub mod head;
 mod key;
 mod limits;
 mod page;
 mod page_id;
 mod patch;
 mod place;
+pub mod ranges;
 mod shape;
 mod spans;
 mod value_room;

@@ -49,6 +49,18 @@ impl Patch {
         }
     }
 
+    /// The same patch once more.
+    pub fn copy(&self) -> Patch
+        ensures { result ≡ self.now }
+    {
+        Patch {
+            page_size: self.page_size,
+            whole: self.whole,
+            count: self.count,
+            spans: self.spans,
+        }
+    }
+
     /// Covers the `len` bytes from offset `at` on besides what is covered. With a length of 0 nothing changes.
     pub fn add(&mut self, at: u16, len: u16)
         requires { at + len ≤ self.old.page_size }

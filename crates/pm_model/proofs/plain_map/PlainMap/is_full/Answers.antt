@@ -4,8 +4,8 @@ use Rattle.pm_model.specs.Partitions.{part_of}
 use Rattle.pm_model.proofs.CacheKeys.{few_rows, not_full}
 use Rattle.pm_model.proofs.plain_map.PlainMap.is_full.Goals as goal
 
-pub returns-then-len-most : goal.returns-then-len-most
-returns-then-len-most c =
+pub returns-then-len-most-clause-full : goal.returns-then-len-most-clause-full
+returns-then-len-most-clause-full c =
     let entries = c.self.inside.pairs.entries in
     let shape = c.args.shape in
     let part = part_of c.args.at.now.key shape.partitions in

@@ -1,0 +1,176 @@
+-- What is found in a log, frame after frame.
+use Rattle.std.proofs.Common.{◌≡◌, ◌⊎◌, inl, inr, ◌+◌, ◌<◌, List, [], ◌∷◌, ◌++◌, Option, Some, None, refl, sym, ◌∙◌, ap, subst, arith, Bool, true, false, append_assoc}
+use Rattle.std.specs.Prelude.{◌&&◌, not, if◌then◌else◌, Err, IsErrOf}
+use Rattle.pm_types.specs.declared.fault.StoreFault.{StoreFault}
+use Rattle.pm_types.specs.declared.fault.StoreFault.TheVariants.{BadRecord}
+use Rattle.std.proofs.lemmas.Option.{same_Some}
+use Rattle.std.specs.FinMap.{empty}
+use Rattle.pm_types.specs.declared.place.Place.{Place}
+use Rattle.pm_types.specs.declared.shape.Shape.{Shape}
+use Rattle.pm_frame.specs.Frames.{Frame}
+use Rattle.pm_records.specs.Records.{Record, Logical, Snapshot, Delta, CpBegin, Restart, Seal}
+use Rattle.pm_disk.specs.Worlds.{World}
+use Rattle.pm_model.specs.Eval.{Pairs}
+use Rattle.pm_segments.specs.Ends.{place_behind}
+use Rattle.pm_segments.specs.Grammars.{place, all_frames}
+use Rattle.pm_segments.specs.Logs.{Run, behind, next, contents, is_seal}
+use Rattle.pm_segments.specs.Scans.{Scanned, stands_next, Advances, is_last}
+use Rattle.pm_segments.specs.Read.{IsLogFrom}
+use Rattle.pm_segments.proofs.Reading.{scan_goes, scan_ends, point_going, going_on}
+use Rattle.pm_segments.proofs.Runs.{bool_cases}
+use Rattle.pm_engine.specs.Records.{record_in}
+use Rattle.pm_engine.specs.Held.{is_restart, shape_told, shape_of, redone, then_redone, all_redone, IsHeld, Holds}
+use Rattle.pm_engine.specs.Openings.{IsBadBehind, IsBadRecord, TakesFrame, IsFound, ReadsSome, ReadsAll}
+use Rattle.pm_engine.specs.declared.found.Found.{Found}
+use Rattle.pm_engine.proofs.Going.{all_redone-append}
+
+-- a RESTART leaves the map as it is
+restart_leaves : (shape : Shape) (found : Option Record) (pairs : Pairs) → is_restart found ≡ true → redone shape found pairs ≡ Some pairs
+restart_leaves shape None pairs is = absurd cc
+restart_leaves shape (Some (Logical op cache key value)) pairs is = absurd cc
+restart_leaves shape (Some (Snapshot page bytes)) pairs is = absurd cc
+restart_leaves shape (Some (Delta page ranges)) pairs is = absurd cc
+restart_leaves shape (Some (CpBegin number replay)) pairs is = absurd cc
+restart_leaves shape (Some (Restart told)) pairs is = refl
+restart_leaves shape (Some Seal) pairs is = absurd cc
+
+-- a RESTART tells the shape, whatever was wanted
+restart_tells : (one other : Shape) (found : Option Record) → is_restart found ≡ true → shape_told one found ≡ shape_told other found
+restart_tells one other None is = absurd cc
+restart_tells one other (Some (Logical op cache key value)) is = absurd cc
+restart_tells one other (Some (Snapshot page bytes)) is = absurd cc
+restart_tells one other (Some (Delta page ranges)) is = absurd cc
+restart_tells one other (Some (CpBegin number replay)) is = absurd cc
+restart_tells one other (Some (Restart told)) is = refl
+restart_tells one other (Some Seal) is = absurd cc
+
+-- nothing was read
+pub found_none : (wanted : Shape) (found : Found) → found.shape ≡ wanted → found.map ≡ empty → found.has_begun ≡ false → IsFound wanted [] found
+found_none wanted found shapes maps begun = record {
+  held = record { begins = refl; told = shapes; map = ap (λ p. Some p) (sym maps) };
+  begun = begun;
+}
+
+-- a frame was taken
+pub found_more : (wanted : Shape) (frames : List Frame) (old new : Found) (f : Frame) → IsFound wanted frames old → TakesFrame true old new (record_in f) → IsFound wanted (frames ++ f ∷ []) new
+found_more wanted [] old new f found takes =
+    let first = takes.0 found.begun in
+    record {
+      held = record {
+        begins = first.0;
+        told = first.1 ∙ restart_tells old.shape wanted (record_in f) first.0;
+        map = restart_leaves new.shape (record_in f) empty first.0 ∙ found.held.map ∙ ap (λ p. Some p) (sym first.2);
+      };
+      begun = first.3;
+    }
+found_more wanted (g ∷ gs) old new f found takes =
+    let more = takes.1 found.begun in
+    record {
+      held = record {
+        begins = found.held.begins;
+        told = more.1 ∙ found.held.told;
+        map = ap (λ s. all_redone s ((g ∷ gs) ++ f ∷ []) (Some empty)) more.1
+            ∙ all_redone-append old.shape (g ∷ gs) (f ∷ []) (Some empty) ∙ ap (then_redone old.shape f) found.held.map ∙ more.0;
+      };
+      begun = more.2;
+    }
+
+-- or it can't stand there
+pub found_bad : (wanted : Shape) (frames : List Frame) (old new : Found) (f : Frame) → IsFound wanted frames old → TakesFrame false old new (record_in f) → IsBadBehind wanted frames f
+found_bad wanted [] old new f found takes = takes.0 found.begun
+found_bad wanted (g ∷ gs) old new f found takes =
+    let shape : old.shape ≡ shape_of wanted (g ∷ gs) = found.held.told in (
+      old.map,
+      ap (λ s. all_redone s (g ∷ gs) (Some empty)) (sym shape) ∙ found.held.map,
+      ap (λ s. redone s (record_in f) old.map) (sym shape) ∙ takes.1 found.begun,
+    )
+
+-- ---- a bad record makes a store unsound
+
+-- once there is none, no map comes
+none_stays : (shape : Shape) (frames : List Frame) → all_redone shape frames None ≡ None
+none_stays shape [] = refl
+none_stays shape (f ∷ frames) = none_stays shape frames
+
+pub bad_unsound : (wanted : Shape) (before : List Frame) (f : Frame) (rest : List Frame) (shape : Shape) (pairs : Pairs) → IsBadBehind wanted before f → IsHeld wanted (before ++ f ∷ rest) shape pairs → ⊥
+bad_unsound wanted [] f rest shape pairs bad held = let both : true ≡ false = sym held.begins ∙ bad in absurd cc
+bad_unsound wanted (g ∷ gs) f rest shape pairs bad held =
+    let all : all_redone shape ((g ∷ gs) ++ f ∷ rest) (Some empty) ≡ None =
+    ap (λ s. all_redone s ((g ∷ gs) ++ f ∷ rest) (Some empty)) held.told
+    ∙ all_redone-append (shape_of wanted (g ∷ gs)) (g ∷ gs) (f ∷ rest) (Some empty)
+    ∙ ap (λ o. all_redone (shape_of wanted (g ∷ gs)) rest (then_redone (shape_of wanted (g ∷ gs)) f o)) bad.1
+    ∙ ap (all_redone (shape_of wanted (g ∷ gs)) rest) bad.2
+    ∙ none_stays (shape_of wanted (g ∷ gs)) rest in
+    let both : Some pairs ≡ None = sym held.map ∙ all in absurd cc
+
+-- ---- a scan
+
+-- it goes up
+pub climbs_by : (scan later : Scanned) (f : Frame) → Advances scan later (Some f) → (scan.next.seg < later.next.seg) ⊎ ((scan.next.seg ≡ later.next.seg) × (scan.next.off < later.next.off))
+climbs_by scan later f advances = elim (bool_cases (is_seal f && not (is_last scan.next.seg))) [
+  | inl goes ↦
+      let to : later.next ≡ place (scan.next.seg + 1) 0 = advances.1 ∙ ap (λ (b : Bool). let p : Place = if b then record { seg = scan.next.seg + 1; off = 0 } else place_behind scan.next f in p) goes in
+      inl (omega (arith, ap (λ (p : Place). p.seg) to))
+  | inr stays ↦
+      let to : later.next ≡ place_behind scan.next f = advances.1 ∙ ap (λ (b : Bool). let p : Place = if b then record { seg = scan.next.seg + 1; off = 0 } else place_behind scan.next f in p) stays in
+      inr (sym (ap (λ (p : Place). p.seg) to), omega (arith, ap (λ (p : Place). p.off) to))
+]
+
+-- what a run begins with, the log begins with
+run_front : (world : World) (from : Place) (xs fs : List Frame) → Run all_frames (contents world.log) from xs → IsLogFrom world from fs → (rest : List Frame) × (fs ≡ xs ++ rest)
+run_front world from [] fs run log = (fs, refl)
+run_front world from (x ∷ xs) [] run log = let none : None ≡ Some x = sym log.ends ∙ run.0 in absurd cc
+run_front world from (x ∷ xs) (f ∷ fs) run log =
+    let same : f ≡ x = same_Some f x (sym log.run.0 ∙ run.0) in
+    let left : IsLogFrom world (next from f) fs = record { run = log.run.1; ends = log.ends } in
+    let more = run_front world (next from x) xs fs run.1 (subst (λ g. IsLogFrom world (next from g) fs) same left) in
+    (more.0, ap (λ g. g ∷ fs) same ∙ ap (λ gs. x ∷ gs) more.1)
+
+run_last : (world : World) (from : Place) (xs : List Frame) (f : Frame) → Run all_frames (contents world.log) from (xs ++ f ∷ [])
+    → all_frames.frame_at (behind from xs).seg (behind from xs).off (contents world.log (behind from xs).seg) ≡ Some f
+run_last world from [] f run = run.0
+run_last world from (x ∷ xs) f run = run_last world (next from x) xs f run.1
+
+-- the log that a sound store has
+pub holds_log : (wanted : Shape) (world : World) (shape : Shape) (pairs : Pairs) (holds : Holds wanted world shape pairs) → IsLogFrom world (place 1 0) holds.frames
+holds_log wanted world shape pairs holds = record { run = holds.log.run; ends = holds.log.ends }
+
+module _ (wanted : Shape) (world : World) (scan later : Scanned) (old new : Found) (reads : ReadsSome wanted world scan old) where
+  -- one frame more was read
+  pub reads_more : (f : Frame) → stands_next scan world ≡ Some f → Advances scan later (Some f) → TakesFrame true old new (record_in f) → ReadsSome wanted world later new
+  reads_more f stands advances takes = record {
+    frames = reads.frames ++ f ∷ [];
+    scanned = scan_goes world (place 1 0) reads.frames scan later f reads.scanned stands advances;
+    is_found = found_more wanted reads.frames old new f reads.is_found takes;
+  }
+
+  -- all were read
+  pub reads_all : stands_next scan world ≡ None → Advances scan later None → new ≡ old → ReadsAll wanted world later.place new
+  reads_all none advances same =
+      let ends = scan_ends world (place 1 0) reads.frames scan later reads.scanned none advances in
+      record { frames = reads.frames; log = ends.0; ends = ends.1; held = subst (λ f. IsHeld wanted reads.frames f.shape f.map) (sym same) reads.is_found.held }
+
+  -- the next one is bad
+  pub reads_bad : (f : Frame) → stands_next scan world ≡ Some f → Advances scan later (Some f) → TakesFrame false old new (record_in f) → IsBadRecord wanted world later.place
+  reads_bad f stands advances takes =
+      let goes = scan_goes world (place 1 0) reads.frames scan later f reads.scanned stands advances in
+      let there : behind (place 1 0) reads.frames ≡ later.place = reads.scanned.goes_on ∙ point_going scan (going_on scan world f stands) ∙ sym advances.0 in
+      record {
+        before = reads.frames;
+        run = reads.scanned.run;
+        there = there;
+        frame = f;
+        stands = subst (λ (p : Place). all_frames.frame_at p.seg p.off (contents world.log p.seg) ≡ Some f) there (run_last world (place 1 0) reads.frames f goes.run);
+        bad = found_bad wanted reads.frames old new f reads.is_found takes;
+      }
+
+  pub reads_unsound : (f : Frame) → stands_next scan world ≡ Some f → Advances scan later (Some f) → TakesFrame false old new (record_in f) → (shape : Shape) (pairs : Pairs) → Holds wanted world shape pairs → ⊥
+  reads_unsound f stands advances takes shape pairs holds =
+      let goes = scan_goes world (place 1 0) reads.frames scan later f reads.scanned stands advances in
+      let front = run_front world (place 1 0) (reads.frames ++ f ∷ []) holds.frames goes.run (holds_log wanted world shape pairs holds) in
+      let all : holds.frames ≡ reads.frames ++ f ∷ front.0 = front.1 ∙ append_assoc reads.frames (f ∷ []) front.0 in
+      bad_unsound wanted reads.frames f front.0 shape pairs (found_bad wanted reads.frames old new f reads.is_found takes) (subst (λ fs. IsHeld wanted fs shape pairs) all holds.held)
+
+-- a fault names one place
+pub bad_same : {T : Type 0} (x y : Place) → IsErrOf {T = T} {E = StoreFault} (Err (BadRecord x)) (BadRecord y) → x ≡ y
+bad_same x y is = cc

@@ -1,0 +1,7 @@
+pub mod Batching
+pub mod Finding
+pub mod Forcing
+pub mod Going
+pub mod Opening
+pub mod Redoing
+pub mod Trying

@@ -1,0 +1,26 @@
+use Rattle.std.proofs.Common.{◌≡◌, ◌+◌, ◌-◌, ◌*◌, ◌^◌, ◌≤◌}
+use Rattle.pm_frame.specs.declared.limits.TheConstants.{SEGMENT_END_MAX}
+use Rattle.pm_records.specs.Shapes.{IsShape}
+use Rattle.pm_disk.specs.Moments.{AllMoments}
+use Rattle.pm_segments.specs.Scans.{IsAhead}
+use Rattle.pm_engine.specs.Openings.{IsSame, ReadsSome}
+use Rattle.pm_engine.proofs.open.read_log.Given as goal
+
+abbrev pub invariant-frames : goal.invariant-frames
+invariant-frames g l =
+    let faults = g.H.Device.faults in
+    let old = g.H.Device.history l.fn.host in
+    let now = g.H.Device.history l.host in
+    record {
+      later : faults l.fn.host ≤ faults l.host;
+      shape : IsShape l.found.shape;
+      bound : l.scan.next.off ≤ SEGMENT_END_MAX;
+      same : g.H.Device.tells → AllMoments old now (IsSame old.world);
+      world : g.H.Device.tells → now.world ≡ old.world;
+      ahead : g.H.Device.tells → IsAhead l.scan now.world;
+      reads : g.H.Device.tells → ReadsSome l.fn.found.shape old.world l.scan l.found;
+    }
+
+-- the place rises, and there is a last segment
+abbrev pub decreases-frames : goal.decreases-frames
+decreases-frames g l = (2 ^ 64 - l.scan.next.seg) * 2 ^ 27 + (2 ^ 27 - l.scan.next.off)

@@ -1,0 +1,117 @@
+-- What a store holds: its shape and its map, read off the frames of its log.
+--
+-- A store is sound where its log is empty or begins with a RESTART, each frame is in its grammar, no put meets a full
+-- partition, and no segment above the log's last has bytes.
+use Rattle.std.specs.Prelude.{◌≡◌, ◌==◌, ◌≤◌, ◌<◌, ◌^◌, if◌then◌else◌, ℕ, List, [], ◌∷◌, length, take, Bool, true, false, Option, Some, None}
+use Rattle.std.specs.FinMap.{empty}
+use Rattle.pm_types.specs.declared.shape.Shape.{Shape}
+use Rattle.pm_frame.specs.Frames.{Frame}
+use Rattle.pm_records.specs.declared.limits.TheConstants.{PUT}
+use Rattle.pm_records.specs.Records.{Record, Logical, Snapshot, Delta, CpBegin, Restart, Seal}
+use Rattle.pm_disk.specs.Files.{bytes_of}
+use Rattle.pm_disk.specs.Worlds.{World}
+use Rattle.pm_disk.specs.Images.{Image, IsTrueOf, LeavesAll}
+use Rattle.pm_model.specs.declared.line.Cmd.TheVariants.{Put, Remove}
+use Rattle.pm_model.specs.declared.line.Line.{Line}
+use Rattle.pm_model.specs.declared.line.Line.TheVariants.{Good}
+use Rattle.pm_model.specs.Eval.{Pairs, is_accepted, after, after_all}
+use Rattle.pm_segments.specs.Grammars.{place, all_frames}
+use Rattle.pm_segments.specs.Logs.{IsLog, behind, contents}
+use Rattle.pm_engine.specs.Records.{record_in}
+
+-- whether a record tells the store's shape
+abbrev pub is_restart : Option Record → Bool
+is_restart None = false
+is_restart (Some (Logical op cache key value)) = false
+is_restart (Some (Snapshot page bytes)) = false
+is_restart (Some (Delta page ranges)) = false
+is_restart (Some (CpBegin number replay)) = false
+is_restart (Some (Restart shape)) = true
+is_restart (Some Seal) = false
+
+-- whether the log is empty or begins with a RESTART
+abbrev pub begins_well : List Frame → Bool
+begins_well [] = true
+begins_well (frame ∷ frames) = is_restart (record_in frame)
+
+-- the shape that a record tells, or this one where it tells none
+abbrev pub shape_told : Shape → Option Record → Shape
+shape_told wanted None = wanted
+shape_told wanted (Some (Logical op cache key value)) = wanted
+shape_told wanted (Some (Snapshot page bytes)) = wanted
+shape_told wanted (Some (Delta page ranges)) = wanted
+shape_told wanted (Some (CpBegin number replay)) = wanted
+shape_told wanted (Some (Restart shape)) = shape
+shape_told wanted (Some Seal) = wanted
+
+-- the store's shape: that of the first record, or the wanted one where there is none
+abbrev pub shape_of : Shape → List Frame → Shape
+shape_of wanted [] = wanted
+shape_of wanted (frame ∷ frames) = shape_told wanted (record_in frame)
+
+-- the map after a put that is done again, none where its partition is full
+abbrev pub put_again : Shape → Line → Pairs → Option Pairs
+put_again shape line pairs = if is_accepted shape line pairs then Some (after shape line pairs) else None
+
+-- The map after a record, none where the record can't be: its payload is in no grammar, or it is a put that meets a full
+-- partition. A remove of an absent key changes nothing, and so do the records that aren't logical.
+abbrev pub redone : Shape → Option Record → Pairs → Option Pairs
+redone shape None pairs = None
+redone shape (Some (Logical op cache key value)) pairs =
+    if op == PUT
+    then put_again shape (Good (Put cache key value)) pairs
+    else Some (after shape (Good (Remove cache key)) pairs)
+redone shape (Some (Snapshot page bytes)) pairs = Some pairs
+redone shape (Some (Delta page ranges)) pairs = Some pairs
+redone shape (Some (CpBegin number replay)) pairs = Some pairs
+redone shape (Some (Restart told)) pairs = Some pairs
+redone shape (Some Seal) pairs = Some pairs
+
+-- the map after a frame more, where there is one
+abbrev pub then_redone : Shape → Frame → Option Pairs → Option Pairs
+then_redone shape frame None = None
+then_redone shape frame (Some pairs) = redone shape (record_in frame) pairs
+
+-- the map after frames, the first of them first
+abbrev pub all_redone : Shape → List Frame → Option Pairs → Option Pairs
+all_redone shape [] found = found
+all_redone shape (frame ∷ frames) found = all_redone shape frames (then_redone shape frame found)
+
+-- these frames hold this shape and this map, in a store that takes the wanted shape where it is empty
+pub record IsHeld (wanted : Shape) (frames : List Frame) (shape : Shape) (pairs : Pairs) : Type 0 where
+  pub begins : begins_well frames ≡ true
+  pub told : shape ≡ shape_of wanted frames
+  pub map : all_redone shape frames (Some empty) ≡ Some pairs
+
+-- the log in these segments' bytes holds this shape and this map
+pub record HoldsIn (wanted : Shape) (bytes : ℕ → List ℕ) (shape : Shape) (pairs : Pairs) : Type 0 where
+  pub frames : List Frame
+  pub log : IsLog all_frames bytes (place 1 0) frames
+  pub held : IsHeld wanted frames shape pairs
+
+-- the disk is sound, and holds this shape and this map
+abbrev pub Holds : Shape → World → Shape → Pairs → Type 0
+Holds wanted world shape pairs = HoldsIn wanted (contents world.log) shape pairs
+
+-- what a crash left is sound, and holds this shape and this map
+abbrev pub HoldsImage : Shape → Image → Shape → Pairs → Type 0
+HoldsImage wanted image shape pairs = HoldsIn wanted (λ seg. bytes_of (image.log seg)) shape pairs
+
+-- the log's last segment leaves numbers for as many segments as runs may begin
+abbrev pub HasNumbers : List Frame → Type 0
+HasNumbers frames = (behind (place 1 0) frames).seg < 2 ^ 62
+
+-- Chance made no frame: each frame that reads as one of its place in what a crash left stood there whole when its segment was
+-- last forced, or after a change since.
+pub record IsTrueImage (world : World) (image : Image) : Type 0 where
+  pub frames : (seg : ℕ) → IsTrueOf (all_frames.frame_at seg) (world.log seg) (image.log seg)
+
+-- what a crash left holds the map after some first of these lines, over this map
+abbrev pub HoldsSome : Shape → Image → Shape → Pairs → List Line → Type 0
+HoldsSome wanted image shape start lines =
+    (count : ℕ) × (count ≤ length lines) × HoldsImage wanted image shape (after_all shape (take count lines) start)
+
+-- whatever a crash leaves, as long as no sum is right by chance, holds the map after some first of these lines
+abbrev pub KeepsSome : Shape → Shape → Pairs → List Line → World → Type 0
+KeepsSome wanted shape start lines world =
+    (image : Image) → LeavesAll world image → IsTrueImage world image → HoldsSome wanted image shape start lines

@@ -1,0 +1,5 @@
+pub mod Batches
+pub mod Engines
+pub mod Held
+pub mod Openings
+pub mod Records

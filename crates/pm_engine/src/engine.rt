@@ -1,0 +1,271 @@
+//! The engine, and how it runs lines.
+
+ghost use Rattle.std.specs.Prelude.{◌≡◌, ◌≤◌, ◌<◌, ◌+◌, ◌^◌, ℕ, List, [], ◌∷◌, ◌++◌, length, true, IfOk, OnOk, OnErr, vec_capacity};
+ghost use Rattle.std.specs.List.{All};
+ghost use Rattle.pm_types.specs.Causes.{HasCause};
+ghost use Rattle.pm_types.specs.declared.shape.Shape.{Shape};
+ghost use Rattle.pm_frame.specs.declared.limits.TheConstants.{PAYLOAD_MAX as longest};
+ghost use Rattle.pm_records.specs.Shapes.{IsShape};
+ghost use Rattle.pm_disk.specs.Moments.{AllMoments};
+ghost use Rattle.pm_model.specs.declared.line.Line.{Line};
+ghost use Rattle.pm_model.specs.Batches.{HasCache};
+ghost use Rattle.pm_model.specs.Eval.{Pairs, reply_to, after, is_accepted, replies_to, after_all};
+ghost use Rattle.pm_model.specs.Partitions.{ArePartitions};
+ghost use Rattle.pm_segments.specs.Ends.{EndsThere};
+ghost use Rattle.pm_segments.specs.Steps.{DoesSteps, grown, steps_of};
+ghost use Rattle.pm_segments.specs.Written.{ChangesLog};
+ghost use Rattle.pm_engine.specs.Records.{record_of_line, IsPayloadOf, logical_frame};
+ghost use Rattle.pm_engine.specs.Held.{KeepsSome};
+ghost use Rattle.pm_engine.specs.Engines.{running, Goes, GoesOn, Stands, StandsOn, HasSegments};
+ghost use Rattle.pm_engine.specs.Batches.{HasPlainFault, TriesLine, TriesLines, noted};
+
+use crate::record::write_record;
+use pm_disk::{Failed, Host};
+use pm_frame::LOGICAL;
+use pm_model::{Answer, Line, PlainMap, Reply};
+use pm_segments::Log;
+use pm_types::{Place, Shape, StoreFault};
+use std::alloc::{AllocError, Global};
+
+/// A store that is open: its map in memory, and its log, to which each accepted line is appended.
+///
+/// After an error no call but `into_order` is made on it: the store on the disk is then as a crash would leave it.
+#[derive(Drop)]
+pub struct Engine {
+    pub(crate) shape: Shape,
+    pub(crate) map: PlainMap,
+    pub(crate) log: Log,
+    pub(crate) order: Vec<u32>,
+    // The payload of the record at hand: its memory serves all lines.
+    pub(crate) payload: Vec<u8>,
+}
+
+impl Engine {
+    /// Does a batch of lines, of which the first has the number `first`, appends their replies, and forces the log.
+    ///
+    /// `Failed` and `Memory` leave some first lines of the batch done and their replies appended; no line is done in part.
+    pub fn batch<H: Host>(
+        &mut self,
+        alloc: Global,
+        host: &mut H,
+        lines: &[Line],
+        first: u32,
+        replies: &mut Vec<Reply>,
+    ) -> Result<(), StoreFault>
+        requires shape { IsShape self.old.shape }
+        requires caches { All HasCache lines.now }
+        requires numbers { first + length lines.now ≤ 2 ^ 32 }
+        requires end { H.tells → EndsThere self.old.log (H.history host.old).world }
+
+        // What is answered, and what is left.
+        ensures shape { self.new.shape ≡ self.old.shape }
+        ensures replies { OnOk result (replies.new.items
+            ≡ replies.old.items ++ replies_to self.old.shape lines.now self.old.map) }
+        ensures map { OnOk result
+            (self.new.map ≡ after_all self.old.shape lines.now self.old.map) }
+        ensures end { H.tells → OnOk result (EndsThere self.new.log (H.history host.new).world) }
+
+        // What a crash leaves, meanwhile and from then on.
+        ensures tries { TriesLines H.tells (H.history host.old) (H.history host.new)
+            (running self.old) (running self.new) first lines.now result }
+        ensures stands { H.tells → (wanted : Shape) →
+            Stands wanted (running self.old) (H.history host.old).world →
+            HasSegments (running self.old) (length lines.now) → OnOk result (StandsOn wanted
+            (length lines.now) (running self.old) (running self.new) (H.history host.new).world) }
+        ensures log_only { H.tells → AllMoments (H.history host.old) (H.history host.new)
+            (ChangesLog (H.history host.old).world) }
+        ensures cause { HasPlainFault (H.faults host.old) (H.faults host.new) result }
+    {
+        run_lines(self, alloc, host, lines, first, replies)?;
+        self.force(host)?;
+        Ok(())
+    }
+
+    /// Forces the log up to its end, which is the last thing that is done with a store.
+    pub fn close<H: Host>(&mut self, host: &mut H) -> Result<(), StoreFault>
+        ensures same { running self.new ≡ running self.old }
+        ensures stands { H.tells → (wanted : Shape) →
+            Stands wanted (running self.old) (H.history host.old).world →
+            OnOk result (StandsOn wanted 0 (running self.old) (running self.new) (H.history host.new).world) }
+        ensures moments { H.tells → (wanted : Shape) →
+            Stands wanted (running self.old) (H.history host.old).world →
+            AllMoments (H.history host.old) (H.history host.new)
+            (KeepsSome wanted self.old.shape self.old.map []) }
+        ensures log_only { H.tells → AllMoments (H.history host.old) (H.history host.new)
+            (ChangesLog (H.history host.old).world) }
+        ensures cause { HasPlainFault (H.faults host.old) (H.faults host.new) result }
+    {
+        Ok(self.force(host)?)
+    }
+
+    /// The numbers of the accepted lines whose records were handed to the log, in the order in which they were, once nothing
+    /// more is done.
+    pub fn into_order(self) -> Vec<u32>
+        ensures { result.items ≡ (running self).order }
+    {
+        self.order
+    }
+
+    // Forces the log up to its end.
+    fn force<H: Host>(&mut self, host: &mut H) -> Result<(), Failed>
+        ensures same { running self.new ≡ running self.old }
+        ensures end { H.tells → EndsThere self.old.log (H.history host.old).world →
+            OnOk result (EndsThere self.new.log (H.history host.new).world) }
+        ensures stands { H.tells → (wanted : Shape) (start : Pairs) (done : List Line) →
+            Goes wanted start done (running self.old) (H.history host.old).world →
+            OnOk result (StandsOn wanted 0 (running self.old) (running self.new) (H.history host.new).world) }
+        ensures moments { H.tells → (wanted : Shape) (start : Pairs) (done : List Line) →
+            Goes wanted start done (running self.old) (H.history host.old).world →
+            AllMoments (H.history host.old) (H.history host.new)
+            (KeepsSome wanted self.old.shape start done) }
+        ensures log_only { H.tells → AllMoments (H.history host.old) (H.history host.new)
+            (ChangesLog (H.history host.old).world) }
+        ensures cause { HasCause (H.faults host.old) (H.faults host.new) result }
+    {
+        self.log.force(host)
+    }
+
+    // Does a line, and answers it. Where memory runs out nothing is done.
+    fn run_line<H: Host>(
+        &mut self,
+        alloc: Global,
+        host: &mut H,
+        line: &Line,
+        number: u64,
+    ) -> Result<Reply, StoreFault>
+        requires shape { IsShape self.old.shape }
+        requires cache { HasCache line.now }
+        requires numbered { number < 2 ^ 32 }
+        requires end { H.tells → EndsThere self.old.log (H.history host.old).world }
+        ensures shape { self.new.shape ≡ self.old.shape }
+        ensures reply { IfOk result
+            (λ reply. reply ≡ reply_to self.old.shape line.now self.old.map) }
+        ensures map { OnOk result (self.new.map ≡ after self.old.shape line.now self.old.map) }
+        ensures end { H.tells → OnOk result (EndsThere self.new.log (H.history host.new).world) }
+
+        // What a crash leaves.
+        ensures tries { TriesLine H.tells (H.history host.old) (H.history host.new)
+            (running self.old) (running self.new) number line.now result }
+        ensures goes { H.tells → (wanted : Shape) (start : Pairs) (done : List Line) →
+            Goes wanted start done (running self.old) (H.history host.old).world →
+            HasSegments (running self.old) 1 → OnOk result (GoesOn wanted start
+            (done ++ line.now ∷ []) 1 (running self.old) (running self.new) (H.history host.new).world) }
+        ensures log_only { H.tells → AllMoments (H.history host.old) (H.history host.new)
+            (ChangesLog (H.history host.old).world) }
+        ensures cause { HasPlainFault (H.faults host.old) (H.faults host.new) result }
+    {
+        let answer = prepare(
+            alloc,
+            self.shape,
+            &mut self.map,
+            &mut self.order,
+            &mut self.payload,
+            line,
+        )?;
+        if !answer.is_accepted {
+            return Ok(answer.reply);
+        }
+        append(host, &mut self.log, &mut self.order, &self.payload, number)?;
+        Ok(answer.reply)
+    }
+}
+
+// Does lines one after the other, and appends their replies.
+fn run_lines<H: Host>(
+    engine: &mut Engine,
+    alloc: Global,
+    host: &mut H,
+    lines: &[Line],
+    first: u32,
+    replies: &mut Vec<Reply>,
+) -> Result<(), StoreFault>
+    requires shape { IsShape engine.old.shape }
+    requires caches { All HasCache lines.now }
+    requires numbers { first + length lines.now ≤ 2 ^ 32 }
+    requires end { H.tells → EndsThere engine.old.log (H.history host.old).world }
+    ensures shape { engine.new.shape ≡ engine.old.shape }
+    ensures replies { OnOk result (replies.new.items
+        ≡ replies.old.items ++ replies_to engine.old.shape lines.now engine.old.map) }
+    ensures map { OnOk result
+        (engine.new.map ≡ after_all engine.old.shape lines.now engine.old.map) }
+    ensures end { H.tells → OnOk result (EndsThere engine.new.log (H.history host.new).world) }
+    ensures tries { TriesLines H.tells (H.history host.old) (H.history host.new)
+        (running engine.old) (running engine.new) first lines.now result }
+    ensures goes { H.tells → (wanted : Shape) →
+        Stands wanted (running engine.old) (H.history host.old).world →
+        HasSegments (running engine.old) (length lines.now) → OnOk result (GoesOn wanted
+        engine.old.map lines.now (length lines.now) (running engine.old) (running engine.new)
+        (H.history host.new).world) }
+    ensures log_only { H.tells → AllMoments (H.history host.old) (H.history host.new)
+        (ChangesLog (H.history host.old).world) }
+    ensures cause { HasPlainFault (H.faults host.old) (H.faults host.new) result }
+{
+    let mut number = u64::from(first);
+    'each: for line in lines {
+        let reply = engine.run_line(alloc, host, line, number)?;
+        replies.push(reply)?;
+        number += 1;
+    }
+    Ok(())
+}
+
+// Answers a line from the map, and makes the payload of its record and room for its number. Where memory runs out the map is
+// as it was.
+fn prepare(
+    alloc: Global,
+    shape: Shape,
+    map: &mut PlainMap,
+    order: &mut Vec<u32>,
+    payload: &mut Vec<u8>,
+    line: &Line,
+) -> Result<Answer, AllocError>
+    requires partitions { ArePartitions shape.partitions }
+    requires cache { HasCache line.now }
+    ensures reply { IfOk result (λ answer. answer.reply ≡ reply_to shape line.now map.old) }
+    ensures accepted { IfOk result
+        (λ answer. answer.is_accepted ≡ is_accepted shape line.now map.old) }
+    ensures map { OnOk result (map.new ≡ after shape line.now map.old) }
+    ensures payload { OnOk result (IsPayloadOf (record_of_line line.now) payload.new.items) }
+    ensures order { order.new.items ≡ order.old.items }
+    ensures room { OnOk result (length order.new.items < vec_capacity order.new) }
+{
+    write_record(line, payload)?;
+    order.reserve(1)?;
+    map.answer(alloc, shape, line.copy(alloc)?)
+}
+
+// Appends a logical record, and puts the line's number into the order where its write was tried.
+fn append<H: Host>(
+    host: &mut H,
+    log: &mut Log,
+    order: &mut Vec<u32>,
+    payload: &[u8],
+    number: u64,
+) -> Result<Place, Failed>
+    requires short { length payload.now ≤ longest }
+    requires numbered { number < 2 ^ 32 }
+    requires room { length order.old.items < vec_capacity order.old }
+    requires end { H.tells → EndsThere log.old (H.history host.old).world }
+    ensures grown { OnOk result (log.new ≡ grown log.old (logical_frame payload.now)) }
+    ensures tried { OnOk result (log.new.tried ≡ true) }
+    ensures order { order.new.items ≡ order.old.items ++ noted log.new.tried number }
+    ensures ends { H.tells → OnOk result (EndsThere log.new (H.history host.new).world) }
+    ensures steps { H.tells → DoesSteps (H.history host.old) (H.history host.new) result
+        (steps_of log.new.tried log.old (logical_frame payload.now)) log.old.end }
+    ensures cause { HasCause (H.faults host.old) (H.faults host.new) result }
+{
+    let appended = log.append(host, LOGICAL, payload);
+    note(order, log.tried(), number);
+    appended
+}
+
+// Puts the number of a line into the order, where its record was handed to the log.
+fn note(order: &mut Vec<u32>, tried: bool, number: u64)
+    requires numbered { number < 2 ^ 32 }
+    requires room { length order.old.items < vec_capacity order.old }
+    ensures { order.new.items ≡ order.old.items ++ noted tried number }
+{
+    if tried {
+        order.push_reserved(number as u32);
+    }
+}

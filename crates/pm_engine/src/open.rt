@@ -1,0 +1,152 @@
+//! How a store is opened.
+
+ghost use Rattle.std.specs.Prelude.{◌≡◌, ◌+◌, ◌<◌, ◌≤◌, [], false, IfOk, OnOk, IsErrOf};
+ghost use Rattle.std.specs.FinMap.{empty};
+ghost use Rattle.pm_types.specs.declared.page_id.PageId.{PageId};
+ghost use Rattle.pm_types.specs.declared.place.Place.{Place};
+ghost use Rattle.pm_types.specs.declared.shape.Shape.{Shape};
+ghost use Rattle.pm_frame.specs.declared.limits.TheConstants.{SEGMENT_END_MAX as last_end};
+ghost use Rattle.pm_records.specs.Shapes.{IsShape};
+ghost use Rattle.pm_disk.specs.Images.{NothingPending};
+ghost use Rattle.pm_disk.specs.Moments.{Does, AllMoments};
+ghost use Rattle.pm_model.specs.Eval.{Pairs};
+ghost use Rattle.pm_segments.specs.Ends.{EndsThere};
+ghost use Rattle.pm_segments.specs.Grammars.{place};
+ghost use Rattle.pm_segments.specs.Logs.{behind};
+ghost use Rattle.pm_segments.specs.Scans.{IsAhead};
+ghost use Rattle.pm_segments.specs.Written.{ChangesLog};
+ghost use Rattle.pm_engine.specs.Batches.{HasStoreFault};
+ghost use Rattle.pm_engine.specs.Held.{Holds, HasNumbers, KeepsSome};
+ghost use Rattle.pm_engine.specs.Engines.{running, Stands};
+ghost use Rattle.pm_engine.specs.Openings.{TakesNext, Climbs, ReadsAll, IsSame, IsBadStore, OpensWith};
+
+use crate::engine::Engine;
+use crate::found::{Found, Took};
+use crate::record::restart_payload;
+use pm_disk::Host;
+use pm_frame::RESTART;
+use pm_segments::{Log, Scan};
+use pm_types::{Place, Shape, StoreFault};
+use std::alloc::Global;
+
+impl Engine {
+    /// Opens the store: reads its log from the first segment on, does its records again, cuts what is behind the log's end, and
+    /// appends a RESTART with the store's shape. A store that is empty takes the wanted shape.
+    ///
+    /// `BadRecord` comes where the first frame is no RESTART, where a frame's payload is in no grammar, and where a put meets a
+    /// full partition: it names the frame's place, and nothing was changed. After `Failed` and `Memory` the store holds what it
+    /// held.
+    pub fn open_store<H: Host>(
+        alloc: Global,
+        host: &mut H,
+        wanted: Shape,
+    ) -> Result<Engine, StoreFault>
+        requires wanted { IsShape wanted }
+        ensures shape { IfOk result (λ engine. IsShape engine.shape) }
+        ensures order { IfOk result (λ engine. (running engine).order ≡ []) }
+        ensures end { H.tells → IfOk result (λ engine. EndsThere engine.log (H.history host.new).world) }
+
+        // What is found: what a sound store holds, or the first record that is bad.
+        ensures holds { H.tells → (shape : Shape) (pairs : Pairs) →
+            Holds wanted (H.history host.old).world shape pairs →
+            IfOk result (λ engine. OpensWith shape pairs (running engine)) }
+        ensures bad { H.tells → (at : Place) → IsErrOf result (StoreFault.BadRecord at) →
+            IsBadStore wanted at (H.history host.old).world (H.history host.new).world }
+        ensures page { (page : PageId) → IsErrOf result (StoreFault.BadPage page) → ⊥ }
+
+        // What a crash leaves, meanwhile and from then on.
+        ensures stands { H.tells → (shape : Shape) (pairs : Pairs) →
+            (holds : Holds wanted (H.history host.old).world shape pairs) → HasNumbers holds.frames →
+            NothingPending (H.history host.old).world → IfOk result (λ engine.
+            Stands wanted (running engine) (H.history host.new).world
+            × (engine.log.end.seg ≤ (behind (place 1 0) holds.frames).seg + 1)) }
+        ensures moments { H.tells → (shape : Shape) (pairs : Pairs) →
+            (holds : Holds wanted (H.history host.old).world shape pairs) → HasNumbers holds.frames →
+            NothingPending (H.history host.old).world →
+            AllMoments (H.history host.old) (H.history host.new) (KeepsSome wanted shape pairs []) }
+        ensures log_only { H.tells → AllMoments (H.history host.old) (H.history host.new)
+            (ChangesLog (H.history host.old).world) }
+        ensures cause { HasStoreFault (H.faults host.old) (H.faults host.new) result }
+    {
+        let mut found = Found::new(alloc, wanted);
+        let end = read_log(alloc, host, &mut found)?;
+        let mut log = Log::cut_tail(host, 1, end, found.shape.segment_bytes)?;
+        log.append(host, RESTART, &restart_payload(found.shape))?;
+        Ok(Engine {
+            shape: found.shape,
+            map: found.map,
+            log,
+            order: Vec::new(alloc),
+            payload: Vec::new(alloc),
+        })
+    }
+}
+
+// Reads the log, and tells where it ends.
+fn read_log<H: Host>(alloc: Global, host: &mut H, found: &mut Found) -> Result<Place, StoreFault>
+    requires shape { IsShape found.old.shape }
+    requires map { found.old.map ≡ empty }
+    requires begun { found.old.has_begun ≡ false }
+    ensures shape { OnOk result (IsShape found.new.shape) }
+    ensures reads { H.tells → IfOk result (λ end.
+        ReadsAll found.old.shape (H.history host.old).world end found.new) }
+    ensures bound { IfOk result (λ end. end.off ≤ last_end) }
+    ensures bad { H.tells → (at : Place) → IsErrOf result (StoreFault.BadRecord at) →
+        IsBadStore found.old.shape at (H.history host.old).world (H.history host.new).world }
+    ensures page { (page : PageId) → IsErrOf result (StoreFault.BadPage page) → ⊥ }
+    ensures same { H.tells → AllMoments (H.history host.old) (H.history host.new) (IsSame
+        (H.history host.old).world) }
+    ensures cause { HasStoreFault (H.faults host.old) (H.faults host.new) result }
+{
+    let mut scan = Scan::new(alloc, Place { seg: 1, off: 0 })?;
+    'frames: loop {
+        let took = take_next(alloc, host, &mut scan, found)?;
+        let at = scan.place();
+        let _segment = segment_of(at);
+        match took {
+            Took::Frame => {}
+            Took::Bad => return Err(StoreFault::BadRecord(at)),
+            Took::End => return Ok(at),
+        }
+    }
+}
+
+// Takes the next frame of the log, if there is one that can stand there.
+fn take_next<H: Host>(
+    alloc: Global,
+    host: &mut H,
+    scan: &mut Scan,
+    found: &mut Found,
+) -> Result<Took, StoreFault>
+    requires shape { IsShape found.old.shape }
+    requires ahead { H.tells → IsAhead scan.old (H.history host.old).world }
+    ensures shape { OnOk result (IsShape found.new.shape) }
+    ensures takes { H.tells → IfOk result (λ took.
+        TakesNext took scan.old scan.new found.old found.new (H.history host.old).world) }
+    ensures ahead { H.tells → OnOk result (IsAhead scan.new (H.history host.new).world) }
+    ensures climbs { IfOk result (λ took. Climbs took scan.old scan.new) }
+    ensures bound { OnOk result (scan.new.next.off ≤ last_end) }
+    ensures does { H.tells →
+        Does (H.history host.old) (H.history host.new) result (H.history host.old).world }
+    ensures known { (at : Place) → IsErrOf result (StoreFault.BadRecord at) → ⊥ }
+    ensures page { (page : PageId) → IsErrOf result (StoreFault.BadPage page) → ⊥ }
+    ensures cause { HasStoreFault (H.faults host.old) (H.faults host.new) result }
+{
+    match scan.next(host)? {
+        Some(frame) => {
+            if found.take(alloc, frame.kind, frame.payload)? {
+                Ok(Took::Frame)
+            } else {
+                Ok(Took::Bad)
+            }
+        }
+        None => Ok(Took::End),
+    }
+}
+
+// The segment of a place: a number below 2^64, so that a log ends.
+fn segment_of(at: Place) -> u64
+    ensures { result ≡ at.seg }
+{
+    at.seg
+}

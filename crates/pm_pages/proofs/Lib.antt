@@ -1,0 +1,10 @@
+pub mod AskedPages
+pub mod Exactly
+pub mod BelowTrees
+pub mod DeltaLaw
+pub mod PageReads
+pub mod PlainSteps
+pub mod RowsFrom
+pub mod TreeLists
+pub mod Walks
+pub mod WrittenRanges

@@ -1,0 +1,53 @@
+use Rattle.std.proofs.Common.{◌≡◌, ℕ, ◌<◌, List, length, set, get_or, subst, sym, ap, ◌∙◌, refl}
+use Rattle.std.specs.Prelude.{Option, Some, IsSome, None, unwrap_or, IfSome, IsSomeAnd}
+use Rattle.pm_types.specs.Spans.{Coverage}
+use Rattle.pm_pages.specs.declared.asked.Asked.{Asked}
+use Rattle.pm_pages.specs.Asked.{entry_of, place_of, to_read, entry_or_new, patch_of, HaveSize, Registers, NotesEntry}
+use Rattle.pm_pages.specs.Paged.{Joins}
+use Rattle.std.proofs.lemmas.List.{get_or_default}
+use Rattle.pm_pages.proofs.AskedPages.{found_at, changed}
+use Rattle.pm_pages.proofs.asked.note.Goals as goal
+
+-- two reads of one place
+same_entry : (asked : List Asked) (place : ℕ) (a b : Asked) → place < length asked → a ≡ get_or asked place a → b ≡ get_or asked place b → a ≡ b
+same_entry asked place a b lt is_a is_b = is_a ∙ get_or_default asked place a b lt ∙ sym is_b
+
+-- a patch is joined to that of the entry at the place of a page
+is_noted_now : (was mid : List Asked) (index place : ℕ) (d : Asked) (patch joined : Coverage) → Registers was mid index → entry_of mid index ≡ Some (entry_or_new was index) → place ≡ place_of mid index → place < length mid → d ≡ get_or mid place d → Joins d.patch patch joined
+    → IsSomeAnd (entry_of (set mid place (record { index = d.index; is_lent = d.is_lent; patch = Some joined })) index) (NotesEntry (entry_or_new was index) patch) × Registers was (set mid place (record { index = d.index; is_lent = d.is_lent; patch = Some joined })) index
+is_noted_now was mid index place d patch joined registers is at lt here joins =
+    let entry : Asked = record { index = d.index; is_lent = d.is_lent; patch = Some joined } in
+    let found = found_at mid index place (entry_or_new was index) d is at lt here in
+    let lent : d.is_lent ≡ (entry_or_new was index).is_lent = ap (λ (e : Asked). e.is_lent) found.0 in
+    let both = changed was mid index place (entry_or_new was index) entry registers is at lt found.1 (λ h. lent ∙ h) in
+    let notes : NotesEntry (entry_or_new was index) patch entry = record {
+      lent = lent;
+      joins = subst (λ (e : Asked). Joins e.patch patch joined) found.0 joins;
+    } in
+    (subst (λ o. IsSomeAnd o (NotesEntry (entry_or_new was index) patch)) (sym both.0) notes, both.1)
+
+of_patch : (found : Option Coverage) (size : ℕ) → ((patch : Coverage) → found ≡ Some patch → patch.page_size ≡ size) → IfSome found (λ old. old.page_size ≡ size)
+of_patch None size sizes = tt
+of_patch (Some patch) size sizes = sizes patch refl
+
+-- the patch of an entry, if there is one
+entry_sizes : (found : Option Asked) (index size : ℕ) → ((patch : Coverage) → patch_of found ≡ Some patch → patch.page_size ≡ size) → IfSome (unwrap_or found (to_read index)).patch (λ old. old.page_size ≡ size)
+entry_sizes None index size sizes = tt
+entry_sizes (Some entry) index size sizes = of_patch entry.patch size sizes
+
+-- the patch that is there is of a page of the same size
+same_size : (was mid : List Asked) (index place size : ℕ) (d : Asked) → entry_of mid index ≡ Some (entry_or_new was index) → place ≡ place_of mid index → place < length mid → d ≡ get_or mid place d → IsSome (entry_of was index) → HaveSize size was → IfSome d.patch (λ old. old.page_size ≡ size)
+same_size was mid index place size d is at lt here there sizes =
+    let found = found_at mid index place (entry_or_new was index) d is at lt here in
+    subst (λ (e : Asked). IfSome e.patch (λ old. old.page_size ≡ size)) (sym found.0) (entry_sizes (entry_of was index) index size (λ patch e. sizes index patch e))
+
+pub joined-joined-requires : goal.joined-joined-requires
+joined-joined-requires c = same_size c.args.asked.now.items c.ask-place.new.asked.items c.args.index c.ask-place.result c.args.patch.now.page_size c.index.result.now c.ask-place.ensures.entry c.ask-place.ensures.place c.ask-place.ensures.there c.index.ensures c.requires.there c.requires.size
+
+pub returns-clause-entry : goal.returns-clause-entry
+returns-clause-entry c = (is_noted_now c.args.asked.now.items c.ask-place.new.asked.items c.args.index c.ask-place.result c.index_mut.result.now c.args.patch.now c.joined-joined.result c.ask-place.ensures.registers c.ask-place.ensures.entry c.ask-place.ensures.place c.ask-place.ensures.there c.index_mut.ensures.value
+    (subst (λ (e : Asked). Joins e.patch c.args.patch.now c.joined-joined.result) (same_entry c.ask-place.new.asked.items c.ask-place.result c.index.result.now c.index_mut.result.now c.ask-place.ensures.there c.index.ensures c.index_mut.ensures.value) c.joined-joined.ensures)).0
+
+pub returns-clause-registers : goal.returns-clause-registers
+returns-clause-registers c = (is_noted_now c.args.asked.now.items c.ask-place.new.asked.items c.args.index c.ask-place.result c.index_mut.result.now c.args.patch.now c.joined-joined.result c.ask-place.ensures.registers c.ask-place.ensures.entry c.ask-place.ensures.place c.ask-place.ensures.there c.index_mut.ensures.value
+    (subst (λ (e : Asked). Joins e.patch c.args.patch.now c.joined-joined.result) (same_entry c.ask-place.new.asked.items c.ask-place.result c.index.result.now c.index_mut.result.now c.ask-place.ensures.there c.index.ensures c.index_mut.ensures.value) c.joined-joined.ensures)).1

@@ -1,0 +1,13 @@
+pub mod Asked
+pub mod Chains
+pub mod Deltas
+pub mod FileForms
+pub mod PageLists
+pub mod Paged
+pub mod Passes
+pub mod Plain
+pub mod PlainRooms
+pub mod Rows
+pub mod TreeItems
+pub mod Trees
+pub mod WellFormed

@@ -1,0 +1,172 @@
+//! Batches of lines: what is appended, forced and printed together, and what is left where that stops halfway.
+
+use crate::runs::{Run, lasting_len, log_left, look_at_refused, run_over, run_refusing, run_until};
+use pm_disk_mem::{MemDisk, Pick};
+use std::process::Abort;
+use std::test::Fail;
+
+/// Three batches of one line each: a scan is a batch by itself.
+const THREE: &[u8] = b"put 0 a 1\nscan 3\nput 0 b 2\n";
+
+/// The number of the call that forces the last batch of `THREE`.
+const LAST_FORCE: u64 = 13;
+
+// The folder is bound; the log is read, cut and forced, and the RESTART written; then the whole script is read. The put is
+// written, forced and answered, and the scan forced and answered; the script's end is read; the last put goes as the first.
+// At last the log is forced once more.
+#[test]
+fn a_batch_is_lasting_before_it_is_answered(rt: HostRuntime) -> Result<(), Fail> {
+    // (refused call, lines answered, order, said, lasting bytes of the log)
+    let cases = [
+        (4, 0, [].as_slice(), b"".as_slice(), 0),
+        (5, 0, &[], b"", 0),
+        (6, 0, &[1], b"", 0),
+        (7, 0, &[1], b"", 0),
+        (8, 0, &[1], b"", 67),
+        (9, 1, &[1], b"ok\n", 67),
+        (10, 1, &[1], b"ok\n", 67),
+        (11, 2, &[1], b"ok\nend 0\n", 67),
+        (12, 2, &[1, 3], b"ok\nend 0\n", 67),
+        (LAST_FORCE, 2, &[1, 3], b"ok\nend 0\n", 67),
+        (14, 2, &[1, 3], b"ok\nend 0\n", 97),
+        (15, 3, &[1, 3], b"ok\nend 0\nok\n", 97),
+    ];
+    for (refused, lines, order, said, lasting) in cases {
+        let run = run_refusing(&rt, THREE, refused)?;
+        look_at_refused(&rt, &run, refused, lines, order, said)?;
+        assert_eq!(rt; lasting_len(&rt, &run)?, lasting, "{refused}");
+    }
+    Ok(())
+}
+
+/// So many puts of one key.
+fn puts(rt: &impl AllocGlobal, count: usize) -> Result<Vec<u8>, Fail> {
+    let mut script = Vec::new(rt.alloc());
+    for _ in 0..count {
+        script.extend_from_slice(b"put 0 a 1\n")?;
+    }
+    Ok(script)
+}
+
+/// Runs so many puts, and looks at how many were answered and how many calls that took.
+fn run_puts(rt: &(impl Abort + AllocGlobal), lines: usize, calls: u64) -> Result<(), Fail> {
+    let run = run_over(rt, &puts(rt, lines)?, MemDisk::empty(rt.alloc()))?;
+    assert_eq!(rt; run.report.status, 0, "{lines}");
+    assert_eq!(rt; run.report.lines, lines as u64, "{lines}");
+    assert_eq!(rt; run.report.order.len(), lines, "{lines}");
+    assert_eq!(rt; run.host.said().len(), lines.saturating_mul(3), "{lines}");
+    assert_eq!(rt; run.host.calls(), calls, "{lines}");
+    Ok(())
+}
+
+// Beside the write of each put: six calls up to the script's one piece, a force and a print for each batch, the read of the
+// script's end, and the last force.
+#[test]
+fn a_batch_has_at_most_1024_lines(rt: HostRuntime) -> Result<(), Fail> {
+    for (lines, calls) in [
+        (1_023, 1_033),
+        (1_024, 1_034),
+        (1_025, 1_037),
+        (2_049, 2_063),
+    ] {
+        run_puts(&rt, lines, calls)?;
+    }
+    Ok(())
+}
+
+/// Looks at how many lines were answered by a run of puts whose call of this number was refused.
+fn look_at_answered(rt: &impl Abort, run: &Run, refused: u64, lines: usize) -> Result<(), Fail> {
+    assert_eq!(rt; run.report.status, 3, "{refused}");
+    assert_eq!(rt; run.report.lines, lines as u64, "{refused}");
+    assert_eq!(rt; run.host.said().len(), lines.saturating_mul(3), "{refused}");
+    Ok(())
+}
+
+#[test]
+fn the_line_behind_1024_waits_for_a_force_of_its_own(rt: HostRuntime) -> Result<(), Fail> {
+    let script = puts(&rt, 1_025)?;
+    // (refused call, lines answered, lasting bytes of the log): both forces and both prints.
+    for (refused, lines, lasting) in [
+        (1_030, 0, 0),
+        (1_031, 0, 30_757),
+        (1_034, 1_024, 30_757),
+        (1_035, 1_024, 30_787),
+    ] {
+        let run = run_refusing(&rt, &script, refused)?;
+        look_at_answered(&rt, &run, refused, lines)?;
+        assert_eq!(rt; lasting_len(&rt, &run)?, lasting, "{refused}");
+    }
+    Ok(())
+}
+
+/// Looks for these bytes as the log that a crash leaves of a run, whatever of it was pending.
+fn look_at_log(
+    rt: &(impl Abort + AllocGlobal),
+    run: &Run,
+    wanted: &[u8],
+    pick: Pick,
+) -> Result<(), Fail> {
+    for left in [Pick::Kept, Pick::Lost] {
+        assert_eq!(rt; log_left(rt, run, left)?.as_slice(), wanted, "{pick:?}");
+    }
+    Ok(())
+}
+
+/// Restarts over a crash in the last batch, and looks for the first put alone and for a RESTART behind it.
+fn restart_without(
+    rt: &(impl Abort + AllocGlobal),
+    run: &Run,
+    pick: Pick,
+    wanted: &[u8],
+) -> Result<(), Fail> {
+    let restarted = run_over(rt, b"get 0 a\nget 0 b\n", run.host.image(rt.alloc(), pick)?)?;
+    assert_eq!(rt; restarted.report.status, 0, "{pick:?}");
+    assert_eq!(rt;
+        restarted.host.said(),
+        b"value 1\nnone\n".as_slice(),
+        "{pick:?}"
+    );
+    look_at_log(rt, &restarted, wanted, pick)
+}
+
+/// Stops a script before the force of its last batch, a put whose frame has so many bytes.
+fn stop_before_last_force(
+    rt: &(impl Abort + AllocGlobal),
+    script: &[u8],
+    frame_len: u64,
+) -> Result<Run, Fail> {
+    let run = run_until(rt, script, MemDisk::empty(rt.alloc()), Some(LAST_FORCE))?;
+    assert_eq!(rt; run.host.said(), b"ok\nend 0\n".as_slice());
+    let written = log_left(rt, &run, Pick::Kept)?.len() as u64;
+    assert_eq!(rt; written, frame_len.saturating_add(67));
+    Ok(run)
+}
+
+/// Stops a script before the force of its last batch, a put whose frame has so many bytes, and restarts over each crash in
+/// which that frame is torn or damaged.
+fn tear(rt: &(impl Abort + AllocGlobal), script: &[u8], frame_len: u64) -> Result<(), Fail> {
+    let run = stop_before_last_force(rt, script, frame_len)?;
+    let wanted = log_after_restart(rt)?;
+    assert_eq!(rt; wanted.len(), 104);
+    for count in 0..frame_len {
+        restart_without(rt, &run, Pick::Cut(count), &wanted)?;
+    }
+    for pick in [Pick::Lost, Pick::Fill(0), Pick::Fill(5), Pick::Fill(238)] {
+        restart_without(rt, &run, pick, &wanted)?;
+    }
+    Ok(())
+}
+
+/// The log of a run with one put and of a second one, which appended its RESTART.
+fn log_after_restart(rt: &impl AllocGlobal) -> Result<Vec<u8>, Fail> {
+    let run = run_over(rt, b"put 0 a 1\n", MemDisk::empty(rt.alloc()))?;
+    let next = run_over(rt, b"", run.disk(rt)?)?;
+    log_left(rt, &next, Pick::Lost)
+}
+
+// The longer frame has as many bytes as the RESTART that is written in its place.
+#[test]
+fn a_torn_batch_is_cut_off(rt: HostRuntime) -> Result<(), Fail> {
+    tear(&rt, THREE, 30)?;
+    tear(&rt, b"put 0 a 1\nscan 3\nput 0 b 12345678\n", 37)
+}

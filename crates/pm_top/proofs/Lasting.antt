@@ -1,0 +1,220 @@
+-- What a crash leaves holds what was acknowledged.
+use Rattle.std.proofs.Common.{◌≡◌, ℕ, zero, suc, ◌+◌, ◌-◌, ◌≤◌, List, [], ◌∷◌, ◌++◌, length, take, drop, refl, ap, sym, ◌∙◌, subst, append_assoc, append-nil, arith, length-append}
+use Rattle.std.specs.Prelude.{codes}
+use Rattle.std.proofs.lemmas.List.{take_at, drop_at, take_all, take-append-le, take-append-drop, length-take}
+use Rattle.std.proofs.Math.Seq.{take-append-add}
+use Rattle.pm_types.specs.declared.shape.Shape.{Shape}
+use Rattle.pm_disk.specs.Worlds.{World, with_said}
+use Rattle.pm_disk.specs.Images.{Image}
+use Rattle.pm_model.specs.declared.line.Line.{Line}
+use Rattle.pm_model.specs.Eval.{Pairs, replies_to, after_all, accepted}
+use Rattle.pm_model.proofs.Runs.{after_all-append, replies_to-append, length-replies_to, accepted-append}
+use Rattle.pm_script.specs.Reading.{OnlyTakes}
+use Rattle.pm_script.specs.Texts.{texts_of}
+use Rattle.pm_engine.specs.Held.{HoldsImage, KeepsSome}
+use Rattle.pm_top.specs.declared.run.Run.{Run}
+use Rattle.pm_top.specs.declared.shape.TheConstants.{SHAPE}
+use Rattle.pm_top.specs.Crashes.{KeepsAcknowledged, HoldsAfter, begun, after_numbers, acknowledged}
+use Rattle.pm_top.specs.Promises.{replies_of, IsOrder, SaysPart}
+use Rattle.pm_top.specs.Runs.{Progress}
+use Rattle.pm_top.specs.Served.{script_of}
+use Rattle.pm_top.proofs.Orders.{after_accepted, begun-texts, begun_nothing, begun_within, take_none, none_acknowledged, none_with_u}
+use Rattle.pm_top.proofs.Progressing.{parted, script_len, take_more, order_so_far, order_more, first_ones, accepted_are, texts_are}
+
+-- ---- lists
+
+-- the first lines, and more of them
+parts : (script : List Line) (k d : ℕ) → k ≤ length script → take (k + d) script ≡ take k script ++ take d (drop k script)
+parts script k d le =
+    let count : length (take k script) ≡ k = omega (arith, length-take k script, le) in
+    ap (take (k + d)) (sym (take-append-drop k script)) ∙ ap (λ n. take (n + d) (take k script ++ drop k script)) (sym count) ∙ take-append-add (take k script) (drop k script) d
+
+accepted_parts : (shape : Shape) (script : List Line) (pairs : Pairs) (k d : ℕ) → k ≤ length script
+    → accepted shape 1 (take (k + d) script) pairs ≡ accepted shape 1 (take k script) pairs ++ accepted shape (1 + length (take k script)) (take d (drop k script)) (after_all shape (take k script) pairs)
+accepted_parts shape script pairs k d le = ap (λ ls. accepted shape 1 ls pairs) (parts script k d le) ∙ accepted-append shape 1 (take k script) (take d (drop k script)) pairs
+
+accepted_le : (shape : Shape) (script : List Line) (pairs : Pairs) (b k : ℕ) → b ≤ k → k ≤ length script → length (accepted shape 1 (take b script) pairs) ≤ length (accepted shape 1 (take k script) pairs)
+accepted_le shape script pairs b k le within =
+    let sum : b + (k - b) ≡ k = omega (arith, le) in
+    let same = ap (λ n. length (accepted shape 1 (take n script) pairs)) (sym sum) ∙ ap length (accepted_parts shape script pairs b (k - b) (omega (arith, le, within))) in
+    omega (arith, same, length-append (accepted shape 1 (take b script) pairs) (accepted shape (1 + length (take b script)) (take (k - b) (drop b script)) (after_all shape (take b script) pairs)))
+
+-- some first ones of the first ones
+take_take : (a b : ℕ) (xs : List Line) → a ≤ b → take a (take b xs) ≡ take a xs
+take_take zero b xs le = take_none (take b xs) ∙ sym (take_none xs)
+take_take (suc a) zero xs le = absurd (omega (arith, le))
+take_take (suc a) (suc b) [] le = refl
+take_take (suc a) (suc b) (x ∷ xs) le = ap (λ ys. x ∷ ys) (take_take a b xs (omega (arith, le)))
+
+-- ---- images
+
+-- what holds the map after the first so many lines, where no more than these are acknowledged, and the order has at least these
+holds_after : (start : World) (shape : Shape) (pairs : Pairs) (order : List ℕ) (w : World) (image : Image) (k d : ℕ) → k + d ≤ length (script_of start.input) → IsOrder shape start.input pairs (k + d) order
+    → acknowledged start shape pairs w ≤ length (accepted shape 1 (take k (script_of start.input)) pairs) → HoldsImage SHAPE image shape (after_all shape (take k (script_of start.input)) pairs)
+    → HoldsAfter start shape pairs order w image
+holds_after start shape pairs order w image k d within is has holds =
+    let script = script_of start.input in
+    let first = accepted shape 1 (take k script) pairs in
+    let more = accepted shape (1 + length (take k script)) (take d (drop k script)) (after_all shape (take k script) pairs) in
+    let order_is : order ≡ first ++ more = is ∙ accepted_parts shape script pairs k d (omega (arith, within)) in
+    let front : take (length first) order ≡ first = ap (take (length first)) order_is ∙ take_at first more (length first) refl in
+    let map : after_numbers shape first script pairs ≡ after_all shape (take k script) pairs =
+    ap (λ s. after_numbers shape first s pairs) (sym (take-append-drop k script)) ∙ after_accepted shape [] (take k script) (drop k script) pairs in
+    record {
+      count = length first;
+      fits = omega (arith, ap length order_is, length-append first more);
+      has = has;
+      holds = subst (HoldsImage SHAPE image shape) (sym (ap (λ o. after_numbers shape o script pairs) front ∙ map)) holds;
+    }
+
+-- a longer order keeps what a shorter one keeps
+pub order_longer : (start : World) (shape : Shape) (pairs : Pairs) (order more : List ℕ) (w : World) → KeepsAcknowledged start shape pairs order w → KeepsAcknowledged start shape pairs (order ++ more) w
+order_longer start shape pairs order more w keeps image leaves honest =
+    let h = keeps image leaves honest in
+    record {
+      count = h.count;
+      fits = omega (arith, h.fits, length-append order more);
+      has = h.has;
+      holds = subst (λ o. HoldsImage SHAPE image shape (after_numbers shape o (script_of start.input) pairs)) (sym (take-append-le h.count order more h.fits)) h.holds;
+    }
+
+-- what was said is no file
+pub keeps_said : (shape : Shape) (pairs : Pairs) (lines : List Line) (bytes : List ℕ) (w : World) → KeepsSome SHAPE shape pairs lines w → KeepsSome SHAPE shape pairs lines (with_said bytes w)
+keeps_said shape pairs lines bytes w keeps image leaves honest =
+    keeps image (record { log = leaves.log; pages = leaves.pages; starts = leaves.starts; ends = leaves.ends }) (record { frames = honest.frames })
+
+-- nor is the input
+pub keeps_taken : (shape : Shape) (pairs : Pairs) (lines : List Line) (old w : World) → OnlyTakes old w → KeepsSome SHAPE shape pairs lines old → KeepsSome SHAPE shape pairs lines w
+keeps_taken shape pairs lines old w takes keeps = subst (KeepsSome SHAPE shape pairs lines) (sym takes.1) (λ image leaves honest.
+    keeps image (record { log = leaves.log; pages = leaves.pages; starts = leaves.starts; ends = leaves.ends }) (record { frames = honest.frames }))
+
+-- the map of all lines, where it is the only one
+only_map : (shape : Shape) (pairs : Pairs) (image : Image) → (count : ℕ) × (count ≤ 0) × HoldsImage SHAPE image shape (after_all shape (take count []) pairs) → HoldsImage SHAPE image shape pairs
+only_map shape pairs image h = subst (HoldsImage SHAPE image shape) (ap (λ ls. after_all shape ls pairs) (take_all h.0 [] (omega arith))) h.2
+
+-- ---- at the start
+
+-- nothing was said
+pub start_keeps : (start : World) (shape : Shape) (pairs : Pairs) (order : List ℕ) (w : World) → w.said ≡ start.said → KeepsSome SHAPE shape pairs [] w → KeepsAcknowledged start shape pairs order w
+start_keeps start shape pairs order w same keeps image leaves honest =
+    let script = script_of start.input in
+    let nothing : drop (length start.said) w.said ≡ [] = ap (drop (length start.said)) (same ∙ sym (append-nil start.said)) ∙ drop_at start.said [] (length start.said) refl in
+    let none : acknowledged start shape pairs w ≡ 0 =
+    ap (λ b. length (accepted shape 1 (take (begun (replies_to shape script pairs) b) script) pairs)) nothing
+    ∙ ap (λ n. length (accepted shape 1 (take n script) pairs)) (begun_nothing (replies_to shape script pairs)) ∙ ap (λ ls. length (accepted shape 1 ls pairs)) (take_none script) in
+    record {
+      count = 0;
+      fits = omega arith;
+      has = omega (arith, none);
+      holds = subst (λ o. HoldsImage SHAPE image shape (after_numbers shape o script pairs)) (sym (take_none order)) (only_map shape pairs image (keeps image leaves honest));
+    }
+
+-- ---- on the way
+
+module _ {start now : World} {left : List Line} {shape : Shape} {pairs : Pairs} {run : Run} (progress : Progress start now left shape pairs run) where
+  -- what was said since the start
+  said_since : (w : World) (tail : List ℕ) → w.said ≡ now.said ++ tail → drop (length start.said) w.said ≡ texts_of (replies_to shape progress.done pairs) ++ tail
+  said_since w tail is =
+      let texts = texts_of (replies_to shape progress.done pairs) in
+      ap (drop (length start.said)) (is ∙ ap (λ s. s ++ tail) progress.said ∙ append_assoc start.said texts tail)
+      ∙ drop_at start.said (texts ++ tail) (length start.said) refl
+
+  -- how many replies began
+  pub begun_since : (w : World) (tail : List ℕ) → w.said ≡ now.said ++ tail
+      → begun (replies_of shape start.input pairs) (drop (length start.said) w.said) ≡ run.lines + begun (replies_to shape left run.engine.map) tail
+  begun_since w tail is =
+      let replies = replies_to shape progress.done pairs in
+      let more = replies_to shape left run.engine.map in
+      ap (begun (replies_of shape start.input pairs)) (said_since w tail is)
+      ∙ ap (λ r. begun r (texts_of replies ++ tail)) (parted progress)
+      ∙ begun-texts replies more tail
+      ∙ ap (λ n. n + begun more tail) (length-replies_to shape progress.done pairs ∙ progress.count)
+
+  -- no more lines are acknowledged
+  acknowledged_within : (w : World) (tail : List ℕ) (k : ℕ) → w.said ≡ now.said ++ tail → run.lines + begun (replies_to shape left run.engine.map) tail ≤ k → k ≤ length (script_of start.input)
+      → acknowledged start shape pairs w ≤ length (accepted shape 1 (take k (script_of start.input)) pairs)
+  acknowledged_within w tail k is le within =
+      accepted_le shape (script_of start.input) pairs (begun (replies_of shape start.input pairs) (drop (length start.said) w.said)) k (omega (arith, le, begun_since w tail is)) within
+
+  -- the map after so many more lines
+  map_more : (n : ℕ) → after_all shape (take (run.lines + n) (script_of start.input)) pairs ≡ after_all shape (take n left) run.engine.map
+  map_more n = ap (λ ls. after_all shape ls pairs) (take_more progress n) ∙ after_all-append shape progress.done (take n left) pairs ∙ ap (after_all shape (take n left)) (sym progress.map)
+
+  -- between two batches
+  pub keeps_rest : (w : World) → w.said ≡ now.said → KeepsSome SHAPE run.engine.shape run.engine.map [] w → KeepsAcknowledged start shape pairs run.engine.order.items w
+  keeps_rest w same keeps image leaves honest =
+      let map : after_all shape (take (run.lines + 0) (script_of start.input)) pairs ≡ run.engine.map = map_more 0 ∙ ap (λ ls. after_all shape ls run.engine.map) (take_none left) in
+      let holds = only_map shape run.engine.map image (subst (λ s. (count : ℕ) × (count ≤ 0) × HoldsImage SHAPE image s (after_all s (take count []) run.engine.map)) progress.shape_is (keeps image leaves honest)) in
+      let here : run.lines + 0 ≡ run.lines = omega arith in
+      let there : run.lines ≡ run.lines + 0 + 0 = omega arith in
+      holds_after start shape pairs run.engine.order.items w image (run.lines + 0) 0 (omega (arith, script_len progress)) (subst (λ n. IsOrder shape start.input pairs n run.engine.order.items) there (order_so_far progress))
+      (acknowledged_within w [] (run.lines + 0) (same ∙ sym (append-nil now.said)) (omega (arith, begun_nothing (replies_to shape left run.engine.map))) (omega (arith, script_len progress)))
+      (subst (HoldsImage SHAPE image shape) (sym map) holds)
+
+-- ---- while a batch is done
+
+module _ {start now : World} {shape : Shape} {pairs : Pairs} {run : Run} (lines left : List Line) (progress : Progress start now (lines ++ left) shape pairs run) (count : ℕ) (within : count ≤ length lines) (order : List ℕ)
+    (is : order ≡ run.engine.order.items ++ accepted run.engine.shape (run.lines + 1) (take count lines) run.engine.map) where
+  its_order : IsOrder shape start.input pairs (run.lines + count) order
+  its_order = order_more progress count order
+      (is ∙ ap (λ o. run.engine.order.items ++ o) (accepted_are lines left progress (run.lines + 1) (take count lines) ∙ ap (λ ls. accepted shape (run.lines + 1) ls run.engine.map) (sym (first_ones lines left progress count within))))
+
+  long : run.lines + count ≤ length (script_of start.input)
+  long = omega (arith, within, script_len progress, length-append lines left)
+
+  -- before anything is said
+  pub keeps_doing : (w : World) → w.said ≡ now.said → KeepsSome SHAPE run.engine.shape run.engine.map (take count lines) w → KeepsAcknowledged start shape pairs order w
+  keeps_doing w same keeps image leaves honest =
+      let h = subst (λ s. (m : ℕ) × (m ≤ length (take count lines)) × HoldsImage SHAPE image s (after_all s (take m (take count lines)) run.engine.map)) progress.shape_is (keeps image leaves honest) in
+      let m = h.0 in
+      let few : m ≤ count = omega (arith, h.1, length-take count lines) in
+      let nested : take m (take count lines) ≡ take m (lines ++ left) = take_take m count lines few ∙ sym (first_ones lines left progress m (omega (arith, few, within))) in
+      let map : after_all shape (take (run.lines + m) (script_of start.input)) pairs ≡ after_all shape (take m (take count lines)) run.engine.map = map_more progress m ∙ ap (λ ls. after_all shape ls run.engine.map) (sym nested) in
+      let sum : run.lines + count ≡ run.lines + m + (count - m) = omega (arith, few) in
+      holds_after start shape pairs order w image (run.lines + m) (count - m) (omega (arith, long, few)) (subst (λ n. IsOrder shape start.input pairs n order) sum its_order)
+      (acknowledged_within progress w [] (run.lines + m) (same ∙ sym (append-nil now.said)) (omega (arith, begun_nothing (replies_to shape (lines ++ left) run.engine.map))) (omega (arith, long, few)))
+      (subst (HoldsImage SHAPE image shape) (sym map) h.2)
+
+-- ---- while its replies are said
+
+module _ {start now : World} {shape : Shape} {pairs : Pairs} {run : Run} (lines left : List Line) (progress : Progress start now (lines ++ left) shape pairs run) (order : List ℕ)
+    (is : order ≡ run.engine.order.items ++ accepted run.engine.shape (run.lines + 1) lines run.engine.map) where
+  all_order : IsOrder shape start.input pairs (run.lines + length lines) order
+  all_order = its_order lines left progress (length lines) (omega arith) order (is ∙ ap (λ ls. run.engine.order.items ++ accepted run.engine.shape (run.lines + 1) ls run.engine.map) (sym (take_all (length lines) lines (omega arith))))
+
+  pub keeps_saying : (w : World) (n : ℕ) → w.said ≡ now.said ++ take n (texts_of (replies_to run.engine.shape lines run.engine.map)) → KeepsSome SHAPE run.engine.shape (after_all run.engine.shape lines run.engine.map) [] w
+      → KeepsAcknowledged start shape pairs order w
+  keeps_saying w n said keeps image leaves honest =
+      let k : ℕ = run.lines + length lines in
+      let map : after_all shape (take k (script_of start.input)) pairs ≡ after_all shape lines run.engine.map =
+      map_more progress (length lines) ∙ ap (λ ls. after_all shape ls run.engine.map) (first_ones lines left progress (length lines) (omega arith) ∙ take_all (length lines) lines (omega arith)) in
+      let holds = only_map shape (after_all shape lines run.engine.map) image
+      (subst (λ s. (count : ℕ) × (count ≤ 0) × HoldsImage SHAPE image s (after_all s (take count []) (after_all s lines run.engine.map))) progress.shape_is (keeps image leaves honest)) in
+      let own = replies_to shape lines run.engine.map in
+      let others = replies_to shape left (after_all shape lines run.engine.map) in
+      let tail : List ℕ = take n (texts_of own) in
+      let few : begun (replies_to shape (lines ++ left) run.engine.map) tail ≤ length lines =
+      omega (arith, ap (λ rs. begun rs tail) (replies_to-append shape lines left run.engine.map), begun_within own others n, length-replies_to shape lines run.engine.map) in
+      let within : k ≤ length (script_of start.input) = omega (arith, script_len progress, length-append lines left) in
+      let sum : k ≡ k + 0 = omega arith in
+      holds_after start shape pairs order w image k 0 (omega (arith, within)) (subst (λ m. IsOrder shape start.input pairs m order) sum all_order)
+      (acknowledged_within progress w tail k (said ∙ ap (λ t. now.said ++ take n t) (texts_are lines left progress)) (omega (arith, few)) within)
+      (subst (HoldsImage SHAPE image shape) (sym map) holds)
+
+-- ---- while a fault is told
+
+-- the words are refused
+pub refused_keeps : (start : World) (shape : Shape) (pairs : Pairs) (order : List ℕ) (w : World) → KeepsSome SHAPE shape pairs [] start → SaysPart (codes "fault usage\n") start w → KeepsAcknowledged start shape pairs order w
+refused_keeps start shape pairs order w keeps part = subst (KeepsAcknowledged start shape pairs order) (sym part.1) (λ image leaves honest.
+    let script = script_of start.input in
+    let said = take part.0 (codes "fault usage\n") in
+    let behind : drop (length start.said) (start.said ++ said) ≡ said = drop_at start.said said (length start.said) refl in
+    let none : acknowledged start shape pairs (with_said said start) ≡ 0 =
+    ap (λ b. length (accepted shape 1 (take (begun (replies_to shape script pairs) b) script) pairs)) behind
+    ∙ ap length (none_acknowledged shape 1 script pairs part.0 117 (codes "sage\n") none_with_u) in
+    record {
+      count = 0;
+      fits = omega arith;
+      has = omega (arith, none);
+      holds = subst (λ o. HoldsImage SHAPE image shape (after_numbers shape o script pairs)) (sym (take_none order)) (only_map shape pairs image (keeps_said shape pairs [] said start keeps image leaves honest));
+    })

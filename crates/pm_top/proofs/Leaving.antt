@@ -1,0 +1,75 @@
+-- What a run that is done leaves: a store that is sound, with nothing pending.
+use Rattle.std.proofs.Common.{◌≡◌, ◌+◌, ◌≤◌, List, [], ◌++◌, ap, sym, ◌∙◌, subst, arith}
+use Rattle.pm_types.specs.declared.place.Place.{Place}
+use Rattle.pm_types.specs.declared.shape.Shape.{Shape}
+use Rattle.pm_types.specs.declared.limits.TheConstants.{LINES_MAX}
+use Rattle.pm_disk.specs.Images.{NothingPending}
+use Rattle.pm_disk.specs.Worlds.{World}
+use Rattle.pm_frame.specs.Frames.{Frame}
+use Rattle.pm_model.specs.Eval.{Pairs, after_all}
+use Rattle.pm_segments.specs.Grammars.{place, all_frames}
+use Rattle.pm_segments.specs.Logs.{behind}
+use Rattle.pm_segments.specs.Written.{EndIs}
+use Rattle.pm_segments.proofs.Laws.{grammar_laws}
+use Rattle.pm_segments.proofs.LogSteps.{plain_behind}
+use Rattle.pm_segments.proofs.Standing.{behind-append, standing_log}
+use Rattle.pm_engine.specs.Engines.{Running, running, every, frames_of, Stands}
+use Rattle.pm_engine.specs.Held.{IsHeld, Holds}
+use Rattle.pm_engine.specs.Openings.{OpensWith}
+use Rattle.pm_top.specs.declared.run.Run.{Run}
+use Rattle.pm_top.specs.declared.shape.TheConstants.{SHAPE}
+use Rattle.pm_top.specs.Promises.{IsLeft}
+use Rattle.pm_top.specs.Runs.{SameFiles, LeavesRun, LeavesStore}
+use Rattle.pm_top.specs.Served.{script_of}
+
+module _ (wanted : Shape) (engine : Running) (world : World) (s : Stands wanted engine world) where
+  -- where an engine stands its store is sound
+  stands_hold : Holds wanted world engine.shape engine.pairs
+  stands_hold = record {
+    frames = frames_of s.written;
+    log = standing_log all_frames (grammar_laws every) world.log 1 (place 1 0) s.written.at s.written.lasting s.written.pending s.written.tail s.stands.standing;
+    held = s.held;
+  }
+
+  -- and its log ends in the segment in which the engine writes
+  stands_segment : (behind (place 1 0) (frames_of s.written)).seg ≡ engine.log.end.seg
+  stands_segment =
+      let w = s.written in
+      let there : behind (place 1 0) (w.lasting ++ w.pending) ≡ behind w.at w.pending = behind-append (place 1 0) w.lasting w.pending ∙ ap (λ (q : Place). behind q w.pending) s.stands.standing.leads.to in
+      let end = subst (λ t. EndIs t engine.log.end w.at w.pending) s.is_open.ready s.stands.ends in
+      ap (λ (q : Place). q.seg) (there ∙ plain_behind w.at.seg w.at.off w.pending s.is_open.plain ∙ sym end)
+
+-- a script that is done leaves its store so
+pub leaves_store : (start world : World) (before later : Run) → before.lines ≡ 0 → later.lines ≤ LINES_MAX → LeavesRun start before.engine.shape before.engine.map before later world → LeavesStore start world (running before.engine)
+unfolding stands_hold
+leaves_store start world before later none few left =
+    let stands = left.over.stands in
+    let holds = stands_hold SHAPE (running later.engine) world stands in
+    let segment : (behind (place 1 0) holds.frames).seg ≡ later.engine.log.end.seg = stands_segment SHAPE (running later.engine) world stands in
+    record {
+      holds = record {
+        frames = holds.frames;
+        log = holds.log;
+        held = subst (λ (x : Shape × Pairs). IsHeld SHAPE holds.frames x.0 x.1) (λ i. (left.shape_is i, left.map i)) holds.held;
+      };
+      lasting = left.lasting;
+      climbs = omega (arith, segment, left.over.climbs, none, few);
+    }
+
+-- seen from the store that was opened
+pub is_left : (frames : List Frame) (old mid new : World) (engine : Running) (shape : Shape) (pairs : Pairs) → OpensWith shape pairs engine → engine.log.end.seg ≤ (behind (place 1 0) frames).seg + 1 → NothingPending old → SameFiles old mid → SameFiles mid new
+    → LeavesStore old new engine → IsLeft frames 8388608 new shape (after_all shape (script_of old.input) pairs)
+is_left frames old mid new engine shape pairs opens climbs nothing first second left = record {
+  holds = record {
+    frames = left.holds.frames;
+    log = left.holds.log;
+    held = subst (λ (x : Shape × Pairs). IsHeld SHAPE left.holds.frames x.0 (after_all x.0 (script_of old.input) x.1)) (λ i. (opens.0 i, opens.1 i)) left.holds.held;
+  };
+  quiet = record {
+    log = left.lasting;
+    pages = λ part. subst (λ p. (p part).since ≡ []) (sym (second.pages ∙ first.pages)) (nothing.pages part);
+    starts = subst (λ f. f.since ≡ []) (sym (second.starts ∙ first.starts)) nothing.starts;
+    ends = subst (λ f. f.since ≡ []) (sym (second.ends ∙ first.ends)) nothing.ends;
+  };
+  climbs = omega (arith, left.climbs, climbs);
+}

@@ -1,0 +1,217 @@
+-- What follows from how far a run has come.
+use Rattle.std.proofs.Common.{◌≡◌, ◌⊎◌, inl, inr, ℕ, ◌+◌, ◌<◌, ◌≤◌, min, List, [], ◌++◌, length, take, drop, refl, ap, sym, ◌∙◌, append_assoc, append-nil, arith, length-append}
+use Rattle.std.proofs.lemmas.List.{length-map, take_at, drop_at, take_all, take_min, take-append-le}
+use Rattle.std.proofs.lemmas.List.Concat.{flat_map-append}
+use Rattle.std.proofs.Math.Seq.{take-append-add}
+use Rattle.pm_types.specs.declared.limits.TheConstants.{SCRIPT_BYTES_MAX, LINES_MAX, BATCH_LINES_MAX}
+use Rattle.pm_types.specs.declared.shape.Shape.{Shape}
+use Rattle.pm_disk.specs.Worlds.{World}
+use Rattle.pm_model.specs.declared.line.Line.{Line}
+use Rattle.pm_model.specs.declared.reply.Reply.{Reply}
+use Rattle.pm_model.specs.Eval.{Pairs, replies_to, after_all, accepted}
+use Rattle.pm_model.proofs.Runs.{replies_to-append, after_all-append, length-replies_to, accepted-append}
+use Rattle.pm_script.specs.Lines.{lines_of, after_line}
+use Rattle.pm_script.specs.Texts.{text_of, texts_of}
+use Rattle.pm_top.specs.declared.run.Run.{Run}
+use Rattle.pm_top.specs.Promises.{replies_of, Answers, IsOrder, HasTried, IsDone, IsBroken, IsShort, IsStopped}
+use Rattle.pm_top.specs.Runs.{Progress, SameConsole}
+use Rattle.pm_top.specs.Scripts.{after_lines}
+use Rattle.pm_top.specs.Served.{line_of, script_of}
+use Rattle.pm_top.proofs.Gathering.{after_lines-more}
+use Rattle.pm_top.proofs.ServedLines.{script_of-first}
+
+-- some first bytes of a list are some of a longer one
+prefix_longer : (n : ℕ) (xs ys : List ℕ) → take n xs ≡ take (min n (length xs)) (xs ++ ys)
+prefix_longer n xs ys = sym (take_min n xs) ∙ sym (take-append-le (min n (length xs)) xs ys (omega arith))
+
+texts-append : (xs ys : List Reply) → texts_of (xs ++ ys) ≡ texts_of xs ++ texts_of ys
+texts-append xs ys = flat_map-append text_of xs ys
+
+module _ {start now : World} {left : List Line} {shape : Shape} {pairs : Pairs} {run : Run} (progress : Progress start now left shape pairs run) where
+  -- the whole script's replies: those of what is done, and those of the rest
+  pub parted : replies_of shape start.input pairs ≡ replies_to shape progress.done pairs ++ replies_to shape left run.engine.map
+  parted =
+      ap (λ s. replies_to shape s pairs) progress.script ∙ replies_to-append shape progress.done left pairs
+      ∙ ap (λ m. replies_to shape progress.done pairs ++ replies_to shape left m) (sym progress.map)
+
+  counted : length (replies_to shape progress.done pairs) ≡ run.lines
+  counted = length-replies_to shape progress.done pairs ∙ progress.count
+
+  told : take run.lines (replies_of shape start.input pairs) ≡ replies_to shape progress.done pairs
+  told = ap (take run.lines) parted ∙ take_at _ _ run.lines counted
+
+  pub untold : drop run.lines (replies_of shape start.input pairs) ≡ replies_to shape left run.engine.map
+  untold = ap (drop run.lines) parted ∙ drop_at _ _ run.lines counted
+
+  pub done_is : take run.lines (script_of start.input) ≡ progress.done
+  done_is = ap (take run.lines) progress.script ∙ take_at _ _ run.lines progress.count
+
+  pub script_len : length (script_of start.input) ≡ run.lines + length left
+  script_len = ap length progress.script ∙ length-append progress.done left ∙ ap (λ n. n + length left) progress.count
+
+  lines_len : length (lines_of start.input) ≡ run.lines + length left
+  lines_len = sym (length-map (lines_of start.input) line_of) ∙ script_len
+
+  pub answers_so_far : (new : World) (tail : List ℕ) → new.said ≡ now.said ++ tail → Answers start new shape pairs run.lines tail
+  answers_so_far new tail said = record {
+    within = omega (arith, script_len);
+    said = said ∙ ap (λ s. s ++ tail) (progress.said ∙ ap (λ r. start.said ++ texts_of r) (sym told));
+  }
+
+  pub same_answers : (new : World) → new.said ≡ now.said → Answers start new shape pairs run.lines []
+  same_answers new same = answers_so_far new [] (same ∙ sym (append-nil now.said))
+
+  -- the lines that are done, and so many of those that are left
+  pub take_more : (n : ℕ) → take (run.lines + n) (script_of start.input) ≡ progress.done ++ take n left
+  take_more n = ap (take (run.lines + n)) progress.script ∙ ap (λ m. take (m + n) (progress.done ++ left)) (sym progress.count) ∙ take-append-add progress.done left n
+
+  -- the order with so many more
+  pub order_more : (n : ℕ) (order : List ℕ) → order ≡ run.engine.order.items ++ accepted shape (run.lines + 1) (take n left) run.engine.map → IsOrder shape start.input pairs (run.lines + n) order
+  order_more n order is =
+      let number : run.lines + 1 ≡ 1 + length progress.done = omega (arith, progress.count) in
+      is
+      ∙ ap (λ o. o ++ accepted shape (run.lines + 1) (take n left) run.engine.map) progress.order
+      ∙ ap (λ k. accepted shape 1 progress.done pairs ++ accepted shape k (take n left) run.engine.map) number
+      ∙ ap (λ m. accepted shape 1 progress.done pairs ++ accepted shape (1 + length progress.done) (take n left) m) progress.map
+      ∙ sym (accepted-append shape 1 progress.done (take n left) pairs)
+      ∙ ap (λ ls. accepted shape 1 ls pairs) (sym (take_more n))
+
+  pub order_so_far : IsOrder shape start.input pairs run.lines run.engine.order.items
+  order_so_far = progress.order ∙ ap (λ d. accepted shape 1 d pairs) (sym done_is)
+
+  pub tried_so_far : HasTried shape start.input pairs run.lines run.engine.order.items
+  tried_so_far = record { many = run.lines; from = omega arith; to = omega arith; within = omega (arith, script_len); order_is = order_so_far }
+
+  pub tried_more : (n : ℕ) (order : List ℕ) → n ≤ BATCH_LINES_MAX → n ≤ length left → order ≡ run.engine.order.items ++ accepted shape (run.lines + 1) (take n left) run.engine.map
+      → HasTried shape start.input pairs run.lines order
+  tried_more n order few within is = record { many = run.lines + n; from = omega arith; to = omega (arith, few); within = omega (arith, within, script_len); order_is = order_more n order is }
+
+  -- a call failed where nothing was said since
+  pub broken_still : (new : World) → new.said ≡ now.said → IsBroken start new shape pairs run.lines run.engine.order.items
+  broken_still new same = record { tail = []; answers = same_answers new same; prefix = (0, inl refl); tried = tried_so_far }
+
+  pub short_still : (new : World) → new.said ≡ now.said → IsShort start new shape pairs run.lines run.engine.order.items
+  short_still new same = record { answers = same_answers new same; tried = tried_so_far }
+
+  -- the script is answered whole
+  pub finished : (new : World) → new.said ≡ now.said → left ≡ [] → new.input ≡ [] → length start.input ≤ SCRIPT_BYTES_MAX → run.lines ≤ LINES_MAX → IsDone start new shape pairs run.lines run.engine.order.items
+  finished new same end read bytes few =
+      let no_more : length left ≡ 0 = ap (λ (l : List Line). length l) end in
+      record {
+        answers = same_answers new same;
+        order_is = order_so_far;
+        all = omega (arith, script_len, no_more);
+        read = read;
+        limits = record { bytes = bytes; lines = omega (arith, lines_len, no_more, few) };
+      }
+
+  -- it is stopped by a limit
+  pub stopped : (new : World) (rest : List ℕ) → new.said ≡ now.said → left ≡ script_of rest → rest ≡ after_lines run.lines start.input → 0 < length rest → run.lines ≤ LINES_MAX → length start.input ≤ SCRIPT_BYTES_MAX + length rest
+      → (run.lines ≡ LINES_MAX) ⊎ (SCRIPT_BYTES_MAX + length (after_line rest) < length start.input) → IsStopped start new shape pairs run.lines run.engine.order.items []
+  stopped new rest same is there some few short no_more = record {
+    answers = same_answers new same;
+    order_is = order_so_far;
+    passes = elim no_more [
+      | inl full ↦ inr (omega (arith, lines_len, ap (λ (l : List Line). length l) (is ∙ script_of-first rest some), full))
+      | inr over ↦ inl (omega (arith, over))
+    ];
+    within = record {
+      few = few;
+      short = omega (arith, short, ap (λ (r : List ℕ). length r) there);
+      no_more = elim no_more [ inl full ↦ inl full | inr over ↦ inr (omega (arith, over, ap (λ r. length (after_line r)) there, ap (λ (r : List ℕ). length r) (after_lines-more run.lines start.input))) ];
+    };
+  }
+
+-- before the first line
+pub begins : (start now : World) (run : Run) → SameConsole start now → run.lines ≡ 0 → run.engine.order.items ≡ [] → Progress start now (script_of start.input) run.engine.shape run.engine.map run
+begins start now run same none order = record {
+  done = [];
+  script = refl;
+  count = sym none;
+  said = same.said ∙ sym (append-nil start.said);
+  shape_is = refl;
+  map = refl;
+  order = order;
+}
+
+-- a progress is the same where nothing was said
+pub progress_still : {start now : World} {left : List Line} {shape : Shape} {pairs : Pairs} {run : Run} → Progress start now left shape pairs run → (new : World) → new.said ≡ now.said → Progress start new left shape pairs run
+progress_still progress new same = record {
+  done = progress.done;
+  script = progress.script;
+  count = progress.count;
+  said = same ∙ progress.said;
+  shape_is = progress.shape_is;
+  map = progress.map;
+  order = progress.order;
+}
+
+-- ---- one batch
+
+module _ {start now : World} {shape : Shape} {pairs : Pairs} {run : Run} (lines left : List Line) (progress : Progress start now (lines ++ left) shape pairs run) where
+  abbrev texts : List ℕ
+  texts = texts_of (replies_to run.engine.shape lines run.engine.map)
+
+  pub texts_are : texts ≡ texts_of (replies_to shape lines run.engine.map)
+  texts_are = ap (λ s. texts_of (replies_to s lines run.engine.map)) progress.shape_is
+
+  pub accepted_are : (number : ℕ) (ls : List Line) → accepted run.engine.shape number ls run.engine.map ≡ accepted shape number ls run.engine.map
+  accepted_are number ls = ap (λ s. accepted s number ls run.engine.map) progress.shape_is
+
+  pub first_ones : (n : ℕ) → n ≤ length lines → take n (lines ++ left) ≡ take n lines
+  first_ones n le = take-append-le n lines left le
+
+  all_lines : take (length lines) (lines ++ left) ≡ lines
+  all_lines = first_ones (length lines) (omega arith) ∙ take_all (length lines) lines (omega arith)
+
+  -- so many were tried
+  pub tried_some : (n : ℕ) (order : List ℕ) → length lines ≤ BATCH_LINES_MAX → n ≤ length lines → order ≡ run.engine.order.items ++ accepted run.engine.shape (run.lines + 1) (take n lines) run.engine.map
+      → HasTried shape start.input pairs run.lines order
+  tried_some n order few within is =
+      tried_more progress n order (omega (arith, few, within)) (omega (arith, within, length-append lines left))
+      (is ∙ ap (λ o. run.engine.order.items ++ o) (accepted_are (run.lines + 1) (take n lines) ∙ ap (λ ls. accepted shape (run.lines + 1) ls run.engine.map) (sym (first_ones n within))))
+
+  -- the batch was done, and its replies said
+  pub progress_more : (new : World) (later : Run) → new.said ≡ now.said ++ texts → later.lines ≡ run.lines + length lines → later.engine.shape ≡ run.engine.shape → later.engine.map ≡ after_all run.engine.shape lines run.engine.map
+      → later.engine.order.items ≡ run.engine.order.items ++ accepted run.engine.shape (run.lines + 1) lines run.engine.map → Progress start new left shape pairs later
+  progress_more new later said_is lines_is shape_is map_is order_is =
+      let number : run.lines + 1 ≡ 1 + length progress.done = omega (arith, progress.count) in
+      record {
+        done = progress.done ++ lines;
+        script = progress.script ∙ sym (append_assoc progress.done lines left);
+        count = omega (arith, length-append progress.done lines, progress.count, lines_is);
+        said = said_is ∙ ap (λ s. s ++ texts) progress.said ∙ append_assoc start.said (texts_of (replies_to shape progress.done pairs)) texts
+            ∙ ap (λ t. start.said ++ (texts_of (replies_to shape progress.done pairs) ++ t)) (texts_are ∙ ap (λ m. texts_of (replies_to shape lines m)) progress.map)
+            ∙ ap (λ t. start.said ++ t) (sym (texts-append (replies_to shape progress.done pairs) (replies_to shape lines (after_all shape progress.done pairs))) ∙ ap texts_of (sym (replies_to-append shape progress.done lines pairs)));
+        shape_is = shape_is ∙ progress.shape_is;
+        map = map_is ∙ ap (λ s. after_all s lines run.engine.map) progress.shape_is ∙ ap (after_all shape lines) progress.map ∙ sym (after_all-append shape progress.done lines pairs);
+        order = order_is ∙ ap (λ o. run.engine.order.items ++ o) (accepted_are (run.lines + 1) lines)
+            ∙ ap (λ o. o ++ accepted shape (run.lines + 1) lines run.engine.map) progress.order
+            ∙ ap (λ k. accepted shape 1 progress.done pairs ++ accepted shape k lines run.engine.map) number
+            ∙ ap (λ m. accepted shape 1 progress.done pairs ++ accepted shape (1 + length progress.done) lines m) progress.map
+            ∙ sym (accepted-append shape 1 progress.done lines pairs);
+      }
+
+  -- the batch was done, and its replies said in part
+  pub broken_saying : (new : World) (n : ℕ) (order : List ℕ) → length lines ≤ BATCH_LINES_MAX → new.said ≡ now.said ++ take n texts → order ≡ run.engine.order.items ++ accepted run.engine.shape (run.lines + 1) lines run.engine.map
+      → IsBroken start new shape pairs run.lines order
+  broken_saying new n order few said_is order_is =
+      let own = texts_of (replies_to shape lines run.engine.map) in
+      let others = texts_of (replies_to shape left (after_all shape lines run.engine.map)) in
+      let next : texts_of (drop run.lines (replies_of shape start.input pairs)) ≡ own ++ others =
+      ap texts_of (untold progress ∙ replies_to-append shape lines left run.engine.map) ∙ texts-append (replies_to shape lines run.engine.map) (replies_to shape left (after_all shape lines run.engine.map)) in
+      record {
+        tail = take n texts;
+        answers = answers_so_far progress new (take n texts) said_is;
+        prefix = (min n (length own), inl (ap (take n) texts_are ∙ prefix_longer n own others ∙ ap (take (min n (length own))) (sym next)));
+        tried = tried_some (length lines) order few (omega arith) (order_is ∙ ap (λ ls. run.engine.order.items ++ accepted run.engine.shape (run.lines + 1) ls run.engine.map) (sym (take_all (length lines) lines (omega arith))));
+      }
+
+  -- a fault came before anything was said
+  pub broken_unsaid : (new : World) (n : ℕ) (order : List ℕ) → length lines ≤ BATCH_LINES_MAX → n ≤ length lines → new.said ≡ now.said → order ≡ run.engine.order.items ++ accepted run.engine.shape (run.lines + 1) (take n lines) run.engine.map
+      → IsBroken start new shape pairs run.lines order
+  broken_unsaid new n order few within same is = record { tail = []; answers = same_answers progress new same; prefix = (0, inl refl); tried = tried_some n order few within is }
+
+  pub short_unsaid : (new : World) (n : ℕ) (order : List ℕ) → length lines ≤ BATCH_LINES_MAX → n ≤ length lines → new.said ≡ now.said → order ≡ run.engine.order.items ++ accepted run.engine.shape (run.lines + 1) (take n lines) run.engine.map
+      → IsShort start new shape pairs run.lines order
+  short_unsaid new n order few within same is = record { answers = same_answers progress new same; tried = tried_some n order few within is }

@@ -1,0 +1,73 @@
+-- How far a run has come.
+use Rattle.std.specs.Prelude.{◌≡◌, ◌+◌, ◌≤◌, ℕ, List, [], ◌++◌, length}
+use Rattle.pm_types.specs.declared.limits.TheConstants.{LINES_MAX}
+use Rattle.pm_types.specs.declared.shape.Shape.{Shape}
+use Rattle.pm_disk.specs.Worlds.{World}
+use Rattle.pm_model.specs.declared.line.Line.{Line}
+use Rattle.pm_model.specs.Eval.{Pairs, replies_to, after_all, accepted}
+use Rattle.pm_script.specs.Reading.{Unread}
+use Rattle.pm_script.specs.Texts.{texts_of}
+use Rattle.pm_segments.specs.Grammars.{place}
+use Rattle.pm_segments.specs.Logs.{behind}
+use Rattle.pm_engine.specs.Engines.{Running, running, Stands}
+use Rattle.pm_engine.specs.Held.{Holds}
+use Rattle.pm_top.specs.declared.batch.Behind.{Behind}
+use Rattle.pm_top.specs.declared.run.Run.{Run}
+use Rattle.pm_top.specs.declared.shape.TheConstants.{SHAPE}
+use Rattle.pm_top.specs.Scripts.{Gathers, GoesOnAs}
+use Rattle.pm_top.specs.Served.{script_of}
+
+-- nothing was said and no input taken since the start
+pub record SameConsole (start now : World) : Type 0 where
+  pub said : now.said ≡ start.said
+  pub input : now.input ≡ start.input
+
+-- nothing but the log, what was said and what is left of the input is other than it was
+pub record SameFiles (old new : World) : Type 0 where
+  pub pages : new.pages ≡ old.pages
+  pub starts : new.starts ≡ old.starts
+  pub ends : new.ends ≡ old.ends
+
+-- How far a run has come from a start with this map: the lines that are done, and what follows from them. These lines are left.
+pub record Progress (start now : World) (left : List Line) (shape : Shape) (pairs : Pairs) (run : Run) : Type 0 where
+  pub done : List Line
+  pub script : script_of start.input ≡ done ++ left
+  pub count : length done ≡ run.lines
+  pub said : now.said ≡ start.said ++ texts_of (replies_to shape done pairs)
+  pub shape_is : run.engine.shape ≡ shape
+  pub map : run.engine.map ≡ after_all shape done pairs
+  pub order : run.engine.order.items ≡ accepted shape 1 done pairs
+
+-- The engine of a run stands, its log in the same segment as an earlier one's or in the next so many.
+pub record StandsSince (before now : Run) (count : ℕ) (world : World) : Type 0 where
+  pub stands : Stands SHAPE (running now.engine) world
+  pub climbs : now.engine.log.end.seg ≤ before.engine.log.end.seg + count
+
+-- How a run went on by some lines of its script, which goes on so behind them.
+pub record TurnsTo (goes_on_as : Behind) (old new : Unread) (rest now_rest : List ℕ) (world now : World) (before later : Run) : Type 0 where
+  pub lines : List Line
+  pub at : Unread
+  pub left : List ℕ
+  pub gathers : Gathers old at rest left lines
+  pub count : later.lines ≡ before.lines + length lines
+  pub goes_on : GoesOnAs goes_on_as at new left now_rest
+  pub progress : (start : World) (shape : Shape) (pairs : Pairs) → Progress start world (script_of rest) shape pairs before → Progress start now (script_of left) shape pairs later
+
+-- the engine of a run stands, its log by at most as many segments further as lines were done
+pub record StandsOver (before later : Run) (world : World) : Type 0 where
+  pub stands : Stands SHAPE (running later.engine) world
+  pub climbs : later.engine.log.end.seg + before.lines ≤ before.engine.log.end.seg + later.lines
+
+-- The script is done: the engine has the map that its lines leave, and nothing of its log is pending.
+pub record LeavesRun (start : World) (shape : Shape) (pairs : Pairs) (before later : Run) (world : World) : Type 0 where
+  pub over : StandsOver before later world
+  pub lasting : (seg : ℕ) → (world.log seg).since ≡ []
+  pub shape_is : later.engine.shape ≡ shape
+  pub map : later.engine.map ≡ after_all shape (script_of start.input) pairs
+
+-- A script is done whole over an engine's store: this is sound, holds the map that the lines leave, and nothing of its log is
+-- pending.
+pub record LeavesStore (start world : World) (engine : Running) : Type 0 where
+  pub holds : Holds SHAPE world engine.shape (after_all engine.shape (script_of start.input) engine.pairs)
+  pub lasting : (seg : ℕ) → (world.log seg).since ≡ []
+  pub climbs : (behind (place 1 0) holds.frames).seg ≤ engine.log.end.seg + LINES_MAX
