@@ -2,54 +2,19 @@
 
 use crate::gathered::GATHERED_MAX;
 use crate::host::FsHost;
-use pm_disk::{Host, LogFile, LogReader};
+use pm_disk::{Failed, Host, LogFile, LogReader};
+use std::alloc::{AllocError, Global};
 use std::os::unix::fs::symlink;
+use std::path::PathBuf;
+use std::process::Abort;
+use std::rt::{Env, Files};
 use std::test::Fail;
-use std::{env, fs};
+use std::{env, fs, str};
 
-#[test]
-fn segments_are_read_back_by_another_host(rt: HostRuntime) -> Result<(), Fail> {
-    let mut host = FsHost::new(rt.clone()?);
-    let mut into = [0; 10];
-    assert!(rt; host.bind("stores/one").is_ok());
-    assert!(rt; host.seg_len(1) == Ok(None));
-    assert!(rt; host.read_log(1, 0, &mut into) == Ok(0));
-    assert!(rt; host.force_log(1).is_ok());
-    assert!(rt; host.cut_log(1, 0).is_ok());
-    assert!(rt; host.seg_len(1) == Ok(Some(0)));
-    assert!(rt; host.write_log(1, 0, b"abcdef").is_ok());
-    assert!(rt; host.write_log(1, 4, b"EFGHI").is_ok());
-    assert!(rt; host.force_log(1).is_ok());
-    assert!(rt; host.write_log(2, 0, b"second").is_ok());
-    assert!(rt; host.force_log(1).is_ok());
-    assert!(rt; host.cut_log(1, 8).is_ok());
-    assert!(rt; host.force_log(2).is_ok());
-    assert!(rt; host.force_log(1).is_ok());
-
-    // This one is given the folder by its whole path.
-    let mut other = FsHost::new(rt.clone()?);
-    let alloc = rt.alloc();
-    let here = env::current_dir(&rt)?;
-    assert!(rt;
-        other
-            .bind(&format!(in alloc; "{}/stores/one", here.display())?)
-            .is_ok()
-    );
-    assert!(rt; other.seg_len(1) == Ok(Some(8)));
-    assert!(rt; other.read_log(1, 2, &mut into) == Ok(6));
-    assert_eq!(rt; into, *b"cdEFGH\0\0\0\0");
-    assert!(rt; other.read_log(2, 0, &mut into[..3]) == Ok(3));
-    assert_eq!(rt; into, *b"secFGH\0\0\0\0");
-    assert!(rt; other.read_log(2, 6, &mut into) == Ok(0));
-    let file = fs::read(&rt, "stores/one/wal-0000000000000002.seg")?;
-    assert_eq!(rt; file.as_slice(), b"second".as_slice());
-    fs::remove_dir_all(&rt, "stores")?;
-    Ok(())
-}
-
-// A call on a segment of the log.
+/// A call on a segment of the log.
 #[derive(Clone, Copy)]
 enum Call {
+    /// The text is written from this offset on.
     Write(u64, u64, &'static str),
     Read(u64),
     Len(u64),
@@ -58,20 +23,205 @@ enum Call {
     Drop(u64),
 }
 
-// Whether the host did the call.
+/// What a host answers to `write_log`.
+fn write(host: &mut FsHost<HostRuntime>, seg: u64, at: u64, bytes: &[u8]) -> Result<(), Failed> {
+    host.write_log(seg, at, bytes)
+}
+
+/// What a host answers to `cut_log`.
+fn cut(host: &mut FsHost<HostRuntime>, seg: u64, len: u64) -> Result<(), Failed> {
+    host.cut_log(seg, len)
+}
+
+/// What a host answers to `seg_len`.
+fn len_of(log: &mut impl LogReader, seg: u64) -> Result<Option<u64>, Failed> {
+    log.seg_len(seg)
+}
+
+/// What a host answers to `read_log`.
+fn read(log: &mut impl LogReader, seg: u64, at: u64, into: &mut [u8]) -> Result<usize, Failed> {
+    log.read_log(seg, at, into)
+}
+
+/// What a host answers to `force_log`.
+fn force(log: &mut impl LogFile, seg: u64) -> Result<(), Failed> {
+    log.force_log(seg)
+}
+
+/// What a host answers to `drop_log`.
+fn remove_segment(host: &mut impl Host, seg: u64) -> Result<(), Failed> {
+    host.drop_log(seg)
+}
+
+/// Whether the host did the call.
 fn does(host: &mut FsHost<HostRuntime>, call: Call) -> bool {
     match call {
-        Call::Write(seg, at, text) => host.write_log(seg, at, text.as_bytes()).is_ok(),
-        Call::Read(seg) => host.read_log(seg, 0, &mut [0; 4]).is_ok(),
-        Call::Len(seg) => host.seg_len(seg).is_ok(),
-        Call::Cut(seg, len) => host.cut_log(seg, len).is_ok(),
-        Call::Force(seg) => host.force_log(seg).is_ok(),
-        Call::Drop(seg) => host.drop_log(seg).is_ok(),
+        Call::Write(seg, at, text) => write(host, seg, at, text.as_bytes()).is_ok(),
+        Call::Read(seg) => read(host, seg, 0, &mut [0; 4]).is_ok(),
+        Call::Len(seg) => len_of(host, seg).is_ok(),
+        Call::Cut(seg, len) => cut(host, seg, len).is_ok(),
+        Call::Force(seg) => force(host, seg).is_ok(),
+        Call::Drop(seg) => remove_segment(host, seg).is_ok(),
     }
 }
 
-// What a segment's file holds in the folder `gathered`, or "none".
-fn held(rt: &HostRuntime, seg: u64) -> Result<String, Fail> {
+/// Makes the calls, and looks for each of them as done.
+fn make_calls(rt: &impl Abort, host: &mut FsHost<HostRuntime>, calls: &[Call]) -> Result<(), Fail> {
+    for (number, call) in calls.iter().enumerate() {
+        assert!(rt; does(host, *call), "{number}");
+    }
+    Ok(())
+}
+
+/// Makes the calls, and looks for each of them as refused.
+fn make_refused_calls(
+    rt: &impl Abort,
+    host: &mut FsHost<HostRuntime>,
+    calls: &[Call],
+) -> Result<(), Fail> {
+    for (number, call) in calls.iter().enumerate() {
+        assert!(rt; !does(host, *call), "{number}");
+    }
+    Ok(())
+}
+
+/// Looks for this length of a segment.
+fn look_at_len(
+    rt: &impl Abort,
+    log: &mut impl LogReader,
+    seg: u64,
+    wanted: Option<u64>,
+) -> Result<(), Fail> {
+    assert_eq!(rt; len_of(log, seg), Ok(wanted));
+    Ok(())
+}
+
+/// What a host answers to a read of at most so many bytes, and what is then in place of the ten
+/// dots that it read into.
+fn told_read(
+    alloc: Global,
+    log: &mut impl LogReader,
+    seg: u64,
+    at: u64,
+    room: usize,
+) -> Result<String, AllocError> {
+    let mut into = [b'.'; 10];
+    let count = read(log, seg, at, &mut into[..room.min(10)]);
+    let text = str::from_utf8(&into).unwrap_or("no text");
+    format!(in alloc; "{count:?} {text}")
+}
+
+/// Reads at most so many bytes, and looks for this answer.
+fn look_at_read(
+    rt: &(impl Abort + AllocGlobal),
+    log: &mut impl LogReader,
+    seg: u64,
+    at: u64,
+    room: usize,
+    wanted: &str,
+) -> Result<(), Fail> {
+    let told = told_read(rt.alloc(), log, seg, at, room)?;
+    assert_eq!(rt; told.as_str(), wanted);
+    Ok(())
+}
+
+/// Whether the host took the folder as that of the store.
+fn binds(host: &mut impl Host, folder: &str) -> bool {
+    host.bind(folder).is_ok()
+}
+
+/// A host whose folder isn't named yet.
+fn new_host(rt: &HostRuntime) -> Result<FsHost<HostRuntime>, Fail> {
+    Ok(FsHost::new(rt.clone()?))
+}
+
+/// A host over this folder.
+fn host_in(rt: &HostRuntime, folder: &str) -> Result<FsHost<HostRuntime>, Fail> {
+    let mut host = new_host(rt)?;
+    host.bind(folder)?;
+    Ok(host)
+}
+
+/// Removes a folder with all its files.
+fn remove_folder(rt: &(impl AllocGlobal + Files), folder: &str) -> Result<(), Fail> {
+    Ok(fs::remove_dir_all(rt, folder)?)
+}
+
+/// The folder where the process runs.
+fn folder_here(rt: &(impl AllocGlobal + Env)) -> Result<PathBuf, Fail> {
+    Ok(env::current_dir(rt)?)
+}
+
+/// The path of a folder below another one.
+fn path_below(alloc: Global, above: &PathBuf, folder: &str) -> Result<String, AllocError> {
+    let above = above.as_str();
+    format!(in alloc; "{above}/{folder}")
+}
+
+/// The whole path of a folder below the one where the process runs.
+fn whole_path(rt: &(impl AllocGlobal + Env), folder: &str) -> Result<String, Fail> {
+    let here = folder_here(rt)?;
+    Ok(path_below(rt.alloc(), &here, folder)?)
+}
+
+/// Looks for these bytes as all that a file has.
+fn look_at_file(
+    rt: &(impl Abort + AllocGlobal + Files),
+    path: &str,
+    wanted: &[u8],
+) -> Result<(), Fail> {
+    let file = fs::read(rt, path)?;
+    assert_eq!(rt; file.as_slice(), wanted);
+    Ok(())
+}
+
+/// Makes two segments in an empty folder.
+fn make_segments(
+    rt: &(impl Abort + AllocGlobal),
+    host: &mut FsHost<HostRuntime>,
+) -> Result<(), Fail> {
+    look_at_len(rt, host, 1, None)?;
+    look_at_read(rt, host, 1, 0, 10, "Ok(0) ..........")?;
+    make_calls(rt, host, &[Call::Force(1), Call::Cut(1, 0)])?;
+    look_at_len(rt, host, 1, Some(0))?;
+    let calls = [
+        Call::Write(1, 0, "abcdef"),
+        Call::Write(1, 4, "EFGHI"),
+        Call::Force(1),
+        Call::Write(2, 0, "second"),
+        Call::Force(1),
+        Call::Cut(1, 8),
+        Call::Force(2),
+        Call::Force(1),
+    ];
+    make_calls(rt, host, &calls)
+}
+
+/// Looks for the two segments.
+fn look_at_segments(
+    rt: &(impl Abort + AllocGlobal + Files),
+    log: &mut impl LogReader,
+) -> Result<(), Fail> {
+    look_at_len(rt, log, 1, Some(8))?;
+    look_at_read(rt, log, 1, 2, 10, "Ok(6) cdEFGH....")?;
+    look_at_read(rt, log, 2, 0, 3, "Ok(3) sec.......")?;
+    look_at_read(rt, log, 2, 6, 10, "Ok(0) ..........")?;
+    look_at_file(rt, "stores/one/wal-0000000000000002.seg", b"second")
+}
+
+#[test]
+fn segments_are_read_back_by_another_host(rt: HostRuntime) -> Result<(), Fail> {
+    let mut host = host_in(&rt, "stores/one")?;
+    make_segments(&rt, &mut host)?;
+    // This one is given the folder by its whole path.
+    let path = whole_path(&rt, "stores/one")?;
+    let mut other = host_in(&rt, &path)?;
+    look_at_segments(&rt, &mut other)?;
+    remove_folder(&rt, "stores")
+}
+
+/// What a segment's file holds in the folder `gathered`, or "none".
+fn held(rt: &(impl AllocGlobal + Files), seg: u64) -> Result<String, Fail> {
     let path = format!(in rt.alloc(); "gathered/wal-{seg:016x}.seg")?;
     match fs::read_to_string(rt, &path) {
         Ok(text) => Ok(text),
@@ -79,116 +229,149 @@ fn held(rt: &HostRuntime, seg: u64) -> Result<String, Fail> {
     }
 }
 
+/// Looks for what a segment's file holds.
+fn look_at_held(
+    rt: &(impl Abort + AllocGlobal + Files),
+    seg: u64,
+    wanted: &str,
+    step: usize,
+) -> Result<(), Fail> {
+    assert_eq!(rt; held(rt, seg)?.as_str(), wanted, "{step}");
+    Ok(())
+}
+
+/// Calls, each with a segment and what its file holds then.
+const GATHERING: [(Call, u64, &str); 19] = [
+    (Call::Write(1, 0, "ab"), 1, "none"),
+    (Call::Write(1, 2, "cd"), 1, "none"),
+    (Call::Read(1), 1, "abcd"),
+    (Call::Write(1, 4, "ef"), 1, "abcd"),
+    (Call::Write(1, 0, "A"), 1, "abcdef"),
+    (Call::Len(1), 1, "Abcdef"),
+    (Call::Write(1, 6, "gh"), 1, "Abcdef"),
+    (Call::Write(2, 0, "xy"), 1, "Abcdefgh"),
+    (Call::Len(1), 2, "xy"),
+    (Call::Write(2, 2, "z"), 2, "xy"),
+    (Call::Force(1), 2, "xyz"),
+    (Call::Write(1, 8, "ij"), 1, "Abcdefgh"),
+    (Call::Cut(1, 9), 1, "Abcdefghi"),
+    (Call::Write(2, 3, "-"), 2, "xyz"),
+    (Call::Drop(1), 2, "xyz-"),
+    (Call::Write(1, 0, "back"), 1, "none"),
+    (Call::Drop(1), 1, "none"),
+    // A write without bytes makes the file.
+    (Call::Write(1, 0, ""), 1, ""),
+    (Call::Write(1, 0, "last"), 1, ""),
+];
+
 #[test]
 fn what_is_gathered_is_written_before_another_call_on_the_log(rt: HostRuntime) -> Result<(), Fail> {
-    let mut host = FsHost::new(rt.clone()?);
-    assert!(rt; host.bind("gathered").is_ok());
-    // Each call, and what the file of a segment holds then.
-    let calls = [
-        (Call::Write(1, 0, "ab"), 1, "none"),
-        (Call::Write(1, 2, "cd"), 1, "none"),
-        (Call::Read(1), 1, "abcd"),
-        (Call::Write(1, 4, "ef"), 1, "abcd"),
-        (Call::Write(1, 0, "A"), 1, "abcdef"),
-        (Call::Len(1), 1, "Abcdef"),
-        (Call::Write(1, 6, "gh"), 1, "Abcdef"),
-        (Call::Write(2, 0, "xy"), 1, "Abcdefgh"),
-        (Call::Len(1), 2, "xy"),
-        (Call::Write(2, 2, "z"), 2, "xy"),
-        (Call::Force(1), 2, "xyz"),
-        (Call::Write(1, 8, "ij"), 1, "Abcdefgh"),
-        (Call::Cut(1, 9), 1, "Abcdefghi"),
-        (Call::Write(2, 3, "-"), 2, "xyz"),
-        (Call::Drop(1), 2, "xyz-"),
-        (Call::Write(1, 0, "back"), 1, "none"),
-        (Call::Drop(1), 1, "none"),
-        // A write without bytes makes the file.
-        (Call::Write(1, 0, ""), 1, ""),
-        (Call::Write(1, 0, "last"), 1, ""),
-    ];
-    for (step, (call, seg, wanted)) in calls.iter().enumerate() {
+    let mut host = host_in(&rt, "gathered")?;
+    for (step, (call, seg, wanted)) in GATHERING.iter().enumerate() {
         assert!(rt; does(&mut host, *call), "{step}");
-        assert_eq!(rt; held(&rt, *seg)?.as_str(), *wanted, "{step}");
+        look_at_held(&rt, *seg, wanted, step)?;
     }
     // Another folder.
-    assert!(rt; host.bind("elsewhere").is_ok());
-    assert_eq!(rt; held(&rt, 1)?.as_str(), "last");
-    fs::remove_dir_all(&rt, "gathered")?;
-    fs::remove_dir_all(&rt, "elsewhere")?;
+    assert!(rt; binds(&mut host, "elsewhere"));
+    look_at_held(&rt, 1, "last", GATHERING.len())?;
+    remove_folder(&rt, "gathered")?;
+    remove_folder(&rt, "elsewhere")
+}
+
+/// So many bytes that are all this one.
+fn bytes_of(alloc: Global, byte: u8, count: usize) -> Result<Vec<u8>, AllocError> {
+    vec![in alloc; byte; count]
+}
+
+/// How many bytes a file has, none where it isn't there.
+fn file_len(files: &impl Files, path: &str) -> Option<u64> {
+    match fs::metadata(files, path) {
+        Ok(metadata) => Some(metadata.len()),
+        Err(_) => None,
+    }
+}
+
+/// Writes to segment 1 in the folder `much`, and looks for how many bytes are in its file then.
+fn look_at_written(
+    rt: &(impl Abort + Files),
+    host: &mut FsHost<HostRuntime>,
+    at: u64,
+    bytes: &[u8],
+    in_file: Option<u64>,
+) -> Result<(), Fail> {
+    assert!(rt; write(host, 1, at, bytes).is_ok());
+    let len = file_len(rt, "much/wal-0000000000000001.seg");
+    assert_eq!(rt; len, in_file);
     Ok(())
 }
 
 #[test]
 fn what_is_too_much_to_gather_is_written(rt: HostRuntime) -> Result<(), Fail> {
-    let path = "much/wal-0000000000000001.seg";
-    let full = vec![in rt.alloc(); 1; GATHERED_MAX]?;
-    let more = vec![in rt.alloc(); 2; GATHERED_MAX + 1]?;
-    let mut host = FsHost::new(rt.clone()?);
-    assert!(rt; host.bind("much").is_ok());
-    assert!(rt; host.write_log(1, 0, &full).is_ok());
-    assert!(rt; fs::metadata(&rt, path).is_err());
-    assert!(rt; host.write_log(1, 1_048_576, b"3").is_ok());
-    assert_eq!(rt; fs::metadata(&rt, path)?.len(), 1_048_576);
-    assert!(rt; host.write_log(1, 1_048_577, &more).is_ok());
-    assert_eq!(rt; fs::metadata(&rt, path)?.len(), 2_097_154);
-    assert!(rt; host.write_log(1, 2_097_154, b"4").is_ok());
-    let mut into = [0; 4];
-    assert!(rt; host.read_log(1, 1_048_575, &mut into) == Ok(4));
-    assert_eq!(rt; into, [1, b'3', 2, 2]);
-    assert!(rt; host.read_log(1, 2_097_152, &mut into) == Ok(3));
-    assert_eq!(rt; into, [2, 2, b'4', 2]);
-    fs::remove_dir_all(&rt, "much")?;
-    Ok(())
+    let full = bytes_of(rt.alloc(), b'1', GATHERED_MAX)?;
+    let more = bytes_of(rt.alloc(), b'2', GATHERED_MAX + 1)?;
+    let mut host = host_in(&rt, "much")?;
+    look_at_written(&rt, &mut host, 0, &full, None)?;
+    look_at_written(&rt, &mut host, 1_048_576, b"3", Some(1_048_576))?;
+    look_at_written(&rt, &mut host, 1_048_577, &more, Some(2_097_154))?;
+    look_at_written(&rt, &mut host, 2_097_154, b"4", Some(2_097_154))?;
+    look_at_read(&rt, &mut host, 1, 1_048_575, 4, "Ok(4) 1322......")?;
+    look_at_read(&rt, &mut host, 1, 2_097_152, 4, "Ok(3) 224.......")?;
+    remove_folder(&rt, "much")
+}
+
+/// A call of each kind.
+const OF_EACH_KIND: [Call; 7] = [
+    Call::Len(1),
+    Call::Read(1),
+    Call::Write(1, 4, "kept"),
+    Call::Cut(1, 0),
+    Call::Force(1),
+    Call::Force(2),
+    Call::Drop(1),
+];
+
+/// Makes this call where a gathered write can no more be written into the folder `store`, and then
+/// others.
+fn look_at_late(
+    rt: &(impl Abort + Files),
+    host: &mut FsHost<HostRuntime>,
+    late: Call,
+) -> Result<(), Fail> {
+    make_calls(rt, host, &[Call::Write(1, 0, "lost")])?;
+    fs::remove_dir(rt, "store")?;
+    let is_gathered = matches!(late, Call::Write(..));
+    assert_eq!(rt; does(host, late), is_gathered);
+    make_refused_calls(rt, host, &[Call::Len(2)])?;
+    // The folder is back, and what was gathered is not.
+    fs::create_dir(rt, "store")?;
+    make_refused_calls(rt, host, &OF_EACH_KIND)?;
+    assert!(rt; !binds(host, "store"));
+    Ok(fs::remove_dir(rt, "store")?)
 }
 
 #[test]
 fn after_a_refused_write_the_log_is_refused(rt: HostRuntime) -> Result<(), Fail> {
-    let calls = [
-        Call::Len(1),
-        Call::Read(1),
-        Call::Write(1, 4, "kept"),
-        Call::Cut(1, 0),
-        Call::Force(1),
-        Call::Force(2),
-        Call::Drop(1),
-    ];
-    for late in calls.iter() {
-        let mut host = FsHost::new(rt.clone()?);
-        assert!(rt; host.bind("store").is_ok());
-        assert!(rt; does(&mut host, Call::Write(1, 0, "lost")));
-        fs::remove_dir(&rt, "store")?;
-        let is_gathered = matches!(*late, Call::Write(..));
-        assert_eq!(rt; does(&mut host, *late), is_gathered);
-        assert!(rt; !does(&mut host, Call::Len(2)));
-        // The folder is back, and what was gathered is not.
-        fs::create_dir(&rt, "store")?;
-        for call in calls.iter() {
-            assert!(rt; !does(&mut host, *call));
-        }
-        assert!(rt; host.bind("store").is_err());
-        fs::remove_dir(&rt, "store")?;
+    for late in OF_EACH_KIND {
+        let mut host = host_in(&rt, "store")?;
+        look_at_late(&rt, &mut host, late)?;
     }
     Ok(())
 }
 
 #[test]
 fn a_full_disk_is_told_by_the_force(rt: HostRuntime) -> Result<(), Fail> {
-    let mut host = FsHost::new(rt.clone()?);
-    assert!(rt; host.bind("full").is_ok());
+    let mut host = host_in(&rt, "full")?;
     symlink(&rt, "/dev/full", "full/wal-0000000000000001.seg")?;
-    assert!(rt; does(&mut host, Call::Write(1, 0, "lost")));
-    assert!(rt; !does(&mut host, Call::Force(1)));
-    assert!(rt; !does(&mut host, Call::Force(1)));
-    fs::remove_dir_all(&rt, "full")?;
-    Ok(())
+    make_calls(&rt, &mut host, &[Call::Write(1, 0, "lost")])?;
+    make_refused_calls(&rt, &mut host, &[Call::Force(1), Call::Force(1)])?;
+    remove_folder(&rt, "full")
 }
 
 #[test]
 fn a_file_is_no_folder(rt: HostRuntime) -> Result<(), Fail> {
-    let mut host = FsHost::new(rt.clone()?);
+    let mut host = new_host(&rt)?;
     fs::write(&rt, "file", "")?;
-    assert!(rt; host.bind("file").is_err());
-    assert!(rt; host.bind("file/store").is_err());
-    fs::remove_file(&rt, "file")?;
-    Ok(())
+    assert!(rt; !binds(&mut host, "file"));
+    assert!(rt; !binds(&mut host, "file/store"));
+    Ok(fs::remove_file(&rt, "file")?)
 }
