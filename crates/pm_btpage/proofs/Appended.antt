@@ -3,7 +3,7 @@ use Rattle.std.proofs.Common.{◌≡◌, ℕ, ◌+◌, ◌-◌, ◌*◌, ◌<◌
 use Rattle.std.proofs.lemmas.Bool.{cases_lt}
 use Rattle.std.proofs.lemmas.List.{length-append, length-drop, get_or_append_left, get_or-append_right, get_or-drop}
 use Rattle.pm_types.specs.PageSizes.{IsPageSize}
-use Rattle.pm_types.specs.Spans.{Holds, span_of}
+use Rattle.pm_types.specs.Spans.{IsInSpan, span_of}
 use Rattle.pm_types.specs.Pages.{SameOutside}
 use Rattle.pm_types.specs.Fields.{bytes_at}
 use Rattle.pm_types.proofs.Changes.{outside_then}
@@ -39,14 +39,14 @@ rising-drop items at le rising a b less lt =
     (rising (at + a) (at + b) (omega (arith, less)) (omega (arith, lt, len, le)))
 
 pub appended : (p0 from p1 p2 : List ℕ) (at n end : ℕ) → IsIndexPage p0 → IsIndexPage from → length from ≡ length p0 → count_of p0 ≡ n → count_of from ≡ end → at ≤ end → place_of (n + (end - at)) ≤ length p0 → AllBelow (items_of p0) (drop at (items_of from)) →
-    SameOutside (Holds (span_of (place_of n) (73 * (end - at)))) p0 p1 → bytes_at p1 (place_of n) (73 * (end - at)) ≡ bytes_at from (place_of at) (73 * (end - at)) →
-    SameOutside (Holds (span_of 10 2)) p1 p2 → count_of p2 ≡ n + (end - at) → HasNewItems p0 p2 (items_of p0 ++ drop at (items_of from))
+    SameOutside (IsInSpan (span_of (place_of n) (73 * (end - at)))) p0 p1 → bytes_at p1 (place_of n) (73 * (end - at)) ≡ bytes_at from (place_of at) (73 * (end - at)) →
+    SameOutside (IsInSpan (span_of 10 2)) p1 p2 → count_of p2 ≡ n + (end - at) → HasNewItems p0 p2 (items_of p0 ++ drop at (items_of from))
 appended p0 from p1 p2 at n end page page' sizes count ends le fits order o1 bytes o2 count_is =
     let m = end - at in
     let count' : count_of from ≡ at + m = omega (arith, ends, le) in
     let W : ℕ → Type 0 = λ k. ((10 ≤ k) × (k < 12)) ⊎ ((place_of n ≤ k) × (k < place_of (n + m))) in
     let long = (page_size_bounds (length p0) page.size).0 in
-    let outside = outside_then (Holds (span_of (place_of n) (73 * (end - at)))) (Holds (span_of 10 2)) W p0 p1 p2 o1 o2 (λ k h. inr (h.0, omega (arith, h.1))) (λ k h. inl h) in
+    let outside = outside_then (IsInSpan (span_of (place_of n) (73 * (end - at)))) (IsInSpan (span_of 10 2)) W p0 p1 p2 o1 o2 (λ k h. inr (h.0, omega (arith, h.1))) (λ k h. inl h) in
     let only : (k : ℕ) → k < 32 → W k → (10 ≤ k) × (k < 12) = λ k lt h. elim h [ inl in_count ↦ in_count | inr in_items ↦ absurd (omega (arith, lt, in_items.0)) ] in
     let old = items_of p0 in
     let more = drop at (items_of from) in

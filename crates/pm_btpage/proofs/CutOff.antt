@@ -3,7 +3,7 @@ use Rattle.std.proofs.Common.{◌≡◌, ℕ, ◌-◌, ◌*◌, ◌<◌, ◌≤�
 use Rattle.std.proofs.lemmas.Bool.{cases_lt}
 use Rattle.std.proofs.lemmas.List.{length-take-le, get_or-take}
 use Rattle.pm_types.specs.PageSizes.{IsPageSize}
-use Rattle.pm_types.specs.Spans.{Holds, span_of}
+use Rattle.pm_types.specs.Spans.{IsInSpan, span_of}
 use Rattle.pm_types.specs.Pages.{SameOutside}
 use Rattle.pm_types.specs.Fields.{bytes_at}
 use Rattle.pm_types.proofs.Changes.{outside_then}
@@ -23,12 +23,12 @@ rising-take items n le rising a b less lt =
     (rising a b less (omega (arith, lt, len, le)))
 
 pub cut_off : (p0 p1 p2 : List ℕ) (at n : ℕ) → IsIndexPage p0 → count_of p0 ≡ n → at ≤ n →
-    SameOutside (Holds (span_of (place_of at) (73 * (n - at)))) p0 p1 → bytes_at p1 (place_of at) (73 * (n - at)) ≡ replicate (73 * (n - at)) 0 →
-    SameOutside (Holds (span_of 10 2)) p1 p2 → count_of p2 ≡ at → HasNewItems p0 p2 (take at (items_of p0))
+    SameOutside (IsInSpan (span_of (place_of at) (73 * (n - at)))) p0 p1 → bytes_at p1 (place_of at) (73 * (n - at)) ≡ replicate (73 * (n - at)) 0 →
+    SameOutside (IsInSpan (span_of 10 2)) p1 p2 → count_of p2 ≡ at → HasNewItems p0 p2 (take at (items_of p0))
 cut_off p0 p1 p2 at n page count le o1 zeros_are o2 count_is =
     let W : ℕ → Type 0 = λ k. ((10 ≤ k) × (k < 12)) ⊎ ((place_of at ≤ k) × (k < place_of n)) in
     let long = (page_size_bounds (length p0) page.size).0 in
-    let outside = outside_then (Holds (span_of (place_of at) (73 * (n - at)))) (Holds (span_of 10 2)) W p0 p1 p2 o1 o2 (λ k h. inr (omega (arith, h.0), omega (arith, h.1, le))) (λ k h. inl h) in
+    let outside = outside_then (IsInSpan (span_of (place_of at) (73 * (n - at)))) (IsInSpan (span_of 10 2)) W p0 p1 p2 o1 o2 (λ k h. inr (omega (arith, h.0), omega (arith, h.1, le))) (λ k h. inl h) in
     let only : (k : ℕ) → k < 32 → W k → (10 ≤ k) × (k < 12) = λ k lt h. elim h [ inl in_count ↦ in_count | inr in_items ↦ absurd (omega (arith, lt, in_items.0)) ] in
     let within : place_of n ≤ length p0 = omega (arith, count, page.items.within) in
     let old = items_of p0 in

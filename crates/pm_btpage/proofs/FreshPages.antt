@@ -1,7 +1,7 @@
 -- A page of zeros, into which a name and a kind were written, and perhaps a link.
 use Rattle.std.proofs.Common.{◌≡◌, ℕ, ◌+◌, ◌^◌, ◌<◌, ◌≤◌, ◌⊎◌, List, [], ◌∷◌, length, get_or, replicate, sym, ap, subst, ◌∙◌, inl, inr, arith}
 use Rattle.pm_types.specs.PageSizes.{IsPageSize}
-use Rattle.pm_types.specs.Spans.{Holds, span_of}
+use Rattle.pm_types.specs.Spans.{IsInSpan, span_of}
 use Rattle.pm_types.specs.Pages.{SameOutside}
 use Rattle.pm_types.specs.declared.page_id.PageId.{PageId}
 use Rattle.pm_types.specs.Fields.{bytes_at, u64_at, AreZero}
@@ -26,12 +26,12 @@ no_link page id kind is =
     let long = (page_size_bounds (length page) is.size).0 in
     zero_u64 page 16 (omega (arith, long)) (λ k low high. is.zeros k (omega arith) (omega (arith, long)))
 
-pub with_link : (was now : List ℕ) (id : PageId) (kind : ℕ) → IsBlank id kind was → SameOutside (Holds (span_of 16 8)) was now → HasWritten now id kind
+pub with_link : (was now : List ℕ) (id : PageId) (kind : ℕ) → IsBlank id kind was → SameOutside (IsInSpan (span_of 16 8)) was now → HasWritten now id kind
 with_link was now id kind is outside =
     let long = (page_size_bounds (length was) is.size).0 in
     record {
       size = subst IsPageSize (sym outside.size) is.size;
-      own = u64_same (Holds (span_of 16 8)) was now 0 outside (omega (arith, long)) (λ k low high h. omega (arith, h.0)) ∙ is.own;
+      own = u64_same (IsInSpan (span_of 16 8)) was now 0 outside (omega (arith, long)) (λ k low high h. omega (arith, h.0)) ∙ is.own;
       kind_is = outside.bytes 8 (λ h. omega (arith, h.0)) ∙ is.kind_is;
       zeros = λ k low high away. outside.bytes k (λ h. elim away [ inl below ↦ omega (arith, h.0) | inr above ↦ omega (arith, h.1) ]) ∙ is.zeros k low (omega (arith, outside.size, high));
     }

@@ -2,7 +2,7 @@
 use Rattle.std.proofs.Common.{◌≡◌, ℕ, ◌+◌, ◌-◌, ◌*◌, ◌<◌, ◌≤◌, ◌==◌, ◌⊎◌, List, length, get_or, sym, ap, subst, ◌∙◌, inl, inr, arith}
 use Rattle.std.proofs.lemmas.Bool.{cases_lt, cases_eq}
 use Rattle.pm_types.specs.PageSizes.{IsPageSize}
-use Rattle.pm_types.specs.Spans.{Holds, span_of}
+use Rattle.pm_types.specs.Spans.{IsInSpan, span_of}
 use Rattle.pm_types.specs.Pages.{SameOutside}
 use Rattle.pm_types.specs.Fields.{bytes_at, u64_at}
 use Rattle.pm_types.proofs.Changes.{outside_then}
@@ -40,12 +40,12 @@ head_kept P was now outside long only head =
 
 -- what was written, in this order
 pub record Steps (p0 p1 p2 p3 : List ℕ) (i n : ℕ) (item : Item) : Type 0 where
-  pub after_move : SameOutside (Holds (span_of (place_of i + 73) (73 * (n - i)))) p0 p1
+  pub after_move : SameOutside (IsInSpan (span_of (place_of i + 73) (73 * (n - i)))) p0 p1
   pub moved : bytes_at p1 (place_of i + 73) (73 * (n - i)) ≡ bytes_at p0 (place_of i) (73 * (n - i))
-  pub after_item : SameOutside (Holds (span_of (place_of i) 73)) p1 p2
+  pub after_item : SameOutside (IsInSpan (span_of (place_of i) 73)) p1 p2
   pub item_is : item_at p2 i ≡ item
   pub sound : IsItem p2 i
-  pub after_count : SameOutside (Holds (span_of 10 2)) p2 p3
+  pub after_count : SameOutside (IsInSpan (span_of 10 2)) p2 p3
   pub count_is : count_of p3 ≡ n + 1
 
 -- the count, and what is from item i on
@@ -56,8 +56,8 @@ IsWritten i n k = ((10 ≤ k) × (k < 12)) ⊎ ((place_of i ≤ k) × (k < place
 outside_all : (p0 p1 p2 p3 : List ℕ) (i n : ℕ) (item : Item) → i ≤ n → Steps p0 p1 p2 p3 i n item → SameOutside (IsWritten i n) p0 p3
 outside_all p0 p1 p2 p3 i n item le s =
     let W = IsWritten i n in
-    let first = outside_then (Holds (span_of (place_of i + 73) (73 * (n - i)))) (Holds (span_of (place_of i) 73)) W p0 p1 p2 s.after_move s.after_item (λ k h. inr (omega (arith, h.0), omega (arith, h.1))) (λ k h. inr (h.0, omega (arith, h.1))) in
-    outside_then W (Holds (span_of 10 2)) W p0 p2 p3 first s.after_count (λ k h. h) (λ k h. inl h)
+    let first = outside_then (IsInSpan (span_of (place_of i + 73) (73 * (n - i)))) (IsInSpan (span_of (place_of i) 73)) W p0 p1 p2 s.after_move s.after_item (λ k h. inr (omega (arith, h.0), omega (arith, h.1))) (λ k h. inr (h.0, omega (arith, h.1))) in
+    outside_then W (IsInSpan (span_of 10 2)) W p0 p2 p3 first s.after_count (λ k h. h) (λ k h. inl h)
 
 -- the bytes of the items that moved
 moved_byte : (p0 p1 p2 p3 : List ℕ) (i n j k : ℕ) (item : Item) → Steps p0 p1 p2 p3 i n item → i ≤ j → j < n → k < 73 → get_or p3 (place_of (j + 1) + k) 0 ≡ get_or p0 (place_of j + k) 0
@@ -83,7 +83,7 @@ inserted p0 p1 p2 p3 i n item page count fits goes s =
     let new_len : length new ≡ n + 1 = omega (arith, length-with_item old i item in_old, len, count) in
     let only : (k : ℕ) → k < 32 → W k → (10 ≤ k) × (k < 12) = λ k lt h. elim h [ inl in_count ↦ in_count | inr in_items ↦ absurd (omega (arith, in_items.0)) ] in
     let below : (j : ℕ) → j < i → SameItem p0 p3 j j = λ j lt. item_same W p0 p3 j outside (omega arith) (λ k ge less h. elim h [ inl in_count ↦ omega (arith, in_count.1) | inr in_items ↦ omega (arith, in_items.0) ]) (page.items.each j (omega (arith, count))) in
-    let here : SameItem p2 p3 i i = item_same (Holds (span_of 10 2)) p2 p3 i s.after_count (omega (arith, s.after_item.size, s.after_move.size)) (λ k ge less h. omega (arith, h.1)) s.sound in
+    let here : SameItem p2 p3 i i = item_same (IsInSpan (span_of 10 2)) p2 p3 i s.after_count (omega (arith, s.after_item.size, s.after_move.size)) (λ k ge less h. omega (arith, h.1)) s.sound in
     let above : (j : ℕ) → i ≤ j → j < n → SameItem p0 p3 j (j + 1) = λ j ge lt. item_moved p0 p3 j (j + 1) outside.size (omega arith) (omega arith) (λ k less. moved_byte p0 p1 p2 p3 i n j k item s ge lt less) (page.items.each j (omega (arith, count))) in
     let each : (j : ℕ) → j < n + 1 → (get_or new j no_item ≡ item_at p3 j) × IsItem p3 j = λ j lt. elim (cases_lt j i) [
       | inl j_below ↦ (with_item-below old i j item in_old j_below ∙ get_or-items_of p0 j no_item (omega (arith, count)) ∙ sym (below j j_below).item, (below j j_below).sound)

@@ -3,7 +3,7 @@ use Rattle.std.proofs.Common.{◌≡◌, ℕ, ◌+◌, ◌-◌, ◌*◌, ◌<◌
 use Rattle.std.proofs.lemmas.Bool.{cases_lt}
 use Rattle.std.proofs.lemmas.List.{length-take-le, length-append, length-drop, get_or_append_left, get_or-append_right, get_or-take, get_or-drop}
 use Rattle.pm_types.specs.PageSizes.{IsPageSize}
-use Rattle.pm_types.specs.Spans.{Holds, span_of}
+use Rattle.pm_types.specs.Spans.{IsInSpan, span_of}
 use Rattle.pm_types.specs.Pages.{SameOutside}
 use Rattle.pm_types.specs.Fields.{bytes_at}
 use Rattle.pm_types.proofs.Changes.{outside_then}
@@ -42,11 +42,11 @@ rising-without_item items i lt rising a b less b_lt =
 
 -- what was written, in this order
 pub record Steps (p0 p1 p2 p3 : List ℕ) (i last : ℕ) : Type 0 where
-  pub after_move : SameOutside (Holds (span_of (place_of i) (73 * (last - i)))) p0 p1
+  pub after_move : SameOutside (IsInSpan (span_of (place_of i) (73 * (last - i)))) p0 p1
   pub moved : bytes_at p1 (place_of i) (73 * (last - i)) ≡ bytes_at p0 (place_of i + 73) (73 * (last - i))
-  pub after_zeros : SameOutside (Holds (span_of (place_of last) (73 * (last + 1 - last)))) p1 p2
+  pub after_zeros : SameOutside (IsInSpan (span_of (place_of last) (73 * (last + 1 - last)))) p1 p2
   pub zeros : bytes_at p2 (place_of last) (73 * (last + 1 - last)) ≡ replicate (73 * (last + 1 - last)) 0
-  pub after_count : SameOutside (Holds (span_of 10 2)) p2 p3
+  pub after_count : SameOutside (IsInSpan (span_of 10 2)) p2 p3
   pub count_is : count_of p3 ≡ last
 
 abbrev IsWritten : ℕ → ℕ → ℕ → Type 0
@@ -55,8 +55,8 @@ IsWritten i last k = ((10 ≤ k) × (k < 12)) ⊎ ((place_of i ≤ k) × (k < pl
 outside_all : (p0 p1 p2 p3 : List ℕ) (i last : ℕ) → i ≤ last → Steps p0 p1 p2 p3 i last → SameOutside (IsWritten i last) p0 p3
 outside_all p0 p1 p2 p3 i last le s =
     let W = IsWritten i last in
-    let first = outside_then (Holds (span_of (place_of i) (73 * (last - i)))) (Holds (span_of (place_of last) (73 * (last + 1 - last)))) W p0 p1 p2 s.after_move s.after_zeros (λ k h. inr (h.0, omega (arith, h.1, le))) (λ k h. inr (omega (arith, h.0, le), omega (arith, h.1))) in
-    outside_then W (Holds (span_of 10 2)) W p0 p2 p3 first s.after_count (λ k h. h) (λ k h. inl h)
+    let first = outside_then (IsInSpan (span_of (place_of i) (73 * (last - i)))) (IsInSpan (span_of (place_of last) (73 * (last + 1 - last)))) W p0 p1 p2 s.after_move s.after_zeros (λ k h. inr (h.0, omega (arith, h.1, le))) (λ k h. inr (omega (arith, h.0, le), omega (arith, h.1))) in
+    outside_then W (IsInSpan (span_of 10 2)) W p0 p2 p3 first s.after_count (λ k h. h) (λ k h. inl h)
 
 moved_byte : (p0 p1 p2 p3 : List ℕ) (i last j k : ℕ) → Steps p0 p1 p2 p3 i last → i ≤ j → j < last → k < 73 → get_or p3 (place_of j + k) 0 ≡ get_or p0 (place_of (j + 1) + k) 0
 moved_byte p0 p1 p2 p3 i last j k s ge lt less =

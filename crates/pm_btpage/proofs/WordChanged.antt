@@ -3,7 +3,7 @@ use Rattle.std.proofs.Common.{◌≡◌, ℕ, suc, ◌+◌, ◌-◌, ◌<◌, �
 use Rattle.std.proofs.lemmas.Bool.{cases_lt, cases_eq}
 use Rattle.std.proofs.lemmas.List.{length-take-le, length-append, length-drop, get_or_append_left, get_or-append_right, get_or-take, get_or-drop, get_or_at}
 use Rattle.pm_types.specs.PageSizes.{IsPageSize}
-use Rattle.pm_types.specs.Spans.{Holds, span_of}
+use Rattle.pm_types.specs.Spans.{IsInSpan, span_of}
 use Rattle.pm_types.specs.Pages.{SameOutside}
 use Rattle.pm_types.specs.Fields.{bytes_at, u64_at}
 use Rattle.pm_types.proofs.PageSizeBounds.{page_size_bounds}
@@ -48,9 +48,9 @@ rising-with_word items i word lt rising a b less b_lt =
     subst (λ (z : List ℕ × List ℕ). IsBelow z.0 z.1) {x = (key_in items a, key_in items b)} {y = (key_in (with_word items i word) a, key_in (with_word items i word) b)} (λ t. (sym (key-with_word items i a word lt) t, sym (key-with_word items i b word lt) t))
     (rising a b less (omega (arith, b_lt, length-with_word items i word lt)))
 
-pub word_changed : (was now : List ℕ) (i word : ℕ) → IsIndexPage was → i < length (items_of was) → SameOutside (Holds (span_of (place_of i + 65) 8)) was now → u64_at now (place_of i + 65) ≡ word → HasNewItems was now (with_word (items_of was) i word)
+pub word_changed : (was now : List ℕ) (i word : ℕ) → IsIndexPage was → i < length (items_of was) → SameOutside (IsInSpan (span_of (place_of i + 65) 8)) was now → u64_at now (place_of i + 65) ≡ word → HasNewItems was now (with_word (items_of was) i word)
 word_changed was now i word page lt outside word_is =
-    let P = Holds (span_of (place_of i + 65) 8) in
+    let P = IsInSpan (span_of (place_of i + 65) 8) in
     let long = (page_size_bounds (length was) page.size).0 in
     let len = length-items_of was in
     let few : i < count_of was = omega (arith, lt, len) in

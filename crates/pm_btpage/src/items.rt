@@ -2,7 +2,7 @@
 
 ghost use Rattle.std.specs.Prelude.{◌≡◌, ◌+◌, ◌-◌, ◌<◌, ◌≤◌, length, replicate};
 ghost use Rattle.pm_types.specs.Pages.{SameOutside, IsNoted};
-ghost use Rattle.pm_types.specs.Spans.{Holds, span_of};
+ghost use Rattle.pm_types.specs.Spans.{IsInSpan, span_of};
 ghost use Rattle.pm_types.specs.Fields.{bytes_at, Writes};
 ghost use Rattle.pm_btpage.specs.IndexPages.{index_of, items_of, item_at, place_of, key_in, word_in, with_items, with_item, with_word, capacity_of, GoesBefore, IsItem, IsIndexPage};
 
@@ -106,7 +106,7 @@ fn put_item(page: &mut [u8], i: u16, key: &[u8], word: u64)
     requires short { length key.now ≤ KEY_MAX }
     ensures item { item_at page.new i ≡ record { key = key.now; word = word } }
     ensures sound { IsItem page.new i }
-    ensures outside { SameOutside (Holds (span_of (place_of i) ITEM_LEN)) page.old page.new }
+    ensures outside { SameOutside (IsInSpan (span_of (place_of i) ITEM_LEN)) page.old page.new }
 {
     let at = place(i);
     put_bytes(page, at, &[key.len() as u8]);
@@ -121,7 +121,7 @@ fn pad_key(page: &mut [u8], at: u16, len: u16)
     requires long { length page.old ≤ PAGE_SIZE_MAX }
     requires short { len ≤ KEY_MAX }
     ensures zeros { bytes_at page.new (at + 1 + len) (KEY_MAX - len) ≡ replicate (KEY_MAX - len) 0 }
-    ensures outside { SameOutside (Holds (span_of (at + 1 + len) (KEY_MAX - len)))
+    ensures outside { SameOutside (IsInSpan (span_of (at + 1 + len) (KEY_MAX - len)))
         page.old page.new }
 {
     put_zeros(page, at + 1 + len, KEY_MAX as u16 - len);

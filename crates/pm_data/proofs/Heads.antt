@@ -4,7 +4,7 @@ use Rattle.std.specs.Int.{from_le_bytes}
 use Rattle.std.proofs.lemmas.Grind.{same_number_lists}
 use Rattle.std.proofs.lemmas.List.{length-replicate, get_or-replicate}
 use Rattle.pm_types.specs.PageSizes.{IsPageSize}
-use Rattle.pm_types.specs.Spans.{Holds, span_of}
+use Rattle.pm_types.specs.Spans.{IsInSpan, span_of}
 use Rattle.pm_types.specs.Pages.{SameOutside}
 use Rattle.pm_types.specs.declared.page_id.PageId.{PageId}
 use Rattle.pm_data.specs.declared.slots.Slot.{Slot}
@@ -21,9 +21,9 @@ pub record IsFresh (page : List ℕ) (id : PageId) : Type 0 where
 
 -- a head of zeros, into which the name, the kind and the start of the rows were written
 pub fresh_page : (p0 p1 p2 p3 : List ℕ) (id : PageId) → IsPageSize (length p0) → bytes_at p0 0 32 ≡ replicate 32 0 →
-    SameOutside (Holds (span_of 0 8)) p0 p1 → u64_at p1 0 ≡ id.0 →
-    SameOutside (Holds (span_of 8 1)) p1 p2 → bytes_at p2 8 1 ≡ 4 ∷ [] →
-    SameOutside (Holds (span_of 24 2)) p2 p3 → low_of p3 ≡ length p0 → IsFresh p3 id
+    SameOutside (IsInSpan (span_of 0 8)) p0 p1 → u64_at p1 0 ≡ id.0 →
+    SameOutside (IsInSpan (span_of 8 1)) p1 p2 → bytes_at p2 8 1 ≡ 4 ∷ [] →
+    SameOutside (IsInSpan (span_of 24 2)) p2 p3 → low_of p3 ≡ length p0 → IsFresh p3 id
 fresh_page p0 p1 p2 p3 id size zeros o1 name_then o2 b2 o3 low =
     let bounds = page_size_bounds (length p0) size in
     let size' : length p3 ≡ length p0 = o3.size ∙ o2.size ∙ o1.size in
@@ -32,7 +32,7 @@ fresh_page p0 p1 p2 p3 id size zeros o1 name_then o2 b2 o3 low =
     λ k ge lt away. o3.bytes k (λ h. elim away [ inl below ↦ omega (arith, h.0) | inr above ↦ omega (arith, h.1) ]) ∙ o2.bytes k (λ h. omega (arith, h.1)) ∙ o1.bytes k (λ h. omega (arith, h.1)) ∙ zero_then k lt in
     let count : count_of p3 ≡ 0 = zero_u16 p3 10 (omega arith) (λ k ge lt. zero_now k (omega arith) (omega arith) (inl (omega arith))) in
     let name : u64_at p3 0 ≡ id.0 =
-    u64_same (Holds (span_of 24 2)) p2 p3 0 o3 (omega arith) (λ k ge lt h. omega (arith, h.0)) ∙ u64_same (Holds (span_of 8 1)) p1 p2 0 o2 (omega arith) (λ k ge lt h. omega (arith, h.0)) ∙ name_then in
+    u64_same (IsInSpan (span_of 24 2)) p2 p3 0 o3 (omega arith) (λ k ge lt h. omega (arith, h.0)) ∙ u64_same (IsInSpan (span_of 8 1)) p1 p2 0 o2 (omega arith) (λ k ge lt h. omega (arith, h.0)) ∙ name_then in
     let kind : get_or p3 8 0 ≡ 4 = o3.bytes 8 (λ h. omega (arith, h.0)) ∙ sym (get_or-bytes_at p2 8 1 0 (omega arith)) ∙ ap (λ (t : List ℕ). get_or t 0 0) b2 in
     record {
       well_made = record {

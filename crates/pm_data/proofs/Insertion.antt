@@ -2,7 +2,7 @@
 use Rattle.std.proofs.Common.{◌≡◌, ℕ, suc, ◌+◌, ◌-◌, ◌*◌, ◌<◌, ◌≤◌, ◌⊎◌, true, false, None, Some, List, length, get_or, max, sym, ap, subst, ◌∙◌, inl, inr, arith, Option}
 use Rattle.std.proofs.lemmas.Bool.{cases_lt, cases_eq}
 use Rattle.pm_types.specs.PageSizes.{IsPageSize}
-use Rattle.pm_types.specs.Spans.{Holds, span_of}
+use Rattle.pm_types.specs.Spans.{IsInSpan, span_of}
 use Rattle.pm_types.specs.Pages.{SameOutside}
 use Rattle.pm_types.proofs.PageSizeBounds.{page_size_bounds}
 use Rattle.pm_types.proofs.Changes.{outside_then}
@@ -17,7 +17,7 @@ use Rattle.pm_data.proofs.RowsByItem.{rows_by_item, length-rows_of, get_or-rows_
 
 -- the bytes that a row and its slot are written over: the row, the slot, where the rows begin, the count
 abbrev IsWritten : ℕ → ℕ → ℕ → ℕ → Type 0
-IsWritten start low item k = (Holds (span_of start (low - start)) k ⊎ Holds (span_of (32 + 4 * item) 4) k) ⊎ (Holds (span_of 24 2) k ⊎ Holds (span_of 10 2) k)
+IsWritten start low item k = (IsInSpan (span_of start (low - start)) k ⊎ IsInSpan (span_of (32 + 4 * item) 4) k) ⊎ (IsInSpan (span_of 24 2) k ⊎ IsInSpan (span_of 10 2) k)
 
 -- what was written
 pub record IsPlaced (was now row : List ℕ) (item start : ℕ) : Type 0 where
@@ -29,32 +29,32 @@ pub record IsPlaced (was now row : List ℕ) (item start : ℕ) : Type 0 where
 
 -- what the writes one after the other make
 pub placed : (p0 p1 p2 p3 p4 row : List ℕ) (item start : ℕ) → start + length row ≡ low_of p0 → 32 + 4 * item + 4 ≤ start → low_of p0 ≤ length p0 →
-    SameOutside (Holds (span_of start (length row))) p0 p1 → bytes_at p1 start (length row) ≡ row →
-    SameOutside (Holds (span_of (32 + 4 * item) 4)) p1 p2 → slot_at p2 item ≡ record { start = start; len = length row } →
-    SameOutside (Holds (span_of 24 2)) p2 p3 → low_of p3 ≡ start →
-    SameOutside (Holds (span_of 10 2)) p3 p4 → count_of p4 ≡ max (count_of p3) (item + 1) → IsPlaced p0 p4 row item start
+    SameOutside (IsInSpan (span_of start (length row))) p0 p1 → bytes_at p1 start (length row) ≡ row →
+    SameOutside (IsInSpan (span_of (32 + 4 * item) 4)) p1 p2 → slot_at p2 item ≡ record { start = start; len = length row } →
+    SameOutside (IsInSpan (span_of 24 2)) p2 p3 → low_of p3 ≡ start →
+    SameOutside (IsInSpan (span_of 10 2)) p3 p4 → count_of p4 ≡ max (count_of p3) (item + 1) → IsPlaced p0 p4 row item start
 placed p0 p1 p2 p3 p4 row item start below above within o1 row_is o2 slot_is o3 low_is o4 count_is =
     let W = IsWritten start (low_of p0) item in
     let size1 : length p1 ≡ length p0 = o1.size in
     let size2 : length p2 ≡ length p0 = o2.size ∙ size1 in
     let size3 : length p3 ≡ length p0 = o3.size ∙ size2 in
-    let first = outside_then (Holds (span_of start (length row))) (Holds (span_of (32 + 4 * item) 4)) W p0 p1 p2 o1 o2 (λ k h. inl (inl (h.0, omega (arith, h.1)))) (λ k h. inl (inr h)) in
-    let second = outside_then (Holds (span_of 24 2)) (Holds (span_of 10 2)) W p2 p3 p4 o3 o4 (λ k h. inr (inl h)) (λ k h. inr (inr h)) in
+    let first = outside_then (IsInSpan (span_of start (length row))) (IsInSpan (span_of (32 + 4 * item) 4)) W p0 p1 p2 o1 o2 (λ k h. inl (inl (h.0, omega (arith, h.1)))) (λ k h. inl (inr h)) in
+    let second = outside_then (IsInSpan (span_of 24 2)) (IsInSpan (span_of 10 2)) W p2 p3 p4 o3 o4 (λ k h. inr (inl h)) (λ k h. inr (inr h)) in
     let count : count_of p3 ≡ count_of p0 =
-    u16_same (Holds (span_of 24 2)) p2 p3 10 o3 (omega arith) (λ k ge lt h. omega (arith, h.0))
-    ∙ u16_same (Holds (span_of (32 + 4 * item) 4)) p1 p2 10 o2 (omega arith) (λ k ge lt h. omega (arith, h.0))
-    ∙ u16_same (Holds (span_of start (length row))) p0 p1 10 o1 (omega arith) (λ k ge lt h. omega (arith, h.0)) in
+    u16_same (IsInSpan (span_of 24 2)) p2 p3 10 o3 (omega arith) (λ k ge lt h. omega (arith, h.0))
+    ∙ u16_same (IsInSpan (span_of (32 + 4 * item) 4)) p1 p2 10 o2 (omega arith) (λ k ge lt h. omega (arith, h.0))
+    ∙ u16_same (IsInSpan (span_of start (length row))) p0 p1 10 o1 (omega arith) (λ k ge lt h. omega (arith, h.0)) in
     record {
       outside = outside_then W W W p0 p2 p4 first second (λ k h. h) (λ k h. h);
       count = count_is ∙ ap (λ n. max n (item + 1)) count;
-      low = u16_same (Holds (span_of 10 2)) p3 p4 24 o4 (omega arith) (λ k ge lt h. omega (arith, h.1)) ∙ low_is;
+      low = u16_same (IsInSpan (span_of 10 2)) p3 p4 24 o4 (omega arith) (λ k ge lt h. omega (arith, h.1)) ∙ low_is;
       slot =
-          slot_same (Holds (span_of 10 2)) p3 p4 item o4 (omega arith) (λ k ge lt h. omega (arith, h.1))
-          ∙ slot_same (Holds (span_of 24 2)) p2 p3 item o3 (omega arith) (λ k ge lt h. omega (arith, h.1)) ∙ slot_is;
+          slot_same (IsInSpan (span_of 10 2)) p3 p4 item o4 (omega arith) (λ k ge lt h. omega (arith, h.1))
+          ∙ slot_same (IsInSpan (span_of 24 2)) p2 p3 item o3 (omega arith) (λ k ge lt h. omega (arith, h.1)) ∙ slot_is;
       bytes =
-          bytes_same (Holds (span_of 10 2)) p3 p4 start (length row) o4 (omega arith) (λ k ge lt h. omega (arith, h.1))
-          ∙ bytes_same (Holds (span_of 24 2)) p2 p3 start (length row) o3 (omega arith) (λ k ge lt h. omega (arith, h.1))
-          ∙ bytes_same (Holds (span_of (32 + 4 * item) 4)) p1 p2 start (length row) o2 (omega arith) (λ k ge lt h. omega (arith, h.1)) ∙ row_is;
+          bytes_same (IsInSpan (span_of 10 2)) p3 p4 start (length row) o4 (omega arith) (λ k ge lt h. omega (arith, h.1))
+          ∙ bytes_same (IsInSpan (span_of 24 2)) p2 p3 start (length row) o3 (omega arith) (λ k ge lt h. omega (arith, h.1))
+          ∙ bytes_same (IsInSpan (span_of (32 + 4 * item) 4)) p1 p2 start (length row) o2 (omega arith) (λ k ge lt h. omega (arith, h.1)) ∙ row_is;
     }
 
 -- where nothing was written: in the head but for two fields, in the other slots, and where rows were

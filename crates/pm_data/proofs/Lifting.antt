@@ -1,7 +1,7 @@
 -- The slots while one row is taken out: those done follow their rows, those left are as they were.
 use Rattle.std.proofs.Common.{◌≡◌, ℕ, ◌+◌, ◌*◌, ◌<◌, ◌≤◌, true, false, not, nat_lt, List, length, refl, sym, ap, ◌∙◌, inl, inr, arith, if◌then◌else◌}
 use Rattle.std.proofs.lemmas.Bool.{cases_eq, lt-ltb, le-ltb, and_from, and_left, and_right}
-use Rattle.pm_types.specs.Spans.{Holds, span_of}
+use Rattle.pm_types.specs.Spans.{IsInSpan, span_of}
 use Rattle.pm_types.specs.Pages.{SameOutside}
 use Rattle.pm_types.proofs.Changes.{outside_then, outside_wider}
 use Rattle.pm_data.specs.declared.slots.Slot.{Slot}
@@ -24,28 +24,28 @@ pub record IsLifting (was now : List ℕ) (item i count : ℕ) : Type 0 where
   pub gone : slot_at now item ≡ record { start = 0; len = 0 }
   pub done : (j : ℕ) → j < i → (j ≡ item → ⊥) → slot_at now j ≡ lifted (slot_at was item) (slot_at was j)
   pub left : (j : ℕ) → i ≤ j → j < count → (j ≡ item → ⊥) → slot_at now j ≡ slot_at was j
-  pub outside : SameOutside (Holds (span_of 32 (4 * count))) was now
+  pub outside : SameOutside (IsInSpan (span_of 32 (4 * count))) was now
 
 -- another slot is as before a write of one slot
-pub beside : (now next : List ℕ) (at j count : ℕ) → SameOutside (Holds (span_of (32 + 4 * at) 4)) now next → j < count → 32 + 4 * count ≤ length now → (j ≡ at → ⊥) → slot_at next j ≡ slot_at now j
-beside now next at j count outside lt fits not = slot_same (Holds (span_of (32 + 4 * at) 4)) now next j outside (omega arith) (λ k ge less h. not (omega (arith, h.0, h.1)))
+pub beside : (now next : List ℕ) (at j count : ℕ) → SameOutside (IsInSpan (span_of (32 + 4 * at) 4)) now next → j < count → 32 + 4 * count ≤ length now → (j ≡ at → ⊥) → slot_at next j ≡ slot_at now j
+beside now next at j count outside lt fits not = slot_same (IsInSpan (span_of (32 + 4 * at) 4)) now next j outside (omega arith) (λ k ge less h. not (omega (arith, h.0, h.1)))
 
 -- a write of one slot is a change among the slots
-among : (at count k : ℕ) → at < count → Holds (span_of (32 + 4 * at) 4) k → Holds (span_of 32 (4 * count)) k
+among : (at count k : ℕ) → at < count → IsInSpan (span_of (32 + 4 * at) 4) k → IsInSpan (span_of 32 (4 * count)) k
 among at count k lt h = (omega (arith, h.0), omega (arith, h.1))
 
 -- the slot of the item is emptied first
-pub lifting_none : (was now : List ℕ) (item count : ℕ) → item < count → 32 + 4 * count ≤ length was → SameOutside (Holds (span_of (32 + 4 * item) 4)) was now → slot_at now item ≡ record { start = 0; len = 0 } → IsLifting was now item 0 count
+pub lifting_none : (was now : List ℕ) (item count : ℕ) → item < count → 32 + 4 * count ≤ length was → SameOutside (IsInSpan (span_of (32 + 4 * item) 4)) was now → slot_at now item ≡ record { start = 0; len = 0 } → IsLifting was now item 0 count
 lifting_none was now item count lt fits outside gone = record {
   gone = gone;
   done = λ j less. absurd (omega arith);
   left = λ j ge less not. beside was now item j count outside less fits not;
-  outside = outside_wider (Holds (span_of (32 + 4 * item) 4)) (Holds (span_of 32 (4 * count))) was now outside (λ k h. among item count k lt h);
+  outside = outside_wider (IsInSpan (span_of (32 + 4 * item) 4)) (IsInSpan (span_of 32 (4 * count))) was now outside (λ k h. among item count k lt h);
 }
 
 -- one more slot follows its row; that of the item stays empty
 pub lifting_more : (was now next : List ℕ) (gone : Slot) (item i count : ℕ) → gone ≡ slot_at was item → IsLifting was now item i count → i < count → 32 + 4 * count ≤ length now → item < count →
-    SameOutside (Holds (span_of (32 + 4 * i) 4)) now next → slot_at next i ≡ lifted gone (slot_at now i) → IsLifting was next item (i + 1) count
+    SameOutside (IsInSpan (span_of (32 + 4 * i) 4)) now next → slot_at next i ≡ lifted gone (slot_at now i) → IsLifting was next item (i + 1) count
 lifting_more was now next gone item i count gone_is is lt fits item_lt outside slot = record {
   gone = elim (cases_eq item i) [
     | inl here ↦ ap (slot_at next) here ∙ slot ∙ ap (λ n. lifted gone (slot_at now n)) (sym here) ∙ ap (lifted gone) is.gone ∙ lifted_empty gone (record { start = 0; len = 0 }) refl
@@ -56,5 +56,5 @@ lifting_more was now next gone item i count gone_is is lt fits item_lt outside s
     | inr apart ↦ beside now next i j count outside (omega arith) fits apart ∙ is.done j (omega (arith, apart)) other
   ];
   left = λ j ge less other. beside now next i j count outside less fits (λ e. omega (arith, e)) ∙ is.left j (omega arith) less other;
-  outside = outside_then (Holds (span_of 32 (4 * count))) (Holds (span_of (32 + 4 * i) 4)) (Holds (span_of 32 (4 * count))) was now next is.outside outside (λ k h. h) (λ k h. among i count k lt h);
+  outside = outside_then (IsInSpan (span_of 32 (4 * count))) (IsInSpan (span_of (32 + 4 * i) 4)) (IsInSpan (span_of 32 (4 * count))) was now next is.outside outside (λ k h. h) (λ k h. among i count k lt h);
 }

@@ -5,7 +5,7 @@ use Rattle.std.proofs.lemmas.Bool.{cases_lt, cases_eq, false≢true}
 use Rattle.std.proofs.lemmas.List.{length-take-le, get_or-take}
 use Rattle.std.proofs.lemmas.List.Sums.{suffix_len_is}
 use Rattle.pm_types.specs.PageSizes.{IsPageSize}
-use Rattle.pm_types.specs.Spans.{Holds, span_of}
+use Rattle.pm_types.specs.Spans.{IsInSpan, span_of}
 use Rattle.pm_types.specs.Pages.{SameOutside}
 use Rattle.pm_types.proofs.PageSizeBounds.{page_size_bounds}
 use Rattle.pm_types.proofs.Changes.{outside_then}
@@ -22,7 +22,7 @@ use Rattle.pm_data.proofs.RowLaws.{length-with_row, row_at-with_row_here, row_at
 
 -- the bytes that a removal writes over: where rows moved to, the slots, where the rows begin, the count
 abbrev IsRewritten : Slot → ℕ → ℕ → ℕ → Type 0
-IsRewritten gone low count k = (Holds (span_of (low + gone.len) (gone.start - low)) k ⊎ Holds (span_of 32 (4 * count)) k) ⊎ (Holds (span_of 24 2) k ⊎ Holds (span_of 10 2) k)
+IsRewritten gone low count k = (IsInSpan (span_of (low + gone.len) (gone.start - low)) k ⊎ IsInSpan (span_of 32 (4 * count)) k) ⊎ (IsInSpan (span_of 24 2) k ⊎ IsInSpan (span_of 10 2) k)
 
 -- what was written
 pub record IsTaken (was now : List ℕ) (item : ℕ) : Type 0 where
@@ -37,36 +37,36 @@ pub record IsTaken (was now : List ℕ) (item : ℕ) : Type 0 where
 
 -- what the writes one after the other make
 pub taken : (p0 p1 p2 p3 p4 : List ℕ) (item : ℕ) → item < count_of p0 → 32 + 4 * count_of p0 ≤ low_of p0 → low_of p0 ≤ (slot_at p0 item).start → end_of (slot_at p0 item) ≤ length p0 →
-    SameOutside (Holds (span_of (low_of p0 + (slot_at p0 item).len) ((slot_at p0 item).start - low_of p0))) p0 p1 →
+    SameOutside (IsInSpan (span_of (low_of p0 + (slot_at p0 item).len) ((slot_at p0 item).start - low_of p0))) p0 p1 →
     bytes_at p1 (low_of p0 + (slot_at p0 item).len) ((slot_at p0 item).start - low_of p0) ≡ bytes_at p0 (low_of p0) ((slot_at p0 item).start - low_of p0) →
-    SameOutside (Holds (span_of 32 (4 * count_of p0))) p1 p2 → LeavesSlots (count_of p0) item p1 p2 →
-    SameOutside (Holds (span_of 24 2)) p2 p3 → low_of p3 ≡ low_of p0 + (slot_at p0 item).len →
-    SameOutside (Holds (span_of 10 2)) p3 p4 → EndsAtLast p3 (count_of p4) → IsTaken p0 p4 item
+    SameOutside (IsInSpan (span_of 32 (4 * count_of p0))) p1 p2 → LeavesSlots (count_of p0) item p1 p2 →
+    SameOutside (IsInSpan (span_of 24 2)) p2 p3 → low_of p3 ≡ low_of p0 + (slot_at p0 item).len →
+    SameOutside (IsInSpan (span_of 10 2)) p3 p4 → EndsAtLast p3 (count_of p4) → IsTaken p0 p4 item
 taken p0 p1 p2 p3 p4 item lt above start fits o1 moved o2 slots o3 low_is o4 ends =
     let gone = slot_at p0 item in
     let low = low_of p0 in
     let n = count_of p0 in
     let T = IsRewritten gone low n in
-    let M = Holds (span_of (low + gone.len) (gone.start - low)) in
-    let S = Holds (span_of 32 (4 * n)) in
+    let M = IsInSpan (span_of (low + gone.len) (gone.start - low)) in
+    let S = IsInSpan (span_of 32 (4 * n)) in
     let size1 : length p1 ≡ length p0 = o1.size in
     let size2 : length p2 ≡ length p0 = o2.size ∙ size1 in
     let size3 : length p3 ≡ length p0 = o3.size ∙ size2 in
     let first = outside_then M S T p0 p1 p2 o1 o2 (λ k h. inl (inl h)) (λ k h. inl (inr h)) in
-    let second = outside_then (Holds (span_of 24 2)) (Holds (span_of 10 2)) T p2 p3 p4 o3 o4 (λ k h. inr (inl h)) (λ k h. inr (inr h)) in
+    let second = outside_then (IsInSpan (span_of 24 2)) (IsInSpan (span_of 10 2)) T p2 p3 p4 o3 o4 (λ k h. inr (inl h)) (λ k h. inr (inr h)) in
     let count : count_of p3 ≡ n =
-    u16_same (Holds (span_of 24 2)) p2 p3 10 o3 (omega arith) (λ k ge less h. omega (arith, h.0)) ∙ u16_same S p1 p2 10 o2 (omega arith) (λ k ge less h. omega (arith, h.0)) ∙ u16_same M p0 p1 10 o1 (omega arith) (λ k ge less h. omega (arith, h.0)) in
+    u16_same (IsInSpan (span_of 24 2)) p2 p3 10 o3 (omega arith) (λ k ge less h. omega (arith, h.0)) ∙ u16_same S p1 p2 10 o2 (omega arith) (λ k ge less h. omega (arith, h.0)) ∙ u16_same M p0 p1 10 o1 (omega arith) (λ k ge less h. omega (arith, h.0)) in
     let early : (j : ℕ) → j < n → slot_at p1 j ≡ slot_at p0 j = λ j less. slot_same M p0 p1 j o1 (omega arith) (λ k ge under h. omega (arith, h.0)) in
     let late : (j : ℕ) → j < n → slot_at p4 j ≡ slot_at p2 j = λ j less.
-    slot_same (Holds (span_of 10 2)) p3 p4 j o4 (omega arith) (λ k ge under h. omega (arith, h.1)) ∙ slot_same (Holds (span_of 24 2)) p2 p3 j o3 (omega arith) (λ k ge under h. omega (arith, h.1)) in
-    let last_slots : (j : ℕ) → j < n → slot_at p4 j ≡ slot_at p3 j = λ j less. slot_same (Holds (span_of 10 2)) p3 p4 j o4 (omega arith) (λ k ge under h. omega (arith, h.1)) in
+    slot_same (IsInSpan (span_of 10 2)) p3 p4 j o4 (omega arith) (λ k ge under h. omega (arith, h.1)) ∙ slot_same (IsInSpan (span_of 24 2)) p2 p3 j o3 (omega arith) (λ k ge under h. omega (arith, h.1)) in
+    let last_slots : (j : ℕ) → j < n → slot_at p4 j ≡ slot_at p3 j = λ j less. slot_same (IsInSpan (span_of 10 2)) p3 p4 j o4 (omega arith) (λ k ge under h. omega (arith, h.1)) in
     record {
       outside = outside_then T T T p0 p2 p4 first second (λ k h. h) (λ k h. h);
       moved =
-          bytes_same (Holds (span_of 10 2)) p3 p4 (low + gone.len) (gone.start - low) o4 (omega arith) (λ k ge less h. omega (arith, h.1))
-          ∙ bytes_same (Holds (span_of 24 2)) p2 p3 (low + gone.len) (gone.start - low) o3 (omega arith) (λ k ge less h. omega (arith, h.1))
+          bytes_same (IsInSpan (span_of 10 2)) p3 p4 (low + gone.len) (gone.start - low) o4 (omega arith) (λ k ge less h. omega (arith, h.1))
+          ∙ bytes_same (IsInSpan (span_of 24 2)) p2 p3 (low + gone.len) (gone.start - low) o3 (omega arith) (λ k ge less h. omega (arith, h.1))
           ∙ bytes_same S p1 p2 (low + gone.len) (gone.start - low) o2 (omega arith) (λ k ge less h. omega (arith, h.1)) ∙ moved;
-      low = u16_same (Holds (span_of 10 2)) p3 p4 24 o4 (omega arith) (λ k ge less h. omega (arith, h.1)) ∙ low_is;
+      low = u16_same (IsInSpan (span_of 10 2)) p3 p4 24 o4 (omega arith) (λ k ge less h. omega (arith, h.1)) ∙ low_is;
       gone = ap is_empty (late item lt) ∙ slots.gone;
       others = λ j less not. late j less ∙ slots.others j less not ∙ (λ t. lifted (early item lt t) (early j less t));
       few = omega (arith, ends.few, count);
@@ -276,28 +276,28 @@ module _ (was now : List ℕ) (item : ℕ) (page : IsDataPage was) (item_lt : it
   }
 
 -- after rows moved up, the slots and their number are as they were, and each is within the page
-pub slots_moved : (was now : List ℕ) (at len j : ℕ) → HasRows was → low_of was ≤ at → j < count_of was → SameOutside (Holds (span_of at len)) was now → slot_at now j ≡ slot_at was j
+pub slots_moved : (was now : List ℕ) (at len j : ℕ) → HasRows was → low_of was ≤ at → j < count_of was → SameOutside (IsInSpan (span_of at len)) was now → slot_at now j ≡ slot_at was j
 slots_moved was now at len j rows above lt outside =
-    slot_same (Holds (span_of at len)) was now j outside (omega (arith, rows.low, low_within was rows)) (λ k ge less h. omega (arith, h.0, rows.low))
+    slot_same (IsInSpan (span_of at len)) was now j outside (omega (arith, rows.low, low_within was rows)) (λ k ge less h. omega (arith, h.0, rows.low))
 
 pub slot_within : (page : List ℕ) (j : ℕ) → HasRows page → j < count_of page → end_of (slot_at page j) ≤ length page
 slot_within page j rows lt = elim (rows.each j lt) [ inl empty ↦ let none = empty_slot (slot_at page j) empty in omega (arith, none.0, none.1) | inr holds ↦ holds.within ]
 
-pub count_moved : (p0 p1 p2 p3 : List ℕ) (at len n : ℕ) → HasRows p0 → 32 ≤ length p0 → low_of p0 ≤ at → SameOutside (Holds (span_of at len)) p0 p1 → SameOutside (Holds (span_of 32 (4 * n))) p1 p2 → SameOutside (Holds (span_of 24 2)) p2 p3 → count_of p3 ≡ count_of p0
+pub count_moved : (p0 p1 p2 p3 : List ℕ) (at len n : ℕ) → HasRows p0 → 32 ≤ length p0 → low_of p0 ≤ at → SameOutside (IsInSpan (span_of at len)) p0 p1 → SameOutside (IsInSpan (span_of 32 (4 * n))) p1 p2 → SameOutside (IsInSpan (span_of 24 2)) p2 p3 → count_of p3 ≡ count_of p0
 count_moved p0 p1 p2 p3 at len n rows long above o1 o2 o3 =
-    u16_same (Holds (span_of 24 2)) p2 p3 10 o3 (omega (arith, o1.size, o2.size)) (λ k ge less h. omega (arith, h.0))
-    ∙ u16_same (Holds (span_of 32 (4 * n))) p1 p2 10 o2 (omega (arith, o1.size)) (λ k ge less h. omega (arith, h.0))
-    ∙ u16_same (Holds (span_of at len)) p0 p1 10 o1 (omega arith) (λ k ge less h. omega (arith, h.0, rows.low))
+    u16_same (IsInSpan (span_of 24 2)) p2 p3 10 o3 (omega (arith, o1.size, o2.size)) (λ k ge less h. omega (arith, h.0))
+    ∙ u16_same (IsInSpan (span_of 32 (4 * n))) p1 p2 10 o2 (omega (arith, o1.size)) (λ k ge less h. omega (arith, h.0))
+    ∙ u16_same (IsInSpan (span_of at len)) p0 p1 10 o1 (omega arith) (λ k ge less h. omega (arith, h.0, rows.low))
 
 -- the writes of a removal, one after the other
 pub record RemovalSteps (p0 p1 p2 p3 p4 : List ℕ) (item low count : ℕ) (gone : Slot) : Type 0 where
-  pub rows_outside : SameOutside (Holds (span_of (low + gone.len) (gone.start - low))) p0 p1
+  pub rows_outside : SameOutside (IsInSpan (span_of (low + gone.len) (gone.start - low))) p0 p1
   pub rows_moved : bytes_at p1 (low + gone.len) (gone.start - low) ≡ bytes_at p0 low (gone.start - low)
-  pub slots_outside : SameOutside (Holds (span_of 32 (4 * count))) p1 p2
+  pub slots_outside : SameOutside (IsInSpan (span_of 32 (4 * count))) p1 p2
   pub slots_left : LeavesSlots count item p1 p2
-  pub low_outside : SameOutside (Holds (span_of 24 2)) p2 p3
+  pub low_outside : SameOutside (IsInSpan (span_of 24 2)) p2 p3
   pub low_now : low_of p3 ≡ low + gone.len
-  pub count_outside : SameOutside (Holds (span_of 10 2)) p3 p4
+  pub count_outside : SameOutside (IsInSpan (span_of 10 2)) p3 p4
   pub end_now : EndsAtLast p3 (count_of p4)
 
 pub removed : (p0 p1 p2 p3 p4 : List ℕ) (item low count : ℕ) (gone : Slot) → low ≡ low_of p0 → count ≡ count_of p0 → gone ≡ slot_at p0 item → IsDataPage p0 → item < count_of p0 → HoldsRow p0 (slot_at p0 item) → RemovalSteps p0 p1 p2 p3 p4 item low count gone → DropsRow p0 p4 item

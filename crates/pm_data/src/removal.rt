@@ -1,7 +1,7 @@
 //! Rows taken out of a data page.
 
 ghost use Rattle.std.specs.Prelude.{◌≡◌, ℕ, ◌+◌, ◌*◌, ◌<◌, ◌≤◌, IsSome, length};
-ghost use Rattle.pm_types.specs.Spans.{Holds, span_of};
+ghost use Rattle.pm_types.specs.Spans.{IsInSpan, span_of};
 ghost use Rattle.pm_types.specs.Pages.{SameOutside, IsNoted};
 ghost use Rattle.pm_types.specs.Fields.{Writes};
 ghost use Rattle.pm_data.specs.DataPages.{count_of, slot_at, rows_of, row_at, HoldsRow, IsDataPage, DropsRow};
@@ -50,7 +50,7 @@ fn lift_slots(page: &mut [u8], count: u16, item: u16)
     requires within { SLOTS_AT + SLOT_LEN * count ≤ length page.old }
     requires fits { (j : ℕ) → j < count → (slot_at page.old j).start + (slot_at page.old item).len < 65536 }
     ensures slots { LeavesSlots count item page.old page.new }
-    ensures outside { SameOutside (Holds (span_of SLOTS_AT (SLOT_LEN * count))) page.old page.new }
+    ensures outside { SameOutside (IsInSpan (span_of SLOTS_AT (SLOT_LEN * count))) page.old page.new }
 {
     let gone = get_slot(page, item);
     put_slot(page, item, Slot::EMPTY);
@@ -65,7 +65,7 @@ fn lift(page: &mut [u8], at: u16, gone: Slot)
     requires within { SLOTS_AT + SLOT_LEN * at + SLOT_LEN ≤ length page.old }
     requires fits { (slot_at page.old at).start + gone.len < 65536 }
     ensures slot { slot_at page.new at ≡ lifted gone (slot_at page.old at) }
-    ensures outside { SameOutside (Holds (span_of (SLOTS_AT + SLOT_LEN * at) SLOT_LEN)) page.old page.new }
+    ensures outside { SameOutside (IsInSpan (span_of (SLOTS_AT + SLOT_LEN * at) SLOT_LEN)) page.old page.new }
 {
     let below = get_slot(page, at);
     if below.is_empty() || gone.start <= below.start {

@@ -1,7 +1,7 @@
 //! The slots of a data page.
 
 ghost use Rattle.std.specs.Prelude.{◌≡◌, ◌+◌, ◌*◌, ◌<◌, ◌≤◌, length};
-ghost use Rattle.pm_types.specs.Spans.{Holds, span_of};
+ghost use Rattle.pm_types.specs.Spans.{IsInSpan, span_of};
 ghost use Rattle.pm_types.specs.Pages.{SameOutside};
 ghost use Rattle.pm_data.specs.DataPages.{is_empty, slot_at};
 ghost use Rattle.pm_types.specs.Fields.{Writes};
@@ -47,7 +47,7 @@ pub fn put_slot(page: &mut [u8], item: u16, slot: Slot)
     requires item { item < SLOTS_MAX }
     requires within { SLOTS_AT + SLOT_LEN * item + SLOT_LEN ≤ length page.old }
     ensures slot { slot_at page.new item ≡ slot }
-    ensures outside { SameOutside (Holds (span_of (SLOTS_AT + SLOT_LEN * item) SLOT_LEN)) page.old page.new }
+    ensures outside { SameOutside (IsInSpan (span_of (SLOTS_AT + SLOT_LEN * item) SLOT_LEN)) page.old page.new }
 {
     let at = SLOTS_AT + SLOT_LEN * item;
     put_u16(page, at, slot.start);

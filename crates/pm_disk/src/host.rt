@@ -2,7 +2,7 @@
 
 ghost use Rattle.std.specs.Prelude.{◌≡◌, ◌<◌, ◌≤◌, [], length, take, Some, IfOk};
 ghost use Rattle.std.specs.Result.{result_unwrap_or};
-ghost use Rattle.pm_types.specs.Causes.{HasCause};
+ghost use Rattle.pm_disk.specs.Causes.{HasCause};
 ghost use Rattle.pm_disk.specs.Files.{Drop, ReadsFrom, ReadsWhole};
 ghost use Rattle.pm_disk.specs.Worlds.{log_changed, marks_in, marks_changed, marks_forced, slot_at, slot_change, with_taken};
 ghost use Rattle.pm_disk.specs.Moments.{Does, Says};

@@ -1,7 +1,7 @@
 //! The calls on the log. It is a row of files, its segments, numbered from 1.
 
 ghost use Rattle.std.specs.Prelude.{◌≡◌, ◌≤◌, length, IfOk, option_map};
-ghost use Rattle.pm_types.specs.Causes.{HasCause};
+ghost use Rattle.pm_disk.specs.Causes.{HasCause};
 ghost use Rattle.pm_disk.specs.Files.{Write, Cut, bytes_of, ReadsFrom};
 ghost use Rattle.pm_disk.specs.Worlds.{segment_in, log_changed, log_forced};
 ghost use Rattle.pm_disk.specs.Moments.{Does};

@@ -2,7 +2,7 @@
 
 ghost use Rattle.std.specs.Prelude.{◌≤◌, length, IfOk};
 ghost use Rattle.pm_types.specs.declared.limits.TheConstants.{PAGE_SIZE_MAX};
-ghost use Rattle.pm_types.specs.Causes.{HasCause};
+ghost use Rattle.pm_disk.specs.Causes.{HasCause};
 ghost use Rattle.pm_types.specs.Ids.{part_of_id};
 ghost use Rattle.pm_disk.specs.Files.{ReadsWhole};
 ghost use Rattle.pm_disk.specs.Worlds.{pages_in, page_at, pages_forced};

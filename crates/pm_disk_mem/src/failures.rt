@@ -1,7 +1,7 @@
 //! Which calls fail.
 
 ghost use Rattle.std.specs.Prelude.{◌≡◌, ◌≤◌, ◌+◌, ◌-◌, ◌^◌, min, is_err, Ok, IfOk, IsErr};
-ghost use Rattle.pm_types.specs.Causes.{Rose, HasCause};
+ghost use Rattle.pm_disk.specs.Causes.{Rose, HasCause};
 ghost use Rattle.pm_disk_mem.specs.Plans.{is_due, is_stopped, HasPlan, KeepsPlan};
 
 use pm_disk::Failed;

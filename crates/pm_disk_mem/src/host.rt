@@ -1,7 +1,7 @@
 //! Disk and console in memory.
 
 ghost use Rattle.std.specs.Prelude.{◌≡◌, replicate, IfOk, OnErr};
-ghost use Rattle.pm_types.specs.Causes.{HasCause};
+ghost use Rattle.pm_disk.specs.Causes.{HasCause};
 ghost use Rattle.pm_disk.specs.Files.{content, gapped, missing};
 ghost use Rattle.pm_disk.specs.Moments.{Does};
 ghost use Rattle.pm_disk.specs.Images.{LeavesAll};

@@ -1,7 +1,7 @@
 //! The calls on the log, in memory.
 
 ghost use Rattle.std.specs.Prelude.{◌≡◌, ◌≤◌, length, IfOk, OnErr, option_map};
-ghost use Rattle.pm_types.specs.Causes.{HasCause};
+ghost use Rattle.pm_disk.specs.Causes.{HasCause};
 ghost use Rattle.pm_disk.specs.Files.{Write, Cut, bytes_of, ReadsFrom};
 ghost use Rattle.pm_disk.specs.Worlds.{segment_in, log_changed, log_forced};
 ghost use Rattle.pm_disk.specs.Moments.{Does};

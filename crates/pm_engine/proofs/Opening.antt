@@ -12,7 +12,7 @@ use Rattle.pm_frame.specs.declared.limits.TheConstants.{FRAME_END_MAX, SEGMENT_E
 use Rattle.pm_frame.specs.Frames.{Frame, end_max}
 use Rattle.pm_frame.proofs.FrameAt.{frame_at-some}
 use Rattle.pm_records.specs.Records.{Restart, payload_of}
-use Rattle.pm_records.specs.Shapes.{IsShape}
+use Rattle.pm_types.specs.Shapes.{IsShape}
 use Rattle.pm_records.proofs.RecordOf.{record_of-payload, payload_of-short}
 use Rattle.pm_disk.specs.Files.{File, Cut, bytes_of, with_change, all_forced}
 use Rattle.pm_disk.specs.Worlds.{World, log_forced, segment_in}

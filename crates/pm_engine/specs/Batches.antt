@@ -1,7 +1,7 @@
 -- What a batch of lines does.
 use Rattle.std.specs.Prelude.{◌≡◌, ◌≤◌, ℕ, List, [], ◌∷◌, ◌++◌, length, take, Bool, true, if◌then◌else◌, Result, OnOk, IsErrOf, IfErr}
 use Rattle.pm_types.specs.declared.shape.Shape.{Shape}
-use Rattle.pm_types.specs.Causes.{Rose}
+use Rattle.pm_disk.specs.Causes.{Rose}
 use Rattle.pm_types.specs.declared.fault.StoreFault.{StoreFault}
 use Rattle.pm_types.specs.declared.fault.StoreFault.TheVariants.{Failed, Memory, BadPage, BadRecord}
 use Rattle.pm_disk.specs.Moments.{History, AllMoments}

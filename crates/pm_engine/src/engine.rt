@@ -2,10 +2,10 @@
 
 ghost use Rattle.std.specs.Prelude.{◌≡◌, ◌≤◌, ◌<◌, ◌+◌, ◌^◌, ℕ, List, [], ◌∷◌, ◌++◌, length, true, IfOk, OnOk, OnErr, vec_capacity};
 ghost use Rattle.std.specs.List.{All};
-ghost use Rattle.pm_types.specs.Causes.{HasCause};
+ghost use Rattle.pm_disk.specs.Causes.{HasCause};
 ghost use Rattle.pm_types.specs.declared.shape.Shape.{Shape};
 ghost use Rattle.pm_frame.specs.declared.limits.TheConstants.{PAYLOAD_MAX as longest};
-ghost use Rattle.pm_records.specs.Shapes.{IsShape};
+ghost use Rattle.pm_types.specs.Shapes.{IsShape};
 ghost use Rattle.pm_disk.specs.Moments.{AllMoments};
 ghost use Rattle.pm_model.specs.declared.line.Line.{Line};
 ghost use Rattle.pm_model.specs.Batches.{HasCache};

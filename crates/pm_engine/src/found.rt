@@ -3,7 +3,7 @@
 ghost use Rattle.std.specs.Prelude.{◌≡◌, ◌∷◌, [], true, false, IfOk, OnOk};
 ghost use Rattle.std.specs.FinMap.{empty};
 ghost use Rattle.pm_records.specs.Records.{record_of};
-ghost use Rattle.pm_records.specs.Shapes.{IsShape};
+ghost use Rattle.pm_types.specs.Shapes.{IsShape};
 ghost use Rattle.pm_engine.specs.Openings.{TakesFrame, TakesFirst, TakesMore};
 
 use crate::redo::redo;

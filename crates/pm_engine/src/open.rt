@@ -6,7 +6,7 @@ ghost use Rattle.pm_types.specs.declared.page_id.PageId.{PageId};
 ghost use Rattle.pm_types.specs.declared.place.Place.{Place};
 ghost use Rattle.pm_types.specs.declared.shape.Shape.{Shape};
 ghost use Rattle.pm_frame.specs.declared.limits.TheConstants.{SEGMENT_END_MAX as last_end};
-ghost use Rattle.pm_records.specs.Shapes.{IsShape};
+ghost use Rattle.pm_types.specs.Shapes.{IsShape};
 ghost use Rattle.pm_disk.specs.Images.{NothingPending};
 ghost use Rattle.pm_disk.specs.Moments.{Does, AllMoments};
 ghost use Rattle.pm_model.specs.Eval.{Pairs};

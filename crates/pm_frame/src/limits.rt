@@ -1,5 +1,7 @@
 //! How long frames are, and where they may end. On the disk: do not change.
 
+use pm_types::SEGMENT_BYTES_MAX;
+
 /// The bytes of a frame before its payload: kind 1, segment 8, offset 4, length of the payload 4.
 pub const HEAD_LEN: usize = 17;
 /// The bytes of a frame behind its payload.
@@ -12,6 +14,6 @@ pub const PAYLOAD_MAX: usize = 65_494;
 /// The longest frame, in bytes. Whoever builds or reads frames keeps a buffer of this length.
 pub const FRAME_MAX: usize = PAYLOAD_MAX + FRAME_EXTRA;
 /// The most bytes of a segment, 64 MiB: the offset at which a SEAL ends at the latest.
-pub const SEGMENT_END_MAX: u32 = 67_108_864;
+pub const SEGMENT_END_MAX: u32 = SEGMENT_BYTES_MAX;
 /// The offset at which any other frame ends at the latest: a SEAL still fits behind it.
 pub const FRAME_END_MAX: u32 = 67_108_843;

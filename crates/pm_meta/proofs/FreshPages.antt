@@ -1,7 +1,7 @@
 -- A page of zeros, into which a name, a kind and one number were written.
 use Rattle.std.proofs.Common.{◌≡◌, ℕ, ◌+◌, ◌*◌, ◌<◌, ◌≤◌, ◌⊎◌, List, [], ◌∷◌, length, get_or, replicate, sym, ap, subst, ◌∙◌, inl, inr, arith}
 use Rattle.pm_types.specs.PageSizes.{IsPageSize}
-use Rattle.pm_types.specs.Spans.{Holds, span_of}
+use Rattle.pm_types.specs.Spans.{IsInSpan, span_of}
 use Rattle.pm_types.specs.Pages.{SameOutside}
 use Rattle.pm_types.specs.declared.page_id.PageId.{PageId}
 use Rattle.pm_types.specs.Fields.{bytes_at, u32_at, u64_at, AreZero}
@@ -20,12 +20,12 @@ record HasWritten (was now : List ℕ) (id : PageId) (kind at : ℕ) : Type 0 wh
   pub kind_is : get_or now 8 0 ≡ kind
   pub zeros : (k : ℕ) → 9 ≤ k → k < length was → (k < at) ⊎ (at + 4 ≤ k) → get_or now k 0 ≡ 0
 
-written : (was now : List ℕ) (id : PageId) (kind at : ℕ) → IsPageSize (length was) → 9 ≤ at → IsBlank id kind was → SameOutside (Holds (span_of at 4)) was now → HasWritten was now id kind at
+written : (was now : List ℕ) (id : PageId) (kind at : ℕ) → IsPageSize (length was) → 9 ≤ at → IsBlank id kind was → SameOutside (IsInSpan (span_of at 4)) was now → HasWritten was now id kind at
 written was now id kind at size' ge page outside =
     let long = (page_size_bounds (length was) size').0 in
     record {
       size = outside.size;
-      own = u64_same (Holds (span_of at 4)) was now 0 outside (omega arith) (λ k low high h. omega (arith, h.0)) ∙ page.own;
+      own = u64_same (IsInSpan (span_of at 4)) was now 0 outside (omega arith) (λ k low high h. omega (arith, h.0)) ∙ page.own;
       kind_is = outside.bytes 8 (λ h. omega (arith, h.0)) ∙ page.kind_is;
       zeros = λ k low high away. outside.bytes k (λ h. elim away [ inl below ↦ omega (arith, h.0) | inr above ↦ omega (arith, h.1) ]) ∙ page.zeros k low high;
     }
@@ -36,7 +36,7 @@ zero_field was now id at size' w low high away =
     zero_u32 now at (omega (arith, w.size)) (λ k ge lt. w.zeros k (omega arith) (omega arith) (elim away [ inl below ↦ inl (omega arith) | inr above ↦ inr (omega arith) ]))
 
 -- a meta page whose one number is a page count that every partition may have
-pub fresh_stored : (was now : List ℕ) (id : PageId) (n max_rows : ℕ) → IsBlank id 1 was → SameOutside (Holds (span_of 164 4)) was now → u32_at now 164 ≡ n → 1 ≤ n → n ≤ 256 → IsStoredMeta id max_rows now
+pub fresh_stored : (was now : List ℕ) (id : PageId) (n max_rows : ℕ) → IsBlank id 1 was → SameOutside (IsInSpan (span_of 164 4)) was now → u32_at now 164 ≡ n → 1 ≤ n → n ≤ 256 → IsStoredMeta id max_rows now
 fresh_stored was now id n max_rows page outside pages some few =
     let size' = page.size in
     let w = written was now id 1 164 size' (omega arith) page outside in
@@ -55,14 +55,14 @@ fresh_stored was now id n max_rows page outside pages some few =
       below = λ i lt. let none = zero_field was now id (32 + 4 * i) size' w (omega arith) (omega arith) (inl (omega arith)) in omega (arith, none, pages);
     }
 
-pub fresh_zero : (was now : List ℕ) (id : PageId) (slot : MetaSlot) → IsBlank id 1 was → SameOutside (Holds (span_of 164 4)) was now → IsSlot slot → (slot ≡ Pages → ⊥) → field_of now slot ≡ 0
+pub fresh_zero : (was now : List ℕ) (id : PageId) (slot : MetaSlot) → IsBlank id 1 was → SameOutside (IsInSpan (span_of 164 4)) was now → IsSlot slot → (slot ≡ Pages → ⊥) → field_of now slot ≡ 0
 fresh_zero was now id slot page outside is other =
     let size' = page.size in
     let w = written was now id 1 164 size' (omega arith) page outside in
     let here = place_bounds slot is in
     zero_field was now id (place_of slot) size' w here.0 here.1 (elim (apart slot Pages is tt other) [ inl below ↦ inl below | inr above ↦ inr above ])
 
-pub fresh_reuse_stored : (was now : List ℕ) (id : PageId) → IsBlank id 5 was → SameOutside (Holds (span_of 16 4)) was now → IsStoredReuse id now
+pub fresh_reuse_stored : (was now : List ℕ) (id : PageId) → IsBlank id 5 was → SameOutside (IsInSpan (span_of 16 4)) was now → IsStoredReuse id now
 fresh_reuse_stored was now id page outside =
     let size' = page.size in
     let w = written was now id 5 16 size' (omega arith) page outside in

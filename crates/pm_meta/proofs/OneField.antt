@@ -1,7 +1,7 @@
 -- A change of one number of a meta page leaves all else.
 use Rattle.std.proofs.Common.{◌≡◌, ◌≢◌, ℕ, List, length, sym, subst, ◌∙◌, inl, inr, arith}
 use Rattle.pm_types.specs.PageSizes.{IsPageSize}
-use Rattle.pm_types.specs.Spans.{Holds, span_of}
+use Rattle.pm_types.specs.Spans.{IsInSpan, span_of}
 use Rattle.pm_types.specs.Pages.{SameOutside}
 use Rattle.pm_types.specs.Fields.{u64_at}
 use Rattle.pm_types.proofs.PageSizeBounds.{page_size_bounds}
@@ -15,9 +15,9 @@ pub record KeepsAllElse (was now : List ℕ) (slot : MetaSlot) : Type 0 where
   pub others : (other : MetaSlot) → IsSlot other → other ≢ slot → field_of now other ≡ field_of was other
   pub id : u64_at now 0 ≡ u64_at was 0
 
-pub one_field : (was now : List ℕ) (slot : MetaSlot) → IsMetaPage was → IsSlot slot → SameOutside (Holds (span_of (place_of slot) 4)) was now → KeepsAllElse was now slot
+pub one_field : (was now : List ℕ) (slot : MetaSlot) → IsMetaPage was → IsSlot slot → SameOutside (IsInSpan (span_of (place_of slot) 4)) was now → KeepsAllElse was now slot
 one_field was now slot page is outside =
-    let P = Holds (span_of (place_of slot) 4) in
+    let P = IsInSpan (span_of (place_of slot) 4) in
     let long = (page_size_bounds (length was) page.size).0 in
     let here = place_bounds slot is in
     record {

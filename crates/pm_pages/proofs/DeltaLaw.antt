@@ -7,18 +7,18 @@ use Rattle.std.proofs.lemmas.List.{take_at, drop_at, drop-drop, length-take, len
 use Rattle.std.proofs.lemmas.Bool.{cases_lt}
 use Rattle.std.proofs.lemmas.Grind.{same_number_lists}
 use Rattle.pm_types.specs.declared.spans.Span.{Span}
-use Rattle.pm_types.specs.Spans.{AnyHolds, RiseFrom}
+use Rattle.pm_types.specs.Spans.{IsInSpans, RiseFrom}
 use Rattle.pm_types.specs.Pages.{SameOutside}
 use Rattle.pm_types.specs.Fields.{bytes_at, u16_at}
-use Rattle.pm_types.specs.DeltaRanges.{start_of, len_of, end_of, front_bytes, behind, AreRanges, with_front, with_ranges}
+use Rattle.pm_types.specs.DeltaRanges.{start_of, len_of, end_of, front_bytes, after_front, AreRanges, with_front, with_ranges}
 use Rattle.pm_pages.specs.Deltas.{range_bytes, ranges_bytes}
 
--- what a range's bytes say, with anything behind them
+-- what a range's bytes say, with anything after them
 pub record Says (page : List ℕ) (span : Span) (ranges rest : List ℕ) : Type 0 where
   pub start : start_of ranges ≡ span.start
   pub len : len_of ranges ≡ span.end - span.start
   pub bytes : front_bytes ranges ≡ slice_range page span.start span.end
-  pub behind : behind ranges ≡ rest
+  pub after_front : after_front ranges ≡ rest
   pub long : 4 + (span.end - span.start) ≤ length ranges
 
 pub says : (page : List ℕ) (span : Span) (rest : List ℕ) → span.start < span.end → span.end ≤ length page → length page < 2 ^ 16 → Says page span (range_bytes page span ++ rest) rest
@@ -36,11 +36,11 @@ says page span rest some within small =
       start = start;
       len = len;
       bytes = ap (bytes_at ranges 4) len ∙ front;
-      behind = ap (λ m. drop (4 + m) ranges) len ∙ left;
+      after_front = ap (λ m. drop (4 + m) ranges) len ∙ left;
       long = omega (arith, length-append body rest);
     }
 
--- a range at the front, and ranges behind it
+-- a range at the front, and ranges after it
 front_and_rest : (page : List ℕ) (span : Span) (number low : ℕ) (ranges rest : List ℕ) → Says page span ranges rest → low ≤ span.start → span.start < span.end → span.end ≤ length page → AreRanges number span.end (length page) rest → AreRanges (suc number) low (length page) ranges
 front_and_rest page span number low ranges rest says' le some within are =
     let end : end_of ranges ≡ span.end = omega (arith, says'.start, says'.len) in
@@ -52,11 +52,11 @@ front_and_rest page span number low ranges rest says' le some within are =
         within = omega (arith, end);
         whole = omega (arith, says'.len, says'.long);
       },
-      subst P (λ i. (sym end i, sym says'.behind i)) are,
+      subst P (λ i. (sym end i, sym says'.after_front i)) are,
     )
 
 -- the ranges of a patch are ranges of a delta
-pub are_ranges : (page : List ℕ) (spans : List Span) (low low' : ℕ) → RiseFrom low' spans → low ≤ low' → ((k : ℕ) → AnyHolds spans k → k < length page) → length page < 2 ^ 16 → AreRanges (length spans) low (length page) (ranges_bytes page spans)
+pub are_ranges : (page : List ℕ) (spans : List Span) (low low' : ℕ) → RiseFrom low' spans → low ≤ low' → ((k : ℕ) → IsInSpans spans k → k < length page) → length page < 2 ^ 16 → AreRanges (length spans) low (length page) (ranges_bytes page spans)
 are_ranges page [] low low' rise le within small = refl
 are_ranges page (span ∷ spans) low low' rise le within small =
     let some = rise.1 in
@@ -97,7 +97,7 @@ front_is page was span ranges rest says' some =
     ap (λ (p : ℕ × ℕ × List ℕ). splice was p.0 p.1 p.2) (λ i. (says'.start i, end i, says'.bytes i))
 
 -- what differs from the page in these ranges alone is the page once they are applied
-pub with_own_ranges : (page : List ℕ) (spans : List Span) (low : ℕ) (was : List ℕ) → RiseFrom low spans → ((k : ℕ) → AnyHolds spans k → k < length page) → length page < 2 ^ 16 → SameOutside (AnyHolds spans) was page → with_ranges (length spans) (ranges_bytes page spans) was ≡ page
+pub with_own_ranges : (page : List ℕ) (spans : List Span) (low : ℕ) (was : List ℕ) → RiseFrom low spans → ((k : ℕ) → IsInSpans spans k → k < length page) → length page < 2 ^ 16 → SameOutside (IsInSpans spans) was page → with_ranges (length spans) (ranges_bytes page spans) was ≡ page
 with_own_ranges page [] low was rise within small same = same_number_lists was page (sym same.size) (λ k lt. sym (same.bytes k (λ h. h)))
 with_own_ranges page (span ∷ spans) low was rise within small same =
     let some = rise.1 in
@@ -107,5 +107,5 @@ with_own_ranges page (span ∷ spans) low was rise within small same =
     let says' = says page span rest some fits small in
     let ranges : List ℕ = ranges_bytes page (span ∷ spans) in
     let after : List ℕ = splice was span.start span.end (slice_range page span.start span.end) in
-    ap (λ (p : List ℕ × List ℕ). with_ranges (length spans) p.0 p.1) (λ i. (says'.behind i, front_is page was span ranges rest says' some i))
-    ∙ with_own_ranges page spans (span.end + 1) after rise.2 (λ k h. within k (inr h)) small (splice_same page was span.start span.end (AnyHolds spans) (omega (arith, some)) fits same)
+    ap (λ (p : List ℕ × List ℕ). with_ranges (length spans) p.0 p.1) (λ i. (says'.after_front i, front_is page was span ranges rest says' some i))
+    ∙ with_own_ranges page spans (span.end + 1) after rise.2 (λ k h. within k (inr h)) small (splice_same page was span.start span.end (IsInSpans spans) (omega (arith, some)) fits same)

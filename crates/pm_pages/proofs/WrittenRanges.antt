@@ -5,7 +5,7 @@ use Rattle.std.proofs.lemmas.Option.{get_or_from_slice_get, slice_get_within}
 use Rattle.std.proofs.lemmas.Grind.{take-set_at}
 use Rattle.std.proofs.lemmas.List.{length-set, drop_more, drop_all, take_all, append-nil}
 use Rattle.pm_types.specs.declared.spans.Span.{Span}
-use Rattle.pm_types.specs.Spans.{Coverage, Covers, AnyHolds, IsPatch}
+use Rattle.pm_types.specs.Spans.{Coverage, Covers, IsInSpans, IsPatch}
 use Rattle.pm_types.proofs.Changes.{outside_wider}
 use Rattle.pm_types.proofs.PageSizeBounds.{page_size_bounds}
 use Rattle.pm_types.proofs.Coverages.{covers_spans}
@@ -55,7 +55,7 @@ is_delta page patch is some size = record {
 -- and gives the page
 pub gives_page : (page : List ℕ) (patch : Coverage) → IsPatch patch → patch.whole ≡ false → patch.page_size ≡ length page → GivesPage (delta_of page patch.spans) patch page
 gives_page page patch is part size was same = with_own_ranges page patch.spans 0 was is.rise (λ k h. omega (arith, is.within k h)) (omega (arith, (page_size_bounds patch.page_size is.size).1))
-    (outside_wider (Covers patch) (AnyHolds patch.spans) was page same (λ k. covers_spans patch k part))
+    (outside_wider (Covers patch) (IsInSpans patch.spans) was page same (λ k. covers_spans patch k part))
 
 -- the number of ranges is written first
 pub first_written : (page : List ℕ) (spans : List Span) (into : List ℕ) (number : ℕ) → length into ≡ delta_len spans → number ≡ length spans → IsWritten page spans (set into 0 number) 1 0

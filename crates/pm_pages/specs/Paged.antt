@@ -4,7 +4,7 @@ use Rattle.pm_types.specs.declared.limits.TheConstants.{OP_PAGES}
 use Rattle.pm_types.specs.declared.page_id.PageId.{PageId}
 use Rattle.pm_types.specs.declared.fault.PageFault.{PageFault}
 use Rattle.pm_types.specs.declared.fault.PageFault.TheVariants.{Failed, BadPage}
-use Rattle.pm_types.specs.Causes.{Rose}
+use Rattle.pm_disk.specs.Causes.{Rose}
 use Rattle.pm_types.specs.Ids.{page_id}
 use Rattle.pm_types.specs.Spans.{Coverage, Covers, AlsoCovers}
 

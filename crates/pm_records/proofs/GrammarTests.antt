@@ -8,11 +8,11 @@ use Rattle.pm_types.specs.declared.limits.TheConstants.{PAGE_SIZE_MAX, PATCH_SPA
 use Rattle.pm_types.specs.declared.page_id.PageId.{PageId}
 use Rattle.pm_types.specs.declared.place.Place.{Place}
 use Rattle.pm_types.specs.declared.shape.Shape.{Shape}
-use Rattle.pm_types.specs.DeltaRanges.{end_of, behind, BeginsWithRange, AreRanges, number_of, ranges_of, IsDelta}
-use Rattle.pm_types.specs.PageSizes.{IsPageSize}
+use Rattle.pm_types.specs.DeltaRanges.{end_of, after_front, BeginsWithRange, AreRanges, number_of, ranges_of, IsDelta}
+use Rattle.pm_types.specs.PageSizes.{IsPageSize, is_page_size}
 use Rattle.pm_records.specs.PageNames.{IsPageName, is_page_name}
 use Rattle.pm_records.specs.PageRecords.{IsSnapshot, IsPageDelta, IsCpBegin, is_snapshot, begins_with_range, are_ranges, is_delta, is_page_delta, is_cp_begin}
-use Rattle.pm_records.specs.Shapes.{IsShape, is_page_size, is_shape}
+use Rattle.pm_types.specs.Shapes.{IsShape, is_shape}
 use Rattle.pm_records.specs.Records.{Record, Logical, Snapshot, Delta, CpBegin, Restart, Seal, IsLogical, is_logical, IsRecord, is_record}
 
 page_size_passes : (n : ℕ) → IsPageSize n → is_page_size n ≡ true
@@ -81,16 +81,16 @@ ranges_pass : (number low end : ℕ) (ranges : List ℕ) → AreRanges number lo
 unfolding are_ranges
 ranges_pass zero low end ranges h = eq-eqb (length ranges) 0 (ap length h)
 ranges_pass (suc number) low end ranges h =
-    and_from (begins_with_range low end ranges) (are_ranges number (end_of ranges) end (behind ranges))
+    and_from (begins_with_range low end ranges) (are_ranges number (end_of ranges) end (after_front ranges))
     (range_passes low end ranges h.0)
-    (ranges_pass number (end_of ranges) end (behind ranges) h.1)
+    (ranges_pass number (end_of ranges) end (after_front ranges) h.1)
 
 AreRanges-from : (number low end : ℕ) (ranges : List ℕ) → are_ranges number low end ranges ≡ true → AreRanges number low end ranges
 unfolding are_ranges
 AreRanges-from zero low end ranges t = nil_from_length ranges (eqb-true (length ranges) 0 t)
 AreRanges-from (suc number) low end ranges t =
-    let both = and_parts (begins_with_range low end ranges) (are_ranges number (end_of ranges) end (behind ranges)) t in
-    (BeginsWithRange-from low end ranges both.0, AreRanges-from number (end_of ranges) end (behind ranges) both.1)
+    let both = and_parts (begins_with_range low end ranges) (are_ranges number (end_of ranges) end (after_front ranges)) t in
+    (BeginsWithRange-from low end ranges both.0, AreRanges-from number (end_of ranges) end (after_front ranges) both.1)
 
 delta_passes : (delta : List ℕ) → IsDelta PAGE_SIZE_MAX delta → is_delta delta ≡ true
 delta_passes delta h =

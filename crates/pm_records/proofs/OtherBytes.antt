@@ -3,7 +3,8 @@ use Rattle.std.proofs.Common.{◌≡◌, ℕ, ◌≤◌, List, [], length, None,
 use Rattle.pm_types.specs.declared.shape.Shape.{Shape}
 use Rattle.pm_frame.specs.declared.kinds.TheConstants.{LOGICAL, RESTART, SEAL}
 use Rattle.pm_records.specs.declared.limits.TheConstants.{SHAPE_LEN}
-use Rattle.pm_records.specs.Shapes.{IsShape, shape_bytes}
+use Rattle.pm_types.specs.Shapes.{IsShape}
+use Rattle.pm_records.specs.Shapes.{shape_bytes}
 use Rattle.pm_records.specs.Records.{Logical, Snapshot, Delta, CpBegin, Restart, Seal, kind_of, payload_of, IsRecord, record_of}
 use Rattle.pm_records.proofs.RecordOf.{record_of-none, kind_of-known}
 use Rattle.pm_records.proofs.ShapeBytes.{ShapeFits, ShapeFits-from, shape_bytes-same, length-shape_bytes}

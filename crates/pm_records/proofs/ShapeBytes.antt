@@ -6,7 +6,8 @@ use Rattle.pm_types.specs.declared.shape.Shape.{Shape}
 use Rattle.pm_types.proofs.PageSizeBounds.{page_size_bounds}
 use Rattle.pm_frame.proofs.Bytes.{AreBytes, cells, written_out, two_back, four_back}
 use Rattle.pm_records.specs.declared.limits.TheConstants.{SHAPE_LEN}
-use Rattle.pm_records.specs.Shapes.{IsShape, shape_bytes, named_shape}
+use Rattle.pm_types.specs.Shapes.{IsShape}
+use Rattle.pm_records.specs.Shapes.{shape_bytes, named_shape}
 
 -- numbers read from sixteen bytes are said by these bytes
 pub shape_bytes-said : (bytes : List ℕ) (page_size partitions version max_rows segment_bytes : ℕ) → length bytes ≡ 16

@@ -4,10 +4,10 @@ use Rattle.pm_types.specs.declared.limits.TheConstants.{PAGE_SIZE_MAX, PATCH_SPA
 use Rattle.pm_types.specs.declared.page_id.PageId.{PageId}
 use Rattle.pm_types.specs.declared.place.Place.{Place}
 use Rattle.pm_types.specs.declared.ranges.TheConstants.{RANGE_HEAD_LEN}
-use Rattle.pm_types.specs.DeltaRanges.{start_of, len_of, end_of, behind, number_of, ranges_of, IsDelta}
-use Rattle.pm_types.specs.PageSizes.{IsPageSize}
+use Rattle.pm_types.specs.DeltaRanges.{start_of, len_of, end_of, after_front, number_of, ranges_of, IsDelta}
+use Rattle.pm_types.specs.PageSizes.{IsPageSize, is_page_size}
 use Rattle.pm_records.specs.PageNames.{IsPageName, is_page_name}
-use Rattle.pm_records.specs.Shapes.{is_page_size}
+
 
 -- a page as a whole, of one of the five page sizes
 pub record IsSnapshot (page : PageId) (bytes : List ℕ) : Type 0 where
@@ -38,7 +38,7 @@ begins_with_range low end ranges =
 unfoldable pub are_ranges : ℕ → ℕ → ℕ → List ℕ → Bool
 are_ranges zero low end ranges = length ranges == 0
 are_ranges (suc number) low end ranges =
-    begins_with_range low end ranges && are_ranges number (end_of ranges) end (behind ranges)
+    begins_with_range low end ranges && are_ranges number (end_of ranges) end (after_front ranges)
 
 abbrev pub is_delta : List ℕ → Bool
 is_delta delta =

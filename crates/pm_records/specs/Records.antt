@@ -32,7 +32,8 @@ use Rattle.pm_types.specs.Keys.{HasKeyLength, HasValueLength}
 use Rattle.pm_frame.specs.declared.kinds.TheConstants.{LOGICAL, SNAPSHOT, DELTA, CP_BEGIN, RESTART, SEAL}
 use Rattle.pm_records.specs.declared.limits.TheConstants.{PUT, REMOVE, LOGICAL_HEAD_LEN, PAGE_NAME_LEN}
 use Rattle.pm_records.specs.PageRecords.{IsSnapshot, IsPageDelta, IsCpBegin, is_snapshot, is_page_delta, is_cp_begin}
-use Rattle.pm_records.specs.Shapes.{IsShape, is_shape, shape_bytes, named_shape}
+use Rattle.pm_types.specs.Shapes.{IsShape, is_shape}
+use Rattle.pm_records.specs.Shapes.{shape_bytes, named_shape}
 
 -- a record, without where it lies in memory
 pub data Record : Type 0 where

@@ -8,7 +8,7 @@ ghost use Rattle.pm_records.specs.Views.{record_view, record_in};
 use crate::limits::{CP_BEGIN_LEN, LOGICAL_HEAD_LEN, PAGE_NAME_LEN, PUT, REMOVE, SHAPE_LEN};
 use crate::page_name::is_page_name;
 use crate::record::{BadPayload, LogRecord};
-use crate::shape::{is_page_size, is_shape, shape_of};
+use crate::shape::shape_of;
 use pm_frame::{CP_BEGIN, DELTA, LOGICAL, RESTART, SEAL, SNAPSHOT};
 use pm_types::fields::{get_u32, get_u64};
 use pm_types::ranges::is_delta;

@@ -10,9 +10,9 @@ mod shape;
 
 pub use decoding::decode;
 pub use encoding::{encode, encoded_len};
-pub use limits::{PUT, REMOVE, ROWS_MAX, SEGMENT_BYTES_MAX, SEGMENT_BYTES_MIN, SHAPE_LEN};
+pub use limits::{PUT, REMOVE, SHAPE_LEN};
 pub use record::{BadPayload, LogRecord, kind_of};
-pub use shape::{is_page_size, is_shape, shape_bytes, shape_of};
+pub use shape::{shape_bytes, shape_of};
 
 #[cfg(test)]
 mod tests;

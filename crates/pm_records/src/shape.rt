@@ -1,29 +1,10 @@
-//! Shapes: their limits, and their bytes.
+//! The bytes of shapes.
 
-ghost use Rattle.std.specs.Prelude.{◌≡◌, ◌↔◌, IsTrue};
-ghost use Rattle.pm_types.specs.PageSizes.{IsPageSize};
-ghost use Rattle.pm_records.specs.Shapes.{IsShape, shape_bytes};
+ghost use Rattle.std.specs.Prelude.{◌≡◌};
+ghost use Rattle.pm_records.specs.Shapes.{shape_bytes};
 
-use crate::limits::{ROWS_MAX, SEGMENT_BYTES_MAX, SEGMENT_BYTES_MIN, SHAPE_LEN};
-use pm_types::{LAST_VERSION, PARTITIONS_MAX, Shape};
-
-/// Whether pages may have this size, in bytes.
-pub fn is_page_size(size: u32) -> bool
-    ensures { IsTrue result ↔ IsPageSize size }
-{
-    matches!(size, 1024 | 2048 | 4096 | 8192 | 16384)
-}
-
-/// Whether a store may have this shape: each of its numbers is within its limits.
-pub fn is_shape(shape: &Shape) -> bool
-    ensures { IsTrue result ↔ IsShape shape.now }
-{
-    is_page_size(shape.page_size)
-        && (1..=PARTITIONS_MAX).contains(&shape.partitions)
-        && (1..=LAST_VERSION).contains(&shape.version)
-        && (1..=ROWS_MAX).contains(&shape.max_rows)
-        && (SEGMENT_BYTES_MIN..=SEGMENT_BYTES_MAX).contains(&shape.segment_bytes)
-}
+use crate::limits::SHAPE_LEN;
+use pm_types::Shape;
 
 /// The shape that these bytes say, be it within its limits or not.
 pub fn shape_of(bytes: &[u8; SHAPE_LEN]) -> Shape

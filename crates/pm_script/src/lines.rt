@@ -3,7 +3,7 @@
 ghost use Rattle.std.specs.Prelude.{◌≡◌, ◌↔◌, ◌⊎◌, ◌+◌, ◌≤◌, ◌<◌, [], true, false, length, IsTrue, IfOk, OnOk};
 ghost use Rattle.std.specs.Borrow.{sem};
 ghost use Rattle.std.specs.Io.BufRead.{Rests};
-ghost use Rattle.pm_types.specs.Causes.{HasCause};
+ghost use Rattle.pm_disk.specs.Causes.{HasCause};
 ghost use Rattle.pm_disk.specs.Moments.{AllMoments};
 ghost use Rattle.pm_script.specs.Reading.{OnlyTakes, rest_of, TakesPart, Fills, Gives, CountsItem, CountsNext, Advances, KeepsLine, IsKind, IsEndedWith, IsEndedWithout};
 

@@ -3,7 +3,7 @@ use Rattle.std.specs.Prelude.{◌≡◌, ◌⊎◌, ◌≤◌, ◌+◌, ◌-◌,
 use Rattle.pm_types.specs.declared.place.Place.{Place}
 use Rattle.pm_frame.specs.declared.limits.TheConstants.{FRAME_EXTRA, SEGMENT_END_MAX}
 use Rattle.pm_frame.specs.Frames.{Frame, frame_len, frame_bytes}
-use Rattle.pm_records.specs.declared.limits.TheConstants.{SEGMENT_BYTES_MIN, SEGMENT_BYTES_MAX}
+use Rattle.pm_types.specs.declared.limits.TheConstants.{SEGMENT_BYTES_MIN, SEGMENT_BYTES_MAX}
 use Rattle.pm_disk.specs.Files.{Write, Cut, bytes_of}
 use Rattle.pm_disk.specs.Worlds.{World, log_changed, log_forced, segment_in}
 

@@ -1,11 +1,11 @@
 //! The log's writer.
 
 ghost use Rattle.std.specs.Prelude.{◌≡◌, ◌⊎◌, ◌≤◌, ◌<◌, ◌+◌, ◌↔◌, ℕ, [], length, true, IsTrue, IfOk, OnOk, OnErr};
-ghost use Rattle.pm_types.specs.Causes.{HasCause};
+ghost use Rattle.pm_disk.specs.Causes.{HasCause};
 ghost use Rattle.pm_frame.specs.declared.limits.TheConstants.{PAYLOAD_MAX as longest, SEGMENT_END_MAX as last_end};
 ghost use Rattle.pm_frame.specs.declared.kinds.TheConstants.{LOGICAL, SEAL};
 ghost use Rattle.pm_frame.specs.Frames.{IsFrame, frame_len};
-ghost use Rattle.pm_records.specs.declared.limits.TheConstants.{SEGMENT_BYTES_MIN as least_size, SEGMENT_BYTES_MAX as most_size};
+ghost use Rattle.pm_types.specs.declared.limits.TheConstants.{SEGMENT_BYTES_MIN as least_size, SEGMENT_BYTES_MAX as most_size};
 ghost use Rattle.pm_disk.specs.Files.{bytes_of};
 ghost use Rattle.pm_disk.specs.Worlds.{segment_in, log_forced};
 ghost use Rattle.pm_disk.specs.Moments.{Does, AllMoments};

@@ -1,9 +1,9 @@
 //! The top call.
 
 ghost use Rattle.std.specs.Prelude.{◌≡◌, ◌≢◌, ◌≤◌, ◌⊎◌, ◌^◌, [], map, false, IsTrue, string_bytes};
-ghost use Rattle.pm_types.specs.Causes.{Rose};
+ghost use Rattle.pm_disk.specs.Causes.{Rose};
 ghost use Rattle.pm_types.specs.declared.shape.Shape.{Shape};
-ghost use Rattle.pm_records.specs.Shapes.{IsShape};
+ghost use Rattle.pm_types.specs.Shapes.{IsShape};
 ghost use Rattle.pm_disk.specs.Images.{NothingPending};
 ghost use Rattle.pm_disk.specs.Moments.{AllMoments};
 ghost use Rattle.pm_disk.specs.Worlds.{World};

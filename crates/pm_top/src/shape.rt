@@ -1,6 +1,6 @@
 //! The shape of a store.
 
-use pm_records::SEGMENT_BYTES_MAX;
+use pm_types::SEGMENT_BYTES_MAX;
 use pm_types::Shape;
 
 /// The shape of each store: no file tells another one yet.

@@ -1,7 +1,7 @@
 //! The lines that tell faults.
 
 ghost use Rattle.std.specs.Prelude.{◌≡◌, ◌⊎◌, ◌≤◌, [], codes, OnOk};
-ghost use Rattle.pm_types.specs.Causes.{Rose};
+ghost use Rattle.pm_disk.specs.Causes.{Rose};
 ghost use Rattle.pm_disk.specs.Moments.{AllMoments};
 ghost use Rattle.pm_disk.specs.Worlds.{with_said};
 ghost use Rattle.pm_top.specs.Promises.{SaysPart, fault_record};

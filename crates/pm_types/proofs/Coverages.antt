@@ -5,42 +5,42 @@ use Rattle.std.proofs.lemmas.List.{get_or-take}
 use Rattle.std.proofs.lemmas.Option.{slice_get-get_or}
 use Rattle.pm_types.specs.declared.spans.Span.{Span}
 use Rattle.pm_types.proofs.PageSizeBounds.{page_size_bounds}
-use Rattle.pm_types.specs.Spans.{Holds, AnyHolds, RiseFrom, Lists, AreMany, Coverage, Covers, AlsoCovers, IsPatch}
+use Rattle.pm_types.specs.Spans.{IsInSpan, IsInSpans, RiseFrom, Lists, AreMany, Coverage, Covers, AlsoCovers, IsPatch}
 
 pub rise_at : (xs : List Span) (low i : ℕ) (d : Span) → RiseFrom low xs → i < length xs → (get_or xs i d).start < (get_or xs i d).end
 rise_at [] low i d rise lt = absurd (omega arith)
 rise_at (x ∷ xs) low zero d rise lt = rise.1
 rise_at (x ∷ xs) low (suc i) d rise lt = rise_at xs (x.end + 1) i d rise.2 (omega arith)
 
-pub any_at : (xs : List Span) (i k : ℕ) (d : Span) → i < length xs → Holds (get_or xs i d) k → AnyHolds xs k
+pub any_at : (xs : List Span) (i k : ℕ) (d : Span) → i < length xs → IsInSpan (get_or xs i d) k → IsInSpans xs k
 any_at [] i k d lt h = absurd (omega arith)
 any_at (x ∷ xs) zero k d lt h = inl h
 any_at (x ∷ xs) (suc i) k d lt h = inr (any_at xs i k d (omega arith) h)
 
-above : (xs : List Span) (low k : ℕ) → RiseFrom low xs → AnyHolds xs k → low ≤ k
+above : (xs : List Span) (low k : ℕ) → RiseFrom low xs → IsInSpans xs k → low ≤ k
 above [] low k rise h = absurd h
 above (x ∷ xs) low k rise h = elim h [ inl here ↦ omega (arith, rise.0, here.0) | inr rest ↦ omega (arith, rise.0, rise.1, above xs (x.end + 1) k rise.2 rest) ]
 
 -- what holds the first byte of the other's first range begins there or before
-starts_by : (x y : Span) (xs : List Span) (low : ℕ) → RiseFrom low (x ∷ xs) → AnyHolds (x ∷ xs) y.start → x.start ≤ y.start
+starts_by : (x y : Span) (xs : List Span) (low : ℕ) → RiseFrom low (x ∷ xs) → IsInSpans (x ∷ xs) y.start → x.start ≤ y.start
 starts_by x y xs low rise h = elim h [ inl here ↦ here.0 | inr rest ↦ omega (arith, rise.1, above xs (x.end + 1) y.start rise.2 rest) ]
 
 -- a first range ends where the other does: the byte at its end isn't held
-ends_by : (x y : Span) (xs : List Span) (low : ℕ) → RiseFrom low (x ∷ xs) → x.start ≡ y.start → ((k : ℕ) → Holds y k → AnyHolds (x ∷ xs) k) → y.end ≤ x.end
+ends_by : (x y : Span) (xs : List Span) (low : ℕ) → RiseFrom low (x ∷ xs) → x.start ≡ y.start → ((k : ℕ) → IsInSpan y k → IsInSpans (x ∷ xs) k) → y.end ≤ x.end
 ends_by x y xs low rise same all =
     elim (cases_lt x.end y.end) [
       | inl lt ↦ elim (all x.end (omega (arith, rise.1), lt)) [ inl here ↦ absurd (omega (arith, here.1)) | inr rest ↦ absurd (omega (arith, above xs (x.end + 1) x.end rise.2 rest)) ]
       | inr le ↦ le
     ]
 
--- behind equal first ranges, the others hold the same
-rest_of : (x y : Span) (xs ys : List Span) (low : ℕ) → RiseFrom low (x ∷ xs) → y.end ≡ x.end → ((k : ℕ) → AnyHolds (x ∷ xs) k → AnyHolds (y ∷ ys) k) → (k : ℕ) → AnyHolds xs k → AnyHolds ys k
+-- after equal first ranges, the others hold the same
+rest_of : (x y : Span) (xs ys : List Span) (low : ℕ) → RiseFrom low (x ∷ xs) → y.end ≡ x.end → ((k : ℕ) → IsInSpans (x ∷ xs) k → IsInSpans (y ∷ ys) k) → (k : ℕ) → IsInSpans xs k → IsInSpans ys k
 rest_of x y xs ys low rise same all k h =
     let up = above xs (x.end + 1) k rise.2 h in
     elim (all k (inr h)) [ inl here ↦ absurd (omega (arith, here.1, up, same)) | inr rest ↦ rest ]
 
 -- rising ranges that hold the same bytes are the same
-pub rise_unique : (xs ys : List Span) (low : ℕ) → RiseFrom low xs → RiseFrom low ys → ((k : ℕ) → AnyHolds xs k → AnyHolds ys k) → ((k : ℕ) → AnyHolds ys k → AnyHolds xs k) → xs ≡ ys
+pub rise_unique : (xs ys : List Span) (low : ℕ) → RiseFrom low xs → RiseFrom low ys → ((k : ℕ) → IsInSpans xs k → IsInSpans ys k) → ((k : ℕ) → IsInSpans ys k → IsInSpans xs k) → xs ≡ ys
 rise_unique [] [] low rise_x rise_y to back = refl
 rise_unique [] (y ∷ ys) low rise_x rise_y to back = absurd (back y.start (inl (omega arith, rise_y.1)))
 rise_unique (x ∷ xs) [] low rise_x rise_y to back = absurd (to x.start (inl (omega arith, rise_x.1)))
@@ -55,19 +55,19 @@ rise_unique (x ∷ xs) (y ∷ ys) low rise_x rise_y to back =
     λ j. (record { start = start j; end = end j }) ∷ tail j
 
 -- the ranges of both, settled, are what covers besides
-pub also_covers : (old new : Coverage) (set : ℕ → Type 0) (xs : List Span) → old.whole ≡ false → Lists xs (λ k. AnyHolds old.spans k ⊎ set k) → ((k : ℕ) → AnyHolds xs k → k < old.page_size) →
+pub also_covers : (old new : Coverage) (set : ℕ → Type 0) (xs : List Span) → old.whole ≡ false → Lists xs (λ k. IsInSpans old.spans k ⊎ set k) → ((k : ℕ) → IsInSpans xs k → k < old.page_size) →
     new.page_size ≡ old.page_size → (IsTrue new.whole ↔ AreMany old.page_size xs) → (new.whole ≡ false → new.spans ≡ xs) → AlsoCovers old new set
 also_covers old new set xs partly lists within size whole spans =
     let both : ℕ → Type 0 = λ k. Covers old k ⊎ set k in
-    let told : (k : ℕ) → AnyHolds xs k → both k = λ k h. elim (lists.only k h) [ inl there ↦ inl (inr there) | inr added ↦ inr added ] in
-    let held : (k : ℕ) → both k → AnyHolds xs k = λ k h. elim h [ inl was ↦ elim was [ inl all ↦ absurd (false≢true (sym partly ∙ all.0)) | inr there ↦ lists.all k (inl there) ] | inr added ↦ lists.all k (inr added) ] in
-    let covered : (k : ℕ) → both k → Covers new k = λ k h. elim (cases_Bool new.whole) [ inl entire ↦ inl (entire, omega (arith, size, within k (held k h))) | inr part ↦ inr (subst (λ (t : List Span). AnyHolds t k) (sym (spans part)) (held k h)) ] in
+    let told : (k : ℕ) → IsInSpans xs k → both k = λ k h. elim (lists.only k h) [ inl there ↦ inl (inr there) | inr added ↦ inr added ] in
+    let held : (k : ℕ) → both k → IsInSpans xs k = λ k h. elim h [ inl was ↦ elim was [ inl all ↦ absurd (false≢true (sym partly ∙ all.0)) | inr there ↦ lists.all k (inl there) ] | inr added ↦ lists.all k (inr added) ] in
+    let covered : (k : ℕ) → both k → Covers new k = λ k h. elim (cases_Bool new.whole) [ inl entire ↦ inl (entire, omega (arith, size, within k (held k h))) | inr part ↦ inr (subst (λ (t : List Span). IsInSpans t k) (sym (spans part)) (held k h)) ] in
     let alone : Lists xs both = record { rise = lists.rise; all = held; only = told } in
     record {
       size = size;
       keeps = λ k h. covered k (inl h);
       adds = λ k h. covered k (inr h);
-      nothing_else = λ part k h. elim h [ inl all ↦ absurd (false≢true (sym part ∙ all.0)) | inr there ↦ told k (subst (λ (t : List Span). AnyHolds t k) (spans part) there) ];
+      nothing_else = λ part k h. elim h [ inl all ↦ absurd (false≢true (sym part ∙ all.0)) | inr there ↦ told k (subst (λ (t : List Span). IsInSpans t k) (spans part) there) ];
       whole_if_needed = (
         λ entire. record { spans = xs; lists = alone; many = whole.0 entire },
         λ needed. let same : needed.spans ≡ xs = rise_unique needed.spans xs 0 needed.lists.rise lists.rise (λ k h. held k (needed.lists.only k h)) (λ k h. needed.lists.all k (told k h)) in
@@ -129,23 +129,23 @@ range_of_view view patch xs i count d number first is same_patch lt =
     }))
 
 -- a patch that is made anew of the ranges of both
-pub settled_covers : (view old settled new : Coverage) (set added : ℕ → Type 0) (before xs : List Span) → view ≡ old → settled ≡ new → IsPatch view → view.whole ≡ false → before ≡ view.spans → Lists xs (λ k. AnyHolds before k ⊎ added k) →
+pub settled_covers : (view old settled new : Coverage) (set added : ℕ → Type 0) (before xs : List Span) → view ≡ old → settled ≡ new → IsPatch view → view.whole ≡ false → before ≡ view.spans → Lists xs (λ k. IsInSpans before k ⊎ added k) →
     ((k : ℕ) → added k → set k) → ((k : ℕ) → set k → added k) → ((k : ℕ) → set k → k < view.page_size) →
     settled.page_size ≡ view.page_size → (IsTrue settled.whole ↔ AreMany view.page_size xs) → (settled.whole ≡ false → settled.spans ≡ xs) → AlsoCovers old new set
 settled_covers view old settled new set added before xs old_is new_is is partly same lists to back within size whole spans =
-    let both : Lists xs (λ k. AnyHolds view.spans k ⊎ set k) = subst (λ (t : List Span). Lists xs (λ k. AnyHolds t k ⊎ set k)) same (record {
+    let both : Lists xs (λ k. IsInSpans view.spans k ⊎ set k) = subst (λ (t : List Span). Lists xs (λ k. IsInSpans t k ⊎ set k)) same (record {
       rise = lists.rise;
       all = λ k h. lists.all k (elim h [ inl there ↦ inl there | inr here ↦ inr (back k here) ]);
       only = λ k h. elim (lists.only k h) [ inl there ↦ inl there | inr here ↦ inr (to k here) ];
     }) in
-    let inside : (k : ℕ) → AnyHolds xs k → k < view.page_size = λ k h. elim (both.only k h) [ inl there ↦ is.within k there | inr here ↦ within k here ] in
+    let inside : (k : ℕ) → IsInSpans xs k → k < view.page_size = λ k h. elim (both.only k h) [ inl there ↦ is.within k there | inr here ↦ within k here ] in
     subst (λ (p : Coverage × Coverage). AlsoCovers p.0 p.1 set) {x = (view, settled)} {y = (old, new)} (λ j. (old_is j, new_is j)) (also_covers view settled set xs partly both inside size whole spans)
 
 -- a patch that isn't whole covers what its ranges hold
-pub covers_spans : (patch : Coverage) (k : ℕ) → patch.whole ≡ false → Covers patch k → AnyHolds patch.spans k
+pub covers_spans : (patch : Coverage) (k : ℕ) → patch.whole ≡ false → Covers patch k → IsInSpans patch.spans k
 covers_spans patch k partly h = elim h [ inl all ↦ absurd (false≢true (sym partly ∙ all.0)) | inr there ↦ there ]
 
--- a whole patch, and one that is joined with it, as they stand behind a call
+-- a whole patch, and one that is joined with it, as they are after a call
 pub stays_whole : (patch : Coverage) (set : ℕ → Type 0) → IsPatch patch → IsTrue patch.whole → ((k : ℕ) → set k → k < patch.page_size) → AlsoCovers patch patch set
 stays_whole patch set is whole within =
     whole_covers patch patch set whole refl (omega (arith, (page_size_bounds patch.page_size is.size).0)) (λ k h. elim h [ inl was ↦ covers_within patch k is was | inr added ↦ within k added ]) (λ k lt. inl (inl (whole, lt)))

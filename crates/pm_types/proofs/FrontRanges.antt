@@ -1,13 +1,13 @@
--- So many ranges are the one at the front and those behind it.
+-- So many ranges are the one at the front and those after it.
 use Rattle.std.proofs.Common.{◌≡◌, ℕ, zero, suc, ◌-◌, ◌<◌, List, subst, refl, arith}
 use Rattle.std.specs.Prelude.{◌↔◌}
-use Rattle.pm_types.specs.DeltaRanges.{end_of, behind, BeginsWithRange, AreRanges, with_front, with_ranges}
+use Rattle.pm_types.specs.DeltaRanges.{end_of, after_front, BeginsWithRange, AreRanges, with_front, with_ranges}
 
-pub AreRanges-front : (left low end : ℕ) (ranges : List ℕ) → 0 < left → BeginsWithRange low end ranges → AreRanges (left - 1) (end_of ranges) end (behind ranges) ↔ AreRanges left low end ranges
+pub AreRanges-front : (left low end : ℕ) (ranges : List ℕ) → 0 < left → BeginsWithRange low end ranges → AreRanges (left - 1) (end_of ranges) end (after_front ranges) ↔ AreRanges left low end ranges
 AreRanges-front zero low end ranges some begins = absurd (omega arith)
 AreRanges-front (suc number) low end ranges some begins =
     let e : suc number - 1 ≡ number = omega arith in
-    let P : ℕ → Type 0 = λ n. AreRanges n (end_of ranges) end (behind ranges) in
+    let P : ℕ → Type 0 = λ n. AreRanges n (end_of ranges) end (after_front ranges) in
     (λ rest. (begins, subst P e rest), λ both. subst P (omega arith) both.1)
 
 -- where no range is at the front there are none
@@ -20,12 +20,12 @@ pub front_of : (left low end : ℕ) (ranges : List ℕ) → 0 < left → AreRang
 front_of zero low end ranges some all = absurd (omega arith)
 front_of (suc number) low end ranges some all = all.0
 
-pub behind_front : (left low end : ℕ) (ranges : List ℕ) → 0 < left → AreRanges left low end ranges → AreRanges (left - 1) (end_of ranges) end (behind ranges)
-behind_front left low end ranges some all = (AreRanges-front left low end ranges some (front_of left low end ranges some all)).1 all
+pub rest_after_front : (left low end : ℕ) (ranges : List ℕ) → 0 < left → AreRanges left low end ranges → AreRanges (left - 1) (end_of ranges) end (after_front ranges)
+rest_after_front left low end ranges some all = (AreRanges-front left low end ranges some (front_of left low end ranges some all)).1 all
 
-pub with_ranges-front : (left : ℕ) (ranges page : List ℕ) → 0 < left → with_ranges (left - 1) (behind ranges) (with_front ranges page) ≡ with_ranges left ranges page
+pub with_ranges-front : (left : ℕ) (ranges page : List ℕ) → 0 < left → with_ranges (left - 1) (after_front ranges) (with_front ranges page) ≡ with_ranges left ranges page
 with_ranges-front zero ranges page some = absurd (omega arith)
 with_ranges-front (suc number) ranges page some =
     let e : number ≡ suc number - 1 = omega arith in
-    let P : ℕ → Type 0 = λ n. with_ranges n (behind ranges) (with_front ranges page) ≡ with_ranges (suc number) ranges page in
+    let P : ℕ → Type 0 = λ n. with_ranges n (after_front ranges) (with_front ranges page) ≡ with_ranges (suc number) ranges page in
     subst P e refl

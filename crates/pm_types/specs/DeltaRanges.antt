@@ -30,11 +30,11 @@ end_of ranges = start_of ranges + len_of ranges
 abbrev pub front_bytes : List ℕ → List ℕ
 front_bytes ranges = bytes_at ranges RANGE_HEAD_LEN (len_of ranges)
 
--- what is behind the range at the front
-abbrev pub behind : List ℕ → List ℕ
-behind ranges = drop (RANGE_HEAD_LEN + len_of ranges) ranges
+-- what follows the range at the front
+abbrev pub after_front : List ℕ → List ℕ
+after_front ranges = drop (RANGE_HEAD_LEN + len_of ranges) ranges
 
--- a range is at the front, whole; it has a byte, begins at `low` or behind it, and ends at `end` or before it
+-- a range is at the front, whole; it has a byte, begins at `low` or after it, and ends at `end` or before it
 pub record BeginsWithRange (low end : ℕ) (ranges : List ℕ) : Type 0 where
   pub head : RANGE_HEAD_LEN ≤ length ranges
   pub rises : low ≤ start_of ranges
@@ -46,7 +46,7 @@ pub record BeginsWithRange (low end : ℕ) (ranges : List ℕ) : Type 0 where
 abbrev pub AreRanges : ℕ → ℕ → ℕ → List ℕ → Type 0
 AreRanges zero low end ranges = ranges ≡ []
 AreRanges (suc number) low end ranges =
-    BeginsWithRange low end ranges × AreRanges number (end_of ranges) end (behind ranges)
+    BeginsWithRange low end ranges × AreRanges number (end_of ranges) end (after_front ranges)
 
 -- how many ranges a delta names
 abbrev pub number_of : List ℕ → ℕ
@@ -69,7 +69,7 @@ with_front ranges page = splice page (start_of ranges) (end_of ranges) (front_by
 -- a page with the bytes of so many ranges in place of its own
 abbrev pub with_ranges : ℕ → List ℕ → List ℕ → List ℕ
 with_ranges zero ranges page = page
-with_ranges (suc number) ranges page = with_ranges number (behind ranges) (with_front ranges page)
+with_ranges (suc number) ranges page = with_ranges number (after_front ranges) (with_front ranges page)
 
 -- a page after the delta
 abbrev pub applied : List ℕ → List ℕ → List ℕ

@@ -2,7 +2,7 @@
 use Rattle.std.specs.Prelude.{◌≡◌, ℕ, ◌+◌, ◌<◌, ◌≤◌, List, slice_index, slice_range}
 use Rattle.std.specs.Int.{w16, w32, w64, from_le_bytes}
 use Rattle.pm_types.specs.declared.spans.Span.{Span}
-use Rattle.pm_types.specs.Spans.{Holds, Coverage}
+use Rattle.pm_types.specs.Spans.{IsInSpan, Coverage}
 use Rattle.pm_types.specs.Pages.{SameOutside, IsNoted}
 
 -- so many bytes from an offset on
@@ -27,5 +27,5 @@ AreZero page from end = (k : ℕ) → from ≤ k → k < end → slice_index pag
 
 -- of a page only these bytes were changed, and its patch has noted it
 pub record Writes (span : Span) (was now : List ℕ) (old new : Coverage) : Type 0 where
-  pub outside : SameOutside (Holds span) was now
+  pub outside : SameOutside (IsInSpan span) was now
   pub noted : IsNoted old new was now

@@ -1,4 +1,3 @@
-pub mod Causes
 pub mod DeltaRanges
 pub mod Faults
 pub mod Fields
@@ -7,4 +6,5 @@ pub mod Ids
 pub mod Keys
 pub mod PageSizes
 pub mod Pages
+pub mod Shapes
 pub mod Spans

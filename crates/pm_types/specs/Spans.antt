@@ -6,17 +6,17 @@ use Rattle.pm_types.specs.declared.limits.TheConstants.{PATCH_SPANS_MAX}
 use Rattle.pm_types.specs.declared.spans.Span.{Span}
 
 -- byte k is in the range
-abbrev pub Holds : Span → ℕ → Type 0
-Holds span k = (span.start ≤ k) × (k < span.end)
+abbrev pub IsInSpan : Span → ℕ → Type 0
+IsInSpan span k = (span.start ≤ k) × (k < span.end)
 
 -- the range of so many bytes from an offset on
 abbrev pub span_of : ℕ → ℕ → Span
 span_of at len = record { start = at; end = at + len }
 
 -- byte k is in one of the ranges
-abbrev pub AnyHolds : List Span → ℕ → Type 0
-AnyHolds [] k = ⊥
-AnyHolds (span ∷ spans) k = Holds span k ⊎ AnyHolds spans k
+abbrev pub IsInSpans : List Span → ℕ → Type 0
+IsInSpans [] k = ⊥
+IsInSpans (span ∷ spans) k = IsInSpan span k ⊎ IsInSpans spans k
 
 -- the ranges rise from `low` on, each has a byte, and there is a gap between each two
 abbrev pub RiseFrom : ℕ → List Span → Type 0
@@ -30,8 +30,8 @@ byte_count spans = sum_by (λ span. span.end - span.start) spans
 -- the ranges rise with gaps, and hold exactly the bytes of this set: no fewer ranges do
 pub record Lists (spans : List Span) (set : ℕ → Type 0) : Type 0 where
   pub rise : RiseFrom 0 spans
-  pub all : (k : ℕ) → set k → AnyHolds spans k
-  pub only : (k : ℕ) → AnyHolds spans k → set k
+  pub all : (k : ℕ) → set k → IsInSpans spans k
+  pub only : (k : ℕ) → IsInSpans spans k → set k
 
 -- these are more ranges than a patch has room for, or more than half the page
 abbrev pub AreMany : ℕ → List Span → Type 0
@@ -53,7 +53,7 @@ no_coverage page_size = record { page_size = page_size; whole = false; spans = [
 
 -- byte k of the page is covered
 abbrev pub Covers : Coverage → ℕ → Type 0
-Covers patch k = (IsTrue patch.whole × (k < patch.page_size)) ⊎ AnyHolds patch.spans k
+Covers patch k = (IsTrue patch.whole × (k < patch.page_size)) ⊎ IsInSpans patch.spans k
 
 -- to cover these bytes of a page takes more than eight ranges, or more than half the page
 pub record NeedsWhole (page_size : ℕ) (set : ℕ → Type 0) : Type 0 where
@@ -74,6 +74,6 @@ pub record IsPatch (patch : Coverage) : Type 0 where
   pub size : IsPageSize patch.page_size
   pub few : length patch.spans ≤ PATCH_SPANS_MAX
   pub rise : RiseFrom 0 patch.spans
-  pub within : (k : ℕ) → AnyHolds patch.spans k → k < patch.page_size
+  pub within : (k : ℕ) → IsInSpans patch.spans k → k < patch.page_size
   pub small : 2 * byte_count patch.spans ≤ patch.page_size
   pub none_if_whole : IsTrue patch.whole → patch.spans ≡ []

@@ -1,7 +1,7 @@
 //! Numbers and bytes in a page: reads, and writes that the page's patch notes.
 
 ghost use Rattle.std.specs.Prelude.{◌≡◌, ℕ, ◌+◌, ◌^◌, ◌<◌, ◌≤◌, ◌↔◌, IsTrue, length, replicate};
-ghost use Rattle.pm_types.specs.Spans.{Holds, span_of};
+ghost use Rattle.pm_types.specs.Spans.{IsInSpan, span_of};
 ghost use Rattle.pm_types.specs.Pages.{SameOutside};
 ghost use Rattle.pm_types.specs.Fields.{bytes_at, u16_at, u32_at, u64_at, AreZero, Writes};
 
@@ -41,7 +41,7 @@ pub fn get_u64(page: &[u8], at: u16) -> u64
 pub fn put_bytes(page: &mut [u8], at: u16, bytes: &[u8])
     requires { at + length bytes.now ≤ length page.old }
     ensures bytes { bytes_at page.new at (length bytes.now) ≡ bytes.now }
-    ensures outside { SameOutside (Holds (span_of at (length bytes.now))) page.old page.new }
+    ensures outside { SameOutside (IsInSpan (span_of at (length bytes.now))) page.old page.new }
 {
     let from = at as usize;
     page[from..from + bytes.len()].copy_from_slice(bytes);
@@ -51,7 +51,7 @@ pub fn put_bytes(page: &mut [u8], at: u16, bytes: &[u8])
 pub fn put_u16(page: &mut [u8], at: u16, value: u16)
     requires { at + 2 ≤ length page.old }
     ensures value { u16_at page.new at ≡ value }
-    ensures outside { SameOutside (Holds (span_of at 2)) page.old page.new }
+    ensures outside { SameOutside (IsInSpan (span_of at 2)) page.old page.new }
 {
     put_bytes(page, at, &value.to_le_bytes());
 }
@@ -60,7 +60,7 @@ pub fn put_u16(page: &mut [u8], at: u16, value: u16)
 pub fn put_u64(page: &mut [u8], at: u16, value: u64)
     requires { at + 8 ≤ length page.old }
     ensures value { u64_at page.new at ≡ value }
-    ensures outside { SameOutside (Holds (span_of at 8)) page.old page.new }
+    ensures outside { SameOutside (IsInSpan (span_of at 8)) page.old page.new }
 {
     put_bytes(page, at, &value.to_le_bytes());
 }
@@ -115,7 +115,7 @@ pub fn move_up(page: &mut [u8], at: u16, len: u16, up: u16, patch: &mut Patch)
 pub fn put_u32(page: &mut [u8], at: u16, value: u32)
     requires { at + 4 ≤ length page.old }
     ensures value { u32_at page.new at ≡ value }
-    ensures outside { SameOutside (Holds (span_of at 4)) page.old page.new }
+    ensures outside { SameOutside (IsInSpan (span_of at 4)) page.old page.new }
 {
     put_bytes(page, at, &value.to_le_bytes());
 }
@@ -135,7 +135,7 @@ pub fn set_u64(page: &mut [u8], at: u16, value: u64, patch: &mut Patch)
 pub fn put_zeros(page: &mut [u8], at: u16, len: u16)
     requires { at + len ≤ length page.old }
     ensures bytes { bytes_at page.new at len ≡ replicate len 0 }
-    ensures outside { SameOutside (Holds (span_of at len)) page.old page.new }
+    ensures outside { SameOutside (IsInSpan (span_of at len)) page.old page.new }
 {
     let from = at as usize;
     page[from..from + len as usize].fill(0);

@@ -21,12 +21,12 @@ pub use flag::{Flag, FrameNo, Tag};
 pub use key::{Key, Value};
 pub use limits::{
     BATCH_LINES_MAX, CACHES, KEY_MAX, LAST_VERSION, LINE_MAX, LINES_MAX, OP_EXTRA, OP_PAGES,
-    OUTBOX, PAGE_SIZE_MAX, PAGE_SIZE_MIN, PARTITIONS_MAX, PATCH_SPANS_MAX, RING_SLOTS,
-    SCRIPT_BYTES_MAX, VALUE_MAX,
+    OUTBOX, PAGE_SIZE_MAX, PAGE_SIZE_MIN, PARTITIONS_MAX, PATCH_SPANS_MAX, RING_SLOTS, ROWS_MAX,
+    SCRIPT_BYTES_MAX, SEGMENT_BYTES_MAX, SEGMENT_BYTES_MIN, VALUE_MAX,
 };
 pub use page::Page;
 pub use page_id::{Link, PageId, packing_agrees};
 pub use patch::Patch;
 pub use place::Place;
-pub use shape::{Mark, Shape};
+pub use shape::{Mark, Shape, is_page_size, is_shape};
 pub use value_room::ValueRoom;

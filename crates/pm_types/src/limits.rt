@@ -32,3 +32,9 @@ pub const PAGE_SIZE_MIN: usize = 1_024;
 pub const PAGE_SIZE_MAX: usize = 16_384;
 /// The most ranges of a patch. On the disk: a record that changes a page has as many.
 pub const PATCH_SPANS_MAX: usize = 8;
+/// The most rows of one partition, over all caches: its trees need no more than eight levels.
+pub const ROWS_MAX: u32 = 400_000;
+/// The least bytes of a log segment: the longest frame fits, and a SEAL after it.
+pub const SEGMENT_BYTES_MIN: u32 = 65_536;
+/// The most bytes of a log segment, 64 MiB.
+pub const SEGMENT_BYTES_MAX: u32 = 67_108_864;

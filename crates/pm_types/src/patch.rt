@@ -2,7 +2,7 @@
 
 ghost use Rattle.std.specs.Prelude.{◌≡◌, ℕ, ◌+◌, ◌<◌, ◌≤◌, ◌↔◌, Some, false, IsTrue, length, slice_get, take};
 ghost use Rattle.pm_types.specs.PageSizes.{IsPageSize};
-ghost use Rattle.pm_types.specs.Spans.{Holds, span_of, AnyHolds, RiseFrom, AreMany, no_coverage, Covers, AlsoCovers, IsPatch};
+ghost use Rattle.pm_types.specs.Spans.{IsInSpan, span_of, IsInSpans, RiseFrom, AreMany, no_coverage, Covers, AlsoCovers, IsPatch};
 
 use crate::limits::PATCH_SPANS_MAX;
 use crate::spans::{Span, add_span, add_spans, byte_count};
@@ -64,7 +64,7 @@ impl Patch {
     /// Covers the `len` bytes from offset `at` on besides what is covered. With a length of 0 nothing changes.
     pub fn add(&mut self, at: u16, len: u16)
         requires { at + len ≤ self.old.page_size }
-        ensures { AlsoCovers self.old self.new (Holds (span_of at len)) }
+        ensures { AlsoCovers self.old self.new (IsInSpan (span_of at len)) }
     {
         if len == 0 || self.whole {
             return;
@@ -118,7 +118,7 @@ impl Patch {
     }
 }
 
-// These ranges, with room for those of another patch behind them.
+// These ranges, with room for those of another patch after them.
 fn with_room(spans: &[Span]) -> [Span; UNION_SPANS_MAX]
     requires { length spans.now ≤ UNION_SPANS_MAX }
     ensures { take (length spans.now) result ≡ spans.now }
@@ -132,7 +132,7 @@ fn with_room(spans: &[Span]) -> [Span; UNION_SPANS_MAX]
 fn settled(page_size: u32, spans: &[Span]) -> Patch
     requires size { IsPageSize page_size }
     requires rise { RiseFrom 0 spans.now }
-    requires within { (k : ℕ) → AnyHolds spans.now k → k < page_size }
+    requires within { (k : ℕ) → IsInSpans spans.now k → k < page_size }
     requires few { length spans.now ≤ UNION_SPANS_MAX }
     ensures size { result.page_size ≡ page_size }
     ensures whole { IsTrue result.whole ↔ AreMany page_size spans.now }

@@ -1,7 +1,7 @@
 //! The ranges of a page that a delta carries.
 
 ghost use Rattle.std.specs.Prelude.{◌≡◌, ◌+◌, ◌≤◌, ◌↔◌, IsTrue, length};
-ghost use Rattle.pm_types.specs.DeltaRanges.{len_of, end_of, behind, BeginsWithRange, AreRanges, IsDelta};
+ghost use Rattle.pm_types.specs.DeltaRanges.{len_of, end_of, after_front, BeginsWithRange, AreRanges, IsDelta};
 
 use crate::fields::get_u16;
 use crate::limits::PATCH_SPANS_MAX;
@@ -33,7 +33,7 @@ fn are_ranges(number: u8, ranges: &[u8], end: usize) -> bool
         }
         left -= 1;
         low = end_of(rest);
-        rest = behind(rest);
+        rest = after_front(rest);
     }
     rest.is_empty()
 }
@@ -58,11 +58,11 @@ fn end_of(ranges: &[u8]) -> usize
     get_u16(ranges, 0) as usize + get_u16(ranges, 2) as usize
 }
 
-/// What is behind the range at the front.
-pub fn behind(ranges: &[u8]) -> &[u8]
+/// What follows the range at the front.
+pub fn after_front(ranges: &[u8]) -> &[u8]
     requires head { RANGE_HEAD_LEN ≤ length ranges.now }
     requires whole { RANGE_HEAD_LEN + len_of ranges.now ≤ length ranges.now }
-    ensures { result.now ≡ behind ranges.now }
+    ensures { result.now ≡ after_front ranges.now }
 {
     &ranges[RANGE_HEAD_LEN + get_u16(ranges, 2) as usize..]
 }

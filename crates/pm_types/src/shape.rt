@@ -1,5 +1,10 @@
 //! The shape of a store, and a checkpoint's mark.
 
+ghost use Rattle.std.specs.Prelude.{◌↔◌, IsTrue};
+ghost use Rattle.pm_types.specs.PageSizes.{IsPageSize};
+ghost use Rattle.pm_types.specs.Shapes.{IsShape};
+
+use crate::limits::{LAST_VERSION, PARTITIONS_MAX, ROWS_MAX, SEGMENT_BYTES_MAX, SEGMENT_BYTES_MIN};
 use crate::place::Place;
 
 /// What a store is made with, and what each opening has to ask for again.
@@ -15,6 +20,24 @@ pub struct Shape {
     pub max_rows: u32,
     /// The most bytes of one log segment, 65536 to 67108864.
     pub segment_bytes: u32,
+}
+
+/// Whether pages may have this size, in bytes.
+pub fn is_page_size(size: u32) -> bool
+    ensures { IsTrue result ↔ IsPageSize size }
+{
+    matches!(size, 1024 | 2048 | 4096 | 8192 | 16384)
+}
+
+/// Whether a store may have this shape: each of its numbers is within its limits.
+pub fn is_shape(shape: &Shape) -> bool
+    ensures { IsTrue result ↔ IsShape shape.now }
+{
+    is_page_size(shape.page_size)
+        && (1..=PARTITIONS_MAX).contains(&shape.partitions)
+        && (1..=LAST_VERSION).contains(&shape.version)
+        && (1..=ROWS_MAX).contains(&shape.max_rows)
+        && (SEGMENT_BYTES_MIN..=SEGMENT_BYTES_MAX).contains(&shape.segment_bytes)
 }
 
 /// What a checkpoint's marker says.

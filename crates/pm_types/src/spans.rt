@@ -1,7 +1,7 @@
 //! Rising ranges of a page's bytes, with a gap between each two.
 
 ghost use Rattle.std.specs.Prelude.{◌≡◌, ℕ, ◌+◌, ◌*◌, ◌<◌, ◌≤◌, ◌⊎◌, length, take, min, max};
-ghost use Rattle.pm_types.specs.Spans.{Holds, AnyHolds, RiseFrom, byte_count, Lists};
+ghost use Rattle.pm_types.specs.Spans.{IsInSpan, IsInSpans, RiseFrom, byte_count, Lists};
 
 /// A range of a page's bytes: from `start` on, below `end`.
 #[derive(Clone, Copy, Debug)]
@@ -16,7 +16,7 @@ pub fn add_spans(spans: &mut [Span], count: usize, added: &[Span]) -> usize
     requires rise { RiseFrom 0 (take count spans.old) }
     requires some { RiseFrom 0 added.now }
     ensures lists { Lists (take result spans.new)
-        (λ k. AnyHolds (take count spans.old) k ⊎ AnyHolds added.now k) }
+        (λ k. IsInSpans (take count spans.old) k ⊎ IsInSpans added.now k) }
     ensures as_many_more_at_most { result ≤ count + length added.now }
 {
     let mut number = count;
@@ -32,10 +32,10 @@ pub fn add_span(spans: &mut [Span], count: usize, added: Span) -> usize
     requires rise { RiseFrom 0 (take count spans.old) }
     requires some { added.start < added.end }
     ensures lists { Lists (take result spans.new)
-        (λ k. AnyHolds (take count spans.old) k ⊎ Holds added k) }
+        (λ k. IsInSpans (take count spans.old) k ⊎ IsInSpan added k) }
     ensures one_more_at_most { result ≤ count + 1 }
 {
-    // What isn't placed yet: the range, with those that it met; once that is placed, the range behind it.
+    // What isn't placed yet: the range, with those that it met; once that is placed, the range after it.
     let mut carried = added;
     let mut placed = 0;
     'each: for i in 0..count {

@@ -1,5 +1,5 @@
 use Rattle.std.proofs.Common.{◌+◌, ◌==◌, sym, ap, subst, ◌∙◌, arith}
-use Rattle.pm_types.specs.Spans.{Holds, span_of}
+use Rattle.pm_types.specs.Spans.{IsInSpan, span_of}
 use Rattle.pm_types.specs.Pages.{SameOutside}
 use Rattle.pm_types.specs.Fields.{u64_at}
 use Rattle.pm_btpage.proofs.ItemsByIndex.{item_bounds}
@@ -16,9 +16,9 @@ pub set_u64-requires-clause-within : goal.set_u64-requires-clause-within
 set_u64-requires-clause-within c = let b = item_bounds c.args.page.now c.args.i c.requires.page c.requires.item in omega (arith, b.within, c.place.ensures)
 
 pub returns-clause-page : goal.returns-clause-page
-returns-clause-page c = (word_changed c.args.page.now c.set_u64.new.page c.args.i c.args.word c.requires.page c.requires.item (subst (λ n. SameOutside (Holds (span_of (n + 65) 8)) c.args.page.now c.set_u64.new.page) c.place.ensures c.set_u64.ensures.writes.outside) (ap (λ n. u64_at c.set_u64.new.page (n + 65)) (sym c.place.ensures) ∙ c.set_u64.ensures.value)).well_made
+returns-clause-page c = (word_changed c.args.page.now c.set_u64.new.page c.args.i c.args.word c.requires.page c.requires.item (subst (λ n. SameOutside (IsInSpan (span_of (n + 65) 8)) c.args.page.now c.set_u64.new.page) c.place.ensures c.set_u64.ensures.writes.outside) (ap (λ n. u64_at c.set_u64.new.page (n + 65)) (sym c.place.ensures) ∙ c.set_u64.ensures.value)).well_made
 
 pub returns-clause-says : goal.returns-clause-says
 returns-clause-says c =
-    let all = word_changed c.args.page.now c.set_u64.new.page c.args.i c.args.word c.requires.page c.requires.item (subst (λ n. SameOutside (Holds (span_of (n + 65) 8)) c.args.page.now c.set_u64.new.page) c.place.ensures c.set_u64.ensures.writes.outside) (ap (λ n. u64_at c.set_u64.new.page (n + 65)) (sym c.place.ensures) ∙ c.set_u64.ensures.value) in
+    let all = word_changed c.args.page.now c.set_u64.new.page c.args.i c.args.word c.requires.page c.requires.item (subst (λ n. SameOutside (IsInSpan (span_of (n + 65) 8)) c.args.page.now c.set_u64.new.page) c.place.ensures c.set_u64.ensures.writes.outside) (ap (λ n. u64_at c.set_u64.new.page (n + 65)) (sym c.place.ensures) ∙ c.set_u64.ensures.value) in
     λ j. record { id = record { 0 = all.id j }; leaf = ap (λ n. n == 2) all.kind j; link = all.link j; items = all.items_are j }

@@ -1,5 +1,5 @@
 use Rattle.std.proofs.Common.{◌<◌, ◌≤◌, ◌∙◌, arith}
-use Rattle.pm_types.specs.Spans.{Holds, span_of}
+use Rattle.pm_types.specs.Spans.{IsInSpan, span_of}
 use Rattle.pm_types.proofs.Changes.{outside_then}
 use Rattle.pm_types.proofs.PageSizeBounds.{page_size_bounds}
 use Rattle.pm_data.proofs.Heads.{links_only}
@@ -8,13 +8,13 @@ use Rattle.pm_data.proofs.head.set_links.Goals as goal
 
 pub returns-clause-page : goal.returns-clause-page
 returns-clause-page c =
-    let outside = outside_then (Holds (span_of 16 4)) (Holds (span_of 20 4)) (λ k. (16 ≤ k) × (k < 24)) _ _ _ c.set_u32.ensures.writes.outside c.set_u32-2.ensures.writes.outside (λ k h. (h.0, omega (arith, h.1))) (λ k h. (omega (arith, h.0), h.1)) in
+    let outside = outside_then (IsInSpan (span_of 16 4)) (IsInSpan (span_of 20 4)) (λ k. (16 ≤ k) × (k < 24)) _ _ _ c.set_u32.ensures.writes.outside c.set_u32-2.ensures.writes.outside (λ k h. (h.0, omega (arith, h.1))) (λ k h. (omega (arith, h.0), h.1)) in
     (links_only _ _ outside c.requires.page).well_made
 
 pub returns-clause-says : goal.returns-clause-says
 returns-clause-says c =
     let bounds = page_size_bounds _ c.requires.page.size in
-    let outside = outside_then (Holds (span_of 16 4)) (Holds (span_of 20 4)) (λ k. (16 ≤ k) × (k < 24)) _ _ _ c.set_u32.ensures.writes.outside c.set_u32-2.ensures.writes.outside (λ k h. (h.0, omega (arith, h.1))) (λ k h. (omega (arith, h.0), h.1)) in
+    let outside = outside_then (IsInSpan (span_of 16 4)) (IsInSpan (span_of 20 4)) (λ k. (16 ≤ k) × (k < 24)) _ _ _ c.set_u32.ensures.writes.outside c.set_u32-2.ensures.writes.outside (λ k h. (h.0, omega (arith, h.1))) (λ k h. (omega (arith, h.0), h.1)) in
     let all = links_only _ _ outside c.requires.page in
-    let prev = u32_same (Holds (span_of 20 4)) _ _ 16 c.set_u32-2.ensures.writes.outside (omega (arith, bounds.0, c.set_u32.ensures.writes.outside.size)) (λ k ge lt h. omega (arith, h.0)) ∙ c.set_u32.ensures.value in
+    let prev = u32_same (IsInSpan (span_of 20 4)) _ _ 16 c.set_u32-2.ensures.writes.outside (omega (arith, bounds.0, c.set_u32.ensures.writes.outside.size)) (λ k ge lt h. omega (arith, h.0)) ∙ c.set_u32.ensures.value in
     λ j. record { id = record { 0 = all.id j }; prev = prev j; next = c.set_u32-2.ensures.value j; rows = all.rows j }

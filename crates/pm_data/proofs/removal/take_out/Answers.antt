@@ -1,5 +1,5 @@
 use Rattle.std.proofs.Common.{◌*◌, ap, arith}
-use Rattle.pm_types.specs.Spans.{Holds, span_of}
+use Rattle.pm_types.specs.Spans.{IsInSpan, span_of}
 use Rattle.pm_types.proofs.Changes.{noted, noted_then}
 use Rattle.pm_types.proofs.PageSizeBounds.{page_size_bounds}
 use Rattle.pm_data.specs.declared.slots.Slot.{Slot}
@@ -43,7 +43,7 @@ returns c =
       count_outside = count.outside;
       end_now = c.drop_empty_end.ensures.end;
     } in
-    let slots = noted c.move_up.new.patch c.add.new.self (Holds (span_of 32 (4 * c.get_u16-count.result))) c.move_up.new.page c.lift_slots.new.page c.lift_slots.ensures.outside c.add.ensures in
+    let slots = noted c.move_up.new.patch c.add.new.self (IsInSpan (span_of 32 (4 * c.get_u16-count.result))) c.move_up.new.page c.lift_slots.new.page c.lift_slots.ensures.outside c.add.ensures in
     record {
       drops = removed _ _ _ _ _ c.args.item _ _ _ c.get_u16-low.ensures c.get_u16-count.ensures c.get_slot-gone.ensures c.requires.page c.requires.item c.requires.row steps;
       noted = noted_then _ _ _ _ _ _ moved.noted (noted_then _ _ _ _ _ _ slots (noted_then _ _ _ _ _ _ low.noted count.noted));

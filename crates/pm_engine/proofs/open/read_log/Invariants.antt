@@ -1,6 +1,6 @@
 use Rattle.std.proofs.Common.{◌≡◌, ◌+◌, ◌-◌, ◌*◌, ◌^◌, ◌≤◌}
 use Rattle.pm_frame.specs.declared.limits.TheConstants.{SEGMENT_END_MAX}
-use Rattle.pm_records.specs.Shapes.{IsShape}
+use Rattle.pm_types.specs.Shapes.{IsShape}
 use Rattle.pm_disk.specs.Moments.{AllMoments}
 use Rattle.pm_segments.specs.Scans.{IsAhead}
 use Rattle.pm_engine.specs.Openings.{IsSame, ReadsSome}

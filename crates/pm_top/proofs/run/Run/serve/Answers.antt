@@ -3,7 +3,7 @@ use Rattle.std.specs.Prelude.{IsErrOf}
 use Rattle.pm_types.specs.declared.fault.StoreFault.TheVariants.{Failed, Memory}
 use Rattle.pm_disk.specs.Moments.{AllMoments}
 use Rattle.pm_disk.proofs.Chain.{at_last}
-use Rattle.pm_records.specs.Shapes.{IsShape}
+use Rattle.pm_types.specs.Shapes.{IsShape}
 use Rattle.pm_script.specs.Reading.{rest_of, Unread}
 use Rattle.pm_segments.specs.Written.{ChangesLog}
 use Rattle.pm_engine.specs.Engines.{Running}
