@@ -10,7 +10,7 @@ fn main(rt: HostRuntime) -> ExitCode {
     ExitCode::from(status(&rt))
 }
 
-// The status of the process. A word that isn't UTF-8 ends it with 1, and want of memory for the words
+// The status of the process. A word that isn't UTF-8 ends it with 1, and out of memory for the words
 // with 4; neither prints anything.
 fn status(rt: &HostRuntime) -> u8 {
     let Ok(words) = env::args(rt) else {

@@ -77,7 +77,7 @@ begun-more k n lt =
 pub length-segment_name : (seg : ℕ) → length (segment_name seg) ≡ 24
 length-segment_name seg = omega (arith, length-append (hex_digits 16 seg) (codes ".seg"), length-hex_digits 16 seg)
 
--- the digits of a name stand behind its first four bytes
+-- the digits of a name stand after its first four bytes
 pub slice_range-segment_name : (seg : ℕ) → slice_range (segment_name seg) 4 20 ≡ hex_digits 16 seg
 slice_range-segment_name seg =
     let le : 16 ≤ length (hex_digits 16 seg) = omega (arith, length-hex_digits 16 seg) in

@@ -29,7 +29,7 @@ pub record Does {T E : Type 0} (old new : History) (result : Result T E) (next :
   pub ok : OnOk result (new.world ≡ next)
   pub either : (new.world ≡ old.world) ⊎ (new.world ≡ next)
 
--- A call that writes a page: behind the end of a file that ends before it any bytes are written first.
+-- A call that writes a page: after the end of a file that ends before it any bytes are written first.
 pub record WritesPage {T E : Type 0} (old new : History) (result : Result T E) (page : PageId) (bytes : List ℕ) : Type 0 where
   pub gap : List ℕ
   pub reaches : length gap ≡ missing (page_at page (length bytes)) (pages_in old.world (part_of_id page))

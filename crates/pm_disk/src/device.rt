@@ -1,9 +1,10 @@
-//! What an object of the outside tells.
+//! What contracts observe of an object of the outside.
 
-ghost use Rattle.std.specs.Prelude.{ℕ};
 ghost use Rattle.pm_disk.specs.Moments.{History, IsHistory};
+ghost use Rattle.pm_disk.specs.States.{DeviceState};
 
-/// What an object of the outside tells. All but `faults` counts only where it tells content.
+/// What contracts observe of an object of the outside. A host whose content contracts can observe is
+/// said to tell it; `state` is observed of every object, all else only where it tells.
 pub trait Device {
     /// Whether objects of this type tell their content: over real files nobody can know it.
     ghost tells: { Type 0 };
@@ -11,8 +12,8 @@ pub trait Device {
     /// The world now, the moment, and what the world was at the moments since an earlier one.
     ghost history: { Self → History };
 
-    /// How often a call failed: the count never falls, and stands still at 2^64 - 1.
-    ghost faults: { Self → ℕ };
+    /// How often a call failed, and which calls may be made.
+    ghost state: { Self → DeviceState };
 
     ghost sound: { (device : Self) → tells → IsHistory (history device) };
 }

@@ -1,8 +1,8 @@
 //! Disk and console together.
 
-ghost use Rattle.std.specs.Prelude.{◌≡◌, ◌<◌, ◌≤◌, [], length, take, Some, IfOk};
+ghost use Rattle.std.specs.Prelude.{◌≡◌, ◌<◌, ◌≤◌, [], false, length, take, Some, IfOk};
 ghost use Rattle.std.specs.Result.{result_unwrap_or};
-ghost use Rattle.pm_disk.specs.Causes.{HasCause};
+ghost use Rattle.pm_disk.specs.States.{HasCause, IsUsable, MayUseAllPages, Binds};
 ghost use Rattle.pm_disk.specs.Files.{Drop, ReadsFrom, ReadsWhole};
 ghost use Rattle.pm_disk.specs.Worlds.{log_changed, marks_in, marks_changed, marks_forced, slot_at, slot_change, with_taken};
 ghost use Rattle.pm_disk.specs.Moments.{Does, Says};
@@ -14,29 +14,32 @@ use crate::pages::{PageReader, PageWriter};
 
 /// Disk and console in one object, so that a moment pairs what the disk holds with what was said.
 pub trait Host: LogFile + PageReader + PageWriter {
-    /// Names the folder of the store, and makes it where it isn't there.
-    /// It comes before every other call but `print`.
+    /// Binds the folder of the store, and makes it where it isn't there. This comes before every other
+    /// call but `print`. After `Failed` the folder is bound that was bound before.
     fn bind(&mut self, dir: &str) -> Result<(), Failed>
+        requires whole { (Self.state self.old).access.is_lent ≡ false }
+        ensures binds { Binds (Self.state self.old) (Self.state self.new) dir.now result }
         ensures does { Self.tells →
-            Does (Self.history self.old) (Self.history self.new) result (Self.history self.old).world }
-        ensures cause { HasCause (Self.faults self.old) (Self.faults self.new) result };
+            Does (Self.history self.old) (Self.history self.new) result (Self.history self.old).world };
 
     /// Reads the first bytes of the configuration, as many as it has and `into` holds, and answers how
     /// many; 0 where there is none.
     fn read_config(&mut self, into: &mut [u8]) -> Result<usize, Failed>
+        requires usable { IsUsable (Self.state self.old) }
         ensures bound { IfOk result (λ n. n ≤ length into.new) }
         ensures reads { Self.tells → IfOk result
             (λ n. ReadsFrom (Some (Self.history self.old).world.config) 0 n into.new) }
         ensures does { Self.tells →
             Does (Self.history self.old) (Self.history self.new) result (Self.history self.old).world }
-        ensures cause { HasCause (Self.faults self.old) (Self.faults self.new) result };
+        ensures cause { HasCause (Self.state self.old) (Self.state self.new) result };
 
     /// Removes a segment's file, where it is there. A crash may leave it there again, until the segment
     /// was forced after this.
     fn drop_log(&mut self, seg: u64) -> Result<(), Failed>
+        requires usable { IsUsable (Self.state self.old) }
         ensures does { Self.tells → Does (Self.history self.old) (Self.history self.new) result
             (log_changed seg Drop (Self.history self.old).world) }
-        ensures cause { HasCause (Self.faults self.old) (Self.faults self.new) result };
+        ensures cause { HasCause (Self.state self.old) (Self.state self.new) result };
 
     /// Fills `into` with a slot of a marker file, and answers true. It answers false, and fills `into`
     /// with zeros, exactly where the file ends before the slot's end.
@@ -46,33 +49,37 @@ pub trait Host: LogFile + PageReader + PageWriter {
         slot: u8,
         into: &mut [u8; SLOT_LEN],
     ) -> Result<bool, Failed>
-        requires { slot < 2 }
+        requires usable { IsUsable (Self.state self.old) }
+        requires slot { slot < 2 }
         ensures reads { Self.tells → IfOk result
             (λ whole. ReadsWhole (marks_in (Self.history self.old).world file) (slot_at slot) whole into.new) }
         ensures does { Self.tells →
             Does (Self.history self.old) (Self.history self.new) result (Self.history self.old).world }
-        ensures cause { HasCause (Self.faults self.old) (Self.faults self.new) result };
+        ensures cause { HasCause (Self.state self.old) (Self.state self.new) result };
 
     /// Writes a slot of a marker file, over what stands there and past the end. An absent file is made.
     /// Where the file ends before the slot, zeros are written between the two.
     fn write_mark(&mut self, file: MarkFile, slot: u8, bytes: &[u8; SLOT_LEN]) -> Result<(), Failed>
-        requires { slot < 2 }
+        requires usable { IsUsable (Self.state self.old) }
+        requires slot { slot < 2 }
         ensures does { Self.tells → Does (Self.history self.old) (Self.history self.new) result
             (marks_changed file (slot_change (marks_in (Self.history self.old).world file) slot bytes.now)
             (Self.history self.old).world) }
-        ensures cause { HasCause (Self.faults self.old) (Self.faults self.new) result };
+        ensures cause { HasCause (Self.state self.old) (Self.state self.new) result };
 
     /// Makes the bytes, the length and the existence of a marker file lasting, or, where there is no
     /// such file, its absence.
     fn force_mark(&mut self, file: MarkFile) -> Result<(), Failed>
+        requires usable { IsUsable (Self.state self.old) }
         ensures does { Self.tells → Does (Self.history self.old) (Self.history self.new) result
             (marks_forced file (Self.history self.old).world) }
-        ensures cause { HasCause (Self.faults self.old) (Self.faults self.new) result };
+        ensures cause { HasCause (Self.state self.old) (Self.state self.new) result };
 
     /// Takes at least one byte of the input, at most as many as `into` holds, and answers how many;
     /// 0 where the input is at its end. After `Failed` nothing was taken.
     fn read(&mut self, into: &mut [u8]) -> Result<usize, Failed>
-        requires { 0 < length into.old }
+        requires usable { IsUsable (Self.state self.old) }
+        requires room { 0 < length into.old }
         ensures bound { IfOk result (λ n. n ≤ length into.new) }
         ensures taken { Self.tells →
             IfOk result (λ n. take n into.new ≡ take n (Self.history self.old).world.input) }
@@ -80,11 +87,14 @@ pub trait Host: LogFile + PageReader + PageWriter {
             IfOk result (λ n. n ≡ 0 → (Self.history self.old).world.input ≡ []) }
         ensures does { Self.tells → Does (Self.history self.old) (Self.history self.new) result
             (with_taken (result_unwrap_or result 0) (Self.history self.old).world) }
-        ensures cause { HasCause (Self.faults self.old) (Self.faults self.new) result };
+        ensures cause { HasCause (Self.state self.old) (Self.state self.new) result };
 
-    /// Says the bytes. What is said lasts at once. After `Failed` some first bytes of them were said.
+    /// Says the bytes. What is said lasts at once. After `Failed` a prefix of them was said.
     fn print(&mut self, bytes: &[u8]) -> Result<(), Failed>
         ensures says { Self.tells →
             Says (Self.history self.old) (Self.history self.new) result bytes.now }
-        ensures cause { HasCause (Self.faults self.old) (Self.faults self.new) result };
+        ensures cause { HasCause (Self.state self.old) (Self.state self.new) result };
+
+    /// The whole host may read and write each page.
+    ghost all_pages: { (host : Self) → MayUseAllPages (Self.Device.state host) };
 }

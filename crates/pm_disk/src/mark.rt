@@ -1,6 +1,6 @@
 //! The two files of checkpoints' markers.
 
-/// A file of markers. It has two slots, one behind the other.
+/// A file of markers. It has two slots, one after the other.
 #[derive(Clone, Copy, Debug, PartialEq, Eq)]
 pub enum MarkFile {
     /// The start markers.

@@ -1,4 +1,4 @@
--- Reads into a buffer, one behind the other.
+-- Reads into a buffer, one after the other.
 use Rattle.std.proofs.Common.{◌≡◌, ◌+◌, ◌≤◌, ℕ, List, ◌++◌, length, take, Option, Some, None, refl, sym, ◌∙◌, ap, arith, length-append, length-take, append_assoc}
 use Rattle.std.proofs.Math.Seq.{take-append-add}
 use Rattle.std.proofs.lemmas.List.{take-take}

@@ -1,4 +1,4 @@
--- Writes to the log that stand one behind the other and aren't with the system yet.
+-- Writes to the log that stand one after the other and aren't with the system yet.
 use Rattle.std.specs.Prelude.{◌≡◌, ◌+◌, ◌<◌, ◌≤◌, ◌⊎◌, ℕ, List, [], ◌++◌, length}
 use Rattle.pm_disk_fs.specs.declared.gathered.TheConstants.{GATHERED_MAX}
 
@@ -8,7 +8,7 @@ pub record Stretch : Type 0 where
   pub at : ℕ
   pub bytes : List ℕ
 
--- A write of these bytes at this place stands right behind the stretch, and there is room for it.
+-- A write of these bytes at this place stands right after the stretch, and there is room for it.
 pub record GoesOn (stretch : Stretch) (seg at : ℕ) (more : List ℕ) : Type 0 where
   pub some : 0 < length stretch.bytes
   pub more_too : 0 < length more
@@ -16,7 +16,7 @@ pub record GoesOn (stretch : Stretch) (seg at : ℕ) (more : List ℕ) : Type 0 
   pub behind : stretch.at + length stretch.bytes ≡ at
   pub fits : length stretch.bytes + length more ≤ GATHERED_MAX
 
--- The bytes of a write at this place came behind what was gathered before, which stays where it was.
+-- The bytes of a write at this place came after what was gathered before, which stays where it was.
 pub record Joins (old new : Stretch) (seg at : ℕ) (more : List ℕ) : Type 0 where
   pub segment : new.seg ≡ seg
   pub grows : new.bytes ≡ old.bytes ++ more
@@ -29,7 +29,7 @@ pub record IsAlone (new : Stretch) (seg at : ℕ) (more : List ℕ) : Type 0 whe
   pub offset : new.at ≡ at
   pub all : new.bytes ≡ more
 
--- A write came behind what was gathered before, or is alone since that was written, or nothing is
+-- A write came after what was gathered before, or is alone since that was written, or nothing is
 -- gathered any more since both were written.
 abbrev pub Gathers : Stretch → Stretch → ℕ → ℕ → List ℕ → Type 0
 Gathers old new seg at more = Joins old new seg at more ⊎ (IsAlone new seg at more ⊎ (new.bytes ≡ []))

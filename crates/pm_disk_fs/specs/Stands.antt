@@ -24,7 +24,7 @@ WroteTo last name end = IsSomeAnd last (λ file. EndsAt file name end)
 abbrev pub Wrote : {F : Type 0} → Option (Opened F) → Stretch → Type 0
 Wrote last stretch = WroteTo last (Segment stretch.seg) (stretch.at + length stretch.bytes)
 
--- A write to a segment came behind what was gathered before, or is alone since that was written, or was
+-- A write to a segment came after what was gathered before, or is alone since that was written, or was
 -- itself written last of all.
 abbrev pub Takes : {F : Type 0} → Stretch → Stretch → Option (Opened F) → ℕ → ℕ → List ℕ → Type 0
 Takes old new last seg at more = Joins old new seg at more ⊎ ((IsAlone new seg at more × (0 < length old.bytes → Wrote last old)) ⊎ ((new.bytes ≡ []) × WroteTo last (Segment seg) (at + length more)))

@@ -14,7 +14,7 @@ use std::marker::Model;
 /// come to it.
 pub const GATHERED_MAX: usize = 1_048_576;
 
-/// Bytes of one segment from an offset on, of writes that stand one behind the other.
+/// Bytes of one segment from an offset on, of writes that stand one after the other.
 #[derive(Drop)]
 pub struct Gathered {
     seg: u64,
@@ -115,7 +115,7 @@ impl Gathered {
         true
     }
 
-    // Goes on with this write, where it stands right behind.
+    // Goes on with this write, where it stands right after.
     fn go_on(&mut self, seg: u64, at: u64, bytes: &[u8]) -> bool
         requires some { 0 < length self.old.bytes }
         requires fits { length self.old.bytes + length bytes.now ≤ GATHERED_MAX }

@@ -11,7 +11,7 @@ use std::io::{self, Seek, SeekFrom, Write};
 pub struct Opened<F: Drop> {
     pub name: StoreFile,
     file: F,
-    // Where the file stands, so that a write behind the last one needs no seek; none where nobody knows.
+    // Where the file stands, so that a write after the last one needs no seek; none where nobody knows.
     at: Option<u64>,
 }
 
@@ -30,7 +30,7 @@ impl<F: Write + Seek + OpenFile + Drop> Opened<F> {
         }
     }
 
-    /// Writes the bytes from the offset on. After an error some first bytes of them may be there.
+    /// Writes the bytes from the offset on. After an error a prefix of the bytes of them may be there.
     pub fn write(&mut self, at: u64, bytes: &[u8]) -> io::Result<()>
         ensures ends { OnOk result (EndsAt self.new self.old.name (at + length bytes.now)) }
     {

@@ -57,7 +57,7 @@ pub fn file_path(alloc: Global, dir: &str, file: StoreFile) -> io::Result<String
     Ok(path)
 }
 
-// Puts the name of a file behind the path.
+// Puts the name of a file after the path.
 fn push_name(path: &mut String, file: StoreFile) -> io::Result<()>
     ensures { OnOk result (string_bytes path.new ≡ string_bytes path.old ++ name_of file) }
 {

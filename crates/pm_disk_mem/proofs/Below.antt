@@ -40,7 +40,7 @@ pick_first pick.Lost log seg none = refl
 pick_first (pick.Fill byte) log seg none = refl
 pick_first (pick.Cut count) log seg none = let e : count - written_below log seg ≡ count = omega (arith, none) in ap (λ n. pick.Cut n) e
 
--- the pick for those behind it
+-- the pick for those after it
 pub pick_past : (pick : Pick) (file : File) (with_it rest : ℕ → File) (seg : ℕ) → written_below with_it seg ≡ written file.since + written_below rest seg → pick_at (pick_after pick file) rest seg ≡ pick_at pick with_it seg
 pick_past pick.Kept file with_it rest seg is = refl
 pick_past pick.Lost file with_it rest seg is = refl

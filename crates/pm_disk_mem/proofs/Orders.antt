@@ -1,4 +1,4 @@
--- Entries in order: what is put behind all others comes last.
+-- Entries in order: what is put after all others comes last.
 use Rattle.std.proofs.Common.{◌≡◌, ℕ, List, [], ◌∷◌, ◌++◌, Less, Greater, refl, sym, ◌∙◌, ap, subst, arith, append_assoc}
 use Rattle.std.specs.Ordering.{match_ordering, nat_cmp}
 use Rattle.std.specs.BTreeMap.{insert_entry}
@@ -9,7 +9,7 @@ use Rattle.std.proofs.lemmas.Bool.Decides.{nat_tests}
 use Rattle.std.proofs.lemmas.Map.Keys.{sorted_head, sorted_tail}
 use Rattle.pm_disk_mem.specs.Disks.{seen}
 
--- a key that is behind another one
+-- a key that is after another one
 greater : (m n : ℕ) → nat_cmp m n ≡ Less → nat_cmp n m ≡ Greater
 greater m n less = grind (arith, nat_tests)
 
@@ -18,7 +18,7 @@ head_below : {Y : Type 0} (first : ℕ) (es rest : List (ℕ × Y)) (e : ℕ × 
 head_below first [] rest e all = all.0
 head_below first (x ∷ es) rest e all = head_below first es rest e all.1
 
--- an entry whose key is behind all others is put at the end
+-- an entry whose key is after all others is put at the end
 pub insert_entry-last : {Y : Type 0} (es rest : List (ℕ × Y)) (k : ℕ) (y : Y) → IsStrictlySortedBy nat_cmp (keys_of (es ++ (k, y) ∷ rest)) → insert_entry nat_cmp es k y ≡ es ++ (k, y) ∷ []
 insert_entry-last [] rest k y sorted = refl
 insert_entry-last {Y} (e ∷ es) rest k y sorted =

@@ -40,7 +40,7 @@ CouldEach (entry ∷ entries) = CanAll entry.1.file.since entry.1.file.forced ×
 pub could_more : (left new_left : List (ℕ × Track)) (seg : ℕ) (track : Track) → left ≡ (seg, track) ∷ new_left → CanAll track.file.since track.file.forced → CouldEach new_left → CouldEach left
 could_more left new_left seg track is can each = subst (λ (l : List (ℕ × Track)). CouldEach l) (sym is) (can, each)
 
--- all keys are behind this one
+-- all keys are after this one
 abbrev Behind : {Y : Type 0} → ℕ → List (ℕ × Y) → Type 0
 Behind first entries = AllByRecursion (λ k. nat_cmp first k ≡ Less) (keys_of entries)
 
@@ -151,7 +151,7 @@ picked_none pick other entries seg behind =
     ∙ sym (left_none other)
     ∙ ap (λ (file : File). left_by other file) (sym (file_none entries seg behind))
 
--- The first of them and the others, which are behind it.
+-- The first of them and the others, which are after it.
 module _ (pick : Pick) (entry : ℕ × Track) (entries : List (ℕ × Track)) (behind : Behind entry.0 entries) where
   abbrev next : Pick
   next = pick_after pick entry.1.file

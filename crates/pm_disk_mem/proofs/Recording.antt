@@ -129,7 +129,7 @@ first_same files new_files console new_console config same =
       input = (same.script i).items;
     }
 
--- What is held before a step and after it, or after want of memory.
+-- What is held before a step and after it, or after out of memory.
 module _ (files new_files : Files) (console new_console : Console) (config : List ℕ) (same : SameStart files console new_files new_console) (steps new_steps : List Step) where
   abbrev pub before : World
   before = start_world files console config

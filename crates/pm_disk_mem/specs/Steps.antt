@@ -25,7 +25,7 @@ abbrev pub replay : List Step → World → World
 replay [] world = world
 replay (step ∷ steps) world = replay steps (stepped step world)
 
--- the world was so after some first of the steps, at least so many
+-- the world was so after a prefix of the steps, at least so many
 abbrev pub HasBeen : World → List Step → ℕ → World → Type 0
 HasBeen start steps least world = (k : ℕ) × (least ≤ k) × (k ≤ length steps) × (world ≡ replay (take k steps) start)
 

@@ -107,7 +107,7 @@ fn overwrite(held: &mut Vec<u8>, at: usize, bytes: &[u8]) -> Result<(), AllocErr
     Ok(())
 }
 
-/// Writes, and makes the file where it is absent. Want of memory leaves it as it was.
+/// Writes, and makes the file where it is absent. Out of memory leaves it as it was.
 pub fn write(
     alloc: Global,
     held: &mut Option<Vec<u8>>,
@@ -137,7 +137,7 @@ fn cut(alloc: Global, held: &mut Option<Vec<u8>>, len: usize)
     }
 }
 
-/// Makes the change of what a file holds. Want of memory leaves it as it was.
+/// Makes the change of what a file holds. Out of memory leaves it as it was.
 pub fn apply_change(
     alloc: Global,
     held: &mut Option<Vec<u8>>,

@@ -33,7 +33,7 @@ impl Console {
         })
     }
 
-    /// Says the bytes. Want of memory leaves the console as it was.
+    /// Says the bytes. Out of memory leaves the console as it was.
     pub fn say(&mut self, bytes: &[u8]) -> Result<(), AllocError>
         ensures says { OnOk result (Says self.old self.new bytes.now) }
         ensures unchanged { OnErr result (Says self.old self.new []) }

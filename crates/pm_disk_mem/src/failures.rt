@@ -50,7 +50,7 @@ impl Failures {
         Ok(())
     }
 
-    /// What a call made, want of memory counted as a failure.
+    /// What a call made, out of memory counted as a failure.
     pub fn counted<T>(&mut self, made: Result<T, AllocError>) -> Result<T, Failed>
         ensures value { IfOk result (λ value. made ≡ Ok value) }
         ensures fails { IsErr result → IsErr made }

@@ -52,7 +52,7 @@ impl MemFile {
         })
     }
 
-    /// Makes the change. Want of memory leaves the file as it was.
+    /// Makes the change. Out of memory leaves the file as it was.
     pub fn change(&mut self, alloc: Global, change: FileChange) -> Result<(), AllocError>
         requires { CanChange (change_of change) (content self.old.file) }
         ensures changed { OnOk result (self.new

@@ -42,7 +42,7 @@ impl Files {
         })
     }
 
-    /// Makes the change of a file. Want of memory leaves each file as it was.
+    /// Makes the change of a file. Out of memory leaves each file as it was.
     pub fn change(
         &mut self,
         alloc: Global,

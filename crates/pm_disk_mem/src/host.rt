@@ -43,7 +43,7 @@ impl MemHost {
     /// Where these are none, it has the configuration of the disk.
     ///
     /// Of its calls that can fail, counted from 0, those fail whose number is in `failing`, and from the
-    /// number `stop` on all. Each other one fails only for want of memory.
+    /// number `stop` on all. Each other one fails only for out of memory.
     pub fn new(
         alloc: Global,
         script: &[u8],
@@ -113,7 +113,7 @@ impl MemHost {
         self.run(Step::Change(file, change))
     }
 
-    /// Does the step and keeps it in the record. Want of memory fails the call.
+    /// Does the step and keeps it in the record. Out of memory fails the call.
     pub(crate) fn run(&mut self, step: Step) -> Result<(), Failed>
         requires { CanStep step self.old.files self.old.console }
         ensures does { Does (history_of self.old) (history_of self.new) result

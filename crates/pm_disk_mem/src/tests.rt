@@ -340,7 +340,7 @@ fn a_dropped_segment_may_be_back_until_it_is_forced(rt: HostRuntime) -> Result<(
     look_at_segments(&rt, &host, Pick::Lost, None, None)
 }
 
-/// Calls that write a page behind the end of its file, each with its answer.
+/// Calls that write a page after the end of its file, each with its answer.
 const BEHIND_THE_END: [(Call, &str); 3] = [
     (Call::ReadPage(1, 1), "Ok(false) \0\0\0\0"),
     (Call::WritePage(1, 2, b"WXYZ"), DONE),
@@ -420,7 +420,7 @@ const UP_TO_THE_STOP: [(Call, &str); 8] = [
     (Call::Print("d"), FAILED),
 ];
 
-/// One call of each other kind, all of them behind the stop, each with its answer.
+/// One call of each other kind, all of them after the stop, each with its answer.
 const BEHIND_THE_STOP: [(Call, &str); 8] = [
     (Call::DropLog(1), FAILED),
     (Call::ReadPage(0, 0), "Err(Failed) ...."),

@@ -9,7 +9,7 @@ use crate::files::Files;
 use crate::step::Step;
 use std::alloc::{AllocError, Global};
 
-/// Makes the step. Want of memory leaves all as it was.
+/// Makes the step. Out of memory leaves all as it was.
 pub fn make(
     alloc: Global,
     files: &mut Files,

@@ -13,8 +13,8 @@ use Rattle.pm_model.specs.Eval.{Pairs, after, after_all, replies_to, reply_to, a
 use Rattle.pm_model.proofs.Runs.{after_all-append, replies_to-append, accepted-append}
 use Rattle.pm_segments.specs.Written.{ChangesLog}
 use Rattle.pm_segments.proofs.Quiet.{log_then}
-use Rattle.pm_engine.specs.Held.{KeepsSome}
-use Rattle.pm_engine.specs.Engines.{Running, Goes, GoesOn, Stands, HasSegments}
+use Rattle.pm_engine.specs.Held.{CrashHoldsPrefix}
+use Rattle.pm_engine.specs.Engines.{Running, HasDone, HasDoneWithin, IsAtRest, HasSegments}
 use Rattle.pm_engine.specs.Batches.{tried_line, TriesLine, TriesLines}
 use Rattle.pm_engine.proofs.Going.{goes_keep, keeps_more}
 
@@ -67,8 +67,8 @@ module _ (tells : Type 0) (old : History) (start : Running) (first : ℕ) (lines
     pub shape : engine.shape ≡ start.shape
     pub map : engine.pairs ≡ after_all start.shape (take i lines) start.pairs
     pub order : engine.order ≡ start.order ++ accepted start.shape first (take i lines) start.pairs
-    pub goes : tells → (wanted : Shape) → Stands wanted start old.world → HasSegments start (length lines)
-        → GoesOn wanted start.pairs (take i lines) i start engine now.world × AllMoments old now (KeepsSome wanted start.shape start.pairs (take i lines))
+    pub goes : tells → (wanted : Shape) → IsAtRest wanted start old.world → HasSegments start (length lines)
+        → HasDoneWithin wanted start.pairs (take i lines) i start engine now.world × AllMoments old now (CrashHoldsPrefix wanted start.shape start.pairs (take i lines))
     pub log_only : tells → AllMoments old now (ChangesLog old.world)
 
   -- none yet
@@ -77,8 +77,8 @@ module _ (tells : Type 0) (old : History) (start : Running) (first : ℕ) (lines
     shape = refl;
     map = ap (λ ls. after_all start.shape ls start.pairs) (sym (none_taken lines));
     order = sym (append-nil start.order) ∙ ap (λ ls. start.order ++ accepted start.shape first ls start.pairs) (sym (none_taken lines));
-    goes = λ t wanted stands segments. subst (λ ls. GoesOn wanted start.pairs ls 0 start start old.world × AllMoments old old (KeepsSome wanted start.shape start.pairs ls)) (sym (none_taken lines))
-        ((stands, omega arith), started old (KeepsSome wanted start.shape start.pairs []) (sound t) (goes_keep wanted start.pairs [] start old.world stands));
+    goes = λ t wanted stands segments. subst (λ ls. HasDoneWithin wanted start.pairs ls 0 start start old.world × AllMoments old old (CrashHoldsPrefix wanted start.shape start.pairs ls)) (sym (none_taken lines))
+        ((stands, omega arith), started old (CrashHoldsPrefix wanted start.shape start.pairs []) (sound t) (goes_keep wanted start.pairs [] start old.world stands));
     log_only = still;
   }
 
@@ -108,14 +108,14 @@ module _ (tells : Type 0) (old : History) (start : Running) (first : ℕ) (lines
     one_more segments climbs = omega (arith, segments, climbs, within)
 
     module _ {T E : Type 0} (result : Result T E) (tries : TriesLine {T = T} {E = E} tells mid new engine now number line result) where
-      moments_more : tells → (wanted : Shape) → Stands wanted start old.world → HasSegments start (length lines) → AllMoments old new (KeepsSome wanted start.shape start.pairs (take i lines ++ tried_line tries.tried line))
+      moments_more : tells → (wanted : Shape) → IsAtRest wanted start old.world → HasSegments start (length lines) → AllMoments old new (CrashHoldsPrefix wanted start.shape start.pairs (take i lines ++ tried_line tries.tried line))
       moments_more t wanted stands segments =
           let so_far = comes.goes t wanted stands segments in
           let more = tried_line tries.tried line in
-          let P : World → Type 0 = KeepsSome wanted start.shape start.pairs (take i lines ++ more) in
+          let P : World → Type 0 = CrashHoldsPrefix wanted start.shape start.pairs (take i lines ++ more) in
           joined old mid new P
-          (weaker old mid (KeepsSome wanted start.shape start.pairs (take i lines)) P (λ w keeps. keeps_more wanted start.shape start.pairs (take i lines) more w keeps) so_far.1)
-          (subst (λ s. AllMoments mid new (KeepsSome wanted s start.pairs (take i lines ++ more))) comes.shape
+          (weaker old mid (CrashHoldsPrefix wanted start.shape start.pairs (take i lines)) P (λ w keeps. keeps_more wanted start.shape start.pairs (take i lines) more w keeps) so_far.1)
+          (subst (λ s. AllMoments mid new (CrashHoldsPrefix wanted s start.pairs (take i lines ++ more))) comes.shape
           (tries.moments t wanted start.pairs (take i lines) so_far.0.0 (one_more segments so_far.0.1)))
 
       -- a fault came on the way
@@ -127,12 +127,12 @@ module _ (tells : Type 0) (old : History) (start : Running) (first : ℕ) (lines
             within = many_within tries.tried i (length lines) within;
             order = order_more (tried_line tries.tried line) tries.order ∙ ap (λ ls. start.order ++ accepted start.shape first ls start.pairs) (sym taken);
             all = all;
-            moments = λ t wanted stands segments. subst (λ ls. AllMoments old new (KeepsSome wanted start.shape start.pairs ls)) (sym taken) (moments_more t wanted stands segments);
+            moments = λ t wanted stands segments. subst (λ ls. AllMoments old new (CrashHoldsPrefix wanted start.shape start.pairs ls)) (sym taken) (moments_more t wanted stands segments);
           }
 
       -- the line was done
       pub comes_next : (x : T) → result ≡ Ok x → now.shape ≡ engine.shape → now.pairs ≡ after engine.shape line engine.pairs
-          → (tells → (wanted : Shape) (from : Pairs) (done : List Line) → Goes wanted from done engine mid.world → HasSegments engine 1 → OnOk result (GoesOn wanted from (done ++ line ∷ []) 1 engine now new.world))
+          → (tells → (wanted : Shape) (from : Pairs) (done : List Line) → HasDone wanted from done engine mid.world → HasSegments engine 1 → OnOk result (HasDoneWithin wanted from (done ++ line ∷ []) 1 engine now new.world))
           → (tells → AllMoments mid new (ChangesLog mid.world)) → (tells → ChangesLog old.world mid.world) → Comes (i + 1) new now
       comes_next x is shapes maps goes_on only mid_only =
           let tried : tries.tried ≡ true = ok_holds result x (tries.tried ≡ true) is tries.all in
@@ -145,10 +145,10 @@ module _ (tells : Type 0) (old : History) (start : Running) (first : ℕ) (lines
                 ∙ ap (λ ls. start.order ++ accepted start.shape first ls start.pairs) (sym taken);
             goes = λ t wanted stands segments.
                 let so_far = comes.goes t wanted stands segments in
-                let next = ok_holds result x (GoesOn wanted start.pairs (take i lines ++ line ∷ []) 1 engine now new.world) is (goes_on t wanted start.pairs (take i lines) so_far.0.0 (one_more segments so_far.0.1)) in (
-                  (subst (λ ls. Goes wanted start.pairs ls now new.world) (sym taken) next.0, omega (arith, next.1, so_far.0.1)),
-                  subst (λ ls. AllMoments old new (KeepsSome wanted start.shape start.pairs ls)) (sym taken)
-                      (subst (λ b. AllMoments old new (KeepsSome wanted start.shape start.pairs (take i lines ++ tried_line b line))) tried (moments_more t wanted stands segments)),
+                let next = ok_holds result x (HasDoneWithin wanted start.pairs (take i lines ++ line ∷ []) 1 engine now new.world) is (goes_on t wanted start.pairs (take i lines) so_far.0.0 (one_more segments so_far.0.1)) in (
+                  (subst (λ ls. HasDone wanted start.pairs ls now new.world) (sym taken) next.0, omega (arith, next.1, so_far.0.1)),
+                  subst (λ ls. AllMoments old new (CrashHoldsPrefix wanted start.shape start.pairs ls)) (sym taken)
+                      (subst (λ b. AllMoments old new (CrashHoldsPrefix wanted start.shape start.pairs (take i lines ++ tried_line b line))) tried (moments_more t wanted stands segments)),
                 );
             log_only = λ t. log_joined old mid new (comes.log_only t) (mid_only t) (only t);
           }

@@ -13,19 +13,19 @@ use Rattle.pm_disk.specs.Worlds.{World}
 use Rattle.pm_model.specs.Eval.{Pairs}
 use Rattle.pm_segments.specs.Ends.{place_behind}
 use Rattle.pm_segments.specs.Grammars.{place, all_frames}
-use Rattle.pm_segments.specs.Logs.{Run, behind, next, contents, is_seal}
+use Rattle.pm_segments.specs.Logs.{HasFrames, after_frames, next, contents, is_seal}
 use Rattle.pm_segments.specs.Scans.{Scanned, stands_next, Advances, is_last}
 use Rattle.pm_segments.specs.Read.{IsLogFrom}
 use Rattle.pm_segments.proofs.Reading.{scan_goes, scan_ends, point_going, going_on}
 use Rattle.pm_segments.proofs.Runs.{bool_cases}
 use Rattle.pm_engine.specs.Records.{record_in}
-use Rattle.pm_engine.specs.Held.{is_restart, shape_told, shape_of, redone, then_redone, all_redone, IsHeld, Holds}
+use Rattle.pm_engine.specs.Held.{is_restart, shape_told, shape_of, replayed, then_replayed, all_replayed, IsHeld, Holds}
 use Rattle.pm_engine.specs.Openings.{IsBadBehind, IsBadRecord, TakesFrame, IsFound, ReadsSome, ReadsAll}
 use Rattle.pm_engine.specs.declared.found.Found.{Found}
 use Rattle.pm_engine.proofs.Going.{all_redone-append}
 
 -- a RESTART leaves the map as it is
-restart_leaves : (shape : Shape) (found : Option Record) (pairs : Pairs) → is_restart found ≡ true → redone shape found pairs ≡ Some pairs
+restart_leaves : (shape : Shape) (found : Option Record) (pairs : Pairs) → is_restart found ≡ true → replayed shape found pairs ≡ Some pairs
 restart_leaves shape None pairs is = absurd cc
 restart_leaves shape (Some (Logical op cache key value)) pairs is = absurd cc
 restart_leaves shape (Some (Snapshot page bytes)) pairs is = absurd cc
@@ -69,8 +69,8 @@ found_more wanted (g ∷ gs) old new f found takes =
       held = record {
         begins = found.held.begins;
         told = more.1 ∙ found.held.told;
-        map = ap (λ s. all_redone s ((g ∷ gs) ++ f ∷ []) (Some empty)) more.1
-            ∙ all_redone-append old.shape (g ∷ gs) (f ∷ []) (Some empty) ∙ ap (then_redone old.shape f) found.held.map ∙ more.0;
+        map = ap (λ s. all_replayed s ((g ∷ gs) ++ f ∷ []) (Some empty)) more.1
+            ∙ all_redone-append old.shape (g ∷ gs) (f ∷ []) (Some empty) ∙ ap (then_replayed old.shape f) found.held.map ∙ more.0;
       };
       begun = more.2;
     }
@@ -81,25 +81,25 @@ found_bad wanted [] old new f found takes = takes.0 found.begun
 found_bad wanted (g ∷ gs) old new f found takes =
     let shape : old.shape ≡ shape_of wanted (g ∷ gs) = found.held.told in (
       old.map,
-      ap (λ s. all_redone s (g ∷ gs) (Some empty)) (sym shape) ∙ found.held.map,
-      ap (λ s. redone s (record_in f) old.map) (sym shape) ∙ takes.1 found.begun,
+      ap (λ s. all_replayed s (g ∷ gs) (Some empty)) (sym shape) ∙ found.held.map,
+      ap (λ s. replayed s (record_in f) old.map) (sym shape) ∙ takes.1 found.begun,
     )
 
 -- ---- a bad record makes a store unsound
 
 -- once there is none, no map comes
-none_stays : (shape : Shape) (frames : List Frame) → all_redone shape frames None ≡ None
+none_stays : (shape : Shape) (frames : List Frame) → all_replayed shape frames None ≡ None
 none_stays shape [] = refl
 none_stays shape (f ∷ frames) = none_stays shape frames
 
 pub bad_unsound : (wanted : Shape) (before : List Frame) (f : Frame) (rest : List Frame) (shape : Shape) (pairs : Pairs) → IsBadBehind wanted before f → IsHeld wanted (before ++ f ∷ rest) shape pairs → ⊥
 bad_unsound wanted [] f rest shape pairs bad held = let both : true ≡ false = sym held.begins ∙ bad in absurd cc
 bad_unsound wanted (g ∷ gs) f rest shape pairs bad held =
-    let all : all_redone shape ((g ∷ gs) ++ f ∷ rest) (Some empty) ≡ None =
-    ap (λ s. all_redone s ((g ∷ gs) ++ f ∷ rest) (Some empty)) held.told
+    let all : all_replayed shape ((g ∷ gs) ++ f ∷ rest) (Some empty) ≡ None =
+    ap (λ s. all_replayed s ((g ∷ gs) ++ f ∷ rest) (Some empty)) held.told
     ∙ all_redone-append (shape_of wanted (g ∷ gs)) (g ∷ gs) (f ∷ rest) (Some empty)
-    ∙ ap (λ o. all_redone (shape_of wanted (g ∷ gs)) rest (then_redone (shape_of wanted (g ∷ gs)) f o)) bad.1
-    ∙ ap (all_redone (shape_of wanted (g ∷ gs)) rest) bad.2
+    ∙ ap (λ o. all_replayed (shape_of wanted (g ∷ gs)) rest (then_replayed (shape_of wanted (g ∷ gs)) f o)) bad.1
+    ∙ ap (all_replayed (shape_of wanted (g ∷ gs)) rest) bad.2
     ∙ none_stays (shape_of wanted (g ∷ gs)) rest in
     let both : Some pairs ≡ None = sym held.map ∙ all in absurd cc
 
@@ -117,7 +117,7 @@ climbs_by scan later f advances = elim (bool_cases (is_seal f && not (is_last sc
 ]
 
 -- what a run begins with, the log begins with
-run_front : (world : World) (from : Place) (xs fs : List Frame) → Run all_frames (contents world.log) from xs → IsLogFrom world from fs → (rest : List Frame) × (fs ≡ xs ++ rest)
+run_front : (world : World) (from : Place) (xs fs : List Frame) → HasFrames all_frames (contents world.log) from xs → IsLogFrom world from fs → (rest : List Frame) × (fs ≡ xs ++ rest)
 run_front world from [] fs run log = (fs, refl)
 run_front world from (x ∷ xs) [] run log = let none : None ≡ Some x = sym log.ends ∙ run.0 in absurd cc
 run_front world from (x ∷ xs) (f ∷ fs) run log =
@@ -126,8 +126,8 @@ run_front world from (x ∷ xs) (f ∷ fs) run log =
     let more = run_front world (next from x) xs fs run.1 (subst (λ g. IsLogFrom world (next from g) fs) same left) in
     (more.0, ap (λ g. g ∷ fs) same ∙ ap (λ gs. x ∷ gs) more.1)
 
-run_last : (world : World) (from : Place) (xs : List Frame) (f : Frame) → Run all_frames (contents world.log) from (xs ++ f ∷ [])
-    → all_frames.frame_at (behind from xs).seg (behind from xs).off (contents world.log (behind from xs).seg) ≡ Some f
+run_last : (world : World) (from : Place) (xs : List Frame) (f : Frame) → HasFrames all_frames (contents world.log) from (xs ++ f ∷ [])
+    → all_frames.frame_at (after_frames from xs).seg (after_frames from xs).off (contents world.log (after_frames from xs).seg) ≡ Some f
 run_last world from [] f run = run.0
 run_last world from (x ∷ xs) f run = run_last world (next from x) xs f run.1
 
@@ -154,7 +154,7 @@ module _ (wanted : Shape) (world : World) (scan later : Scanned) (old new : Foun
   pub reads_bad : (f : Frame) → stands_next scan world ≡ Some f → Advances scan later (Some f) → TakesFrame false old new (record_in f) → IsBadRecord wanted world later.place
   reads_bad f stands advances takes =
       let goes = scan_goes world (place 1 0) reads.frames scan later f reads.scanned stands advances in
-      let there : behind (place 1 0) reads.frames ≡ later.place = reads.scanned.goes_on ∙ point_going scan (going_on scan world f stands) ∙ sym advances.0 in
+      let there : after_frames (place 1 0) reads.frames ≡ later.place = reads.scanned.goes_on ∙ point_going scan (going_on scan world f stands) ∙ sym advances.0 in
       record {
         before = reads.frames;
         run = reads.scanned.run;

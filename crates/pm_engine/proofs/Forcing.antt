@@ -14,8 +14,8 @@ use Rattle.pm_segments.specs.Ends.{EndsThere}
 use Rattle.pm_segments.specs.Written.{ChangesLog}
 use Rattle.pm_segments.proofs.Emptied.{forced_reads}
 use Rattle.pm_segments.proofs.Quiet.{log_same}
-use Rattle.pm_engine.specs.Held.{KeepsSome}
-use Rattle.pm_engine.specs.Engines.{Running, Goes, GoesOn, Stands, StandsOn, HasSegments}
+use Rattle.pm_engine.specs.Held.{CrashHoldsPrefix}
+use Rattle.pm_engine.specs.Engines.{Running, HasDone, HasDoneWithin, IsAtRest, IsAtRestWithin, HasSegments}
 use Rattle.pm_engine.specs.Batches.{TriesLines}
 use Rattle.pm_engine.proofs.Going.{goes_keep, force_stands, force_quiet, forced_keeps}
 
@@ -28,16 +28,16 @@ module _ {T E : Type 0} (old new : History) (engine : Running) (result : Result 
   forced_ends ends = on_ok_weaker result (λ is. subst (EndsThere engine.log) (sym is) (ap (λ o. length (bytes_of o)) (forced_reads engine.log.end.seg old.world) ∙ ends)) call.ok
 
   -- nothing is pending then
-  pub forced_stands : (wanted : Shape) (start : Pairs) (done : List Line) → Goes wanted start done engine old.world → OnOk result (StandsOn wanted 0 engine engine new.world)
-  forced_stands wanted start done goes = on_ok_weaker result (λ is. subst (StandsOn wanted 0 engine engine) (sym is) record {
+  pub forced_stands : (wanted : Shape) (start : Pairs) (done : List Line) → HasDone wanted start done engine old.world → OnOk result (IsAtRestWithin wanted 0 engine engine new.world)
+  forced_stands wanted start done goes = on_ok_weaker result (λ is. subst (IsAtRestWithin wanted 0 engine engine) (sym is) record {
     stands = force_stands wanted start done engine old.world goes;
     climbs = omega arith;
     lasting = force_quiet wanted start done engine old.world goes;
   }) call.ok
 
-  pub forced_moments : (wanted : Shape) (start : Pairs) (done : List Line) → IsHistory old → Goes wanted start done engine old.world → AllMoments old new (KeepsSome wanted engine.shape start done)
+  pub forced_moments : (wanted : Shape) (start : Pairs) (done : List Line) → IsHistory old → HasDone wanted start done engine old.world → AllMoments old new (CrashHoldsPrefix wanted engine.shape start done)
   forced_moments wanted start done sound goes =
-      let P : World → Type 0 = KeepsSome wanted engine.shape start done in
+      let P : World → Type 0 = CrashHoldsPrefix wanted engine.shape start done in
       let before = goes_keep wanted start done engine old.world goes in
       does old old new result next P (started old P sound before) call before (forced_keeps wanted start done engine old.world goes)
 
@@ -56,8 +56,8 @@ module _ {T E S F : Type 0} (tells : Type 0) (old mid new : History) (start now 
 
   -- or with it, or none did
   pub tries_forced : tries.count ≡ length lines → now.shape ≡ start.shape
-      → (tells → (wanted : Shape) → Stands wanted start old.world → HasSegments start (length lines) → GoesOn wanted start.pairs lines (length lines) start now mid.world)
-      → (tells → (wanted : Shape) (from : Pairs) (done : List Line) → Goes wanted from done now mid.world → AllMoments mid new (KeepsSome wanted now.shape from done))
+      → (tells → (wanted : Shape) → IsAtRest wanted start old.world → HasSegments start (length lines) → HasDoneWithin wanted start.pairs lines (length lines) start now mid.world)
+      → (tells → (wanted : Shape) (from : Pairs) (done : List Line) → HasDone wanted from done now mid.world → AllMoments mid new (CrashHoldsPrefix wanted now.shape from done))
       → TriesLines {T = S} {E = F} tells old new start now first lines answer
   tries_forced all shapes goes forces =
       let taken : take tries.count lines ≡ lines = ap (λ n. take n lines) all ∙ take_all (length lines) lines (omega arith) in
@@ -67,10 +67,10 @@ module _ {T E S F : Type 0} (tells : Type 0) (old mid new : History) (start now 
         order = tries.order;
         all = every_ok answer;
         moments = λ t wanted stands segments.
-            let P : World → Type 0 = KeepsSome wanted start.shape start.pairs (take tries.count lines) in
+            let P : World → Type 0 = CrashHoldsPrefix wanted start.shape start.pairs (take tries.count lines) in
             joined old mid new P (tries.moments t wanted stands segments)
-            (subst (λ ls. AllMoments mid new (KeepsSome wanted start.shape start.pairs ls)) (sym taken)
-            (subst (λ s. AllMoments mid new (KeepsSome wanted s start.pairs lines)) shapes
+            (subst (λ ls. AllMoments mid new (CrashHoldsPrefix wanted start.shape start.pairs ls)) (sym taken)
+            (subst (λ s. AllMoments mid new (CrashHoldsPrefix wanted s start.pairs lines)) shapes
             (forces t wanted start.pairs lines (goes t wanted stands segments).0)));
       }
     where

@@ -7,14 +7,14 @@ use Rattle.pm_records.specs.Records.{Logical}
 use Rattle.pm_model.specs.declared.line.Cmd.TheVariants.{Put, Remove}
 use Rattle.pm_model.specs.declared.line.Line.TheVariants.{Good}
 use Rattle.pm_model.specs.Eval.{Pairs, after}
-use Rattle.pm_engine.specs.Held.{put_again, redone}
-use Rattle.pm_engine.specs.Openings.{PutsAgain, Redoes}
+use Rattle.pm_engine.specs.Held.{put_replayed, replayed}
+use Rattle.pm_engine.specs.Openings.{ReplaysPut, Replays}
 
-redone_put : (shape : Shape) (op cache : ℕ) (key value : List ℕ) (pairs : Pairs) → op ≡ PUT → redone shape (Some (Logical op cache key value)) pairs ≡ put_again shape (Good (Put cache key value)) pairs
+redone_put : (shape : Shape) (op cache : ℕ) (key value : List ℕ) (pairs : Pairs) → op ≡ PUT → replayed shape (Some (Logical op cache key value)) pairs ≡ put_replayed shape (Good (Put cache key value)) pairs
 redone_put shape op cache key value pairs is =
-    ap (λ n. let o : Option Pairs = if n == PUT then put_again shape (Good (Put cache key value)) pairs else Some (after shape (Good (Remove cache key)) pairs) in o) is
+    ap (λ n. let o : Option Pairs = if n == PUT then put_replayed shape (Good (Put cache key value)) pairs else Some (after shape (Good (Remove cache key)) pairs) in o) is
 
-pub puts_redoes : (can : Bool) (shape : Shape) (op cache : ℕ) (key value : List ℕ) (before now : Pairs) → op ≡ PUT → PutsAgain can shape (Good (Put cache key value)) before now
-    → Redoes can shape (Some (Logical op cache key value)) before now
+pub puts_redoes : (can : Bool) (shape : Shape) (op cache : ℕ) (key value : List ℕ) (before now : Pairs) → op ≡ PUT → ReplaysPut can shape (Good (Put cache key value)) before now
+    → Replays can shape (Some (Logical op cache key value)) before now
 puts_redoes true shape op cache key value before now is puts = redone_put shape op cache key value before is ∙ puts
 puts_redoes false shape op cache key value before now is puts = redone_put shape op cache key value before is ∙ puts

@@ -10,7 +10,7 @@ use Rattle.pm_segments.specs.Steps.{DoesSome, steps_of}
 use Rattle.pm_segments.specs.Written.{ChangesLog}
 use Rattle.pm_segments.proofs.Quiet.{log_same, some_change}
 use Rattle.pm_engine.specs.Records.{logical_frame}
-use Rattle.pm_engine.specs.Held.{KeepsSome}
+use Rattle.pm_engine.specs.Held.{CrashHoldsPrefix}
 use Rattle.pm_engine.specs.Engines.{Running}
 use Rattle.pm_engine.specs.Batches.{tried_line, noted, TriesLine}
 use Rattle.pm_engine.proofs.Going.{LogsLine, goes_keep, keeps_more, append_keeps}
@@ -39,7 +39,7 @@ module _ {T E : Type 0} (tells : Type 0) (old : History) (before now : Running) 
     order = orders ∙ sym (append-nil before.order);
     all = failed;
     moments = λ t wanted start done goes segments.
-        started old (KeepsSome wanted before.shape start (done ++ [])) (sound t)
+        started old (CrashHoldsPrefix wanted before.shape start (done ++ [])) (sound t)
         (keeps_more wanted before.shape start done [] old.world (goes_keep wanted start done before old.world goes));
   }
 
@@ -50,7 +50,7 @@ module _ {T E : Type 0} (tells : Type 0) (old : History) (before now : Running) 
     order = orders ∙ sym (append-nil before.order) ∙ ap (λ o. before.order ++ o) (sym (accepted_one before.shape number line before.pairs false refused));
     all = done_all;
     moments = λ t wanted start done goes segments.
-        started old (KeepsSome wanted before.shape start (done ++ line ∷ [])) (sound t)
+        started old (CrashHoldsPrefix wanted before.shape start (done ++ line ∷ [])) (sound t)
         (keeps_more wanted before.shape start done (line ∷ []) old.world (goes_keep wanted start done before old.world goes));
   }
 
@@ -62,7 +62,7 @@ module _ {T E : Type 0} (tells : Type 0) (old : History) (before now : Running) 
     order = orders ∙ ap (λ o. before.order ++ o) (sym (noted_try before.shape number line before.pairs tried is));
     all = done_all;
     moments = λ t wanted start done goes segments.
-        weaker old new (DoesSome (steps_of tried before.log (logical_frame payload)) before.log.end old.world) (KeepsSome wanted before.shape start (done ++ tried_line tried line))
+        weaker old new (DoesSome (steps_of tried before.log (logical_frame payload)) before.log.end old.world) (CrashHoldsPrefix wanted before.shape start (done ++ tried_line tried line))
         (λ w some. append_keeps wanted start done before line payload old.world goes logs segments tried w some) (moments t);
   }
 

@@ -31,38 +31,38 @@ every frame = true
 abbrev pub frames_of : Written → List Frame
 frames_of written = written.lasting ++ written.pending
 
--- some first of these lines leave the map that the frames hold
-abbrev pub HeldAfterSome : Shape → Shape → Pairs → List Line → List Frame → Type 0
-HeldAfterSome wanted shape start lines frames =
+-- a prefix of these lines leave the map that the frames hold
+abbrev pub HeldAfterPrefix : Shape → Shape → Pairs → List Line → List Frame → Type 0
+HeldAfterPrefix wanted shape start lines frames =
     (count : ℕ) × (count ≤ length lines) × IsHeld wanted frames shape (after_all shape (take count lines) start)
 
 -- The engine has done these lines since it had this map. Its log is open, and each first part of it that a crash may leave
--- holds the map after some first of the lines.
-pub record Goes (wanted : Shape) (start : Pairs) (done : List Line) (engine : Running) (world : World) : Type 0 where
+-- holds the map after a prefix of the lines.
+pub record HasDone (wanted : Shape) (start : Pairs) (done : List Line) (engine : Running) (world : World) : Type 0 where
   pub written : Written
   pub stands : IsWritten every world 1 (place 1 0) engine.log.end written
   pub is_open : IsOpen engine.log written
   pub held : IsHeld wanted (frames_of written) engine.shape engine.pairs
   pub map : engine.pairs ≡ after_all engine.shape done start
   pub some : 0 < length (frames_of written)
-  pub before : (n : ℕ) → length written.lasting ≤ n → HeldAfterSome wanted engine.shape start done (take n (frames_of written))
+  pub before : (n : ℕ) → length written.lasting ≤ n → HeldAfterPrefix wanted engine.shape start done (take n (frames_of written))
   pub quiet : IsQuietBut world engine.log.end.seg
 
 -- between two batches: whatever a crash leaves holds the engine's map
-abbrev pub Stands : Shape → Running → World → Type 0
-Stands wanted engine world = Goes wanted engine.pairs [] engine world
+abbrev pub IsAtRest : Shape → Running → World → Type 0
+IsAtRest wanted engine world = HasDone wanted engine.pairs [] engine world
 
 -- there are numbers for so many segments more
 abbrev pub HasSegments : Running → ℕ → Type 0
 HasSegments engine count = engine.log.end.seg + count + 1 < 2 ^ 64
 
 -- the engine goes on, its log in the same segment or in the next so many
-abbrev pub GoesOn : Shape → Pairs → List Line → ℕ → Running → Running → World → Type 0
-GoesOn wanted start done count before engine world =
-    Goes wanted start done engine world × (engine.log.end.seg ≤ before.log.end.seg + count)
+abbrev pub HasDoneWithin : Shape → Pairs → List Line → ℕ → Running → Running → World → Type 0
+HasDoneWithin wanted start done count before engine world =
+    HasDone wanted start done engine world × (engine.log.end.seg ≤ before.log.end.seg + count)
 
 -- the engine stands again, its log in the same segment or in the next so many, and nothing of its log is pending
-pub record StandsOn (wanted : Shape) (count : ℕ) (before engine : Running) (world : World) : Type 0 where
-  pub stands : Stands wanted engine world
+pub record IsAtRestWithin (wanted : Shape) (count : ℕ) (before engine : Running) (world : World) : Type 0 where
+  pub stands : IsAtRest wanted engine world
   pub climbs : engine.log.end.seg ≤ before.log.end.seg + count
   pub lasting : (seg : ℕ) → (world.log seg).since ≡ []

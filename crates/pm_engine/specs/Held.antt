@@ -16,7 +16,7 @@ use Rattle.pm_model.specs.declared.line.Line.{Line}
 use Rattle.pm_model.specs.declared.line.Line.TheVariants.{Good}
 use Rattle.pm_model.specs.Eval.{Pairs, is_accepted, after, after_all}
 use Rattle.pm_segments.specs.Grammars.{place, all_frames}
-use Rattle.pm_segments.specs.Logs.{IsLog, behind, contents}
+use Rattle.pm_segments.specs.Logs.{IsLog, after_frames, contents}
 use Rattle.pm_engine.specs.Records.{record_in}
 
 -- whether a record tells the store's shape
@@ -50,38 +50,38 @@ shape_of wanted [] = wanted
 shape_of wanted (frame ∷ frames) = shape_told wanted (record_in frame)
 
 -- the map after a put that is done again, none where its partition is full
-abbrev pub put_again : Shape → Line → Pairs → Option Pairs
-put_again shape line pairs = if is_accepted shape line pairs then Some (after shape line pairs) else None
+abbrev pub put_replayed : Shape → Line → Pairs → Option Pairs
+put_replayed shape line pairs = if is_accepted shape line pairs then Some (after shape line pairs) else None
 
 -- The map after a record, none where the record can't be: its payload is in no grammar, or it is a put that meets a full
 -- partition. A remove of an absent key changes nothing, and so do the records that aren't logical.
-abbrev pub redone : Shape → Option Record → Pairs → Option Pairs
-redone shape None pairs = None
-redone shape (Some (Logical op cache key value)) pairs =
+abbrev pub replayed : Shape → Option Record → Pairs → Option Pairs
+replayed shape None pairs = None
+replayed shape (Some (Logical op cache key value)) pairs =
     if op == PUT
-    then put_again shape (Good (Put cache key value)) pairs
+    then put_replayed shape (Good (Put cache key value)) pairs
     else Some (after shape (Good (Remove cache key)) pairs)
-redone shape (Some (Snapshot page bytes)) pairs = Some pairs
-redone shape (Some (Delta page ranges)) pairs = Some pairs
-redone shape (Some (CpBegin number replay)) pairs = Some pairs
-redone shape (Some (Restart told)) pairs = Some pairs
-redone shape (Some Seal) pairs = Some pairs
+replayed shape (Some (Snapshot page bytes)) pairs = Some pairs
+replayed shape (Some (Delta page ranges)) pairs = Some pairs
+replayed shape (Some (CpBegin number replay)) pairs = Some pairs
+replayed shape (Some (Restart told)) pairs = Some pairs
+replayed shape (Some Seal) pairs = Some pairs
 
 -- the map after a frame more, where there is one
-abbrev pub then_redone : Shape → Frame → Option Pairs → Option Pairs
-then_redone shape frame None = None
-then_redone shape frame (Some pairs) = redone shape (record_in frame) pairs
+abbrev pub then_replayed : Shape → Frame → Option Pairs → Option Pairs
+then_replayed shape frame None = None
+then_replayed shape frame (Some pairs) = replayed shape (record_in frame) pairs
 
 -- the map after frames, the first of them first
-abbrev pub all_redone : Shape → List Frame → Option Pairs → Option Pairs
-all_redone shape [] found = found
-all_redone shape (frame ∷ frames) found = all_redone shape frames (then_redone shape frame found)
+abbrev pub all_replayed : Shape → List Frame → Option Pairs → Option Pairs
+all_replayed shape [] found = found
+all_replayed shape (frame ∷ frames) found = all_replayed shape frames (then_replayed shape frame found)
 
 -- these frames hold this shape and this map, in a store that takes the wanted shape where it is empty
 pub record IsHeld (wanted : Shape) (frames : List Frame) (shape : Shape) (pairs : Pairs) : Type 0 where
   pub begins : begins_well frames ≡ true
   pub told : shape ≡ shape_of wanted frames
-  pub map : all_redone shape frames (Some empty) ≡ Some pairs
+  pub map : all_replayed shape frames (Some empty) ≡ Some pairs
 
 -- the log in these segments' bytes holds this shape and this map
 pub record HoldsIn (wanted : Shape) (bytes : ℕ → List ℕ) (shape : Shape) (pairs : Pairs) : Type 0 where
@@ -99,19 +99,19 @@ HoldsImage wanted image shape pairs = HoldsIn wanted (λ seg. bytes_of (image.lo
 
 -- the log's last segment leaves numbers for as many segments as runs may begin
 abbrev pub HasNumbers : List Frame → Type 0
-HasNumbers frames = (behind (place 1 0) frames).seg < 2 ^ 62
+HasNumbers frames = (after_frames (place 1 0) frames).seg < 2 ^ 62
 
 -- Chance made no frame: each frame that reads as one of its place in what a crash left stood there whole when its segment was
 -- last forced, or after a change since.
 pub record IsTrueImage (world : World) (image : Image) : Type 0 where
   pub frames : (seg : ℕ) → IsTrueOf (all_frames.frame_at seg) (world.log seg) (image.log seg)
 
--- what a crash left holds the map after some first of these lines, over this map
-abbrev pub HoldsSome : Shape → Image → Shape → Pairs → List Line → Type 0
-HoldsSome wanted image shape start lines =
+-- what a crash left holds the map after a prefix of these lines, over this map
+abbrev pub HoldsPrefix : Shape → Image → Shape → Pairs → List Line → Type 0
+HoldsPrefix wanted image shape start lines =
     (count : ℕ) × (count ≤ length lines) × HoldsImage wanted image shape (after_all shape (take count lines) start)
 
--- whatever a crash leaves, as long as no sum is right by chance, holds the map after some first of these lines
-abbrev pub KeepsSome : Shape → Shape → Pairs → List Line → World → Type 0
-KeepsSome wanted shape start lines world =
-    (image : Image) → LeavesAll world image → IsTrueImage world image → HoldsSome wanted image shape start lines
+-- whatever a crash leaves, as long as no sum is right by chance, holds the map after a prefix of these lines
+abbrev pub CrashHoldsPrefix : Shape → Shape → Pairs → List Line → World → Type 0
+CrashHoldsPrefix wanted shape start lines world =
+    (image : Image) → LeavesAll world image → IsTrueImage world image → HoldsPrefix wanted image shape start lines

@@ -9,29 +9,29 @@ use Rattle.pm_disk.specs.Worlds.{World}
 use Rattle.pm_model.specs.declared.line.Line.{Line}
 use Rattle.pm_model.specs.Eval.{Pairs}
 use Rattle.pm_segments.specs.Grammars.{place, all_frames}
-use Rattle.pm_segments.specs.Logs.{Run, contents, behind}
+use Rattle.pm_segments.specs.Logs.{HasFrames, contents, after_frames}
 use Rattle.pm_segments.specs.Scans.{Scanned, stands_next, Advances}
 use Rattle.pm_segments.specs.Read.{HasScanned, IsLogFrom, log_end}
 use Rattle.pm_engine.specs.Records.{record_in}
-use Rattle.pm_engine.specs.Held.{is_restart, shape_told, shape_of, put_again, redone, then_redone, all_redone, IsHeld, Holds}
+use Rattle.pm_engine.specs.Held.{is_restart, shape_told, shape_of, put_replayed, replayed, then_replayed, all_replayed, IsHeld, Holds}
 use Rattle.pm_engine.specs.Engines.{Running}
 use Rattle.pm_engine.specs.declared.found.Found.{Found}
 use Rattle.pm_engine.specs.declared.found.Took.{Took}
 use Rattle.pm_engine.specs.declared.found.Took.TheVariants as took
 
--- A frame can't stand behind these others: it is the first one and no RESTART, its payload is in no grammar, or it is a put that
+-- A frame can't stand after these others: it is the first one and no RESTART, its payload is in no grammar, or it is a put that
 -- meets a full partition.
 abbrev pub IsBadBehind : Shape → List Frame → Frame → Type 0
 IsBadBehind wanted [] frame = is_restart (record_in frame) ≡ false
 IsBadBehind wanted (first ∷ frames) frame =
-    (pairs : Pairs) × (all_redone (shape_of wanted (first ∷ frames)) (first ∷ frames) (Some empty) ≡ Some pairs)
-    × (then_redone (shape_of wanted (first ∷ frames)) frame (Some pairs) ≡ None)
+    (pairs : Pairs) × (all_replayed (shape_of wanted (first ∷ frames)) (first ∷ frames) (Some empty) ≡ Some pairs)
+    × (then_replayed (shape_of wanted (first ∷ frames)) frame (Some pairs) ≡ None)
 
 -- the record at this place of the log is bad, and none before it is
 pub record IsBadRecord (wanted : Shape) (world : World) (at : Place) : Type 0 where
   pub before : List Frame
-  pub run : Run all_frames (contents world.log) (place 1 0) before
-  pub there : behind (place 1 0) before ≡ at
+  pub run : HasFrames all_frames (contents world.log) (place 1 0) before
+  pub there : after_frames (place 1 0) before ≡ at
   pub frame : Frame
   pub stands : all_frames.frame_at at.seg at.off (contents world.log at.seg) ≡ Some frame
   pub bad : IsBadBehind wanted before frame
@@ -42,14 +42,14 @@ is_some_frame [] = false
 is_some_frame (frame ∷ frames) = true
 
 -- whether a record could be done again, and the map that it leaves
-abbrev pub Redoes : Bool → Shape → Option Record → Pairs → Pairs → Type 0
-Redoes true shape found before now = redone shape found before ≡ Some now
-Redoes false shape found before now = redone shape found before ≡ None
+abbrev pub Replays : Bool → Shape → Option Record → Pairs → Pairs → Type 0
+Replays true shape found before now = replayed shape found before ≡ Some now
+Replays false shape found before now = replayed shape found before ≡ None
 
 -- whether a put could be done again, and the map that it leaves
-abbrev pub PutsAgain : Bool → Shape → Line → Pairs → Pairs → Type 0
-PutsAgain true shape line before now = put_again shape line before ≡ Some now
-PutsAgain false shape line before now = put_again shape line before ≡ None
+abbrev pub ReplaysPut : Bool → Shape → Line → Pairs → Pairs → Type 0
+ReplaysPut true shape line before now = put_replayed shape line before ≡ Some now
+ReplaysPut false shape line before now = put_replayed shape line before ≡ None
 
 -- the first frame was taken, or it tells no shape
 abbrev pub TakesFirst : Bool → Found → Found → Option Record → Type 0
@@ -58,8 +58,8 @@ TakesFirst false old new found = is_restart found ≡ false
 
 -- a further frame was done again, or it can't be
 abbrev pub TakesMore : Bool → Found → Found → Option Record → Type 0
-TakesMore true old new found = (redone old.shape found old.map ≡ Some new.map) × (new.shape ≡ old.shape) × (new.has_begun ≡ true)
-TakesMore false old new found = redone old.shape found old.map ≡ None
+TakesMore true old new found = (replayed old.shape found old.map ≡ Some new.map) × (new.shape ≡ old.shape) × (new.has_begun ≡ true)
+TakesMore false old new found = replayed old.shape found old.map ≡ None
 
 -- a frame was taken, or it can't stand there: the first one has to tell the shape, and each other one is done again
 abbrev pub TakesFrame : Bool → Found → Found → Option Record → Type 0
@@ -74,7 +74,7 @@ TakesNext took.Bad scan later old new world =
     (frame : Frame) × (stands_next scan world ≡ Some frame) × Advances scan later (Some frame) × TakesFrame false old new (record_in frame)
 TakesNext took.End scan later old new world = (stands_next scan world ≡ None) × Advances scan later None × (new ≡ old)
 
--- a scan goes on behind a frame
+-- a scan goes on after a frame
 abbrev pub GoesUp : Took → Place → Place → Type 0
 GoesUp took.Frame at next = (at.seg < next.seg) ⊎ ((at.seg ≡ next.seg) × (at.off < next.off))
 GoesUp took.Bad at next = Unit {0}
@@ -90,7 +90,7 @@ pub record IsFound (wanted : Shape) (frames : List Frame) (found : Found) : Type
   pub held : IsHeld wanted frames found.shape found.map
   pub begun : found.has_begun ≡ is_some_frame frames
 
--- some first frames of the log were read
+-- a prefix of the frames of the log were read
 pub record ReadsSome (wanted : Shape) (world : World) (scan : Scanned) (found : Found) : Type 0 where
   pub frames : List Frame
   pub scanned : HasScanned world (place 1 0) frames scan

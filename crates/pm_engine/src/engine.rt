@@ -2,7 +2,7 @@
 
 ghost use Rattle.std.specs.Prelude.{◌≡◌, ◌≤◌, ◌<◌, ◌+◌, ◌^◌, ℕ, List, [], ◌∷◌, ◌++◌, length, true, IfOk, OnOk, OnErr, vec_capacity};
 ghost use Rattle.std.specs.List.{All};
-ghost use Rattle.pm_disk.specs.Causes.{HasCause};
+ghost use Rattle.pm_disk.specs.States.{HasCause, IsUsable};
 ghost use Rattle.pm_types.specs.declared.shape.Shape.{Shape};
 ghost use Rattle.pm_frame.specs.declared.limits.TheConstants.{PAYLOAD_MAX as longest};
 ghost use Rattle.pm_types.specs.Shapes.{IsShape};
@@ -15,8 +15,8 @@ ghost use Rattle.pm_segments.specs.Ends.{EndsThere};
 ghost use Rattle.pm_segments.specs.Steps.{DoesSteps, grown, steps_of};
 ghost use Rattle.pm_segments.specs.Written.{ChangesLog};
 ghost use Rattle.pm_engine.specs.Records.{record_of_line, IsPayloadOf, logical_frame};
-ghost use Rattle.pm_engine.specs.Held.{KeepsSome};
-ghost use Rattle.pm_engine.specs.Engines.{running, Goes, GoesOn, Stands, StandsOn, HasSegments};
+ghost use Rattle.pm_engine.specs.Held.{CrashHoldsPrefix};
+ghost use Rattle.pm_engine.specs.Engines.{running, HasDone, HasDoneWithin, IsAtRest, IsAtRestWithin, HasSegments};
 ghost use Rattle.pm_engine.specs.Batches.{HasPlainFault, TriesLine, TriesLines, noted};
 
 use crate::record::write_record;
@@ -43,7 +43,7 @@ pub struct Engine {
 impl Engine {
     /// Does a batch of lines, of which the first has the number `first`, appends their replies, and forces the log.
     ///
-    /// `Failed` and `Memory` leave some first lines of the batch done and their replies appended; no line is done in part.
+    /// `Failed` and `Memory` leave a prefix of the lines of the batch done and their replies appended; no line is done in part.
     pub fn batch<H: Host>(
         &mut self,
         alloc: Global,
@@ -52,6 +52,7 @@ impl Engine {
         first: u32,
         replies: &mut Vec<Reply>,
     ) -> Result<(), StoreFault>
+        requires usable { IsUsable (H.state host.old) }
         requires shape { IsShape self.old.shape }
         requires caches { All HasCache lines.now }
         requires numbers { first + length lines.now ≤ 2 ^ 32 }
@@ -69,12 +70,12 @@ impl Engine {
         ensures tries { TriesLines H.tells (H.history host.old) (H.history host.new)
             (running self.old) (running self.new) first lines.now result }
         ensures stands { H.tells → (wanted : Shape) →
-            Stands wanted (running self.old) (H.history host.old).world →
-            HasSegments (running self.old) (length lines.now) → OnOk result (StandsOn wanted
+            IsAtRest wanted (running self.old) (H.history host.old).world →
+            HasSegments (running self.old) (length lines.now) → OnOk result (IsAtRestWithin wanted
             (length lines.now) (running self.old) (running self.new) (H.history host.new).world) }
         ensures log_only { H.tells → AllMoments (H.history host.old) (H.history host.new)
             (ChangesLog (H.history host.old).world) }
-        ensures cause { HasPlainFault (H.faults host.old) (H.faults host.new) result }
+        ensures cause { HasPlainFault (H.state host.old) (H.state host.new) result }
     {
         run_lines(self, alloc, host, lines, first, replies)?;
         self.force(host)?;
@@ -83,17 +84,18 @@ impl Engine {
 
     /// Forces the log up to its end, which is the last thing that is done with a store.
     pub fn close<H: Host>(&mut self, host: &mut H) -> Result<(), StoreFault>
+        requires usable { IsUsable (H.state host.old) }
         ensures same { running self.new ≡ running self.old }
         ensures stands { H.tells → (wanted : Shape) →
-            Stands wanted (running self.old) (H.history host.old).world →
-            OnOk result (StandsOn wanted 0 (running self.old) (running self.new) (H.history host.new).world) }
+            IsAtRest wanted (running self.old) (H.history host.old).world →
+            OnOk result (IsAtRestWithin wanted 0 (running self.old) (running self.new) (H.history host.new).world) }
         ensures moments { H.tells → (wanted : Shape) →
-            Stands wanted (running self.old) (H.history host.old).world →
+            IsAtRest wanted (running self.old) (H.history host.old).world →
             AllMoments (H.history host.old) (H.history host.new)
-            (KeepsSome wanted self.old.shape self.old.map []) }
+            (CrashHoldsPrefix wanted self.old.shape self.old.map []) }
         ensures log_only { H.tells → AllMoments (H.history host.old) (H.history host.new)
             (ChangesLog (H.history host.old).world) }
-        ensures cause { HasPlainFault (H.faults host.old) (H.faults host.new) result }
+        ensures cause { HasPlainFault (H.state host.old) (H.state host.new) result }
     {
         Ok(self.force(host)?)
     }
@@ -108,19 +110,20 @@ impl Engine {
 
     // Forces the log up to its end.
     fn force<H: Host>(&mut self, host: &mut H) -> Result<(), Failed>
+        requires usable { IsUsable (H.state host.old) }
         ensures same { running self.new ≡ running self.old }
         ensures end { H.tells → EndsThere self.old.log (H.history host.old).world →
             OnOk result (EndsThere self.new.log (H.history host.new).world) }
         ensures stands { H.tells → (wanted : Shape) (start : Pairs) (done : List Line) →
-            Goes wanted start done (running self.old) (H.history host.old).world →
-            OnOk result (StandsOn wanted 0 (running self.old) (running self.new) (H.history host.new).world) }
+            HasDone wanted start done (running self.old) (H.history host.old).world →
+            OnOk result (IsAtRestWithin wanted 0 (running self.old) (running self.new) (H.history host.new).world) }
         ensures moments { H.tells → (wanted : Shape) (start : Pairs) (done : List Line) →
-            Goes wanted start done (running self.old) (H.history host.old).world →
+            HasDone wanted start done (running self.old) (H.history host.old).world →
             AllMoments (H.history host.old) (H.history host.new)
-            (KeepsSome wanted self.old.shape start done) }
+            (CrashHoldsPrefix wanted self.old.shape start done) }
         ensures log_only { H.tells → AllMoments (H.history host.old) (H.history host.new)
             (ChangesLog (H.history host.old).world) }
-        ensures cause { HasCause (H.faults host.old) (H.faults host.new) result }
+        ensures cause { HasCause (H.state host.old) (H.state host.new) result }
     {
         self.log.force(host)
     }
@@ -133,6 +136,7 @@ impl Engine {
         line: &Line,
         number: u64,
     ) -> Result<Reply, StoreFault>
+        requires usable { IsUsable (H.state host.old) }
         requires shape { IsShape self.old.shape }
         requires cache { HasCache line.now }
         requires numbered { number < 2 ^ 32 }
@@ -147,12 +151,12 @@ impl Engine {
         ensures tries { TriesLine H.tells (H.history host.old) (H.history host.new)
             (running self.old) (running self.new) number line.now result }
         ensures goes { H.tells → (wanted : Shape) (start : Pairs) (done : List Line) →
-            Goes wanted start done (running self.old) (H.history host.old).world →
-            HasSegments (running self.old) 1 → OnOk result (GoesOn wanted start
+            HasDone wanted start done (running self.old) (H.history host.old).world →
+            HasSegments (running self.old) 1 → OnOk result (HasDoneWithin wanted start
             (done ++ line.now ∷ []) 1 (running self.old) (running self.new) (H.history host.new).world) }
         ensures log_only { H.tells → AllMoments (H.history host.old) (H.history host.new)
             (ChangesLog (H.history host.old).world) }
-        ensures cause { HasPlainFault (H.faults host.old) (H.faults host.new) result }
+        ensures cause { HasPlainFault (H.state host.old) (H.state host.new) result }
     {
         let answer = prepare(
             alloc,
@@ -179,6 +183,7 @@ fn run_lines<H: Host>(
     first: u32,
     replies: &mut Vec<Reply>,
 ) -> Result<(), StoreFault>
+    requires usable { IsUsable (H.state host.old) }
     requires shape { IsShape engine.old.shape }
     requires caches { All HasCache lines.now }
     requires numbers { first + length lines.now ≤ 2 ^ 32 }
@@ -192,13 +197,13 @@ fn run_lines<H: Host>(
     ensures tries { TriesLines H.tells (H.history host.old) (H.history host.new)
         (running engine.old) (running engine.new) first lines.now result }
     ensures goes { H.tells → (wanted : Shape) →
-        Stands wanted (running engine.old) (H.history host.old).world →
-        HasSegments (running engine.old) (length lines.now) → OnOk result (GoesOn wanted
+        IsAtRest wanted (running engine.old) (H.history host.old).world →
+        HasSegments (running engine.old) (length lines.now) → OnOk result (HasDoneWithin wanted
         engine.old.map lines.now (length lines.now) (running engine.old) (running engine.new)
         (H.history host.new).world) }
     ensures log_only { H.tells → AllMoments (H.history host.old) (H.history host.new)
         (ChangesLog (H.history host.old).world) }
-    ensures cause { HasPlainFault (H.faults host.old) (H.faults host.new) result }
+    ensures cause { HasPlainFault (H.state host.old) (H.state host.new) result }
 {
     let mut number = u64::from(first);
     'each: for line in lines {
@@ -242,6 +247,7 @@ fn append<H: Host>(
     payload: &[u8],
     number: u64,
 ) -> Result<Place, Failed>
+    requires usable { IsUsable (H.state host.old) }
     requires short { length payload.now ≤ longest }
     requires numbered { number < 2 ^ 32 }
     requires room { length order.old.items < vec_capacity order.old }
@@ -252,7 +258,7 @@ fn append<H: Host>(
     ensures ends { H.tells → OnOk result (EndsThere log.new (H.history host.new).world) }
     ensures steps { H.tells → DoesSteps (H.history host.old) (H.history host.new) result
         (steps_of log.new.tried log.old (logical_frame payload.now)) log.old.end }
-    ensures cause { HasCause (H.faults host.old) (H.faults host.new) result }
+    ensures cause { HasCause (H.state host.old) (H.state host.new) result }
 {
     let appended = log.append(host, LOGICAL, payload);
     note(order, log.tried(), number);

@@ -1,5 +1,6 @@
 //! How a store is opened.
 
+ghost use Rattle.pm_disk.specs.States.{IsUsable};
 ghost use Rattle.std.specs.Prelude.{◌≡◌, ◌+◌, ◌<◌, ◌≤◌, [], false, IfOk, OnOk, IsErrOf};
 ghost use Rattle.std.specs.FinMap.{empty};
 ghost use Rattle.pm_types.specs.declared.page_id.PageId.{PageId};
@@ -12,12 +13,12 @@ ghost use Rattle.pm_disk.specs.Moments.{Does, AllMoments};
 ghost use Rattle.pm_model.specs.Eval.{Pairs};
 ghost use Rattle.pm_segments.specs.Ends.{EndsThere};
 ghost use Rattle.pm_segments.specs.Grammars.{place};
-ghost use Rattle.pm_segments.specs.Logs.{behind};
+ghost use Rattle.pm_segments.specs.Logs.{after_frames};
 ghost use Rattle.pm_segments.specs.Scans.{IsAhead};
 ghost use Rattle.pm_segments.specs.Written.{ChangesLog};
 ghost use Rattle.pm_engine.specs.Batches.{HasStoreFault};
-ghost use Rattle.pm_engine.specs.Held.{Holds, HasNumbers, KeepsSome};
-ghost use Rattle.pm_engine.specs.Engines.{running, Stands};
+ghost use Rattle.pm_engine.specs.Held.{Holds, HasNumbers, CrashHoldsPrefix};
+ghost use Rattle.pm_engine.specs.Engines.{running, IsAtRest};
 ghost use Rattle.pm_engine.specs.Openings.{TakesNext, Climbs, ReadsAll, IsSame, IsBadStore, OpensWith};
 
 use crate::engine::Engine;
@@ -30,7 +31,7 @@ use pm_types::{Place, Shape, StoreFault};
 use std::alloc::Global;
 
 impl Engine {
-    /// Opens the store: reads its log from the first segment on, does its records again, cuts what is behind the log's end, and
+    /// Opens the store: reads its log from the first segment on, does its records again, cuts what is after the log's end, and
     /// appends a RESTART with the store's shape. A store that is empty takes the wanted shape.
     ///
     /// `BadRecord` comes where the first frame is no RESTART, where a frame's payload is in no grammar, and where a put meets a
@@ -41,6 +42,7 @@ impl Engine {
         host: &mut H,
         wanted: Shape,
     ) -> Result<Engine, StoreFault>
+        requires usable { IsUsable (H.state host.old) }
         requires wanted { IsShape wanted }
         ensures shape { IfOk result (λ engine. IsShape engine.shape) }
         ensures order { IfOk result (λ engine. (running engine).order ≡ []) }
@@ -58,15 +60,15 @@ impl Engine {
         ensures stands { H.tells → (shape : Shape) (pairs : Pairs) →
             (holds : Holds wanted (H.history host.old).world shape pairs) → HasNumbers holds.frames →
             NothingPending (H.history host.old).world → IfOk result (λ engine.
-            Stands wanted (running engine) (H.history host.new).world
-            × (engine.log.end.seg ≤ (behind (place 1 0) holds.frames).seg + 1)) }
+            IsAtRest wanted (running engine) (H.history host.new).world
+            × (engine.log.end.seg ≤ (after_frames (place 1 0) holds.frames).seg + 1)) }
         ensures moments { H.tells → (shape : Shape) (pairs : Pairs) →
             (holds : Holds wanted (H.history host.old).world shape pairs) → HasNumbers holds.frames →
             NothingPending (H.history host.old).world →
-            AllMoments (H.history host.old) (H.history host.new) (KeepsSome wanted shape pairs []) }
+            AllMoments (H.history host.old) (H.history host.new) (CrashHoldsPrefix wanted shape pairs []) }
         ensures log_only { H.tells → AllMoments (H.history host.old) (H.history host.new)
             (ChangesLog (H.history host.old).world) }
-        ensures cause { HasStoreFault (H.faults host.old) (H.faults host.new) result }
+        ensures cause { HasStoreFault (H.state host.old) (H.state host.new) result }
     {
         let mut found = Found::new(alloc, wanted);
         let end = read_log(alloc, host, &mut found)?;
@@ -84,6 +86,7 @@ impl Engine {
 
 // Reads the log, and tells where it ends.
 fn read_log<H: Host>(alloc: Global, host: &mut H, found: &mut Found) -> Result<Place, StoreFault>
+    requires usable { IsUsable (H.state host.old) }
     requires shape { IsShape found.old.shape }
     requires map { found.old.map ≡ empty }
     requires begun { found.old.has_begun ≡ false }
@@ -96,7 +99,7 @@ fn read_log<H: Host>(alloc: Global, host: &mut H, found: &mut Found) -> Result<P
     ensures page { (page : PageId) → IsErrOf result (StoreFault.BadPage page) → ⊥ }
     ensures same { H.tells → AllMoments (H.history host.old) (H.history host.new) (IsSame
         (H.history host.old).world) }
-    ensures cause { HasStoreFault (H.faults host.old) (H.faults host.new) result }
+    ensures cause { HasStoreFault (H.state host.old) (H.state host.new) result }
 {
     let mut scan = Scan::new(alloc, Place { seg: 1, off: 0 })?;
     'frames: loop {
@@ -118,6 +121,7 @@ fn take_next<H: Host>(
     scan: &mut Scan,
     found: &mut Found,
 ) -> Result<Took, StoreFault>
+    requires usable { IsUsable (H.state host.old) }
     requires shape { IsShape found.old.shape }
     requires ahead { H.tells → IsAhead scan.old (H.history host.old).world }
     ensures shape { OnOk result (IsShape found.new.shape) }
@@ -130,7 +134,7 @@ fn take_next<H: Host>(
         Does (H.history host.old) (H.history host.new) result (H.history host.old).world }
     ensures known { (at : Place) → IsErrOf result (StoreFault.BadRecord at) → ⊥ }
     ensures page { (page : PageId) → IsErrOf result (StoreFault.BadPage page) → ⊥ }
-    ensures cause { HasStoreFault (H.faults host.old) (H.faults host.new) result }
+    ensures cause { HasStoreFault (H.state host.old) (H.state host.new) result }
 {
     match scan.next(host)? {
         Some(frame) => {

@@ -3,7 +3,7 @@
 ghost use Rattle.std.specs.Prelude.{IfOk, OnErr, ◌≡◌, Some};
 ghost use Rattle.pm_records.specs.Records.{IsLogical, Logical, record_of};
 ghost use Rattle.pm_model.specs.Partitions.{ArePartitions};
-ghost use Rattle.pm_engine.specs.Openings.{PutsAgain, Redoes};
+ghost use Rattle.pm_engine.specs.Openings.{ReplaysPut, Replays};
 
 use pm_model::{Cmd, Line, PlainMap};
 use pm_records::{LogRecord, PUT, decode};
@@ -20,7 +20,7 @@ pub fn redo(
     payload: &[u8],
 ) -> Result<bool, AllocError>
     requires { ArePartitions shape.partitions }
-    ensures redoes { IfOk result (λ can. Redoes can shape (record_of kind payload.now) map.old map.new) }
+    ensures redoes { IfOk result (λ can. Replays can shape (record_of kind payload.now) map.old map.new) }
 {
     match decode(kind, payload) {
         Ok(
@@ -54,12 +54,12 @@ fn redo_logical(
     requires partitions { ArePartitions shape.partitions }
     requires logical { IsLogical op cache key.now value.now }
     ensures redoes { IfOk result
-        (λ can. Redoes can shape (Some (Logical op cache key.now value.now)) map.old map.new) }
+        (λ can. Replays can shape (Some (Logical op cache key.now value.now)) map.old map.new) }
 {
     let key = Key::of(alloc, key)?;
     if op == PUT {
         let value = Value::of(alloc, value)?;
-        let can = put_again(
+        let can = put_replayed(
             alloc,
             shape,
             map,
@@ -72,14 +72,14 @@ fn redo_logical(
 }
 
 // Does a put again, and tells whether its partition has room.
-fn put_again(
+fn put_replayed(
     alloc: Global,
     shape: Shape,
     map: &mut PlainMap,
     line: Line,
 ) -> Result<bool, AllocError>
     requires partitions { ArePartitions shape.partitions }
-    ensures again { IfOk result (λ can. PutsAgain can shape line map.old map.new) }
+    ensures again { IfOk result (λ can. ReplaysPut can shape line map.old map.new) }
 {
     let answer = map.answer(alloc, shape, line)?;
     Ok(answer.is_accepted)

@@ -82,7 +82,7 @@ shifted_by-front (suc bits) a =
     let e : a * 2 ^ suc bits ≡ a * 2 ^ bits * 2 = shift_suc a bits in
     rw (e, shifted_once-twice (a * 2 ^ bits)) (shifted_by-front bits a)
 
--- two numbers one behind the other are their sum without carries
+-- two numbers one after the other are their sum without carries
 pub joined : (bits front back : ℕ) → back < 2 ^ bits → front * 2 ^ bits + back ≡ bit_xor back (front * 2 ^ bits)
 joined bits front back h = sym (xor_shifted front bits back h) ∙ xor_comm (front * 2 ^ bits) back
 

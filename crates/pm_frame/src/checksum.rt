@@ -46,7 +46,7 @@ fn after_bytes(mut register: u32, bytes: &[u8]) -> u32
     register
 }
 
-// A register that holds this byte, once it and as many bytes of zeros behind it are shifted out.
+// A register that holds this byte, once it and as many bytes of zeros after it are shifted out.
 #[inline(always)]
 fn shifted(zeros: usize, byte: u8) -> u32
     requires { zeros < 8 }

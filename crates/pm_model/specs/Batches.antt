@@ -29,7 +29,7 @@ pub record IsBatch (lines : List Line) (first : ℕ) (replies : ReplyList) : Typ
   pub caches : All HasCache lines
   pub room : length lines ≤ replies.spare
 
--- the fault that is left by an answer: want of memory leaves none
+-- the fault that is left by an answer: out of memory leaves none
 abbrev pub fault_left : StoreFault → Option StoreFault
 fault_left Memory = None
 fault_left Failed = Some Failed

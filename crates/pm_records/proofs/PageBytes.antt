@@ -14,7 +14,7 @@ use Rattle.pm_records.specs.PageRecords.{IsSnapshot, IsPageDelta, IsCpBegin}
 use Rattle.pm_records.specs.Records.{CpBegin, payload_of, named_cp_begin, named_record, record_of}
 use Rattle.pm_records.proofs.RecordOf.{record_of-spelled, record_of-unnamed}
 
--- ---- a page's name and what is behind it
+-- ---- a page's name and what is after it
 
 -- the payload in two parts: a page's name, and the rest
 pub record NamesPage (payload name rest : List ℕ) (page : PageId) : Type 0 where

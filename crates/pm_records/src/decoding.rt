@@ -12,7 +12,7 @@ use crate::shape::shape_of;
 use pm_frame::{CP_BEGIN, DELTA, LOGICAL, RESTART, SEAL, SNAPSHOT};
 use pm_types::fields::{get_u32, get_u64};
 use pm_types::ranges::is_delta;
-use pm_types::{CACHES, KEY_MAX, PAGE_SIZE_MAX, PageId, Place, VALUE_MAX};
+use pm_types::{CACHES, KEY_MAX, PAGE_SIZE_MAX, PageId, Place, VALUE_MAX, is_page_size, is_shape};
 
 /// The record of this kind that the payload is, all of it.
 ///

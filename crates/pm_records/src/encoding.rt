@@ -73,7 +73,7 @@ fn logical_head(op: u8, cache: u8, key_len: u8, value_len: u32) -> [u8; LOGICAL_
     head
 }
 
-// Writes the page's name and these bytes behind it.
+// Writes the page's name and these bytes after it.
 fn write_named(page: PageId, bytes: &[u8], into: &mut [u8])
     requires { length into.old ≡ PAGE_NAME_LEN + length bytes.now }
     ensures { into.new ≡ to_le_bytes w64 page.0 ++ bytes.now }

@@ -177,7 +177,7 @@ fn ranges_that_no_delta_has_are_refused(rt: HostRuntime) -> Result<(), Fail> {
         &[1, 32, 0, 0, 0],
         // one isn't whole
         &[1, 32, 0, 2, 0, 7],
-        // a byte stands behind the last
+        // a byte stands after the last
         &[1, 32, 0, 1, 0, 7, 0],
     ];
     for ranges in deltas {

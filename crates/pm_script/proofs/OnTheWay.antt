@@ -9,7 +9,7 @@ use Rattle.pm_script.specs.declared.lines.Next.{Next}
 use Rattle.pm_script.specs.declared.lines.Next.TheVariants.{Text, Long, End, Over}
 use Rattle.pm_script.proofs.Unbroken.{take-take_append, first_line-append, after_line-append, after_line-lt}
 
--- lines that are cut alike are cut alike with more behind them
+-- lines that are cut alike are cut alike with more after them
 cut-append : (a b more : List ℕ) → cut a ≡ cut b → cut (a ++ more) ≡ cut (b ++ more)
 cut-append a b more same = sym (take-take_append (LINE_MAX + 1) a more) ∙ ap (λ l. cut (l ++ more)) same ∙ take-take_append (LINE_MAX + 1) b more
 
@@ -102,7 +102,7 @@ line_ended {old = old} {now = now} {new = new} {rest = rest} left next going end
       few_lines = elim going.started [ inl begins ↦ absurd (omega (arith, ap (λ (l : List ℕ). length l) begins.0, some)) | inr on ↦ omega (arith, one_more, on.2) ];
     } (ap cut same_line ∙ ap cut (sym (append-nil now.line) ∙ ap (λ r. now.line ++ first_line r) (sym end)) ∙ going.first) ended.kind
 
--- the input ended behind a line
+-- the input ended after a line
 input_ended : {old now new : Unread} {rest : List ℕ} (left : List ℕ) → Going old now rest (now.pending ++ left) → now.pending ++ left ≡ [] → new ≡ now → length now.line ≡ 0 → IsAtEnd old new rest (new.pending ++ left)
 input_ended {old = old} {now = now} {new = new} {rest = rest} left going end unchanged none =
     let same : now.pending ++ left ≡ rest = elim going.started [ inl begins ↦ begins.1 | inr on ↦ absurd (omega (arith, none, on.0)) ] in
@@ -114,7 +114,7 @@ input_ended {old = old} {now = now} {new = new} {rest = rest} left going end unc
       lines = ap (λ (u : Unread). u.lines) unchanged ∙ going.lines;
     }
 
--- the input ended, in a line or behind one
+-- the input ended, in a line or after one
 pub ended : {old now new : Unread} {rest : List ℕ} (left : List ℕ) (next : Next) → Going old now rest (now.pending ++ left) → now.pending ++ left ≡ [] → new.bytes ≤ SCRIPT_BYTES_MAX
     → (length now.line ≡ 0 → IsEndedWithout now new next) → (0 < length now.line → IsEndedWith now new next) → Advances old new rest (new.pending ++ left) next
 ended {old = old} {now = now} {new = new} {rest = rest} left next going end bytes none some =

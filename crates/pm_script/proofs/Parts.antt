@@ -32,7 +32,7 @@ moved_front buffer from to len ordered within is =
     ∙ ap (λ n. take n (drop from buffer)) is
     ∙ sym (take-take_min (LINE_MAX + 1) (to - from) (drop from buffer))
 
--- the line that was moved to the front, once the next piece stands behind it
+-- the line that was moved to the front, once the next piece stands after it
 pub kept_line : (kept : ℕ) (buffer moved line : List ℕ) → take kept buffer ≡ take kept moved → take kept moved ≡ cut line → cut (take (kept - 0) buffer) ≡ cut line
 kept_line kept buffer moved line same is =
     let count : kept - 0 ≡ kept = omega arith in
@@ -59,7 +59,7 @@ shorter buffer at end k =
     let less : end - at - k ≡ end - (at + k) = omega arith in
     ap (λ n. take n (drop k (drop at buffer))) less ∙ ap (λ r. take (end - (at + k)) r) (drop-drop k at buffer)
 
--- what is taken with no newline behind it
+-- what is taken with no newline after it
 pub split_here : (buffer : List ℕ) (at end len : ℕ) → len ≤ end - at →
     take (end - at) (drop at buffer) ≡ take len (drop at buffer) ++ take (end - (at + len)) (drop (at + len) buffer)
 split_here buffer at end len fits =
@@ -67,7 +67,7 @@ split_here buffer at end len fits =
     let sum : len + (end - at - len) ≡ end - at = omega arith in
     ap (λ m. take m w) (sym sum) ∙ take-add len (end - at - len) w ∙ ap (λ r. take len w ++ r) (shorter buffer at end len)
 
--- what is taken with the newline behind it
+-- what is taken with the newline after it
 pub split_there : (buffer : List ℕ) (at end i : ℕ) → i < end - at → drop i (drop at buffer) ≡ 10 ∷ drop (i + 1) (drop at buffer) →
     take (end - at) (drop at buffer) ≡ take i (drop at buffer) ++ 10 ∷ take (end - (at + (i + 1))) (drop (at + (i + 1)) buffer)
 split_there buffer at end i below there =

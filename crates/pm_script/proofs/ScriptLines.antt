@@ -1,4 +1,4 @@
--- A script is its first line and the script behind it, and a long line is known by its first bytes.
+-- A script is its first line and the script after it, and a long line is known by its first bytes.
 use Rattle.std.proofs.Common.{◌≡◌, ℕ, ◌+◌, ◌<◌, Bool, true, false, List, [], ◌∷◌, length, take, map, cond, refl, ap, sym, ◌∙◌, inl, inr, eqb, arith}
 use Rattle.std.proofs.lemmas.Bool.{cases_lt, lt-ltb}
 use Rattle.std.proofs.lemmas.List.{length-take-le, take_all}
@@ -19,18 +19,18 @@ lines_last : (t : Bool) (b : ℕ) → cond t ([] ∷ []) ((b ∷ []) ∷ []) ≡
 lines_last true b = refl
 lines_last false b = refl
 
--- nothing stands behind it
+-- nothing stands after it
 none_behind : (t : Bool) → lines_of (cond t [] []) ≡ []
 none_behind true = refl
 none_behind false = refl
 
--- the first line, and the lines of what stands behind it
+-- the first line, and the lines of what stands after it
 pub lines_of-first : (bytes : List ℕ) → 0 < length bytes → lines_of bytes ≡ first_line bytes ∷ lines_of (after_line bytes)
 lines_of-first [] some = absurd (omega arith)
 lines_of-first (b ∷ []) some = lines_last (eqb b 10) b ∙ ap (λ lines. cond (eqb b 10) [] (b ∷ []) ∷ lines) (sym (none_behind (eqb b 10)))
 lines_of-first (b ∷ c ∷ bytes) some = lines_cond (eqb b 10) b (first_line (c ∷ bytes)) (c ∷ bytes) (after_line (c ∷ bytes)) (lines_of-first (c ∷ bytes) (omega arith))
 
--- what the first line says, and what those behind it say
+-- what the first line says, and what those after it say
 pub script_of-first : (bytes : List ℕ) → 0 < length bytes → script_of bytes ≡ line_of (first_line bytes) ∷ script_of (after_line bytes)
 script_of-first bytes some = ap (map line_of) (lines_of-first bytes some)
 
@@ -38,7 +38,7 @@ script_of-first bytes some = ap (map line_of) (lines_of-first bytes some)
 pub line_of-long : (line : List ℕ) → LINE_MAX < length line → line_of line ≡ Long
 line_of-long line long = ap (λ t. cond t Long (line_of_words (words_of line))) (lt-ltb _ _ long)
 
--- a line cut behind the first byte that makes it too long says what the whole line says
+-- a line cut after the first byte that makes it too long says what the whole line says
 pub line_of-cut : (line : List ℕ) → line_of (take (LINE_MAX + 1) line) ≡ line_of line
 line_of-cut line = elim (cases_lt LINE_MAX (length line)) [
   | inl long ↦

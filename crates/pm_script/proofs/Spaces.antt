@@ -17,7 +17,7 @@ none_chosen : (t : Bool) (n : ℕ) → cond t (Some n) None ≡ None → t ≡ f
 none_chosen true n is = absurd cc
 none_chosen false n is = refl
 
--- what stands before the first byte that passes, and the parts of what stands behind it
+-- what stands before the first byte that passes, and the parts of what stands after it
 pub split_found : (p : ℕ → Bool) (bytes : List ℕ) (i : ℕ) → position p bytes ≡ Some i → slice_split p bytes ≡ take i bytes ∷ slice_split p (drop (i + 1) bytes)
 split_found p bytes i is =
     let at : (ltb (position_or_len p bytes) (length bytes) ≡ true) × (position_or_len p bytes ≡ i) = some_chosen _ _ _ is in

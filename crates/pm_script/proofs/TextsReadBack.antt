@@ -70,7 +70,7 @@ pair_unbroken : (key value : List ℕ) → IsBytes key → IsBytes value → is_
 pair_unbroken key value of_key of_value =
     unbroken-append (field_text key) (32 ∷ field_text value) (graphic-unbroken (field_text key) (graphic_text key of_key)) (graphic-unbroken (field_text value) (graphic_text value of_value))
 
--- a text is its first line and the lines behind it
+-- a text is its first line and the lines after it
 line_then : (line rest : List ℕ) → is_unbroken line ≡ true → lines_of (line ++ 10 ∷ rest) ≡ line ∷ lines_of rest
 line_then line rest unbroken =
     lines_of-first (line ++ 10 ∷ rest) (omega (arith, length-append line (10 ∷ rest)))

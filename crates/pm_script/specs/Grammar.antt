@@ -6,7 +6,7 @@
 --     scan C         all pairs of cache C are told
 --     checkpoint     all changes are brought home
 --
--- Between two words stands one space, and none before the first or behind the last. C is 0 to 15 in decimal
+-- Between two words stands one space, and none before the first or after the last. C is 0 to 15 in decimal
 -- without a leading zero. K and V are fields:
 --
 --     field := `x:` digit digit ..    the bytes that an even number of hexadecimal digits say, of either case, also none
@@ -30,7 +30,7 @@ use Rattle.pm_script.specs.Lines.{lines_of}
 abbrev pub words_of : List ℕ → List (List ℕ)
 words_of line = slice_split (λ b. b == 32) line
 
--- the first word, and what stands behind the space after it, or none where it is the only word
+-- the first word, and what stands after the space after it, or none where it is the only word
 abbrev pub BeginsWithWord : List ℕ → List ℕ → Option (List ℕ) → Type 0
 BeginsWithWord bytes word None = words_of bytes ≡ word ∷ []
 BeginsWithWord bytes word (Some rest) = words_of bytes ≡ word ∷ words_of rest

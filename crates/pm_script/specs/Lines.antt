@@ -2,7 +2,7 @@
 --
 --     script := line* last?
 --     line   := byte* newline      a byte is any but the newline
---     last   := byte byte*         behind the last newline, where a byte is left
+--     last   := byte byte*         after the last newline, where a byte is left
 use Rattle.std.specs.Prelude.{ℕ, List, [], ◌∷◌, ◌==◌, if◌then◌else◌, Bool, not}
 use Rattle.std.specs.List.{onto_first, list_all}
 
@@ -16,7 +16,7 @@ abbrev pub first_line : List ℕ → List ℕ
 first_line [] = []
 first_line (b ∷ bytes) = if b == 10 then [] else b ∷ first_line bytes
 
--- what stands behind the first line and its newline
+-- what stands after the first line and its newline
 abbrev pub after_line : List ℕ → List ℕ
 after_line [] = []
 after_line (b ∷ bytes) = if b == 10 then bytes else after_line bytes

@@ -66,7 +66,7 @@ abbrev pub Fills : List ℕ → List ℕ → List ℕ → Bool → Type 0
 Fills input pending now_input true = pending ++ now_input ≡ input
 Fills input pending now_input false = (input ≡ []) × (now_input ≡ []) × (pending ≡ [])
 
--- a part of a line was taken, with the newline behind it
+-- a part of a line was taken, with the newline after it
 pub record TakesWhole (old new : Unread) (part : List ℕ) : Type 0 where
   pub pending : old.pending ≡ part ++ 10 ∷ new.pending
   pub unbroken : is_unbroken part ≡ true
@@ -84,7 +84,7 @@ pub record TakesSome (old new : Unread) (part : List ℕ) : Type 0 where
   pub lines : new.lines ≡ old.lines
   pub is_open : new.is_open ≡ true
 
--- a part of a line was taken: with the newline behind it, or all that there is
+-- a part of a line was taken: with the newline after it, or all that there is
 abbrev pub TakesPart : Unread → Unread → Bool → Type 0
 TakesPart old new true = (part : List ℕ) × TakesWhole old new part
 TakesPart old new false = (part : List ℕ) × TakesSome old new part

@@ -44,7 +44,7 @@ text_of Full = codes "error full\n"
 text_of BadLine = codes "error line\n"
 text_of LongLine = codes "error long\n"
 
--- the texts of replies, one behind the other
+-- the texts of replies, one after the other
 abbrev pub texts_of : List Reply → List ℕ
 texts_of replies = flat_map text_of replies
 
@@ -66,7 +66,7 @@ TellsBytes reply = Unit {0}
 abbrev pub TextsDiffer : Type 0
 TextsDiffer = (one other : Reply) → TellsBytes one → TellsBytes other → text_of one ≡ text_of other → one ≡ other
 
--- what was there is still there, with or without more behind it
+-- what was there is still there, with or without more after it
 pub record IsOnto (old new : List ℕ) : Type 0 where
   pub more : List ℕ
   pub whole : new ≡ old ++ more

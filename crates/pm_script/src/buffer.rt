@@ -1,7 +1,7 @@
 //! The buffer of a reader.
 
 ghost use Rattle.std.specs.Prelude.{◌≡◌, ◌≤◌, ◌<◌, ◌+◌, ◌-◌, ℕ, length, take, drop, IfOk, OnOk, OnErr, Option};
-ghost use Rattle.pm_disk.specs.Causes.{HasCause};
+ghost use Rattle.pm_disk.specs.States.{HasCause, IsUsable};
 ghost use Rattle.pm_disk.specs.Moments.{Does, AllMoments};
 ghost use Rattle.pm_script.specs.Reading.{cut, FindsNewline, OnlyTakes, ReadsBehind};
 
@@ -31,12 +31,13 @@ pub fn keep_front(buffer: &mut Vec<u8>, from: usize, to: usize) -> usize
     len
 }
 
-// Reads the next piece of the input into the buffer behind its first `kept` bytes.
+// Reads the next piece of the input into the buffer after its first `kept` bytes.
 pub fn read_behind<H: Host>(
     host: &mut H,
     buffer: &mut Vec<u8>,
     kept: usize,
 ) -> Result<usize, Failed>
+    requires usable { IsUsable (H.state host.old) }
     requires { kept < length buffer.old.items }
     ensures front { take kept buffer.new.items ≡ take kept buffer.old.items }
     ensures same_length { length buffer.new.items ≡ length buffer.old.items }
@@ -45,7 +46,7 @@ pub fn read_behind<H: Host>(
         (H.history host.new).world.input (drop kept buffer.new.items)) }
     ensures takes { H.tells → AllMoments (H.history host.old) (H.history host.new) (OnlyTakes
         (H.history host.old).world) }
-    ensures cause { HasCause (H.faults host.old) (H.faults host.new) result }
+    ensures cause { HasCause (H.state host.old) (H.state host.new) result }
 {
     host.read(&mut buffer[kept..])
 }

@@ -31,7 +31,7 @@ pub fn read_line(alloc: Global, bytes: &[u8]) -> Result<Line, AllocError>
     }
 }
 
-// What a line says, by its first two words and what stands behind them.
+// What a line says, by its first two words and what stands after them.
 #[tactic(auto, using(crate::proofs::Spaces::too_many))]
 fn read_fields(alloc: Global, name: &[u8], cache: &[u8], rest: &[u8]) -> Result<Line, AllocError>
     ensures line { IfOk result

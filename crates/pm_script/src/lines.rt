@@ -3,7 +3,7 @@
 ghost use Rattle.std.specs.Prelude.{◌≡◌, ◌↔◌, ◌⊎◌, ◌+◌, ◌≤◌, ◌<◌, [], true, false, length, IsTrue, IfOk, OnOk};
 ghost use Rattle.std.specs.Borrow.{sem};
 ghost use Rattle.std.specs.Io.BufRead.{Rests};
-ghost use Rattle.pm_disk.specs.Causes.{HasCause};
+ghost use Rattle.pm_disk.specs.States.{HasCause, IsUsable};
 ghost use Rattle.pm_disk.specs.Moments.{AllMoments};
 ghost use Rattle.pm_script.specs.Reading.{OnlyTakes, rest_of, TakesPart, Fills, Gives, CountsItem, CountsNext, Advances, KeepsLine, IsKind, IsEndedWith, IsEndedWithout};
 
@@ -92,6 +92,7 @@ impl Lines {
     /// comes again at each later call. After `Failed` a part of a line may be lost: the reader is
     /// not to be used any more.
     pub fn next<H: Host>(&mut self, host: &mut H) -> Result<Item<'_>, Failed>
+        requires usable { IsUsable (H.state host.old) }
         ensures* gives { sem 𝓛 (Rests the_row self.entry (λ left.
             IfOk result (CountsItem self.entry.now left)
             × (H.tells → IfOk result (Gives self.entry.now left
@@ -99,7 +100,7 @@ impl Lines {
             (H.history host.new).world))))) }
         ensures takes { H.tells → AllMoments (H.history host.old) (H.history host.new) (OnlyTakes
             (H.history host.old).world) }
-        ensures cause { HasCause (H.faults host.old) (H.faults host.new) result }
+        ensures cause { HasCause (H.state host.old) (H.state host.new) result }
     {
         match self.advance(host)? {
             Next::Text => Ok(Item::Text(self.line())),
@@ -118,13 +119,14 @@ impl Lines {
 
     // Takes the next line.
     fn advance<H: Host>(&mut self, host: &mut H) -> Result<Next, Failed>
+        requires usable { IsUsable (H.state host.old) }
         ensures counts { IfOk result (CountsNext self.old self.new) }
         ensures next { H.tells → IfOk result (Advances self.old self.new
             (rest_of self.old (H.history host.old).world) (rest_of self.new
             (H.history host.new).world)) }
         ensures takes { H.tells → AllMoments (H.history host.old) (H.history host.new) (OnlyTakes
             (H.history host.old).world) }
-        ensures cause { HasCause (H.faults host.old) (H.faults host.new) result }
+        ensures cause { HasCause (H.state host.old) (H.state host.new) result }
     {
         self.begin();
         'pieces: loop {
@@ -167,7 +169,7 @@ impl Lines {
         }
     }
 
-    // Begins a line behind the one before.
+    // Begins a line after the one before.
     fn begin(&mut self)
         ensures { self.new ≡ record self.old { line = []; is_open = true } }
     {
@@ -194,6 +196,7 @@ impl Lines {
 
     // Reads the next piece where there is none, and says whether there is one.
     fn ready<H: Host>(&mut self, host: &mut H) -> Result<bool, Failed>
+        requires usable { IsUsable (H.state host.old) }
         requires { self.old.is_open ≡ true }
         ensures line { KeepsLine self.old self.new }
         ensures some { IfOk result (λ some. IsTrue some → 0 < length self.new.pending) }
@@ -203,7 +206,7 @@ impl Lines {
             rest_of self.new (H.history host.new).world ≡ []) }
         ensures takes { H.tells → AllMoments (H.history host.old) (H.history host.new) (OnlyTakes
             (H.history host.old).world) }
-        ensures cause { HasCause (H.faults host.old) (H.faults host.new) result }
+        ensures cause { HasCause (H.state host.old) (H.state host.new) result }
     {
         if self.is_empty() {
             self.fill(host)
@@ -212,8 +215,9 @@ impl Lines {
         }
     }
 
-    // Reads the next piece behind the line that goes on, and says whether there was one.
+    // Reads the next piece after the line that goes on, and says whether there was one.
     fn fill<H: Host>(&mut self, host: &mut H) -> Result<bool, Failed>
+        requires usable { IsUsable (H.state host.old) }
         requires empty { self.old.pending ≡ [] }
         requires going { self.old.is_open ≡ true }
         ensures line { KeepsLine self.old self.new }
@@ -222,7 +226,7 @@ impl Lines {
             (H.history host.old).world.input self.new.pending (H.history host.new).world.input) }
         ensures takes { H.tells → AllMoments (H.history host.old) (H.history host.new) (OnlyTakes
             (H.history host.old).world) }
-        ensures cause { HasCause (H.faults host.old) (H.faults host.new) result }
+        ensures cause { HasCause (H.state host.old) (H.state host.new) result }
     {
         let kept = keep_front(&mut self.buffer, self.from, self.to);
         self.from = 0;

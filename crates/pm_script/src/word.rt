@@ -4,7 +4,7 @@ ghost use Rattle.std.specs.Prelude.{◌≡◌, ◌==◌, position};
 ghost use Rattle.std.specs.Option.{option_copied};
 ghost use Rattle.pm_script.specs.Grammar.{BeginsWithWord};
 
-/// The first word, and what stands behind the space after it, or none where no space is left.
+/// The first word, and what stands after the space after it, or none where no space is left.
 pub(crate) fn first_word(bytes: &[u8]) -> (&[u8], Option<&[u8]>)
     ensures { BeginsWithWord bytes.now result.0.now (option_copied result.1) }
 {

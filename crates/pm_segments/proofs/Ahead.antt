@@ -66,7 +66,7 @@ sees place ahead there front enough = elim enough [
   ]
 ]
 
--- what a scan holds behind the frame that it gave
+-- what a scan holds after the frame that it gave
 pub ahead_after : (old new : Scanned) (world : World) (found : Option Frame) → IsAhead old world → found ≡ frame_at old.next old.ahead → StepsTo old new found → StepsOver old new found → IsAhead new world
 ahead_after old new world None is_ahead is advances steps =
     let there : behind_place new.next world ≡ behind_place old.next world = ap (λ (p : Place). behind_place p world) advances.1 in
@@ -86,7 +86,7 @@ ahead_after old new world (Some frame) is_ahead is advances steps =
       whole = λ whole. steps.0 ∙ ap (drop k) (is_ahead.whole (subst IsTrue steps.1 whole)) ∙ sym there;
     }
 
--- what is ahead once more was read behind it
+-- what is ahead once more was read after it
 pub read_more : (ahead there now moved : List ℕ) (kept count : ℕ) → ahead ≡ take (length ahead) there → kept ≡ length ahead → take kept now ≡ ahead
     → kept + count ≤ length now → take count (drop kept now) ≡ take count (drop kept there) → (take (kept + count) now ≡ take (kept + count) there) × (length (take (kept + count) now) ≡ kept + count)
 read_more ahead there now moved kept count front is_kept first bound read = (
@@ -94,7 +94,7 @@ read_more ahead there now moved kept count front is_kept first bound read = (
   length-take (kept + count) now ∙ (let m : min (kept + count) (length now) ≡ kept + count = omega (arith, bound) in m),
 )
 
--- a scan that holds the first so many bytes behind its place
+-- a scan that holds the first so many bytes after its place
 pub is_ahead_by : (scan : Scanned) (world : World) (there now : List ℕ) (n : ℕ) → scan.ahead ≡ take n now → take n now ≡ take n there → length (take n now) ≡ n
     → behind_place scan.next world ≡ there → (IsTrue scan.is_whole → length there ≤ n) → IsAhead scan world
 is_ahead_by scan world there now n ahead_is same count there_is whole =

@@ -77,7 +77,7 @@ module _ (keep : Frame → Bool) (seals : keep seal_frame ≡ true) (log : LogEn
       (λ room. ((is_open.ready, is_open.plain, fits_at end.seg end.off (omega (arith, room, is_open.limits.size_to)) (omega (arith, is_open.numbered))), tt))
       ((is_open.ready, is_open.plain, seal_fits), (inl is_open.ready, ((sealed_loose, is_open.numbered), (inr refl, ((refl, tt, fits_at (next_segment end.seg) 0 (omega (arith, is.short)) next_numbered), tt)))))
 
-  -- they append the frame, behind a SEAL where it didn't fit
+  -- they append the frame, after a SEAL where it didn't fit
   pub append_tail : (written_after (append_steps log frame) s).tail ≡ Ready
   append_tail = append_cases (λ steps. (written_after steps s).tail ≡ Ready) (λ room. is_open.ready) refl
 

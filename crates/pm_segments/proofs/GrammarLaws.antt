@@ -16,7 +16,7 @@ pub record IsGrammar (g : Grammar) : Type 0 where
       → g.frame_at seg off new ≡ Some f
   -- its bytes are as many as its size says
   pub bytes_length : (seg off : ℕ) (f : Frame) → length (g.frame_bytes seg off f) ≡ size f
-  -- what is written behind the bytes, where it may stand, stands there
+  -- what is written after the bytes, where it may stand, stands there
   pub written : (seg : ℕ) (bytes : List ℕ) (f : Frame)
       → g.fits seg (length bytes) f ≡ true
       → g.frame_at seg (length bytes) (bytes ++ g.frame_bytes seg (length bytes) f) ≡ Some f

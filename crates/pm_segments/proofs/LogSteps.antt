@@ -9,7 +9,7 @@ use Rattle.pm_disk.proofs.Families.{file_here, file_there, file_cases}
 use Rattle.pm_disk.proofs.Files.{quiet_below, each_change, content_change, below_push, content_long, below_less, forced_change}
 use Rattle.pm_frame.specs.Frames.{Frame}
 use Rattle.pm_types.specs.declared.place.Place.{Place}
-use Rattle.pm_segments.specs.Logs.{Grammar, size, next, behind, Run, RunIn, Plain, sizes, Stood, Tail, Loose, Cutting, Ready, LogStands}
+use Rattle.pm_segments.specs.Logs.{Grammar, size, next, after_frames, HasFrames, RunIn, Plain, sizes, Stood, Tail, Loose, Cutting, Ready, LogStands}
 use Rattle.pm_segments.proofs.GrammarLaws.{IsGrammar}
 use Rattle.pm_segments.proofs.Runs.{next-plain, none_past}
 
@@ -35,20 +35,20 @@ pub sizes-append : (xs ys : List Frame) → sizes (xs ++ ys) ≡ sizes xs + size
 sizes-append [] ys = omega arith
 sizes-append (x ∷ xs) ys = omega (arith, sizes-append xs ys)
 
-pub plain_behind : (seg off : ℕ) (fs : List Frame) → Plain fs → behind (record { seg = seg; off = off }) fs ≡ record { seg = seg; off = off + sizes fs }
+pub plain_behind : (seg off : ℕ) (fs : List Frame) → Plain fs → after_frames (record { seg = seg; off = off }) fs ≡ record { seg = seg; off = off + sizes fs }
 plain_behind seg off [] plain = let e : off ≡ off + 0 = omega arith in ap (λ n. let q : Place = record { seg = seg; off = n } in q) e
 plain_behind seg off (f ∷ fs) plain =
     let e : off + size f + sizes fs ≡ off + (size f + sizes fs) = omega arith in
-    ap (λ (q : Place). behind q fs) (next-plain (record { seg = seg; off = off }) f plain.0)
+    ap (λ (q : Place). after_frames q fs) (next-plain (record { seg = seg; off = off }) f plain.0)
     ∙ plain_behind seg (off + size f) fs plain.1 ∙ ap (λ n. let q : Place = record { seg = seg; off = n } in q) e
 
 -- frames in one segment are a run, where no SEAL is among them
-pub plain_run : (g : Grammar) (laws : IsGrammar g) (c : ℕ → List ℕ) (seg off : ℕ) (fs : List Frame) → Plain fs → RunIn g seg (c seg) off fs → Run g c (record { seg = seg; off = off }) fs
+pub plain_run : (g : Grammar) (laws : IsGrammar g) (c : ℕ → List ℕ) (seg off : ℕ) (fs : List Frame) → Plain fs → RunIn g seg (c seg) off fs → HasFrames g c (record { seg = seg; off = off }) fs
 plain_run g laws c seg off [] plain run = tt
 plain_run g laws c seg off (f ∷ fs) plain run =
-    (run.0, subst (λ (q : Place). Run g c q fs) (sym (next-plain (record { seg = seg; off = off }) f plain.0)) (plain_run g laws c seg (off + size f) fs plain.1 run.1))
+    (run.0, subst (λ (q : Place). HasFrames g c q fs) (sym (next-plain (record { seg = seg; off = off }) f plain.0)) (plain_run g laws c seg (off + size f) fs plain.1 run.1))
 
-pub run_join : (g : Grammar) (laws : IsGrammar g) (c : ℕ → List ℕ) (p : Place) (xs ys : List Frame) → Run g c p xs → Run g c (behind p xs) ys → Run g c p (xs ++ ys)
+pub run_join : (g : Grammar) (laws : IsGrammar g) (c : ℕ → List ℕ) (p : Place) (xs ys : List Frame) → HasFrames g c p xs → HasFrames g c (after_frames p xs) ys → HasFrames g c p (xs ++ ys)
 run_join g laws c p [] ys first second = second
 run_join g laws c p (x ∷ xs) ys first second = (first.0, run_join g laws c (next p x) xs ys first.1 second)
 
@@ -124,7 +124,7 @@ module _ (g : Grammar) (laws : IsGrammar g) (seg end : ℕ) (file : File) (f : F
   pub run_grown : (off : ℕ) (fs : List Frame) → RunIn g seg before off fs → off + sizes fs ≡ end → RunIn g seg (bytes_of (content grown)) off (fs ++ f ∷ [])
   run_grown off fs run at = subst (λ (o : Option (List ℕ)). RunIn g seg (bytes_of o) off (fs ++ f ∷ [])) (sym (content_change file (Write end bytes))) (runin_append off fs run at)
 
--- One more frame is written behind those that are pending, where none of them is a SEAL.
+-- One more frame is written after those that are pending, where none of them is a SEAL.
 pub log_append : (g : Grammar) (laws : IsGrammar g) (log : ℕ → File) (low : ℕ) (at : Place) (pending : List Frame) (f : Frame) (bytes : List ℕ)
     → LogStands g log low at pending Ready → Plain pending → g.fits at.seg (at.off + sizes pending) f ≡ true → bytes ≡ g.frame_bytes at.seg (at.off + sizes pending) f
     → LogStands g (with_file log at.seg (with_change (log at.seg) (Write (at.off + sizes pending) bytes))) low at (pending ++ f ∷ []) Ready
@@ -209,7 +209,7 @@ log_force_sealed g laws log low at pending s =
       tail_is = refl;
     }
 
--- Once the cut is forced, frames may be written behind the log's end.
+-- Once the cut is forced, frames may be written after the log's end.
 pub log_force_cut : (g : Grammar) (laws : IsGrammar g) (log : ℕ → File) (low : ℕ) (at : Place) → LogStands g log low at [] Cutting
     → LogStands g (with_file log at.seg (all_forced (log at.seg))) low at [] Ready
 log_force_cut g laws log low at s =

@@ -1,4 +1,4 @@
--- An open log stays open: an append leaves all frames as they stood and one more behind them, a force makes all of them
+-- An open log stays open: an append leaves all frames as they stood and one more after them, a force makes all of them
 -- lasting, and a crash at any moment leaves a first part of them that has all that were lasting.
 use Rattle.std.proofs.Common.{◌≡◌, ◌⊎◌, inl, inr, ℕ, ◌+◌, ◌^◌, ◌<◌, ◌≤◌, List, [], ◌∷◌, ◌++◌, length, take, Option, refl, sym, ◌∙◌, ap, subst, arith, Bool, true, false, append-nil}
 use Rattle.std.specs.Prelude.{if◌then◌else◌}
@@ -63,7 +63,7 @@ module _ (keep : Frame → Bool) (seals : keep seal_frame ≡ true) (log : LogEn
   pub append_frames : frames_in steps ≡ frames_in (room_steps log len) ++ frame ∷ []
   append_frames = frames_in-append (room_steps log len) (Append frame ∷ [])
 
-  -- where the log ends behind it
+  -- where the log ends after it
   pub grown_end : end_after steps end ≡ (grown log frame).end
   grown_end = end_after-append (room_steps log len) (Append frame ∷ []) end ∙ ap (λ (p : Place). place_behind p frame) (roomy_end log len)
 

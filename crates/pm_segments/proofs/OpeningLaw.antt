@@ -8,14 +8,14 @@ use Rattle.pm_disk.specs.Worlds.{World, log_forced}
 use Rattle.pm_disk.specs.Images.{Leaves, IsTrueOf}
 use Rattle.pm_segments.specs.Ends.{cut_at, CutsTail}
 use Rattle.pm_segments.specs.Grammars.{grammar}
-use Rattle.pm_segments.specs.Logs.{Grammar, IsLog, Run, Tail, Loose, Cutting, Ready, behind, next, is_seal, contents}
+use Rattle.pm_segments.specs.Logs.{Grammar, IsLog, HasFrames, Tail, Loose, Cutting, Ready, after_frames, next, is_seal, contents}
 use Rattle.pm_segments.specs.Written.{Standing, IsWritten}
 use Rattle.pm_segments.proofs.Laws.{grammar_laws}
 use Rattle.pm_segments.proofs.Runs.{bool_cases, next-plain, next-seal}
 use Rattle.pm_segments.proofs.Standing.{quiet_standing, standing_cut, standing_force_cut, standing_image}
 
 -- a run ends within the file of its last segment
-pub run_within : (keep : Frame → Bool) (c : ℕ → List ℕ) (p : Place) (fs : List Frame) → p.off ≤ length (c p.seg) → Run (grammar keep) c p fs → (behind p fs).off ≤ length (c (behind p fs).seg)
+pub run_within : (keep : Frame → Bool) (c : ℕ → List ℕ) (p : Place) (fs : List Frame) → p.off ≤ length (c p.seg) → HasFrames (grammar keep) c p fs → (after_frames p fs).off ≤ length (c (after_frames p fs).seg)
 run_within keep c p [] le run = le
 run_within keep c p (f ∷ fs) le run =
     let within : (next p f).off ≤ length (c (next p f).seg) = elim (bool_cases (is_seal f)) [
@@ -30,7 +30,7 @@ module _ (keep : Frame → Bool) (world : World) (low : ℕ) (from : Place) (fs 
   g = grammar keep
 
   abbrev end : Place
-  end = behind from fs
+  end = after_frames from fs
 
   loose : Standing g world.log low from end fs [] Loose
   loose = quiet_standing g (grammar_laws keep) world.log low from end fs quiet kept is_log refl (run_within keep (contents world.log) from fs long is_log.run)

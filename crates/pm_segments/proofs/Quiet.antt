@@ -26,7 +26,7 @@ forced_quiet seg world quiet n = elim (eq_cases n seg) [
   | inr apart ↦ ap (λ (f : File). f.since) (file_there world.log seg n (all_forced (world.log seg)) apart) ∙ quiet n apart
 ]
 
--- a roll, and the record behind it
+-- a roll, and the record after it
 rolled_quiet : (end : Place) (frame : Frame) (world : World) → IsQuietBut world end.seg → (first : List Step) → (first ≡ []) ⊎ (first ≡ Append seal_frame ∷ [])
     → IsQuietBut (world_after ((first ++ turn_steps) ++ Append frame ∷ []) end world) (end_after ((first ++ turn_steps) ++ Append frame ∷ []) end).seg
 rolled_quiet end frame world quiet first which = elim which [

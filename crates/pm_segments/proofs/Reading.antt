@@ -9,7 +9,7 @@ use Rattle.pm_frame.proofs.FrameAt.{frame_at-some}
 use Rattle.pm_disk.specs.Worlds.{World}
 use Rattle.pm_segments.specs.Ends.{place_behind}
 use Rattle.pm_segments.specs.Grammars.{place, kept, all_frames}
-use Rattle.pm_segments.specs.Logs.{Run, behind, next, is_seal, contents}
+use Rattle.pm_segments.specs.Logs.{HasFrames, after_frames, next, is_seal, contents}
 use Rattle.pm_segments.specs.Scans.{Scanned, behind_place, stands_next, following, is_last, Advances}
 use Rattle.pm_segments.specs.Read.{point, log_end, HasScanned, IsLogFrom}
 use Rattle.pm_segments.proofs.Laws.{grammar_laws}
@@ -42,7 +42,7 @@ going_on scan world f stands = elim (bool_cases scan.is_over) [
 is_last-true : (seg : ℕ) → is_last seg ≡ true → seg + 1 ≡ 2 ^ 64
 is_last-true seg is = let e = eqb-true seg (2 ^ 64 - 1) is in omega (arith, e)
 
--- the place behind a frame, as the log has it and as a scan has it
+-- the place after a frame, as the log has it and as a scan has it
 follows : (p : Place) (f : Frame) (new : Scanned) → new.next ≡ following p f → new.is_over ≡ (is_seal f && is_last p.seg) → (next p f ≡ point new) × (new.is_over ≡ true → new.next.seg + 1 ≡ 2 ^ 64)
 follows p f new to over = elim (bool_cases (is_seal f)) [
   | inr plain ↦
@@ -81,18 +81,18 @@ scan_starts world from scan is going = record {
 pub scan_goes : (world : World) (from : Place) (fs : List Frame) (old new : Scanned) (f : Frame) → HasScanned world from fs old → stands_next old world ≡ Some f → Advances old new (Some f) → HasScanned world from (fs ++ f ∷ []) new
 scan_goes world from fs old new f was stands advances =
     let going = going_on old world f stands in
-    let there : behind from fs ≡ old.next = was.goes_on ∙ point_going old going in
+    let there : after_frames from fs ≡ old.next = was.goes_on ∙ point_going old going in
     let here : all_frames.frame_at old.next.seg old.next.off (contents world.log old.next.seg) ≡ Some f = ap (kept (λ _. true)) (sym (stands_going old world going) ∙ stands) in
     let to = follows old.next f new advances.1 advances.2 in
     record {
       run = run_join all_frames (grammar_laws (λ _. true)) (contents world.log) from fs (f ∷ []) was.run
-          (subst (λ (q : Place). Run all_frames (contents world.log) q (f ∷ [])) (sym there) (here, tt));
+          (subst (λ (q : Place). HasFrames all_frames (contents world.log) q (f ∷ [])) (sym there) (here, tt));
       goes_on = behind-append from fs (f ∷ []) ∙ ap (λ (q : Place). next q f) there ∙ to.0;
       end = log_end-append from fs f ∙ ap (λ (q : Place). following q f) was.end ∙ sym advances.1;
       last = to.1;
     }
 
--- no frame has a place in a segment behind the last one
+-- no frame has a place in a segment after the last one
 none_behind : (seg off : ℕ) (bytes : List ℕ) → seg ≡ 2 ^ 64 → all_frames.frame_at seg off bytes ≡ None
 none_behind seg off bytes is = elim (option_cases (frame_at (place seg off) (drop off bytes))) [
   | inl none ↦ ap (kept (λ _. true)) none
@@ -106,7 +106,7 @@ scan_ends world from fs old new was stands advances = (record { run = was.run; e
     none_at : Place → Type 0
     none_at q = all_frames.frame_at q.seg q.off (contents world.log q.seg) ≡ None
 
-    ends : none_at (behind from fs)
+    ends : none_at (after_frames from fs)
     ends = elim (bool_cases old.is_over) [
       | inr going ↦ subst none_at (sym (was.goes_on ∙ point_going old going)) (ap (kept (λ _. true)) (sym (stands_going old world going) ∙ stands))
       | inl over ↦ subst none_at (sym (was.goes_on ∙ point_over old over)) (none_behind (old.next.seg + 1) 0 (contents world.log (old.next.seg + 1)) (was.last over))

@@ -7,7 +7,7 @@ use Rattle.pm_disk.specs.Images.{Below, Leaves, IsTrueOf}
 use Rattle.pm_disk.proofs.Files.{kept, no_longer, quiet_below}
 use Rattle.pm_frame.specs.Frames.{Frame}
 use Rattle.pm_types.specs.declared.place.Place.{Place}
-use Rattle.pm_segments.specs.Logs.{Grammar, size, is_seal, next, behind, Run, IsLog, sizes, forceds, Stood, Tail, LogStands, Leads}
+use Rattle.pm_segments.specs.Logs.{Grammar, size, is_seal, next, after_frames, HasFrames, IsLog, sizes, forceds, Stood, Tail, LogStands, Leads}
 use Rattle.pm_segments.proofs.GrammarLaws.{IsGrammar}
 
 pub bool_cases : (b : Bool) → (b ≡ true) ⊎ (b ≡ false)
@@ -31,12 +31,12 @@ none_past g laws seg off bytes short = elim (option_cases (g.frame_at seg off by
 ]
 
 -- a run only climbs
-pub climbs : (p : Place) (fs : List Frame) → (p.seg < (behind p fs).seg) ⊎ ((p.seg ≡ (behind p fs).seg) × (p.off + sizes fs ≤ (behind p fs).off))
+pub climbs : (p : Place) (fs : List Frame) → (p.seg < (after_frames p fs).seg) ⊎ ((p.seg ≡ (after_frames p fs).seg) × (p.off + sizes fs ≤ (after_frames p fs).off))
 climbs p [] = inr (refl, omega arith)
 climbs p (f ∷ fs) =
     let P : Bool → Type 0 = λ b. let q : Place = if b then record { seg = p.seg + 1; off = 0 } else record { seg = p.seg; off = p.off + size f } in
-    ((q.seg < (behind q fs).seg) ⊎ ((q.seg ≡ (behind q fs).seg) × (q.off + sizes fs ≤ (behind q fs).off)))
-    → (p.seg < (behind q fs).seg) ⊎ ((p.seg ≡ (behind q fs).seg) × (p.off + (size f + sizes fs) ≤ (behind q fs).off)) in
+    ((q.seg < (after_frames q fs).seg) ⊎ ((q.seg ≡ (after_frames q fs).seg) × (q.off + sizes fs ≤ (after_frames q fs).off)))
+    → (p.seg < (after_frames q fs).seg) ⊎ ((p.seg ≡ (after_frames q fs).seg) × (p.off + (size f + sizes fs) ≤ (after_frames q fs).off)) in
     let cases : P (is_seal f) = elim (is_seal f) as P [
       | true ↦ λ h. elim h [ inl lt ↦ inl (omega (arith, lt)) | inr at ↦ inl (omega (arith, at.0)) ]
       | false ↦ λ h. elim h [ inl lt ↦ inl lt | inr at ↦ inr (at.0, omega (arith, at.1)) ]
@@ -58,7 +58,7 @@ pub record Same (old new : List ℕ) (n : ℕ) : Type 0 where
 pub keeps_run : (g : Grammar) (laws : IsGrammar g) (old new : ℕ → List ℕ) (low : ℕ) (at p : Place) (fs : List Frame)
     → ((seg : ℕ) → low ≤ seg → seg < at.seg → Same (old seg) (new seg) (length (old seg)))
     → ((seg : ℕ) → seg ≡ at.seg → Same (old seg) (new seg) at.off)
-    → low ≤ p.seg → Run g old p fs → behind p fs ≡ at → Run g new p fs
+    → low ≤ p.seg → HasFrames g old p fs → after_frames p fs ≡ at → HasFrames g new p fs
 keeps_run g laws old new low at p [] older here le run to = tt
 keeps_run g laws old new low at p (f ∷ fs) older here le run to =
     let fits = laws.within p.seg p.off (old p.seg) f run.0 in
@@ -74,8 +74,8 @@ log_cons g laws c p q f fs here to log =
     let rest : IsLog g c (next p f) fs = subst (λ (r : Place). IsLog g c r fs) (sym to) log in
     record { run = (here, rest.run); ends = rest.ends; clear = rest.clear }
 
--- a run, and the log behind it
-pub log_join : (g : Grammar) (laws : IsGrammar g) (c : ℕ → List ℕ) (p : Place) (xs ys : List Frame) → Run g c p xs → IsLog g c (behind p xs) ys → IsLog g c p (xs ++ ys)
+-- a run, and the log after it
+pub log_join : (g : Grammar) (laws : IsGrammar g) (c : ℕ → List ℕ) (p : Place) (xs ys : List Frame) → HasFrames g c p xs → IsLog g c (after_frames p xs) ys → IsLog g c p (xs ++ ys)
 log_join g laws c p [] ys run log = log
 log_join g laws c p (f ∷ xs) ys run log = log_cons g laws c p (next p f) f (xs ++ ys) run.0 refl (log_join g laws c (next p f) xs ys run.1 log)
 
@@ -85,7 +85,7 @@ pub record Front (g : Grammar) (c : ℕ → List ℕ) (p : Place) (pending : Lis
   pub fits : count ≤ length pending
   pub log : IsLog g c p (take count pending)
 
--- where nothing but these frames ever stood there, the log behind the place is a front of them
+-- where nothing but these frames ever stood there, the log after the place is a front of them
 pub front_of : (g : Grammar) (laws : IsGrammar g) (c : ℕ → List ℕ) (seg off : ℕ) (file : File) (pending : List Frame) → Stood g seg file off pending
     → ((at : ℕ) (x : Frame) → g.frame_at seg at (c seg) ≡ Some x → (k : ℕ) × (k ≤ length file.since) × (g.frame_at seg at (bytes_of (at_change file k)) ≡ Some x))
     → ((s : ℕ) → seg < s → c s ≡ []) → Front g c (record { seg = seg; off = off }) pending
@@ -118,7 +118,7 @@ front_of g laws c seg off file (f ∷ fs) stood honest clear = elim (option_case
 pub record LogLeft (g : Grammar) (log : ℕ → File) (low : ℕ) (at : Place) (pending : List Frame) (c : ℕ → List ℕ) : Type 0 where
   pub front : Front g c at pending
   pub long : at.off ≤ length (c at.seg)
-  pub kept : (p : Place) (fs : List Frame) → Leads g log low at p fs → Run g c p fs
+  pub kept : (p : Place) (fs : List Frame) → Leads g log low at p fs → HasFrames g c p fs
 
 pub log_image : (g : Grammar) (laws : IsGrammar g) (log : ℕ → File) (low : ℕ) (at : Place) (pending : List Frame) (tail : Tail) (left : ℕ → Option (List ℕ)) → LogStands g log low at pending tail
     → ((seg : ℕ) → Leaves (log seg) (left seg)) → ((seg : ℕ) → IsTrueOf (g.frame_at seg) (log seg) (left seg)) → LogLeft g log low at pending (λ seg. bytes_of (left seg))

@@ -26,7 +26,7 @@ moments_sealed old new result end fits sound call =
 pub world_sealed : (old new : World) (end : Place) → can_seal end ≡ true → new ≡ written end seal_frame old → new ≡ world_after (seal_steps end) end old
 world_sealed old new end fits is = is ∙ ap (λ steps. world_after steps end old) (seals end fits)
 
--- the log ends behind it
+-- the log ends after it
 pub sealed_end : (end : Place) → end_after (seal_steps end) end ≡ record { seg = end.seg; off = end.off + seal_len end }
 sealed_end end = each (can_seal end)
   where

@@ -1,4 +1,4 @@
--- The log over its segments, from a place on: what of it is lasting, what was written behind that, and what a
+-- The log over its segments, from a place on: what of it is lasting, what was written after that, and what a
 -- crash leaves.
 use Rattle.std.proofs.Common.{◌≡◌, ◌⊎◌, inl, inr, ℕ, ◌+◌, ◌<◌, ◌≤◌, List, [], ◌∷◌, ◌++◌, length, take, Option, None, refl, sym, ◌∙◌, ap, subst, arith, true, false}
 use Rattle.std.specs.Prelude.{slice_get}
@@ -10,20 +10,20 @@ use Rattle.pm_disk.specs.Worlds.{with_file}
 use Rattle.pm_disk.specs.Images.{Leaves, IsTrueOf}
 use Rattle.pm_disk.proofs.Files.{quiet_content, at_change-last, content_same, content_long, quiet_below, below_less}
 use Rattle.pm_disk.proofs.Families.{file_here, file_there, file_cases}
-use Rattle.pm_segments.specs.Logs.{Grammar, IsLog, LogStands, Leads, Stood, RunIn, Tail, Loose, Cutting, Ready, Run, Plain, sizes, size, is_seal, next, behind, contents, forceds}
+use Rattle.pm_segments.specs.Logs.{Grammar, IsLog, LogStands, Leads, Stood, RunIn, Tail, Loose, Cutting, Ready, HasFrames, Plain, sizes, size, is_seal, next, after_frames, contents, forceds}
 use Rattle.pm_segments.specs.Written.{Standing, is_sealed}
 use Rattle.pm_segments.proofs.GrammarLaws.{IsGrammar}
 use Rattle.pm_segments.proofs.Runs.{Same, climbs, bool_cases, next-plain, next-seal, none_past, keeps_run, log_cons, log_join, log_image}
 use Rattle.pm_segments.proofs.LogSteps.{log_append, log_cut, log_force, log_force_sealed, log_force_cut}
 
-pub behind-append : (p : Place) (xs ys : List Frame) → behind p (xs ++ ys) ≡ behind (behind p xs) ys
+pub behind-append : (p : Place) (xs ys : List Frame) → after_frames p (xs ++ ys) ≡ after_frames (after_frames p xs) ys
 behind-append p [] ys = refl
 behind-append p (x ∷ xs) ys = behind-append (next p x) xs ys
 
 -- what is pending has no SEAL, or ends with its only one
 pub data Pending (seg off : ℕ) (fs : List Frame) : Type 0 where
-  Open : Plain fs → is_sealed fs ≡ false → behind (record { seg = seg; off = off }) fs ≡ record { seg = seg; off = off + sizes fs } → Pending seg off fs
-  Sealed : is_sealed fs ≡ true → behind (record { seg = seg; off = off }) fs ≡ record { seg = seg + 1; off = 0 } → Pending seg off fs
+  Open : Plain fs → is_sealed fs ≡ false → after_frames (record { seg = seg; off = off }) fs ≡ record { seg = seg; off = off + sizes fs } → Pending seg off fs
+  Sealed : is_sealed fs ≡ true → after_frames (record { seg = seg; off = off }) fs ≡ record { seg = seg + 1; off = 0 } → Pending seg off fs
 
 module _ (g : Grammar) (laws : IsGrammar g) where
   pub pending_cases : (seg off : ℕ) (file : File) (fs : List Frame) → Stood g seg file off fs → Pending seg off fs
@@ -37,8 +37,8 @@ module _ (g : Grammar) (laws : IsGrammar g) where
         let step = next-plain p f open_ in
         let e : off + size f + sizes fs ≡ off + (size f + sizes fs) = omega arith in
         elim (pending_cases seg (off + size f) file fs (stood.2 open_)) [
-          | Open plain last to ↦ Open (open_, plain) (still f fs open_ last) (ap (λ (q : Place). behind q fs) step ∙ to ∙ ap (λ n. let q : Place = record { seg = seg; off = n } in q) e)
-          | Sealed last to ↦ Sealed (ends f fs last) (ap (λ (q : Place). behind q fs) step ∙ to)
+          | Open plain last to ↦ Open (open_, plain) (still f fs open_ last) (ap (λ (q : Place). after_frames q fs) step ∙ to ∙ ap (λ n. let q : Place = record { seg = seg; off = n } in q) e)
+          | Sealed last to ↦ Sealed (ends f fs last) (ap (λ (q : Place). after_frames q fs) step ∙ to)
         ]
   ]
     where
@@ -93,7 +93,7 @@ module _ (g : Grammar) (laws : IsGrammar g) where
   pending_log log low at pending Ready s = stood_log log low at pending Ready s at.off pending s.stood s.tail_is.run s.tail_is.exact
 
   module _ (log : ℕ → File) (low : ℕ) (from at : Place) (lasting pending : List Frame) (tail : Tail) (s : Standing g log low from at lasting pending tail) where
-    lasting_run : Run g (contents log) from lasting
+    lasting_run : HasFrames g (contents log) from lasting
     lasting_run =
         keeps_run g laws (forceds log) (contents log) low at from lasting
         (λ seg le lt.
@@ -109,7 +109,7 @@ module _ (g : Grammar) (laws : IsGrammar g) where
         log_join g laws (contents log) from lasting pending lasting_run
         (subst (λ (q : Place). IsLog g (contents log) q pending) (sym s.leads.to) (pending_log log low at pending tail s.stands))
 
-    -- What a crash leaves, as long as no sum is right by chance: what is lasting, and some first of what is pending.
+    -- What a crash leaves, as long as no sum is right by chance: what is lasting, and a prefix of what is pending.
     pub standing_image : (left : ℕ → Option (List ℕ)) → ((seg : ℕ) → Leaves (log seg) (left seg)) → ((seg : ℕ) → IsTrueOf (g.frame_at seg) (log seg) (left seg))
         → (n : ℕ) × (n ≤ length pending) × IsLog g (λ seg. bytes_of (left seg)) from (lasting ++ take n pending)
     standing_image left leaves honest =
@@ -135,10 +135,10 @@ module _ (g : Grammar) (laws : IsGrammar g) where
           ∙ sym (ap (λ (o : Option (List ℕ)). bytes_of o) (quiet_content (log seg) (s.stands.older seg le lt)))
     ]
 
-    forced_leads : (end : Place) → behind at pending ≡ end → ((seg : ℕ) → seg < end.seg → (seg ≡ at.seg) ⊎ (seg < at.seg)) → Same (contents log end.seg) (forceds forced end.seg) end.off
+    forced_leads : (end : Place) → after_frames at pending ≡ end → ((seg : ℕ) → seg < end.seg → (seg ≡ at.seg) ⊎ (seg < at.seg)) → Same (contents log end.seg) (forceds forced end.seg) end.off
         → Leads g forced low end from (lasting ++ pending)
     forced_leads end to below here =
-        let ends : behind from (lasting ++ pending) ≡ end = behind-append from lasting pending ∙ ap (λ (q : Place). behind q pending) s.leads.to ∙ to in
+        let ends : after_frames from (lasting ++ pending) ≡ end = behind-append from lasting pending ∙ ap (λ (q : Place). after_frames q pending) s.leads.to ∙ to in
         record {
           kept = s.leads.kept;
           run = keeps_run g laws (contents log) (forceds forced) low end from (lasting ++ pending)
@@ -153,13 +153,13 @@ module _ (g : Grammar) (laws : IsGrammar g) where
         let same = forced_reads at.seg s.stands.reaches (inl refl) in
         record { long = omega (arith, le, ap (λ (l : List ℕ). length l) same); same = λ i lt. ap (λ (l : List ℕ). slice_get l i) same }
 
-    -- where no SEAL is pending, the log ends behind that
-    force_leads_open : behind at pending ≡ record { seg = at.seg; off = at.off + sizes pending } → at.off + sizes pending ≤ length (contents log at.seg)
+    -- where no SEAL is pending, the log ends after that
+    force_leads_open : after_frames at pending ≡ record { seg = at.seg; off = at.off + sizes pending } → at.off + sizes pending ≤ length (contents log at.seg)
         → Leads g forced low (record { seg = at.seg; off = at.off + sizes pending }) from (lasting ++ pending)
     force_leads_open to le = forced_leads (record { seg = at.seg; off = at.off + sizes pending }) to (λ seg lt. inr lt) (forced_same le)
 
-    -- behind a SEAL it ends at the begin of the next segment
-    force_leads_sealed : behind at pending ≡ record { seg = at.seg + 1; off = 0 } → Leads g forced low (record { seg = at.seg + 1; off = 0 }) from (lasting ++ pending)
+    -- after a SEAL it ends at the begin of the next segment
+    force_leads_sealed : after_frames at pending ≡ record { seg = at.seg + 1; off = 0 } → Leads g forced low (record { seg = at.seg + 1; off = 0 }) from (lasting ++ pending)
     force_leads_sealed to = forced_leads (record { seg = at.seg + 1; off = 0 }) to (λ seg lt. up_to seg (omega (arith, lt))) record { long = omega arith; same = λ i lt. absurd (omega (arith, lt)) }
       where
         up_to : (seg : ℕ) → seg ≤ at.seg → (seg ≡ at.seg) ⊎ (seg < at.seg)
@@ -171,7 +171,7 @@ module _ (g : Grammar) (laws : IsGrammar g) where
       let new : ℕ → File = with_file log at.seg (with_change (log at.seg) change) in
       let each : (seg : ℕ) → forceds new seg ≡ forceds log seg = file_cases log at.seg (with_change (log at.seg) change) (λ n x. bytes_of x.forced ≡ forceds log n) refl (λ n apart. refl) in
       let same : forceds new ≡ forceds log = λ i seg. each seg i in
-      record { kept = leads.kept; run = subst (λ (c : ℕ → List ℕ). Run g c from lasting) (sym same) leads.run; to = leads.to }
+      record { kept = leads.kept; run = subst (λ (c : ℕ → List ℕ). HasFrames g c from lasting) (sym same) leads.run; to = leads.to }
 
   -- ---- the steps
 
@@ -184,15 +184,15 @@ module _ (g : Grammar) (laws : IsGrammar g) where
       record { stands = log_append g laws log low at pending f bytes s.stands open_ fits refl; leads = change_leads log low from at lasting (Write end bytes) s.leads }
 
   -- A force makes the whole log lasting.
-  pub standing_force : (log : ℕ → File) (low : ℕ) (from at : Place) (lasting pending : List Frame) → Standing g log low from at lasting pending Ready → Plain pending → behind at pending ≡ record { seg = at.seg; off = at.off + sizes pending }
+  pub standing_force : (log : ℕ → File) (low : ℕ) (from at : Place) (lasting pending : List Frame) → Standing g log low from at lasting pending Ready → Plain pending → after_frames at pending ≡ record { seg = at.seg; off = at.off + sizes pending }
       → Standing g (with_file log at.seg (all_forced (log at.seg))) low from (record { seg = at.seg; off = at.off + sizes pending }) (lasting ++ pending) [] Ready
   standing_force log low from at lasting pending s open_ to = record {
     stands = log_force g laws log low at pending s.stands open_;
     leads = force_leads_open log low from at lasting pending Ready s to (omega (arith, s.stands.tail_is.exact));
   }
 
-  -- Behind a SEAL the log goes on in the next segment.
-  pub standing_force_sealed : (log : ℕ → File) (low : ℕ) (from at : Place) (lasting pending : List Frame) → Standing g log low from at lasting pending Ready → behind at pending ≡ record { seg = at.seg + 1; off = 0 }
+  -- After a SEAL the log goes on in the next segment.
+  pub standing_force_sealed : (log : ℕ → File) (low : ℕ) (from at : Place) (lasting pending : List Frame) → Standing g log low from at lasting pending Ready → after_frames at pending ≡ record { seg = at.seg + 1; off = 0 }
       → Standing g (with_file log at.seg (all_forced (log at.seg))) low from (record { seg = at.seg + 1; off = 0 }) (lasting ++ pending) [] Loose
   standing_force_sealed log low from at lasting pending s to = record {
     stands = log_force_sealed g laws log low at pending s.stands;
@@ -219,7 +219,7 @@ module _ (g : Grammar) (laws : IsGrammar g) where
   -- ---- how a log begins
 
   -- With nothing pending all frames of the log are lasting.
-  pub quiet_standing : (log : ℕ → File) (low : ℕ) (from at : Place) (fs : List Frame) → ((seg : ℕ) → low ≤ seg → (log seg).since ≡ []) → low ≤ from.seg → IsLog g (contents log) from fs → behind from fs ≡ at → at.off ≤ length (contents log at.seg)
+  pub quiet_standing : (log : ℕ → File) (low : ℕ) (from at : Place) (fs : List Frame) → ((seg : ℕ) → low ≤ seg → (log seg).since ≡ []) → low ≤ from.seg → IsLog g (contents log) from fs → after_frames from fs ≡ at → at.off ≤ length (contents log at.seg)
       → Standing g log low from at fs [] Loose
   quiet_standing log low from at fs quiet kept is_log to fits =
       let up = climbs from fs in

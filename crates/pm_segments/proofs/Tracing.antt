@@ -18,7 +18,7 @@ pub world_after-append : (xs ys : List Step) (end : Place) (world : World) → w
 world_after-append [] ys end world = refl
 world_after-append (x ∷ xs) ys end world = world_after-append xs ys (step_end x end) (step_world x end world)
 
--- ---- some first steps
+-- ---- a prefix of steps
 
 pub some_none : (steps : List Step) (end : Place) (old : World) → DoesSome steps end old old
 some_none steps end old = (0, omega arith, refl)
@@ -57,7 +57,7 @@ steps_one old new result step end sound call = record { all = call.ok; moments =
 pub moments_first : (old mid : History) (xs ys : List Step) (end : Place) → AllMoments old mid (DoesSome xs end old.world) → AllMoments old mid (DoesSome (xs ++ ys) end old.world)
 moments_first old mid xs ys end first = weaker old mid (DoesSome xs end old.world) (DoesSome (xs ++ ys) end old.world) (λ w some. some_first xs ys end old.world w some) first
 
--- and the others behind them
+-- and the others after them
 pub moments_joined : (old mid new : History) (xs ys : List Step) (end : Place) → AllMoments old mid (DoesSome xs end old.world) → mid.world ≡ world_after xs end old.world
     → AllMoments mid new (DoesSome ys (end_after xs end) mid.world) → AllMoments old new (DoesSome (xs ++ ys) end old.world)
 moments_joined old mid new xs ys end first is second =
@@ -66,7 +66,7 @@ moments_joined old mid new xs ys end first is second =
     joined old mid new P (moments_first old mid xs ys end first)
     (weaker mid new (DoesSome ys behind mid.world) P (λ w some. some_more xs ys end old.world w (subst (λ v. DoesSome ys behind v w) is some)) second)
 
--- the world behind both
+-- the world after both
 pub world_joined : (old mid new : World) (xs ys : List Step) (end : Place) → mid ≡ world_after xs end old → new ≡ world_after ys (end_after xs end) mid → new ≡ world_after (xs ++ ys) end old
 world_joined old mid new xs ys end first second = second ∙ ap (world_after ys (end_after xs end)) first ∙ sym (world_after-append xs ys end old)
 

@@ -1,4 +1,4 @@
--- How a scan goes on behind a SEAL.
+-- How a scan goes on after a SEAL.
 use Rattle.std.proofs.Common.{◌≡◌, inl, inr, ◌+◌, Bool, true, false, Option, Some, None, refl, sym, ◌∙◌, ap, subst}
 use Rattle.std.specs.Prelude.{◌&&◌, not, if◌then◌else◌}
 use Rattle.pm_types.specs.declared.place.Place.{Place}

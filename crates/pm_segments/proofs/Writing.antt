@@ -11,7 +11,7 @@ use Rattle.pm_disk.specs.Worlds.{World, log_changed, log_forced}
 use Rattle.pm_disk.specs.Images.{Leaves, IsTrueOf}
 use Rattle.pm_segments.specs.Ends.{written}
 use Rattle.pm_segments.specs.Grammars.{grammar}
-use Rattle.pm_segments.specs.Logs.{Grammar, IsLog, Tail, Loose, Cutting, Ready, Plain, sizes, behind}
+use Rattle.pm_segments.specs.Logs.{Grammar, IsLog, Tail, Loose, Cutting, Ready, Plain, sizes, after_frames}
 use Rattle.pm_segments.specs.Steps.{Step, Append, Force, NextSegment, next_segment, next_begin, step_end, step_world, end_after, world_after, DoesSome}
 use Rattle.pm_segments.specs.Written.{Standing, Written, tail_forced, next_written, written_after, IsWritten}
 use Rattle.pm_segments.proofs.Laws.{grammar_laws}
@@ -103,7 +103,7 @@ module _ (keep : Frame → Bool) where
           ends = s.ends.0 ∙ ap (λ n. let q : Place = record { seg = at.seg; off = n } in q) e;
         } in
         subst (λ n. IsWritten keep (log_forced n world) low from end (next_written Force (state pending Cutting))) same_seg
-        (subst (λ (l : List Frame). IsWritten keep (log_forced at.seg world) low from end (record { at = behind at l; lasting = lasting ++ l; pending = []; tail = Ready })) (sym s.ends.1) done)
+        (subst (λ (l : List Frame). IsWritten keep (log_forced at.seg world) low from end (record { at = after_frames at l; lasting = lasting ++ l; pending = []; tail = Ready })) (sym s.ends.1) done)
 
   -- A step keeps the log written.
   pub step_keeps : (step : Step) (world : World) (low : ℕ) (from end : Place) (s : Written) → IsWritten keep world low from end s → CanStep step end s → IsWritten keep (step_world step end world) low from (step_end step end) (next_written step s)

@@ -29,7 +29,7 @@ abbrev pub fresh_log : ℕ → Place → ℕ → LogEnd
 fresh_log first end segment_bytes =
     record { first = first; end = end; segment_bytes = segment_bytes; tried = false; total = 0 }
 
--- a record with so many bytes of payload fits behind the end, and a SEAL behind it
+-- a record with so many bytes of payload fits after the end, and a SEAL after it
 abbrev pub HasRoom : LogEnd → ℕ → Type 0
 HasRoom log payload_len =
     log.end.off + (payload_len + FRAME_EXTRA) + FRAME_EXTRA ≤ log.segment_bytes
@@ -47,11 +47,11 @@ EndsThere log world = length (bytes_of (segment_in world log.end.seg)) ≡ log.e
 abbrev pub counted : ℕ → ℕ → ℕ
 counted total more = min (total + more) (2 ^ 64 - 1)
 
--- the place behind a frame in its segment
+-- the place after a frame in its segment
 abbrev pub place_behind : Place → Frame → Place
 place_behind place frame = record { seg = place.seg; off = place.off + frame_len frame }
 
--- the log behind a frame more
+-- the log after a frame more
 abbrev pub moved : LogEnd → Frame → LogEnd
 moved log frame = record log {
   end = place_behind log.end frame;

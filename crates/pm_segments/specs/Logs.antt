@@ -10,7 +10,7 @@ use Rattle.pm_disk.specs.Images.{Below}
 abbrev pub size : Frame → ℕ
 size f = frame_len f
 
--- whether the log goes on in the next segment behind a frame
+-- whether the log goes on in the next segment after a frame
 abbrev pub is_seal : Frame → Bool
 is_seal f = f.kind == SEAL
 
@@ -23,29 +23,29 @@ pub record Grammar : Type 0 where
   -- whether the frame may stand there
   pub fits : ℕ → ℕ → Frame → Bool
 
--- the place behind a frame
+-- the place after a frame
 abbrev pub next : Place → Frame → Place
 next p f =
     if is_seal f
     then record { seg = p.seg + 1; off = 0 }
     else record { seg = p.seg; off = p.off + size f }
 
--- the place behind frames that stand one behind the other
-abbrev pub behind : Place → List Frame → Place
-behind p [] = p
-behind p (f ∷ fs) = behind (next p f) fs
+-- the place after frames that stand one after the other
+abbrev pub after_frames : Place → List Frame → Place
+after_frames p [] = p
+after_frames p (f ∷ fs) = after_frames (next p f) fs
 
--- these frames stand one behind the other from the place on, in these segments' bytes
-abbrev pub Run : Grammar → (ℕ → List ℕ) → Place → List Frame → Type 0
-Run g bytes p [] = Unit {0}
-Run g bytes p (f ∷ fs) =
-    (g.frame_at p.seg p.off (bytes p.seg) ≡ Some f) × Run g bytes (next p f) fs
+-- these frames stand one after the other from the place on, in these segments' bytes
+abbrev pub HasFrames : Grammar → (ℕ → List ℕ) → Place → List Frame → Type 0
+HasFrames g bytes p [] = Unit {0}
+HasFrames g bytes p (f ∷ fs) =
+    (g.frame_at p.seg p.off (bytes p.seg) ≡ Some f) × HasFrames g bytes (next p f) fs
 
 -- the log from a place is these frames and no more
 pub record IsLog (g : Grammar) (bytes : ℕ → List ℕ) (p : Place) (fs : List Frame) : Type 0 where
-  pub run : Run g bytes p fs
-  pub ends : g.frame_at (behind p fs).seg (behind p fs).off (bytes (behind p fs).seg) ≡ None
-  pub clear : (seg : ℕ) → (behind p fs).seg < seg → bytes seg ≡ []
+  pub run : HasFrames g bytes p fs
+  pub ends : g.frame_at (after_frames p fs).seg (after_frames p fs).off (bytes (after_frames p fs).seg) ≡ None
+  pub clear : (seg : ℕ) → (after_frames p fs).seg < seg → bytes seg ≡ []
 
 -- how many bytes these frames have
 abbrev pub sizes : List Frame → ℕ
@@ -60,7 +60,7 @@ contents files n = bytes_of (content (files n))
 abbrev pub forceds : (ℕ → File) → ℕ → List ℕ
 forceds files n = bytes_of (files n).forced
 
--- Since the last force no other frame stood at these frames' places, nor one behind them. Only the
+-- Since the last force no other frame stood at these frames' places, nor one after them. Only the
 -- last may be a SEAL.
 abbrev pub Stood : Grammar → ℕ → File → ℕ → List Frame → Type 0
 Stood g seg file off [] = (k : ℕ) → k ≤ length file.since
@@ -71,7 +71,7 @@ Stood g seg file off (f ∷ fs) =
     × (is_seal f ≡ true → fs ≡ [])
     × (is_seal f ≡ false → Stood g seg file (off + size f) fs)
 
--- the frames stand one behind the other in one segment
+-- the frames stand one after the other in one segment
 abbrev pub RunIn : Grammar → ℕ → List ℕ → ℕ → List Frame → Type 0
 RunIn g seg bytes off [] = Unit {0}
 RunIn g seg bytes off (f ∷ fs) =
@@ -82,13 +82,13 @@ abbrev pub Plain : List Frame → Type 0
 Plain [] = Unit {0}
 Plain (f ∷ fs) = (is_seal f ≡ false) × Plain fs
 
--- what is known of the bytes behind the log's end
+-- what is known of the bytes after the log's end
 pub data Tail : Type 0 where
-  Loose : Tail  -- what is behind the log's end wasn't cut
+  Loose : Tail  -- what is after the log's end wasn't cut
   Cutting : Tail  -- it was cut, and the cut isn't forced
   Ready : Tail  -- the file ends where the log ends, and frames may be written there
 
--- the segment's file holds the pending frames and nothing behind them, and was never longer
+-- the segment's file holds the pending frames and nothing after them, and was never longer
 pub record Writable (g : Grammar) (log : ℕ → File) (at : Place) (pending : List Frame) : Type 0 where
   pub run : RunIn g at.seg (contents log at.seg) at.off pending
   pub short : (k : ℕ) → k ≤ length (log at.seg).since
@@ -117,5 +117,5 @@ pub record LogStands (g : Grammar) (log : ℕ → File) (low : ℕ) (at : Place)
 pub record Leads (g : Grammar) (log : ℕ → File) (low : ℕ) (at : Place) (p : Place) (fs : List Frame)
     : Type 0 where
   pub kept : low ≤ p.seg
-  pub run : Run g (forceds log) p fs
-  pub to : behind p fs ≡ at
+  pub run : HasFrames g (forceds log) p fs
+  pub to : after_frames p fs ≡ at

@@ -4,10 +4,10 @@ use Rattle.pm_types.specs.declared.place.Place.{Place}
 use Rattle.pm_frame.specs.Frames.{Frame}
 use Rattle.pm_disk.specs.Worlds.{World}
 use Rattle.pm_segments.specs.Grammars.{all_frames}
-use Rattle.pm_segments.specs.Logs.{Run, behind, contents}
+use Rattle.pm_segments.specs.Logs.{HasFrames, after_frames, contents}
 use Rattle.pm_segments.specs.Scans.{Scanned, following}
 
--- The place from which a scan goes on. Behind a SEAL in segment 2^64 - 1 it is in a segment that no frame can name.
+-- The place from which a scan goes on. After a SEAL in segment 2^64 - 1 it is in a segment that no frame can name.
 abbrev pub point : Scanned → Place
 point scan = if scan.is_over then record { seg = scan.next.seg + 1; off = 0 } else scan.next
 
@@ -18,12 +18,12 @@ log_end p (f ∷ fs) = log_end (following p f) fs
 
 -- These frames were given by a scan that began at this place.
 pub record HasScanned (world : World) (from : Place) (fs : List Frame) (scan : Scanned) : Type 0 where
-  pub run : Run all_frames (contents world.log) from fs
-  pub goes_on : behind from fs ≡ point scan
+  pub run : HasFrames all_frames (contents world.log) from fs
+  pub goes_on : after_frames from fs ≡ point scan
   pub end : log_end from fs ≡ scan.next
   pub last : scan.is_over ≡ true → scan.next.seg + 1 ≡ 2 ^ 64
 
--- These frames are the log from a place on: they stand one behind the other, and none behind them.
+-- These frames are the log from a place on: they stand one after the other, and none after them.
 pub record IsLogFrom (world : World) (from : Place) (fs : List Frame) : Type 0 where
-  pub run : Run all_frames (contents world.log) from fs
-  pub ends : all_frames.frame_at (behind from fs).seg (behind from fs).off (contents world.log (behind from fs).seg) ≡ None
+  pub run : HasFrames all_frames (contents world.log) from fs
+  pub ends : all_frames.frame_at (after_frames from fs).seg (after_frames from fs).off (contents world.log (after_frames from fs).seg) ≡ None

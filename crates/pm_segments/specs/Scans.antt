@@ -17,7 +17,7 @@ pub record Scanned : Type 0 where
   pub next : Place
   -- what was read of the segment from there on
   pub ahead : List ℕ
-  -- whether the segment ends behind that
+  -- whether the segment ends after that
   pub is_whole : Bool
   -- whether the log ended with a SEAL in the last segment
   pub is_over : Bool
@@ -40,11 +40,11 @@ shown has_found buffer kind payload_at payload_len =
     then Some (record { kind = kind; payload = take payload_len (drop payload_at buffer) })
     else None
 
--- the bytes of a segment behind a place
+-- the bytes of a segment after a place
 abbrev pub behind_place : Place → World → List ℕ
 behind_place place world = drop place.off (bytes_of (segment_in world place.seg))
 
--- what a scan holds is what stands on the disk behind the place from which it goes on
+-- what a scan holds is what stands on the disk after the place from which it goes on
 pub record IsAhead (scan : Scanned) (world : World) : Type 0 where
   pub front : scan.ahead ≡ take (length scan.ahead) (behind_place scan.next world)
   pub whole : IsTrue scan.is_whole → scan.ahead ≡ behind_place scan.next world
@@ -88,16 +88,16 @@ is_last seg = seg == 2 ^ 64 - 1
 abbrev pub entered : Scanned → Scanned
 entered scan = record scan { next = record { seg = scan.next.seg + 1; off = 0 }; ahead = []; is_whole = false }
 
--- a scan behind a SEAL: it goes on in the next segment, and in the last one the log is over
+-- a scan after a SEAL: it goes on in the next segment, and in the last one the log is over
 abbrev pub sealed : Scanned → Scanned
 sealed scan = if is_last scan.next.seg then record scan { is_over = true } else entered scan
 
--- a scan behind the frame that it found
+-- a scan after the frame that it found
 abbrev pub turned : Scanned → Scanned
 turned scan = if found_seal scan.found then sealed scan else scan
 
--- The place behind a frame: behind a SEAL that of the next segment's begin. The last segment has no next one, and the
--- place is just behind its SEAL.
+-- The place after a frame: after a SEAL that of the next segment's begin. The last segment has no next one, and the
+-- place is just after its SEAL.
 abbrev pub following : Place → Frame → Place
 following place frame =
     if is_seal frame && not (is_last place.seg)

@@ -1,10 +1,10 @@
 -- The steps by which a log grows. Each is one call on the disk.
 --
---   Append       a frame is written at the log's end, and the log ends behind it
+--   Append       a frame is written at the log's end, and the log ends after it
 --   Force        the segment at the log's end is forced
 --   NextSegment  the next segment is cut to nothing, and the log ends at its begin
 --
--- Segments are numbered from 1. Behind segment 2^64 - 1 comes segment 1 again.
+-- Segments are numbered from 1. After segment 2^64 - 1 comes segment 1 again.
 use Rattle.std.specs.Prelude.{◌≡◌, ◌⊎◌, ◌≤◌, ◌+◌, ◌-◌, ◌^◌, ◌==◌, ℕ, List, [], ◌∷◌, ◌++◌, length, take, Bool, true, false, nat_le, if◌then◌else◌, Result, OnOk}
 use Rattle.pm_types.specs.declared.place.Place.{Place}
 use Rattle.pm_frame.specs.declared.kinds.TheConstants.{SEAL}
@@ -20,7 +20,7 @@ pub data Step : Type 0 where
   Force : Step
   NextSegment : Step
 
--- the segment that comes behind this one
+-- the segment that comes after this one
 abbrev pub next_segment : ℕ → ℕ
 next_segment seg = if seg == 2 ^ 64 - 1 then 1 else seg + 1
 
@@ -51,12 +51,12 @@ world_after [] end world = world
 world_after (step ∷ steps) end world =
     world_after steps (step_end step end) (step_world step end world)
 
--- some first of these steps were done
+-- a prefix of these steps were done
 abbrev pub DoesSome : List Step → Place → World → World → Type 0
 DoesSome steps end old now =
     (k : ℕ) × (k ≤ length steps) × (now ≡ world_after (take k steps) end old)
 
--- These steps were done, one after the other; at an `Err` some first of them.
+-- These steps were done, one after the other; at an `Err` a prefix of them.
 pub record DoesSteps {T E : Type 0} (old new : History) (result : Result T E) (steps : List Step) (end : Place)
     : Type 0 where
   pub all : OnOk result (new.world ≡ world_after steps end old.world)
@@ -66,7 +66,7 @@ pub record DoesSteps {T E : Type 0} (old new : History) (result : Result T E) (s
 abbrev pub seal_frame : Frame
 seal_frame = record { kind = SEAL; payload = [] }
 
--- a SEAL fits into a segment of the longest size behind this end
+-- a SEAL fits into a segment of the longest size after this end
 abbrev pub can_seal : Place → Bool
 can_seal end = nat_le end.off FRAME_END_MAX
 
@@ -106,7 +106,7 @@ roomy log payload_len = if has_room log payload_len then log else rolled log
 abbrev pub append_steps : LogEnd → Frame → List Step
 append_steps log frame = room_steps log (length frame.payload) ++ Append frame ∷ []
 
--- the log behind an appended frame
+-- the log after an appended frame
 abbrev pub grown : LogEnd → Frame → LogEnd
 grown log frame = moved (roomy log (length frame.payload)) frame
 

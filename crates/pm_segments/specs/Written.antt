@@ -1,4 +1,4 @@
--- How far the log of a store was written, from a place on: what of it is lasting, what was written behind that, and where
+-- How far the log of a store was written, from a place on: what of it is lasting, what was written after that, and where
 -- its writer stands.
 use Rattle.std.specs.Prelude.{◌≡◌, ◌≢◌, ◌+◌, ◌^◌, ◌<◌, ◌≤◌, ℕ, List, [], ◌∷◌, ◌++◌, length, Bool, true, false, if◌then◌else◌}
 use Rattle.pm_types.specs.declared.place.Place.{Place}
@@ -9,11 +9,11 @@ use Rattle.pm_disk.specs.Files.{File}
 use Rattle.pm_disk.specs.Worlds.{World}
 use Rattle.pm_segments.specs.Ends.{LogEnd, IsLogEnd}
 use Rattle.pm_segments.specs.Grammars.{grammar}
-use Rattle.pm_segments.specs.Logs.{Grammar, LogStands, Leads, Tail, Loose, Cutting, Ready, Plain, sizes, is_seal, behind}
+use Rattle.pm_segments.specs.Logs.{Grammar, LogStands, Leads, Tail, Loose, Cutting, Ready, Plain, sizes, is_seal, after_frames}
 use Rattle.pm_segments.specs.Steps.{Step, Append, Force, NextSegment}
 
--- Of the log from a place on these frames are lasting, these were written behind them, and so much is known of
--- what is behind.
+-- Of the log from a place on these frames are lasting, these were written after them, and so much is known of
+-- what is after.
 pub record Standing (g : Grammar) (log : ℕ → File) (low : ℕ) (from at : Place) (lasting pending : List Frame) (tail : Tail)
     : Type 0 where
   pub stands : LogStands g log low at pending tail
@@ -31,11 +31,11 @@ pub record Written : Type 0 where
   pub at : Place
   -- the frames that lead there
   pub lasting : List Frame
-  -- the frames that were written behind them
+  -- the frames that were written after them
   pub pending : List Frame
   pub tail : Tail
 
--- what is known of the tail once the last segment is forced: behind a SEAL the log goes on in the next one
+-- what is known of the tail once the last segment is forced: after a SEAL the log goes on in the next one
 abbrev pub tail_forced : Tail → List Frame → Tail
 tail_forced Loose fs = Loose
 tail_forced Cutting fs = Ready
@@ -45,7 +45,7 @@ tail_forced Ready fs = if is_sealed fs then Loose else Ready
 abbrev pub next_written : Step → Written → Written
 next_written (Append frame) s = record s { pending = s.pending ++ frame ∷ [] }
 next_written Force s = record {
-  at = behind s.at s.pending;
+  at = after_frames s.at s.pending;
   lasting = s.lasting ++ s.pending;
   pending = [];
   tail = tail_forced s.tail s.pending;
@@ -57,7 +57,7 @@ abbrev pub written_after : List Step → Written → Written
 written_after [] s = s
 written_after (step ∷ steps) s = written_after steps (next_written step s)
 
--- the writer's end: behind what is pending, behind the forced SEAL of the segment before, or at the begin of the cut segment
+-- the writer's end: after what is pending, after the forced SEAL of the segment before, or at the begin of the cut segment
 abbrev pub EndIs : Tail → Place → Place → List Frame → Type 0
 EndIs Ready end at pending = end ≡ record { seg = at.seg; off = at.off + sizes pending }
 EndIs Loose end at pending = (at ≡ record { seg = end.seg + 1; off = 0 }) × (pending ≡ [])
@@ -75,7 +75,7 @@ pub record IsRecordFrame (keep : Frame → Bool) (frame : Frame) : Type 0 where
   pub short : length frame.payload ≤ PAYLOAD_MAX
   pub kept : keep frame ≡ true
 
--- The log's tail was cut and forced, and only whole frames were written behind it; the end isn't behind the SEAL of the
+-- The log's tail was cut and forced, and only whole frames were written after it; the end isn't after the SEAL of the
 -- last segment.
 pub record IsOpen (log : LogEnd) (s : Written) : Type 0 where
   pub limits : IsLogEnd log

@@ -1,7 +1,7 @@
 //! The log's writer.
 
 ghost use Rattle.std.specs.Prelude.{◌≡◌, ◌⊎◌, ◌≤◌, ◌<◌, ◌+◌, ◌↔◌, ℕ, [], length, true, IsTrue, IfOk, OnOk, OnErr};
-ghost use Rattle.pm_disk.specs.Causes.{HasCause};
+ghost use Rattle.pm_disk.specs.States.{HasCause, IsUsable};
 ghost use Rattle.pm_frame.specs.declared.limits.TheConstants.{PAYLOAD_MAX as longest, SEGMENT_END_MAX as last_end};
 ghost use Rattle.pm_frame.specs.declared.kinds.TheConstants.{LOGICAL, SEAL};
 ghost use Rattle.pm_frame.specs.Frames.{IsFrame, frame_len};
@@ -61,6 +61,7 @@ impl Log {
         end: Place,
         segment_bytes: u32,
     ) -> Result<Log, Failed>
+        requires usable { IsUsable (L.state dev.old) }
         requires end { end.off ≤ last_end }
         requires size_from { least_size ≤ segment_bytes }
         requires size_to { segment_bytes ≤ most_size }
@@ -72,7 +73,7 @@ impl Log {
         ensures ends { L.tells → IfOk result (λ log. EndsThere log (L.history dev.new).world) }
         ensures moments { L.tells → AllMoments (L.history dev.old) (L.history dev.new)
             (CutsTail end (L.history dev.old).world) }
-        ensures cause { HasCause (L.faults dev.old) (L.faults dev.new) result }
+        ensures cause { HasCause (L.state dev.old) (L.state dev.new) result }
     {
         dev.cut_log(end.seg, end.off as u64)?;
         dev.force_log(end.seg)?;
@@ -109,8 +110,8 @@ impl Log {
         self.total
     }
 
-    /// Whether a record with so many bytes of payload fits into the segment behind the log's end, with
-    /// room for a SEAL behind it.
+    /// Whether a record with so many bytes of payload fits into the segment after the log's end, with
+    /// room for a SEAL after it.
     pub fn has_room(&self, payload_len: usize) -> bool
         requires { payload_len ≤ longest }
         ensures { IsTrue result ↔ HasRoom self.now payload_len }
@@ -118,12 +119,12 @@ impl Log {
         self.end.off as usize + payload_len + 2 * FRAME_EXTRA <= self.segment_bytes as usize
     }
 
-    /// Appends a record, and gives its place. Where it doesn't fit into the segment with a SEAL behind
+    /// Appends a record, and gives its place. Where it doesn't fit into the segment with a SEAL after
     /// it, the log rolls first: a SEAL is written at its end, the segment is forced, the next one is
     /// cut to nothing and forced, and the record goes to its begin. It isn't lasting until the log is
     /// forced.
     ///
-    /// After `Failed` some first of these steps were done. The record may be in the log or not where
+    /// After `Failed` a prefix of these steps were done. The record may be in the log or not where
     /// `tried` is true, and else it isn't. Nothing is to be appended any more.
     pub fn append<L: LogFile>(
         &mut self,
@@ -131,6 +132,7 @@ impl Log {
         kind: u8,
         payload: &[u8],
     ) -> Result<Place, Failed>
+        requires usable { IsUsable (L.state dev.old) }
         requires known_from { LOGICAL ≤ kind }
         requires known_to { kind < SEAL }
         requires short { length payload.now ≤ longest }
@@ -147,7 +149,7 @@ impl Log {
             (record { kind = kind; payload = payload.now }) (L.history dev.old).world (L.history dev.new).world }
         ensures broken { OnErr result (self.new
             ≡ broken self.new.tried self.old (record { kind = kind; payload = payload.now })) }
-        ensures cause { HasCause (L.faults dev.old) (L.faults dev.new) result }
+        ensures cause { HasCause (L.state dev.old) (L.state dev.new) result }
     {
         self.tried = false;
         self.make_room(dev, payload.len())?;
@@ -157,16 +159,18 @@ impl Log {
     /// Forces the last segment, so that the log is lasting up to its end. After `Failed` what was
     /// appended since the last force may be lasting or not.
     pub fn force<L: LogFile>(&mut self, dev: &mut L) -> Result<(), Failed>
+        requires usable { IsUsable (L.state dev.old) }
         ensures does { L.tells → Does (L.history dev.old) (L.history dev.new) result
             (log_forced self.old.end.seg (L.history dev.old).world) }
         ensures unmoved { self.new ≡ self.old }
-        ensures cause { HasCause (L.faults dev.old) (L.faults dev.new) result }
+        ensures cause { HasCause (L.state dev.old) (L.state dev.new) result }
     {
         dev.force_log(self.end.seg)
     }
 
     // Rolls the log where a record with so many bytes of payload doesn't fit.
     fn make_room<L: LogFile>(&mut self, dev: &mut L, payload_len: usize) -> Result<(), Failed>
+        requires usable { IsUsable (L.state dev.old) }
         requires short { payload_len ≤ longest }
         requires end { L.tells → EndsThere self.old (L.history dev.old).world }
         ensures roomy { OnOk result (self.new ≡ roomy self.old payload_len) }
@@ -175,7 +179,7 @@ impl Log {
         ensures ends { L.tells → OnOk result (EndsThere self.new (L.history dev.new).world) }
         ensures steps { L.tells → DoesSteps (L.history dev.old) (L.history dev.new) result
             (room_steps self.old payload_len) self.old.end }
-        ensures cause { HasCause (L.faults dev.old) (L.faults dev.new) result }
+        ensures cause { HasCause (L.state dev.old) (L.state dev.new) result }
     {
         let _ = &self.first;
         if self.has_room(payload_len) {
@@ -186,13 +190,14 @@ impl Log {
 
     // Goes on in the next segment.
     fn roll<L: LogFile>(&mut self, dev: &mut L) -> Result<(), Failed>
+        requires usable { IsUsable (L.state dev.old) }
         requires end { L.tells → EndsThere self.old (L.history dev.old).world }
         ensures rolled { OnOk result (self.new ≡ rolled self.old) }
         ensures unmoved { OnErr result (self.new ≡ self.old) }
         ensures ends { L.tells → OnOk result (EndsThere self.new (L.history dev.new).world) }
         ensures steps { L.tells → DoesSteps (L.history dev.old) (L.history dev.new) result
             (roll_steps self.old.end) self.old.end }
-        ensures cause { HasCause (L.faults dev.old) (L.faults dev.new) result }
+        ensures cause { HasCause (L.state dev.old) (L.state dev.new) result }
     {
         let sealed = self.seal(dev)?;
         let behind = Place {
@@ -206,12 +211,13 @@ impl Log {
 
     // Writes a SEAL at the log's end where it fits, and tells how many bytes it has.
     fn seal<L: LogFile>(&mut self, dev: &mut L) -> Result<u32, Failed>
+        requires usable { IsUsable (L.state dev.old) }
         requires end { L.tells → EndsThere self.old (L.history dev.old).world }
         ensures len { IfOk result (λ len. len ≡ seal_len self.old.end) }
         ensures unmoved { self.new ≡ self.old }
         ensures steps { L.tells → DoesSteps (L.history dev.old) (L.history dev.new) result
             (seal_steps self.old.end) self.old.end }
-        ensures cause { HasCause (L.faults dev.old) (L.faults dev.new) result }
+        ensures cause { HasCause (L.state dev.old) (L.state dev.new) result }
     {
         if self.end.off > FRAME_END_MAX {
             return Ok(0);
@@ -220,8 +226,9 @@ impl Log {
         Ok(FRAME_EXTRA as u32)
     }
 
-    // Writes a record at the log's end, which is behind it then, and gives its place.
+    // Writes a record at the log's end, which is after it then, and gives its place.
     fn add<L: LogFile>(&mut self, dev: &mut L, kind: u8, payload: &[u8]) -> Result<Place, Failed>
+        requires usable { IsUsable (L.state dev.old) }
         requires known_from { LOGICAL ≤ kind }
         requires known_to { kind < SEAL }
         requires short { length payload.now ≤ longest }
@@ -234,7 +241,7 @@ impl Log {
         ensures ends { L.tells → OnOk result (EndsThere self.new (L.history dev.new).world) }
         ensures does { L.tells → Does (L.history dev.old) (L.history dev.new) result
             (written self.old.end (record { kind = kind; payload = payload.now }) (L.history dev.old).world) }
-        ensures cause { HasCause (L.faults dev.old) (L.faults dev.new) result }
+        ensures cause { HasCause (L.state dev.old) (L.state dev.new) result }
     {
         self.tried = true;
         let place = self.end;
@@ -249,13 +256,14 @@ impl Log {
 
     // Writes a frame at the log's end, and tells how many bytes it has. The log's end stays before it.
     fn write<L: LogFile>(&mut self, dev: &mut L, kind: u8, payload: &[u8]) -> Result<u32, Failed>
+        requires usable { IsUsable (L.state dev.old) }
         requires frame { IsFrame self.old.end (record { kind = kind; payload = payload.now }) }
         requires end { L.tells → EndsThere self.old (L.history dev.old).world }
         ensures len { IfOk result (λ len. len ≡ frame_len (record { kind = kind; payload = payload.now })) }
         ensures unmoved { self.new ≡ self.old }
         ensures does { L.tells → Does (L.history dev.old) (L.history dev.new) result
             (written self.old.end (record { kind = kind; payload = payload.now }) (L.history dev.old).world) }
-        ensures cause { HasCause (L.faults dev.old) (L.faults dev.new) result }
+        ensures cause { HasCause (L.state dev.old) (L.state dev.new) result }
     {
         let place = self.end;
         let len = payload.len() + FRAME_EXTRA;
@@ -267,25 +275,27 @@ impl Log {
 
 // Forces the segment that the log ended in, cuts the next one to nothing, forces it, and gives its begin.
 fn turn<L: LogFile>(dev: &mut L, behind: Place) -> Result<Place, Failed>
+    requires usable { IsUsable (L.state dev.old) }
     ensures begin { IfOk result (λ begin. begin ≡ next_begin behind) }
     ensures empty { L.tells → OnOk result
         (length (bytes_of (segment_in (L.history dev.new).world (next_segment behind.seg))) ≡ 0) }
     ensures steps { L.tells →
         DoesSteps (L.history dev.old) (L.history dev.new) result turn_steps behind }
-    ensures cause { HasCause (L.faults dev.old) (L.faults dev.new) result }
+    ensures cause { HasCause (L.state dev.old) (L.state dev.new) result }
 {
     dev.force_log(behind.seg)?;
     begin_next(dev, behind)
 }
 
-// Cuts the segment behind the one of the log's end to nothing, forces it, and gives its begin.
+// Cuts the segment after the one of the log's end to nothing, forces it, and gives its begin.
 fn begin_next<L: LogFile>(dev: &mut L, end: Place) -> Result<Place, Failed>
+    requires usable { IsUsable (L.state dev.old) }
     ensures begin { IfOk result (λ begin. begin ≡ next_begin end) }
     ensures empty { L.tells → OnOk result
         (length (bytes_of (segment_in (L.history dev.new).world (next_segment end.seg))) ≡ 0) }
     ensures steps { L.tells →
         DoesSteps (L.history dev.old) (L.history dev.new) result begin_steps end }
-    ensures cause { HasCause (L.faults dev.old) (L.faults dev.new) result }
+    ensures cause { HasCause (L.state dev.old) (L.state dev.new) result }
 {
     let seg = next_segment(end.seg);
     dev.cut_log(seg, 0)?;
@@ -293,7 +303,7 @@ fn begin_next<L: LogFile>(dev: &mut L, end: Place) -> Result<Place, Failed>
     Ok(Place { seg, off: 0 })
 }
 
-// The segment that comes behind this one: behind the last number comes the first one again.
+// The segment that comes after this one: after the last number comes the first one again.
 fn next_segment(seg: u64) -> u64
     ensures { result ≡ next_segment seg }
 {

@@ -3,7 +3,7 @@
 ghost use Rattle.std.specs.Prelude.{◌≡◌, ◌≤◌, ◌<◌, ◌+◌, ◌-◌, length, take, drop, [], true, false, None, IfOk, OnOk};
 ghost use Rattle.std.specs.Borrow.{sem};
 ghost use Rattle.std.specs.Io.BufRead.{Rests};
-ghost use Rattle.pm_disk.specs.Causes.{HasCause};
+ghost use Rattle.pm_disk.specs.States.{HasCause, IsUsable};
 ghost use Rattle.pm_disk.specs.Moments.{Does};
 ghost use Rattle.pm_frame.specs.declared.limits.TheConstants.{SEGMENT_END_MAX as last_end, FRAME_MAX as longest};
 ghost use Rattle.pm_frame.specs.Views.{frame_in};
@@ -23,7 +23,7 @@ const PIECE: usize = 65_536;
 // The start of a frame that goes on stands before the piece that follows it.
 const BUFFER: usize = PIECE + FRAME_MAX;
 
-/// Reads the log frame after frame from a place on, through a buffer and in one pass: behind a SEAL it goes
+/// Reads the log frame after frame from a place on, through a buffer and in one pass: after a SEAL it goes
 /// on in the next segment. It asks a segment for bytes at most once per 64 KiB, and once more. It takes its
 /// memory when it is made.
 #[derive(Drop)]
@@ -101,15 +101,16 @@ impl Scan {
     }
 
     /// The next frame of the log, whatever its kind; none exactly at the log's end, where no frame stands, or
-    /// behind a SEAL in segment 2^64 - 1. After `Failed` the scan is not to be used any more.
+    /// after a SEAL in segment 2^64 - 1. After `Failed` the scan is not to be used any more.
     pub fn next<L: LogReader>(&mut self, dev: &mut L) -> Result<Option<FrameView<'_>>, Failed>
+        requires usable { IsUsable (L.state dev.old) }
         requires ahead { L.tells → IsAhead self.old (L.history dev.old).world }
         ensures* gives { sem 𝓛 (Rests the_row self.entry (λ left. IfOk result (λ found.
             Advances self.entry.now left (frame_in found) × (left.next.off ≤ last_end)
             × (L.tells → (frame_in found ≡ stands_next self.entry.now (L.history dev.old).world)
             × IsAhead left (L.history dev.new).world)))) }
         ensures does { L.tells → Does (L.history dev.old) (L.history dev.new) result (L.history dev.old).world }
-        ensures cause { HasCause (L.faults dev.old) (L.faults dev.new) result }
+        ensures cause { HasCause (L.state dev.old) (L.state dev.new) result }
     {
         self.advance(dev)?;
         Ok(self.found())
@@ -117,6 +118,7 @@ impl Scan {
 
     // Goes on by the next frame, if there is one.
     fn advance<L: LogReader>(&mut self, dev: &mut L) -> Result<(), Failed>
+        requires usable { IsUsable (L.state dev.old) }
         requires ahead { L.tells → IsAhead self.old (L.history dev.old).world }
         ensures advances { OnOk result (Advances self.old self.new self.new.found) }
         ensures bound { OnOk result (self.new.next.off ≤ last_end) }
@@ -124,7 +126,7 @@ impl Scan {
             (self.new.found ≡ stands_next self.old (L.history dev.old).world) }
         ensures ahead { L.tells → OnOk result (IsAhead self.new (L.history dev.new).world) }
         ensures does { L.tells → Does (L.history dev.old) (L.history dev.new) result (L.history dev.old).world }
-        ensures cause { HasCause (L.faults dev.old) (L.faults dev.new) result }
+        ensures cause { HasCause (L.state dev.old) (L.state dev.new) result }
     {
         if self.is_over {
             self.place = self.next;
@@ -136,6 +138,7 @@ impl Scan {
 
     // Goes on by the frame ahead, if there is one, and from a SEAL to the next segment.
     fn go_on<L: LogReader>(&mut self, dev: &mut L) -> Result<(), Failed>
+        requires usable { IsUsable (L.state dev.old) }
         requires going { self.old.is_over ≡ false }
         requires ahead { L.tells → IsAhead self.old (L.history dev.old).world }
         ensures advances { OnOk result (Advances self.old self.new self.new.found) }
@@ -144,7 +147,7 @@ impl Scan {
             (self.new.found ≡ frame_at self.old.next (behind_place self.old.next (L.history dev.old).world)) }
         ensures ahead { L.tells → OnOk result (IsAhead self.new (L.history dev.new).world) }
         ensures does { L.tells → Does (L.history dev.old) (L.history dev.new) result (L.history dev.old).world }
-        ensures cause { HasCause (L.faults dev.old) (L.faults dev.new) result }
+        ensures cause { HasCause (L.state dev.old) (L.state dev.new) result }
     {
         self.fill(dev)?;
         self.step();
@@ -182,7 +185,7 @@ impl Scan {
             seg: self.next.seg + 1,
             off: 0,
         };
-        // What is left of the segment behind its SEAL isn't of the log.
+        // What is left of the segment after its SEAL isn't of the log.
         self.at = self.end;
         self.is_whole = false;
     }
@@ -213,12 +216,13 @@ impl Scan {
 
     // Reads on where fewer bytes are ahead than a frame may have.
     fn fill<L: LogReader>(&mut self, dev: &mut L) -> Result<(), Failed>
+        requires usable { IsUsable (L.state dev.old) }
         requires ahead { L.tells → IsAhead self.old (L.history dev.old).world }
         ensures stays { StaysAt self.old self.new }
         ensures sees { OnOk result (SeesFrame self.new) }
         ensures ahead { L.tells → OnOk result (IsAhead self.new (L.history dev.new).world) }
         ensures does { L.tells → Does (L.history dev.old) (L.history dev.new) result (L.history dev.old).world }
-        ensures cause { HasCause (L.faults dev.old) (L.faults dev.new) result }
+        ensures cause { HasCause (L.state dev.old) (L.state dev.new) result }
     {
         if self.is_whole || self.end - self.at >= FRAME_MAX {
             return Ok(());
@@ -226,15 +230,16 @@ impl Scan {
         self.read_on(dev)
     }
 
-    // Reads on behind what is ahead.
+    // Reads on after what is ahead.
     fn read_on<L: LogReader>(&mut self, dev: &mut L) -> Result<(), Failed>
+        requires usable { IsUsable (L.state dev.old) }
         requires ahead { L.tells → IsAhead self.old (L.history dev.old).world }
         requires short { length self.old.ahead < longest }
         ensures stays { StaysAt self.old self.new }
         ensures sees { OnOk result (SeesFrame self.new) }
         ensures ahead { L.tells → OnOk result (IsAhead self.new (L.history dev.new).world) }
         ensures does { L.tells → Does (L.history dev.old) (L.history dev.new) result (L.history dev.old).world }
-        ensures cause { HasCause (L.faults dev.old) (L.faults dev.new) result }
+        ensures cause { HasCause (L.state dev.old) (L.state dev.new) result }
     {
         let kept = move_to_front(&mut self.buffer, self.at, self.end);
         self.has_found = false;
@@ -262,7 +267,7 @@ fn move_to_front(buffer: &mut Vec<u8>, at: usize, end: usize) -> usize
     end - at
 }
 
-// Reads a segment from an offset on into the buffer behind its first `kept` bytes.
+// Reads a segment from an offset on into the buffer after its first `kept` bytes.
 fn read_behind<L: LogReader>(
     dev: &mut L,
     buffer: &mut Vec<u8>,
@@ -270,14 +275,15 @@ fn read_behind<L: LogReader>(
     seg: u64,
     from: u64,
 ) -> Result<usize, Failed>
-    requires { kept ≤ length buffer.old.items }
+    requires usable { IsUsable (L.state dev.old) }
+    requires kept { kept ≤ length buffer.old.items }
     ensures front { take kept buffer.new.items ≡ take kept buffer.old.items }
     ensures same_length { length buffer.new.items ≡ length buffer.old.items }
     ensures bound { IfOk result (λ n. kept + n ≤ length buffer.new.items) }
     ensures reads { L.tells → IfOk result (λ n.
         ReadsFrom (segment_in (L.history dev.old).world seg) from n (drop kept buffer.new.items)) }
     ensures does { L.tells → Does (L.history dev.old) (L.history dev.new) result (L.history dev.old).world }
-    ensures cause { HasCause (L.faults dev.old) (L.faults dev.new) result }
+    ensures cause { HasCause (L.state dev.old) (L.state dev.new) result }
 {
     dev.read_log(seg, from, &mut buffer[kept..])
 }

@@ -112,7 +112,7 @@ fn look_at_log(
     Ok(())
 }
 
-/// Restarts over a crash in the last batch, and looks for the first put alone and for a RESTART behind it.
+/// Restarts over a crash in the last batch, and looks for the first put alone and for a RESTART after it.
 fn restart_without(
     rt: &(impl Abort + AllocGlobal),
     run: &Run,

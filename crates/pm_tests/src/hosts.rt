@@ -22,7 +22,7 @@ const STANDING: [(&str, &[u8]); 3] = [
     ("cp.end", &[8; 70]),
 ];
 
-/// The files that are looked at behind each call.
+/// The files that are looked at after each call.
 const NAMES: [&str; 9] = [
     "config.json",
     "wal-0000000000000001.seg",
@@ -189,7 +189,7 @@ fn unlike_answers(
     unlike(alloc, by_memory.as_str(), by_files.as_str(), wanted)
 }
 
-/// The first file that isn't alike behind this call. None is looked at behind a log write, which may be made with the next
+/// The first file that isn't alike after this call. None is looked at after a log write, which may be made with the next
 /// other call on the log.
 fn differing_behind(
     rt: &(impl AllocGlobal + Files),
@@ -202,7 +202,7 @@ fn differing_behind(
     differing(rt, memory, Pick::Kept)
 }
 
-/// Makes a call on both, and looks at each answer and at the files behind it. Answers what isn't as wanted.
+/// Makes a call on both, and looks at each answer and at the files after it. Answers what isn't as wanted.
 fn step(
     rt: &(impl AllocGlobal + Files),
     memory: &mut MemHost,

@@ -123,7 +123,7 @@ fn append_sevens(
     Ok(log.append(host, LOGICAL, &sevens(rt, len)?)?)
 }
 
-/// Appends a record with so many bytes of payload behind a frame of 65,000 bytes, and looks for its frame at this place.
+/// Appends a record with so many bytes of payload after a frame of 65,000 bytes, and looks for its frame at this place.
 fn append_behind(
     rt: &(impl Abort + AllocGlobal),
     host: &mut MemHost,
@@ -141,8 +141,8 @@ fn append_behind(
     Ok(log)
 }
 
-/// Scans from `END` on, and looks for a frame at this place with so many bytes of payload: behind a SEAL in the next segment,
-/// and behind it none. Answers where the scan ended.
+/// Scans from `END` on, and looks for a frame at this place with so many bytes of payload: after a SEAL in the next segment,
+/// and after it none. Answers where the scan ended.
 fn scan_behind(
     rt: &(impl Abort + AllocGlobal),
     host: &mut MemHost,

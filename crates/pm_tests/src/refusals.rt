@@ -90,7 +90,7 @@ fn a_payload_outside_its_grammar_is_refused(rt: HostRuntime) -> Result<(), Fail>
         (SEAL, b"x"),
         (SNAPSHOT, b"12345678page"),
         (DELTA, b"12345678"),
-        // A page of partition 64, a byte behind the last range, checkpoint 0, and a place without its last byte.
+        // A page of partition 64, a byte after the last range, checkpoint 0, and a place without its last byte.
         (DELTA, &[5, 0, 0, 0, 64, 0, 1, 0, 1, 32, 0, 1, 0, 7]),
         (DELTA, &[5, 0, 0, 0, 2, 0, 1, 0, 1, 32, 0, 1, 0, 7, 0]),
         (CP_BEGIN, &[0; 20]),

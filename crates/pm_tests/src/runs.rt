@@ -127,7 +127,7 @@ pub fn frame(rt: &impl AllocGlobal, kind: u8, at: u32, payload: &[u8]) -> Result
     Ok(bytes)
 }
 
-/// These bytes with a frame behind them.
+/// These bytes with a frame after them.
 pub fn with_frame(
     rt: &impl AllocGlobal,
     log: &[u8],

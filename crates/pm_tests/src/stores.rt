@@ -102,7 +102,7 @@ fn told_by(rt: &(impl Abort + AllocGlobal), log: &[u8]) -> Result<Run, Fail> {
 }
 
 /// Looks at what is answered over a log that has these whole frames at its begin, and at the log that is left: a RESTART stands
-/// behind them.
+/// after them.
 fn look_at(rt: &(impl Abort + AllocGlobal), log: &[u8], frames: &[u8]) -> Result<(), Fail> {
     let run = told_by(rt, log)?;
     let whole = frames.len();

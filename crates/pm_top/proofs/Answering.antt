@@ -11,13 +11,13 @@ use Rattle.pm_model.specs.Eval.{Pairs, replies_to, after_all, accepted}
 use Rattle.pm_script.specs.Reading.{OnlyTakes}
 use Rattle.pm_script.specs.Texts.{texts_of}
 use Rattle.pm_segments.specs.Written.{ChangesLog}
-use Rattle.pm_engine.specs.Held.{KeepsSome}
-use Rattle.pm_engine.specs.Engines.{Running, running, Stands, HasSegments}
+use Rattle.pm_engine.specs.Held.{CrashHoldsPrefix}
+use Rattle.pm_engine.specs.Engines.{Running, running, IsAtRest, HasSegments}
 use Rattle.pm_engine.specs.Batches.{TriesLines}
 use Rattle.pm_engine.proofs.Going.{goes_keep}
 use Rattle.pm_top.specs.declared.run.Run.{Run}
 use Rattle.pm_top.specs.declared.shape.TheConstants.{SHAPE}
-use Rattle.pm_top.specs.Crashes.{KeepsAcknowledged}
+use Rattle.pm_top.specs.Crashes.{CrashHoldsAcknowledged}
 use Rattle.pm_top.specs.Promises.{IsBroken, IsShort}
 use Rattle.pm_top.specs.Runs.{Progress, SameFiles}
 use Rattle.pm_top.proofs.Lasting.{keeps_rest, keeps_doing, keeps_saying, keeps_said}
@@ -35,7 +35,7 @@ both old new P Q one other = record {
 }
 
 -- an engine stands while more is said
-pub said_stands : (wanted : Shape) (engine : Running) (world : World) (bytes : List ℕ) → Stands wanted engine world → Stands wanted engine (with_said bytes world)
+pub said_stands : (wanted : Shape) (engine : Running) (world : World) (bytes : List ℕ) → IsAtRest wanted engine world → IsAtRest wanted engine (with_said bytes world)
 said_stands wanted engine world bytes s = record {
   written = s.written;
   stands = record { standing = s.stands.standing; ends = s.stands.ends };
@@ -48,8 +48,8 @@ said_stands wanted engine world bytes s = record {
 }
 
 -- and while input is taken
-pub taken_stands : (wanted : Shape) (engine : Running) (old new : World) → OnlyTakes old new → Stands wanted engine old → Stands wanted engine new
-taken_stands wanted engine old new takes s = subst (Stands wanted engine) (sym takes.1) record {
+pub taken_stands : (wanted : Shape) (engine : Running) (old new : World) → OnlyTakes old new → IsAtRest wanted engine old → IsAtRest wanted engine new
+taken_stands wanted engine old new takes s = subst (IsAtRest wanted engine) (sym takes.1) record {
   written = s.written;
   stands = record { standing = s.stands.standing; ends = s.stands.ends };
   is_open = s.is_open;
@@ -68,10 +68,10 @@ pub said_files : (old mid new : World) (bytes : List ℕ) → ChangesLog old mid
 said_files old mid new bytes only is = subst (λ w. SameFiles old w × (w.input ≡ old.input)) (sym is) (record { pages = only.pages; starts = only.starts; ends = only.ends }, only.input)
 
 -- before anything is done
-pub rest_moments : (old : History) {start : World} {left : List Line} {shape : Shape} {pairs : Pairs} {run : Run} (progress : Progress start old.world left shape pairs run) → IsHistory old → Stands SHAPE (running run.engine) old.world
-    → AllMoments old old (KeepsAcknowledged start shape pairs run.engine.order.items)
+pub rest_moments : (old : History) {start : World} {left : List Line} {shape : Shape} {pairs : Pairs} {run : Run} (progress : Progress start old.world left shape pairs run) → IsHistory old → IsAtRest SHAPE (running run.engine) old.world
+    → AllMoments old old (CrashHoldsAcknowledged start shape pairs run.engine.order.items)
 rest_moments old {start = start} {shape = shape} {pairs = pairs} {run = run} progress sound stands =
-    started old (KeepsAcknowledged start shape pairs run.engine.order.items) sound (keeps_rest progress old.world refl (goes_keep SHAPE run.engine.map [] (running run.engine) old.world stands))
+    started old (CrashHoldsAcknowledged start shape pairs run.engine.order.items) sound (keeps_rest progress old.world refl (goes_keep SHAPE run.engine.map [] (running run.engine) old.world stands))
 
 module _ {T E : Type 0} (tells : Type 0) (old mid : History) (run : Run) (later : Running) (lines : List Line) (result : Result T E) (tries : TriesLines {T = T} {E = E} tells old mid (running run.engine) later (run.lines + 1) lines result)
     {start : World} {shape : Shape} {pairs : Pairs} (left : List Line) (progress : Progress start old.world (lines ++ left) shape pairs run) where
@@ -83,10 +83,10 @@ module _ {T E : Type 0} (tells : Type 0) (old mid : History) (run : Run) (later 
   short_batch few same = short_unsaid lines left progress mid.world tries.count later.order few tries.within same tries.order
 
   -- what a crash left meanwhile
-  pub batch_moments : tells → AllMoments old mid (ChangesLog old.world) → Stands SHAPE (running run.engine) old.world → HasSegments (running run.engine) (length lines) → AllMoments old mid (KeepsAcknowledged start shape pairs later.order)
+  pub batch_moments : tells → AllMoments old mid (ChangesLog old.world) → IsAtRest SHAPE (running run.engine) old.world → HasSegments (running run.engine) (length lines) → AllMoments old mid (CrashHoldsAcknowledged start shape pairs later.order)
   batch_moments t only stands segments =
-      let Q : World → Type 0 = KeepsSome SHAPE run.engine.shape run.engine.map (take tries.count lines) in
-      weaker old mid (λ w. Q w × ChangesLog old.world w) (KeepsAcknowledged start shape pairs later.order)
+      let Q : World → Type 0 = CrashHoldsPrefix SHAPE run.engine.shape run.engine.map (take tries.count lines) in
+      weaker old mid (λ w. Q w × ChangesLog old.world w) (CrashHoldsAcknowledged start shape pairs later.order)
       (λ w is. keeps_doing lines left progress tries.count tries.within later.order tries.order w is.1.said is.0) (both old mid Q (ChangesLog old.world) (tries.moments t SHAPE stands segments) only)
 
   -- the order, once all were tried
@@ -95,10 +95,10 @@ module _ {T E : Type 0} (tells : Type 0) (old mid : History) (run : Run) (later 
 
   -- while the replies are said
   pub saying_moments : {S F : Type 0} (new : History) (printed : Result S F) (text : List ℕ) → tries.count ≡ length lines → text ≡ texts_of (replies_to run.engine.shape lines run.engine.map) → Says {T = S} {E = F} mid new printed text → mid.world.said ≡ old.world.said
-      → later.shape ≡ run.engine.shape → later.pairs ≡ after_all run.engine.shape lines run.engine.map → Stands SHAPE later mid.world → AllMoments old mid (KeepsAcknowledged start shape pairs later.order) → AllMoments old new (KeepsAcknowledged start shape pairs later.order)
+      → later.shape ≡ run.engine.shape → later.pairs ≡ after_all run.engine.shape lines run.engine.map → IsAtRest SHAPE later mid.world → AllMoments old mid (CrashHoldsAcknowledged start shape pairs later.order) → AllMoments old new (CrashHoldsAcknowledged start shape pairs later.order)
   saying_moments new printed text all is call same shapes maps stands so_far =
-      let keeps : KeepsSome SHAPE run.engine.shape (after_all run.engine.shape lines run.engine.map) [] mid.world =
-      subst (λ (x : Shape × Pairs). KeepsSome SHAPE x.0 x.1 [] mid.world) (λ i. (shapes i, maps i)) (goes_keep SHAPE later.pairs [] later mid.world stands) in
-      says old mid new printed text (KeepsAcknowledged start shape pairs later.order) so_far call
+      let keeps : CrashHoldsPrefix SHAPE run.engine.shape (after_all run.engine.shape lines run.engine.map) [] mid.world =
+      subst (λ (x : Shape × Pairs). CrashHoldsPrefix SHAPE x.0 x.1 [] mid.world) (λ i. (shapes i, maps i)) (goes_keep SHAPE later.pairs [] later mid.world stands) in
+      says old mid new printed text (CrashHoldsAcknowledged start shape pairs later.order) so_far call
       (λ k le. keeps_saying lines left progress later.order (all_tried all) (with_said (take k text) mid.world) k (ap (λ s. s ++ take k text) same ∙ ap (λ t. old.world.said ++ take k t) is)
       (keeps_said run.engine.shape (after_all run.engine.shape lines run.engine.map) [] (take k text) mid.world keeps))

@@ -11,10 +11,10 @@ use Rattle.pm_model.specs.Eval.{Pairs, replies_to, after_all, accepted}
 use Rattle.pm_model.proofs.Runs.{after_all-append, replies_to-append, length-replies_to, accepted-append}
 use Rattle.pm_script.specs.Reading.{OnlyTakes}
 use Rattle.pm_script.specs.Texts.{texts_of}
-use Rattle.pm_engine.specs.Held.{HoldsImage, KeepsSome}
+use Rattle.pm_engine.specs.Held.{HoldsImage, CrashHoldsPrefix}
 use Rattle.pm_top.specs.declared.run.Run.{Run}
 use Rattle.pm_top.specs.declared.shape.TheConstants.{SHAPE}
-use Rattle.pm_top.specs.Crashes.{KeepsAcknowledged, HoldsAfter, begun, after_numbers, acknowledged}
+use Rattle.pm_top.specs.Crashes.{CrashHoldsAcknowledged, HoldsAfter, begun, after_numbers, acknowledged}
 use Rattle.pm_top.specs.Promises.{replies_of, IsOrder, SaysPart}
 use Rattle.pm_top.specs.Runs.{Progress}
 use Rattle.pm_top.specs.Served.{script_of}
@@ -39,7 +39,7 @@ accepted_le shape script pairs b k le within =
     let same = ap (λ n. length (accepted shape 1 (take n script) pairs)) (sym sum) ∙ ap length (accepted_parts shape script pairs b (k - b) (omega (arith, le, within))) in
     omega (arith, same, length-append (accepted shape 1 (take b script) pairs) (accepted shape (1 + length (take b script)) (take (k - b) (drop b script)) (after_all shape (take b script) pairs)))
 
--- some first ones of the first ones
+-- a prefix of the ones of the first ones
 take_take : (a b : ℕ) (xs : List Line) → a ≤ b → take a (take b xs) ≡ take a xs
 take_take zero b xs le = take_none (take b xs) ∙ sym (take_none xs)
 take_take (suc a) zero xs le = absurd (omega (arith, le))
@@ -68,7 +68,7 @@ holds_after start shape pairs order w image k d within is has holds =
     }
 
 -- a longer order keeps what a shorter one keeps
-pub order_longer : (start : World) (shape : Shape) (pairs : Pairs) (order more : List ℕ) (w : World) → KeepsAcknowledged start shape pairs order w → KeepsAcknowledged start shape pairs (order ++ more) w
+pub order_longer : (start : World) (shape : Shape) (pairs : Pairs) (order more : List ℕ) (w : World) → CrashHoldsAcknowledged start shape pairs order w → CrashHoldsAcknowledged start shape pairs (order ++ more) w
 order_longer start shape pairs order more w keeps image leaves honest =
     let h = keeps image leaves honest in
     record {
@@ -79,13 +79,13 @@ order_longer start shape pairs order more w keeps image leaves honest =
     }
 
 -- what was said is no file
-pub keeps_said : (shape : Shape) (pairs : Pairs) (lines : List Line) (bytes : List ℕ) (w : World) → KeepsSome SHAPE shape pairs lines w → KeepsSome SHAPE shape pairs lines (with_said bytes w)
+pub keeps_said : (shape : Shape) (pairs : Pairs) (lines : List Line) (bytes : List ℕ) (w : World) → CrashHoldsPrefix SHAPE shape pairs lines w → CrashHoldsPrefix SHAPE shape pairs lines (with_said bytes w)
 keeps_said shape pairs lines bytes w keeps image leaves honest =
     keeps image (record { log = leaves.log; pages = leaves.pages; starts = leaves.starts; ends = leaves.ends }) (record { frames = honest.frames })
 
 -- nor is the input
-pub keeps_taken : (shape : Shape) (pairs : Pairs) (lines : List Line) (old w : World) → OnlyTakes old w → KeepsSome SHAPE shape pairs lines old → KeepsSome SHAPE shape pairs lines w
-keeps_taken shape pairs lines old w takes keeps = subst (KeepsSome SHAPE shape pairs lines) (sym takes.1) (λ image leaves honest.
+pub keeps_taken : (shape : Shape) (pairs : Pairs) (lines : List Line) (old w : World) → OnlyTakes old w → CrashHoldsPrefix SHAPE shape pairs lines old → CrashHoldsPrefix SHAPE shape pairs lines w
+keeps_taken shape pairs lines old w takes keeps = subst (CrashHoldsPrefix SHAPE shape pairs lines) (sym takes.1) (λ image leaves honest.
     keeps image (record { log = leaves.log; pages = leaves.pages; starts = leaves.starts; ends = leaves.ends }) (record { frames = honest.frames }))
 
 -- the map of all lines, where it is the only one
@@ -95,7 +95,7 @@ only_map shape pairs image h = subst (HoldsImage SHAPE image shape) (ap (λ ls. 
 -- ---- at the start
 
 -- nothing was said
-pub start_keeps : (start : World) (shape : Shape) (pairs : Pairs) (order : List ℕ) (w : World) → w.said ≡ start.said → KeepsSome SHAPE shape pairs [] w → KeepsAcknowledged start shape pairs order w
+pub start_keeps : (start : World) (shape : Shape) (pairs : Pairs) (order : List ℕ) (w : World) → w.said ≡ start.said → CrashHoldsPrefix SHAPE shape pairs [] w → CrashHoldsAcknowledged start shape pairs order w
 start_keeps start shape pairs order w same keeps image leaves honest =
     let script = script_of start.input in
     let nothing : drop (length start.said) w.said ≡ [] = ap (drop (length start.said)) (same ∙ sym (append-nil start.said)) ∙ drop_at start.said [] (length start.said) refl in
@@ -141,7 +141,7 @@ module _ {start now : World} {left : List Line} {shape : Shape} {pairs : Pairs} 
   map_more n = ap (λ ls. after_all shape ls pairs) (take_more progress n) ∙ after_all-append shape progress.done (take n left) pairs ∙ ap (after_all shape (take n left)) (sym progress.map)
 
   -- between two batches
-  pub keeps_rest : (w : World) → w.said ≡ now.said → KeepsSome SHAPE run.engine.shape run.engine.map [] w → KeepsAcknowledged start shape pairs run.engine.order.items w
+  pub keeps_rest : (w : World) → w.said ≡ now.said → CrashHoldsPrefix SHAPE run.engine.shape run.engine.map [] w → CrashHoldsAcknowledged start shape pairs run.engine.order.items w
   keeps_rest w same keeps image leaves honest =
       let map : after_all shape (take (run.lines + 0) (script_of start.input)) pairs ≡ run.engine.map = map_more 0 ∙ ap (λ ls. after_all shape ls run.engine.map) (take_none left) in
       let holds = only_map shape run.engine.map image (subst (λ s. (count : ℕ) × (count ≤ 0) × HoldsImage SHAPE image s (after_all s (take count []) run.engine.map)) progress.shape_is (keeps image leaves honest)) in
@@ -163,7 +163,7 @@ module _ {start now : World} {shape : Shape} {pairs : Pairs} {run : Run} (lines 
   long = omega (arith, within, script_len progress, length-append lines left)
 
   -- before anything is said
-  pub keeps_doing : (w : World) → w.said ≡ now.said → KeepsSome SHAPE run.engine.shape run.engine.map (take count lines) w → KeepsAcknowledged start shape pairs order w
+  pub keeps_doing : (w : World) → w.said ≡ now.said → CrashHoldsPrefix SHAPE run.engine.shape run.engine.map (take count lines) w → CrashHoldsAcknowledged start shape pairs order w
   keeps_doing w same keeps image leaves honest =
       let h = subst (λ s. (m : ℕ) × (m ≤ length (take count lines)) × HoldsImage SHAPE image s (after_all s (take m (take count lines)) run.engine.map)) progress.shape_is (keeps image leaves honest) in
       let m = h.0 in
@@ -182,8 +182,8 @@ module _ {start now : World} {shape : Shape} {pairs : Pairs} {run : Run} (lines 
   all_order : IsOrder shape start.input pairs (run.lines + length lines) order
   all_order = its_order lines left progress (length lines) (omega arith) order (is ∙ ap (λ ls. run.engine.order.items ++ accepted run.engine.shape (run.lines + 1) ls run.engine.map) (sym (take_all (length lines) lines (omega arith))))
 
-  pub keeps_saying : (w : World) (n : ℕ) → w.said ≡ now.said ++ take n (texts_of (replies_to run.engine.shape lines run.engine.map)) → KeepsSome SHAPE run.engine.shape (after_all run.engine.shape lines run.engine.map) [] w
-      → KeepsAcknowledged start shape pairs order w
+  pub keeps_saying : (w : World) (n : ℕ) → w.said ≡ now.said ++ take n (texts_of (replies_to run.engine.shape lines run.engine.map)) → CrashHoldsPrefix SHAPE run.engine.shape (after_all run.engine.shape lines run.engine.map) [] w
+      → CrashHoldsAcknowledged start shape pairs order w
   keeps_saying w n said keeps image leaves honest =
       let k : ℕ = run.lines + length lines in
       let map : after_all shape (take k (script_of start.input)) pairs ≡ after_all shape lines run.engine.map =
@@ -204,8 +204,8 @@ module _ {start now : World} {shape : Shape} {pairs : Pairs} {run : Run} (lines 
 -- ---- while a fault is told
 
 -- the words are refused
-pub refused_keeps : (start : World) (shape : Shape) (pairs : Pairs) (order : List ℕ) (w : World) → KeepsSome SHAPE shape pairs [] start → SaysPart (codes "fault usage\n") start w → KeepsAcknowledged start shape pairs order w
-refused_keeps start shape pairs order w keeps part = subst (KeepsAcknowledged start shape pairs order) (sym part.1) (λ image leaves honest.
+pub refused_keeps : (start : World) (shape : Shape) (pairs : Pairs) (order : List ℕ) (w : World) → CrashHoldsPrefix SHAPE shape pairs [] start → SaysPart (codes "fault usage\n") start w → CrashHoldsAcknowledged start shape pairs order w
+refused_keeps start shape pairs order w keeps part = subst (CrashHoldsAcknowledged start shape pairs order) (sym part.1) (λ image leaves honest.
     let script = script_of start.input in
     let said = take part.0 (codes "fault usage\n") in
     let behind : drop (length start.said) (start.said ++ said) ≡ said = drop_at start.said said (length start.said) refl in

@@ -8,12 +8,12 @@ use Rattle.pm_disk.specs.Worlds.{World}
 use Rattle.pm_frame.specs.Frames.{Frame}
 use Rattle.pm_model.specs.Eval.{Pairs, after_all}
 use Rattle.pm_segments.specs.Grammars.{place, all_frames}
-use Rattle.pm_segments.specs.Logs.{behind}
+use Rattle.pm_segments.specs.Logs.{after_frames}
 use Rattle.pm_segments.specs.Written.{EndIs}
 use Rattle.pm_segments.proofs.Laws.{grammar_laws}
 use Rattle.pm_segments.proofs.LogSteps.{plain_behind}
 use Rattle.pm_segments.proofs.Standing.{behind-append, standing_log}
-use Rattle.pm_engine.specs.Engines.{Running, running, every, frames_of, Stands}
+use Rattle.pm_engine.specs.Engines.{Running, running, every, frames_of, IsAtRest}
 use Rattle.pm_engine.specs.Held.{IsHeld, Holds}
 use Rattle.pm_engine.specs.Openings.{OpensWith}
 use Rattle.pm_top.specs.declared.run.Run.{Run}
@@ -22,7 +22,7 @@ use Rattle.pm_top.specs.Promises.{IsLeft}
 use Rattle.pm_top.specs.Runs.{SameFiles, LeavesRun, LeavesStore}
 use Rattle.pm_top.specs.Served.{script_of}
 
-module _ (wanted : Shape) (engine : Running) (world : World) (s : Stands wanted engine world) where
+module _ (wanted : Shape) (engine : Running) (world : World) (s : IsAtRest wanted engine world) where
   -- where an engine stands its store is sound
   stands_hold : Holds wanted world engine.shape engine.pairs
   stands_hold = record {
@@ -32,10 +32,10 @@ module _ (wanted : Shape) (engine : Running) (world : World) (s : Stands wanted 
   }
 
   -- and its log ends in the segment in which the engine writes
-  stands_segment : (behind (place 1 0) (frames_of s.written)).seg ≡ engine.log.end.seg
+  stands_segment : (after_frames (place 1 0) (frames_of s.written)).seg ≡ engine.log.end.seg
   stands_segment =
       let w = s.written in
-      let there : behind (place 1 0) (w.lasting ++ w.pending) ≡ behind w.at w.pending = behind-append (place 1 0) w.lasting w.pending ∙ ap (λ (q : Place). behind q w.pending) s.stands.standing.leads.to in
+      let there : after_frames (place 1 0) (w.lasting ++ w.pending) ≡ after_frames w.at w.pending = behind-append (place 1 0) w.lasting w.pending ∙ ap (λ (q : Place). after_frames q w.pending) s.stands.standing.leads.to in
       let end = subst (λ t. EndIs t engine.log.end w.at w.pending) s.is_open.ready s.stands.ends in
       ap (λ (q : Place). q.seg) (there ∙ plain_behind w.at.seg w.at.off w.pending s.is_open.plain ∙ sym end)
 
@@ -45,7 +45,7 @@ unfolding stands_hold
 leaves_store start world before later none few left =
     let stands = left.over.stands in
     let holds = stands_hold SHAPE (running later.engine) world stands in
-    let segment : (behind (place 1 0) holds.frames).seg ≡ later.engine.log.end.seg = stands_segment SHAPE (running later.engine) world stands in
+    let segment : (after_frames (place 1 0) holds.frames).seg ≡ later.engine.log.end.seg = stands_segment SHAPE (running later.engine) world stands in
     record {
       holds = record {
         frames = holds.frames;
@@ -57,7 +57,7 @@ leaves_store start world before later none few left =
     }
 
 -- seen from the store that was opened
-pub is_left : (frames : List Frame) (old mid new : World) (engine : Running) (shape : Shape) (pairs : Pairs) → OpensWith shape pairs engine → engine.log.end.seg ≤ (behind (place 1 0) frames).seg + 1 → NothingPending old → SameFiles old mid → SameFiles mid new
+pub is_left : (frames : List Frame) (old mid new : World) (engine : Running) (shape : Shape) (pairs : Pairs) → OpensWith shape pairs engine → engine.log.end.seg ≤ (after_frames (place 1 0) frames).seg + 1 → NothingPending old → SameFiles old mid → SameFiles mid new
     → LeavesStore old new engine → IsLeft frames 8388608 new shape (after_all shape (script_of old.input) pairs)
 is_left frames old mid new engine shape pairs opens climbs nothing first second left = record {
   holds = record {

@@ -8,38 +8,38 @@ use Rattle.pm_disk.specs.Moments.{History, IsHistory, AllMoments, Does}
 use Rattle.pm_disk.proofs.Chain.{started, does, weaker}
 use Rattle.pm_model.specs.Eval.{Pairs}
 use Rattle.pm_segments.specs.Written.{ChangesLog}
-use Rattle.pm_engine.specs.Held.{Holds, HasNumbers, KeepsSome}
+use Rattle.pm_engine.specs.Held.{Holds, HasNumbers, CrashHoldsPrefix}
 use Rattle.pm_engine.proofs.Opening.{cutting_keeps}
 use Rattle.pm_top.specs.declared.shape.TheConstants.{SHAPE}
-use Rattle.pm_top.specs.Crashes.{KeepsAcknowledged}
+use Rattle.pm_top.specs.Crashes.{CrashHoldsAcknowledged}
 use Rattle.pm_top.specs.Promises.{SaysPart}
 use Rattle.pm_top.specs.Runs.{SameConsole}
 use Rattle.pm_top.proofs.Answering.{both}
 use Rattle.pm_top.proofs.Lasting.{start_keeps, refused_keeps}
 
-pub opening_moments : (old mid : History) (shape : Shape) (pairs : Pairs) (order : List ℕ) → AllMoments old mid (KeepsSome SHAPE shape pairs []) → AllMoments old mid (ChangesLog old.world) → AllMoments old mid (KeepsAcknowledged old.world shape pairs order)
+pub opening_moments : (old mid : History) (shape : Shape) (pairs : Pairs) (order : List ℕ) → AllMoments old mid (CrashHoldsPrefix SHAPE shape pairs []) → AllMoments old mid (ChangesLog old.world) → AllMoments old mid (CrashHoldsAcknowledged old.world shape pairs order)
 opening_moments old mid shape pairs order keeps only =
-    let Q : World → Type 0 = KeepsSome SHAPE shape pairs [] in
-    weaker old mid (λ w. Q w × ChangesLog old.world w) (KeepsAcknowledged old.world shape pairs order)
+    let Q : World → Type 0 = CrashHoldsPrefix SHAPE shape pairs [] in
+    weaker old mid (λ w. Q w × ChangesLog old.world w) (CrashHoldsAcknowledged old.world shape pairs order)
     (λ w is. start_keeps old.world shape pairs order w is.1.said is.0) (both old mid Q (ChangesLog old.world) keeps only)
 
 pub same_console : (old mid : World) → ChangesLog old mid → SameConsole old mid
 same_console old mid only = record { said = only.said; input = only.input }
 
 -- a sound store with nothing pending
-pub rest_keeps : (old : World) (shape : Shape) (pairs : Pairs) (holds : Holds SHAPE old shape pairs) → HasNumbers holds.frames → NothingPending old → KeepsSome SHAPE shape pairs [] old
+pub rest_keeps : (old : World) (shape : Shape) (pairs : Pairs) (holds : Holds SHAPE old shape pairs) → HasNumbers holds.frames → NothingPending old → CrashHoldsPrefix SHAPE shape pairs [] old
 rest_keeps old shape pairs holds numbers nothing = cutting_keeps SHAPE old shape pairs holds numbers nothing old (inl refl)
 
 -- the words are refused
-pub refused_moments : (old new : History) (shape : Shape) (pairs : Pairs) (order : List ℕ) → KeepsSome SHAPE shape pairs [] old.world → AllMoments old new (SaysPart (codes "fault usage\n") old.world) → AllMoments old new (KeepsAcknowledged old.world shape pairs order)
+pub refused_moments : (old new : History) (shape : Shape) (pairs : Pairs) (order : List ℕ) → CrashHoldsPrefix SHAPE shape pairs [] old.world → AllMoments old new (SaysPart (codes "fault usage\n") old.world) → AllMoments old new (CrashHoldsAcknowledged old.world shape pairs order)
 refused_moments old new shape pairs order keeps all =
-    weaker old new (SaysPart (codes "fault usage\n") old.world) (KeepsAcknowledged old.world shape pairs order)
+    weaker old new (SaysPart (codes "fault usage\n") old.world) (CrashHoldsAcknowledged old.world shape pairs order)
     (λ w part. refused_keeps old.world shape pairs order w keeps part) all
 
 -- the folder is named
-pub bound_moments : {T E : Type 0} (old new : History) (result : Result T E) (shape : Shape) (pairs : Pairs) (order : List ℕ) → IsHistory old → KeepsSome SHAPE shape pairs [] old.world → Does old new result old.world
-    → AllMoments old new (KeepsAcknowledged old.world shape pairs order)
+pub bound_moments : {T E : Type 0} (old new : History) (result : Result T E) (shape : Shape) (pairs : Pairs) (order : List ℕ) → IsHistory old → CrashHoldsPrefix SHAPE shape pairs [] old.world → Does old new result old.world
+    → AllMoments old new (CrashHoldsAcknowledged old.world shape pairs order)
 bound_moments old new result shape pairs order sound keeps call =
-    let P : World → Type 0 = KeepsAcknowledged old.world shape pairs order in
+    let P : World → Type 0 = CrashHoldsAcknowledged old.world shape pairs order in
     let here = start_keeps old.world shape pairs order old.world refl keeps in
     does old old new result old.world P (started old P sound here) call here here

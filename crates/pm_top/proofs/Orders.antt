@@ -25,7 +25,7 @@ pub take_none : {A : Type 0} (xs : List A) → take 0 xs ≡ []
 take_none [] = refl
 take_none (x ∷ xs) = refl
 
--- the first element behind others
+-- the first element after others
 pub slice_get-behind : (xs ys : List Line) (y : Line) → slice_get (xs ++ y ∷ ys) (length xs) ≡ Some y
 slice_get-behind [] ys y = refl
 slice_get-behind (x ∷ xs) ys y = slice_get-behind xs ys y
@@ -237,7 +237,7 @@ none_acknowledged shape number (line ∷ lines) pairs (suc k) c bytes none =
           ∙ order_false shape number line [] pairs (false_unaccepted shape line pairs is)
     ]
 
--- some first bytes behind others
+-- a prefix of the bytes after others
 drop_take : (n k : ℕ) (xs : List ℕ) → drop k (take n xs) ≡ take (n - k) (drop k xs)
 drop_take n zero xs = ap (λ m. take m xs) (let same : n ≡ n - 0 = omega arith in same)
 drop_take n (suc k) [] = ap (drop (suc k)) (take_all n [] (omega arith)) ∙ sym (take_all (n - suc k) [] (omega arith))
@@ -252,7 +252,7 @@ begun_more reply replies others n true inner is =
     omega (arith, begun_if true reply others (take n (texts_of (reply ∷ replies))) is, ap (begun others) rest, inner)
 begun_more reply replies others n false inner is = omega (arith, begun_if false reply others (take n (texts_of (reply ∷ replies))) is)
 
--- of some first bytes of replies no more than these begin
+-- of a prefix of the bytes of replies no more than these begin
 pub begun_within : (replies more : List Reply) (n : ℕ) → begun (replies ++ more) (take n (texts_of replies)) ≤ length replies
 begun_within [] more n = omega (arith, ap (begun more) (take_all n [] (omega arith)), begun_nothing more)
 begun_within (reply ∷ replies) more n = begun_more reply replies (replies ++ more) n _ (begun_within replies more (n - length (text_of reply))) refl

@@ -20,7 +20,7 @@ use Rattle.pm_top.specs.Served.{line_of, script_of}
 use Rattle.pm_top.proofs.Gathering.{after_lines-more}
 use Rattle.pm_top.proofs.ServedLines.{script_of-first}
 
--- some first bytes of a list are some of a longer one
+-- a prefix of the bytes of a list are some of a longer one
 prefix_longer : (n : ℕ) (xs ys : List ℕ) → take n xs ≡ take (min n (length xs)) (xs ++ ys)
 prefix_longer n xs ys = sym (take_min n xs) ∙ sym (take-append-le (min n (length xs)) xs ys (omega arith))
 

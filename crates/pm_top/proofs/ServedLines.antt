@@ -1,4 +1,4 @@
--- A script is its first line and the script behind it.
+-- A script is its first line and the script after it.
 use Rattle.std.proofs.Common.{◌≡◌, ℕ, ◌<◌, List, ◌∷◌, length, map, ap}
 use Rattle.pm_script.specs.Lines.{first_line, after_line}
 use Rattle.pm_script.proofs.ScriptLines.{lines_of-first}

@@ -9,13 +9,13 @@ use Rattle.pm_model.specs.declared.line.Line.{Line}
 use Rattle.pm_model.specs.Eval.{Pairs, after_all}
 use Rattle.pm_script.specs.Reading.{Unread}
 use Rattle.pm_segments.specs.Written.{ChangesLog}
-use Rattle.pm_engine.specs.Held.{KeepsSome}
-use Rattle.pm_engine.specs.Engines.{Running, running, StandsOn, HasSegments}
+use Rattle.pm_engine.specs.Held.{CrashHoldsPrefix}
+use Rattle.pm_engine.specs.Engines.{Running, running, IsAtRestWithin, HasSegments}
 use Rattle.pm_top.specs.declared.batch.Behind.{Behind}
 use Rattle.pm_top.specs.declared.batch.Behind.TheVariants as behind
 use Rattle.pm_top.specs.declared.run.Run.{Run}
 use Rattle.pm_top.specs.declared.shape.TheConstants.{SHAPE}
-use Rattle.pm_top.specs.Crashes.{KeepsAcknowledged}
+use Rattle.pm_top.specs.Crashes.{CrashHoldsAcknowledged}
 use Rattle.pm_top.specs.Promises.{IsStopped}
 use Rattle.pm_top.specs.Runs.{Progress, StandsOver, TurnsTo, LeavesRun}
 use Rattle.pm_top.specs.Scripts.{after_lines, GoesOnAs}
@@ -99,7 +99,7 @@ closed progress later new lines same said = record {
 }
 
 -- what is left when the script is done
-pub leaves : {start now : World} {shape : Shape} {pairs : Pairs} (before run later : Run) (mid new : World) → Progress start now [] shape pairs later → StandsOver before run mid → later.lines ≡ run.lines → StandsOn SHAPE 0 (running run.engine) (running later.engine) new
+pub leaves : {start now : World} {shape : Shape} {pairs : Pairs} (before run later : Run) (mid new : World) → Progress start now [] shape pairs later → StandsOver before run mid → later.lines ≡ run.lines → IsAtRestWithin SHAPE 0 (running run.engine) (running later.engine) new
     → LeavesRun start shape pairs before later new
 leaves {start = start} {shape = shape} {pairs = pairs} before run later mid new progress over lines on = record {
   over = record { stands = on.stands; climbs = omega (arith, over.climbs, on.climbs, lines) };
@@ -109,11 +109,11 @@ leaves {start = start} {shape = shape} {pairs = pairs} before run later mid new 
 }
 
 -- while the log is forced at the end
-pub closing_moments : (mid new : History) {start : World} {left : List Line} {shape : Shape} {pairs : Pairs} {run : Run} → Progress start mid.world left shape pairs run → AllMoments mid new (KeepsSome SHAPE run.engine.shape run.engine.map [])
-    → AllMoments mid new (ChangesLog mid.world) → AllMoments mid new (KeepsAcknowledged start shape pairs run.engine.order.items)
+pub closing_moments : (mid new : History) {start : World} {left : List Line} {shape : Shape} {pairs : Pairs} {run : Run} → Progress start mid.world left shape pairs run → AllMoments mid new (CrashHoldsPrefix SHAPE run.engine.shape run.engine.map [])
+    → AllMoments mid new (ChangesLog mid.world) → AllMoments mid new (CrashHoldsAcknowledged start shape pairs run.engine.order.items)
 closing_moments mid new {start = start} {shape = shape} {pairs = pairs} {run = run} progress keeps only =
-    let Q : World → Type 0 = KeepsSome SHAPE run.engine.shape run.engine.map [] in
-    weaker mid new (λ w. Q w × ChangesLog mid.world w) (KeepsAcknowledged start shape pairs run.engine.order.items)
+    let Q : World → Type 0 = CrashHoldsPrefix SHAPE run.engine.shape run.engine.map [] in
+    weaker mid new (λ w. Q w × ChangesLog mid.world w) (CrashHoldsAcknowledged start shape pairs run.engine.order.items)
     (λ w is. keeps_rest progress w is.1.said is.0) (both mid new Q (ChangesLog mid.world) keeps only)
 
 -- one turn after others
@@ -124,7 +124,7 @@ over_then before mid later world now first second = record { stands = second.sta
 pub room_left : (before now : Run) (world : World) → before.lines ≡ 0 → now.lines ≤ LINES_MAX → HasSegments (running before.engine) (2 ^ 24) → StandsOver before now world → HasSegments (running now.engine) 2048
 room_left before now world none few room over = omega (arith, none, few, room, over.climbs)
 
--- what stands behind, where there is nothing
+-- what stands after, where there is nothing
 pub append_right : (xs ys : List ℕ) → xs ++ ys ≡ [] → ys ≡ []
 append_right xs [] none = refl
 append_right xs (y ∷ ys) none = absurd (omega (arith, ap (λ (l : List ℕ). length l) none, length-append xs (y ∷ ys)))

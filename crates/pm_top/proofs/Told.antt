@@ -1,4 +1,4 @@
--- A limit is told behind the replies to the first lines.
+-- A limit is told after the replies to the first lines.
 use Rattle.std.proofs.Common.{◌≡◌, ◌⊎◌, inl, inr, ℕ, ◌+◌, List, [], ◌++◌, length, take, drop, refl, ap, sym, ◌∙◌, subst, append-nil, append_assoc, arith}
 use Rattle.std.specs.Prelude.{codes}
 use Rattle.std.proofs.lemmas.List.{drop_at, take_at, take-append-drop, length-take}
@@ -18,7 +18,7 @@ use Rattle.pm_top.specs.Promises.{Answers, IsBroken, IsStopped, SaysPart, replie
 use Rattle.pm_top.specs.Served.{script_of}
 use Rattle.pm_top.proofs.Orders.{begun-texts, begun_nothing, take_none, none_acknowledged, none_with_l}
 
--- more is said behind the replies
+-- more is said after the replies
 more_said : (old mid new : World) (shape : Shape) (pairs : Pairs) (lines : ℕ) (tail : List ℕ) → Answers old mid shape pairs lines [] → new.said ≡ mid.said ++ tail → Answers old new shape pairs lines tail
 more_said old mid new shape pairs lines tail answers is = record {
   within = answers.within;
@@ -43,7 +43,7 @@ told_part old mid new shape pairs lines order stopped part = record {
   tried = record { many = lines; from = omega arith; to = omega arith; within = stopped.answers.within; order_is = stopped.order_is };
 }
 
--- the lines that are acknowledged, where something stands behind the replies to the first ones
+-- the lines that are acknowledged, where something stands after the replies to the first ones
 acknowledged_told : (shape : Shape) (first others : List Line) (pairs : Pairs) (tail : List ℕ)
     → accepted shape (1 + length first) (take (begun (replies_to shape others (after_all shape first pairs)) tail) others) (after_all shape first pairs) ≡ []
     → accepted shape 1 (take (begun (replies_to shape (first ++ others) pairs) (texts_of (replies_to shape first pairs) ++ tail)) (first ++ others)) pairs ≡ accepted shape 1 first pairs

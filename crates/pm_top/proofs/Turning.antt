@@ -7,11 +7,11 @@ use Rattle.pm_disk.proofs.Chain.{weaker, joined}
 use Rattle.pm_model.specs.declared.line.Line.{Line}
 use Rattle.pm_model.specs.Eval.{Pairs}
 use Rattle.pm_script.specs.Reading.{OnlyTakes}
-use Rattle.pm_engine.specs.Engines.{running, Stands}
+use Rattle.pm_engine.specs.Engines.{running, IsAtRest}
 use Rattle.pm_engine.proofs.Going.{goes_keep}
 use Rattle.pm_top.specs.declared.run.Run.{Run}
 use Rattle.pm_top.specs.declared.shape.TheConstants.{SHAPE}
-use Rattle.pm_top.specs.Crashes.{KeepsAcknowledged}
+use Rattle.pm_top.specs.Crashes.{CrashHoldsAcknowledged}
 use Rattle.pm_top.specs.Runs.{Progress, SameFiles, StandsSince, StandsOver}
 use Rattle.pm_top.proofs.Lasting.{keeps_rest, keeps_taken, order_longer}
 
@@ -28,22 +28,22 @@ files_then old mid new first second = record { pages = second.pages ∙ first.pa
 
 module _ {start : World} {left : List Line} {shape : Shape} {pairs : Pairs} {run : Run} where
   -- while input is taken
-  pub taken_moments : (old mid : History) → Progress start old.world left shape pairs run → Stands SHAPE (running run.engine) old.world → AllMoments old mid (OnlyTakes old.world) → AllMoments old mid (KeepsAcknowledged start shape pairs run.engine.order.items)
+  pub taken_moments : (old mid : History) → Progress start old.world left shape pairs run → IsAtRest SHAPE (running run.engine) old.world → AllMoments old mid (OnlyTakes old.world) → AllMoments old mid (CrashHoldsAcknowledged start shape pairs run.engine.order.items)
   taken_moments old mid progress stands takes =
-      weaker old mid (OnlyTakes old.world) (KeepsAcknowledged start shape pairs run.engine.order.items)
+      weaker old mid (OnlyTakes old.world) (CrashHoldsAcknowledged start shape pairs run.engine.order.items)
       (λ w is. keeps_rest progress w (taken_said old.world w is) (keeps_taken run.engine.shape run.engine.map [] old.world w is (goes_keep SHAPE run.engine.map [] (running run.engine) old.world stands))) takes
 
 -- a longer order
-pub longer_moments : (start : World) (shape : Shape) (pairs : Pairs) (old new : History) (order more later : List ℕ) → later ≡ order ++ more → AllMoments old new (KeepsAcknowledged start shape pairs order) → AllMoments old new (KeepsAcknowledged start shape pairs later)
+pub longer_moments : (start : World) (shape : Shape) (pairs : Pairs) (old new : History) (order more later : List ℕ) → later ≡ order ++ more → AllMoments old new (CrashHoldsAcknowledged start shape pairs order) → AllMoments old new (CrashHoldsAcknowledged start shape pairs later)
 longer_moments start shape pairs old new order more later is all =
-    weaker old new (KeepsAcknowledged start shape pairs order) (KeepsAcknowledged start shape pairs later)
-    (λ w keeps. subst (λ o. KeepsAcknowledged start shape pairs o w) (sym is) (order_longer start shape pairs order more w keeps)) all
+    weaker old new (CrashHoldsAcknowledged start shape pairs order) (CrashHoldsAcknowledged start shape pairs later)
+    (λ w keeps. subst (λ o. CrashHoldsAcknowledged start shape pairs o w) (sym is) (order_longer start shape pairs order more w keeps)) all
 
--- one run of calls after another, the order longer behind it
-pub then_moments : (start : World) (shape : Shape) (pairs : Pairs) (old mid new : History) (order more later : List ℕ) → later ≡ order ++ more → AllMoments old mid (KeepsAcknowledged start shape pairs order) → AllMoments mid new (KeepsAcknowledged start shape pairs later)
-    → AllMoments old new (KeepsAcknowledged start shape pairs later)
+-- one run of calls after another, the order longer after it
+pub then_moments : (start : World) (shape : Shape) (pairs : Pairs) (old mid new : History) (order more later : List ℕ) → later ≡ order ++ more → AllMoments old mid (CrashHoldsAcknowledged start shape pairs order) → AllMoments mid new (CrashHoldsAcknowledged start shape pairs later)
+    → AllMoments old new (CrashHoldsAcknowledged start shape pairs later)
 then_moments start shape pairs old mid new order more later is first second =
-    joined old mid new (KeepsAcknowledged start shape pairs later) (longer_moments start shape pairs old mid order more later is first) second
+    joined old mid new (CrashHoldsAcknowledged start shape pairs later) (longer_moments start shape pairs old mid order more later is first) second
 
 -- a run goes on
 pub stands_then : (before mid later : Run) (m n : ℕ) (world : World) → mid.lines ≡ before.lines + m → later.lines ≡ mid.lines + n → mid.engine.log.end.seg ≤ before.engine.log.end.seg + m → StandsSince mid later n world → StandsOver before later world

@@ -15,7 +15,7 @@ use Rattle.pm_engine.specs.Held.{HoldsImage, IsTrueImage}
 use Rattle.pm_top.specs.declared.shape.TheConstants.{SHAPE}
 use Rattle.pm_top.specs.Served.{script_of}
 
--- how many of these replies begin in the bytes: the first byte of each stands there, behind the texts of those before it
+-- how many of these replies begin in the bytes: the first byte of each stands there, after the texts of those before it
 abbrev pub begun : List Reply → List ℕ → ℕ
 begun [] bytes = 0
 begun (reply ∷ replies) bytes =
@@ -42,6 +42,6 @@ pub record HoldsAfter (old : World) (shape : Shape) (pairs : Pairs) (order : Lis
   pub holds : HoldsImage SHAPE image shape (after_numbers shape (take count order) (script_of old.input) pairs)
 
 -- whatever a crash at this moment leaves, as long as no sum is right by chance, keeps what was acknowledged
-abbrev pub KeepsAcknowledged : World → Shape → Pairs → List ℕ → World → Type 0
-KeepsAcknowledged old shape pairs order now =
+abbrev pub CrashHoldsAcknowledged : World → Shape → Pairs → List ℕ → World → Type 0
+CrashHoldsAcknowledged old shape pairs order now =
     (image : Image) → LeavesAll now image → IsTrueImage now image → HoldsAfter old shape pairs order now image

@@ -10,7 +10,7 @@ use Rattle.pm_model.specs.declared.reply.Reply.{Reply}
 use Rattle.pm_model.specs.Eval.{Pairs, replies_to, accepted}
 use Rattle.pm_script.specs.Texts.{texts_of}
 use Rattle.pm_segments.specs.Grammars.{place}
-use Rattle.pm_segments.specs.Logs.{behind}
+use Rattle.pm_segments.specs.Logs.{after_frames}
 use Rattle.pm_engine.specs.Held.{Holds}
 use Rattle.pm_engine.specs.Openings.{IsBadRecord}
 use Rattle.pm_top.specs.declared.run.Stop.{Stop}
@@ -25,11 +25,11 @@ use Rattle.pm_top.specs.Served.{script_of}
 abbrev pub replies_of : Shape → List ℕ → Pairs → List Reply
 replies_of shape input pairs = replies_to shape (script_of input) pairs
 
--- nothing happened but that some first bytes of a text were said
+-- nothing happened but that a prefix of the bytes of a text were said
 abbrev pub SaysPart : List ℕ → World → World → Type 0
 SaysPart text old new = (n : ℕ) × (new ≡ with_said (take n text) old)
 
--- the replies to the first lines were said, and this behind them
+-- the replies to the first lines were said, and this after them
 pub record Answers (old new : World) (shape : Shape) (pairs : Pairs) (lines : ℕ) (tail : List ℕ) : Type 0 where
   pub within : lines ≤ length (script_of old.input)
   pub said : new.said ≡ old.said ++ texts_of (take lines (replies_of shape old.input pairs)) ++ tail
@@ -54,23 +54,23 @@ pub record IsDone (old new : World) (shape : Shape) (pairs : Pairs) (lines : ℕ
   pub read : new.input ≡ []
   pub limits : IsWithinLimits old.input
 
--- some first bytes of the next replies or of a fault line
+-- a prefix of the bytes of the next replies or of a fault line
 abbrev pub IsTail : List Reply → List ℕ → Type 0
 IsTail next tail = (n : ℕ) × ((tail ≡ take n (texts_of next)) ⊎ (tail ≡ take n (codes "fault long\n")))
 
--- a call failed behind the replies to the first lines
+-- a call failed after the replies to the first lines
 pub record IsBroken (old new : World) (shape : Shape) (pairs : Pairs) (lines : ℕ) (order : List ℕ) : Type 0 where
   pub tail : List ℕ
   pub answers : Answers old new shape pairs lines tail
   pub prefix : IsTail (drop lines (replies_of shape old.input pairs)) tail
   pub tried : HasTried shape old.input pairs lines order
 
--- memory ran out behind the replies to the first lines
+-- memory ran out after the replies to the first lines
 pub record IsShort (old new : World) (shape : Shape) (pairs : Pairs) (lines : ℕ) (order : List ℕ) : Type 0 where
   pub answers : Answers old new shape pairs lines []
   pub tried : HasTried shape old.input pairs lines order
 
--- all lines that are ended within both limits were answered, and this was said behind their replies
+-- all lines that are ended within both limits were answered, and this was said after their replies
 pub record IsStopped (old new : World) (shape : Shape) (pairs : Pairs) (lines : ℕ) (order : List ℕ) (tail : List ℕ) : Type 0 where
   pub answers : Answers old new shape pairs lines tail
   pub order_is : IsOrder shape old.input pairs lines order
@@ -95,7 +95,7 @@ Stops stop.Limit old new shape pairs lines order = IsStopped old new shape pairs
 pub record IsLeft (frames : List Frame) (more : ℕ) (new : World) (shape : Shape) (pairs : Pairs) : Type 0 where
   pub holds : Holds SHAPE new shape pairs
   pub quiet : NothingPending new
-  pub climbs : (behind (place 1 0) holds.frames).seg ≤ (behind (place 1 0) frames).seg + more
+  pub climbs : (after_frames (place 1 0) holds.frames).seg ≤ (after_frames (place 1 0) frames).seg + more
 
 -- the line that names a record that is bad
 abbrev pub fault_record : Place → List ℕ

@@ -8,8 +8,8 @@ use Rattle.pm_model.specs.Eval.{Pairs, replies_to, after_all, accepted}
 use Rattle.pm_script.specs.Reading.{Unread}
 use Rattle.pm_script.specs.Texts.{texts_of}
 use Rattle.pm_segments.specs.Grammars.{place}
-use Rattle.pm_segments.specs.Logs.{behind}
-use Rattle.pm_engine.specs.Engines.{Running, running, Stands}
+use Rattle.pm_segments.specs.Logs.{after_frames}
+use Rattle.pm_engine.specs.Engines.{Running, running, IsAtRest}
 use Rattle.pm_engine.specs.Held.{Holds}
 use Rattle.pm_top.specs.declared.batch.Behind.{Behind}
 use Rattle.pm_top.specs.declared.run.Run.{Run}
@@ -40,10 +40,10 @@ pub record Progress (start now : World) (left : List Line) (shape : Shape) (pair
 
 -- The engine of a run stands, its log in the same segment as an earlier one's or in the next so many.
 pub record StandsSince (before now : Run) (count : ℕ) (world : World) : Type 0 where
-  pub stands : Stands SHAPE (running now.engine) world
+  pub stands : IsAtRest SHAPE (running now.engine) world
   pub climbs : now.engine.log.end.seg ≤ before.engine.log.end.seg + count
 
--- How a run went on by some lines of its script, which goes on so behind them.
+-- How a run went on by some lines of its script, which goes on so after them.
 pub record TurnsTo (goes_on_as : Behind) (old new : Unread) (rest now_rest : List ℕ) (world now : World) (before later : Run) : Type 0 where
   pub lines : List Line
   pub at : Unread
@@ -55,7 +55,7 @@ pub record TurnsTo (goes_on_as : Behind) (old new : Unread) (rest now_rest : Lis
 
 -- the engine of a run stands, its log by at most as many segments further as lines were done
 pub record StandsOver (before later : Run) (world : World) : Type 0 where
-  pub stands : Stands SHAPE (running later.engine) world
+  pub stands : IsAtRest SHAPE (running later.engine) world
   pub climbs : later.engine.log.end.seg + before.lines ≤ before.engine.log.end.seg + later.lines
 
 -- The script is done: the engine has the map that its lines leave, and nothing of its log is pending.
@@ -70,4 +70,4 @@ pub record LeavesRun (start : World) (shape : Shape) (pairs : Pairs) (before lat
 pub record LeavesStore (start world : World) (engine : Running) : Type 0 where
   pub holds : Holds SHAPE world engine.shape (after_all engine.shape (script_of start.input) engine.pairs)
   pub lasting : (seg : ℕ) → (world.log seg).since ≡ []
-  pub climbs : (behind (place 1 0) holds.frames).seg ≤ engine.log.end.seg + LINES_MAX
+  pub climbs : (after_frames (place 1 0) holds.frames).seg ≤ engine.log.end.seg + LINES_MAX

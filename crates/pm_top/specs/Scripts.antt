@@ -21,7 +21,7 @@ pub record IsWithinLimits (input : List ℕ) : Type 0 where
 abbrev pub PassesLimit : List ℕ → Type 0
 PassesLimit input = (SCRIPT_BYTES_MAX < length input) ⊎ (LINES_MAX < length (lines_of input))
 
--- what stands behind the first lines
+-- what stands after the first lines
 abbrev pub after_lines : ℕ → List ℕ → List ℕ
 after_lines zero bytes = bytes
 after_lines (suc n) bytes = after_lines n (after_line bytes)
@@ -67,7 +67,7 @@ pub record Gathers (old now : Unread) (rest left : List ℕ) (lines : List Line)
   pub few_bytes : old.bytes ≤ SCRIPT_BYTES_MAX → now.bytes ≤ SCRIPT_BYTES_MAX
   pub count : now.lines ≡ old.lines + length lines
 
--- How the script goes on behind a batch: with what the reader has now, or it ends, or with a line that isn't ended within the
+-- How the script goes on after a batch: with what the reader has now, or it ends, or with a line that isn't ended within the
 -- limits.
 abbrev pub GoesOnAs : Behind → Unread → Unread → List ℕ → List ℕ → Type 0
 GoesOnAs behind.More at new left now_rest = (at ≡ new) × (left ≡ now_rest)

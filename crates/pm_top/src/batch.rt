@@ -1,5 +1,6 @@
 //! A batch of lines, gathered from a script.
 
+ghost use Rattle.pm_disk.specs.States.{IsUsable};
 ghost use Rattle.std.specs.Prelude.{◌≡◌, ◌≤◌, ◌<◌, [], ◌∷◌, length, IfOk};
 ghost use Rattle.std.specs.List.{All};
 ghost use Rattle.pm_types.specs.declared.limits.TheConstants.{BATCH_LINES_MAX as most_lines};
@@ -16,7 +17,7 @@ use pm_script::Lines;
 use pm_types::{BATCH_LINES_MAX, StoreFault};
 use std::alloc::{AllocError, Global};
 
-/// How a script goes on behind a batch.
+/// How a script goes on after a batch.
 #[derive(Clone, Copy, Debug, PartialEq, Eq)]
 pub enum Behind {
     /// With more lines, or with its end.
@@ -32,7 +33,7 @@ pub enum Behind {
 pub struct Batch {
     /// At most `BATCH_LINES_MAX` lines, which are done together.
     pub lines: Vec<Line>,
-    /// The line behind these, where it is a batch by itself: one that scans a cache.
+    /// The line after these, where it is a batch by itself: one that scans a cache.
     pub alone: Vec<Line>,
     /// What comes then.
     pub behind: Behind,
@@ -55,6 +56,7 @@ impl Batch {
 
 /// Takes the next lines off the script: up to one that is a batch by itself, as many as a batch may have, or all that are left.
 pub fn gather<H: Host>(alloc: Global, host: &mut H, input: &mut Lines) -> Result<Batch, StoreFault>
+    requires usable { IsUsable (H.state host.old) }
     ensures few { IfOk result (λ batch. length batch.lines.items ≤ most_lines) }
     ensures one { IfOk result (λ batch. length batch.alone.items ≤ 1) }
     ensures some { IfOk result
@@ -68,7 +70,7 @@ pub fn gather<H: Host>(alloc: Global, host: &mut H, input: &mut Lines) -> Result
         (H.history host.new).world)) }
     ensures takes { H.tells → AllMoments (H.history host.old) (H.history host.new) (OnlyTakes
         (H.history host.old).world) }
-    ensures cause { HasPlainFault (H.faults host.old) (H.faults host.new) result }
+    ensures cause { HasPlainFault (H.state host.old) (H.state host.new) result }
 {
     let mut lines = Vec::new(alloc);
     'lines: loop {

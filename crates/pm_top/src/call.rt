@@ -1,7 +1,7 @@
 //! The top call.
 
 ghost use Rattle.std.specs.Prelude.{◌≡◌, ◌≢◌, ◌≤◌, ◌⊎◌, ◌^◌, [], map, false, IsTrue, string_bytes};
-ghost use Rattle.pm_disk.specs.Causes.{Rose};
+ghost use Rattle.pm_disk.specs.States.{IsUsable, Rose};
 ghost use Rattle.pm_types.specs.declared.shape.Shape.{Shape};
 ghost use Rattle.pm_types.specs.Shapes.{IsShape};
 ghost use Rattle.pm_disk.specs.Images.{NothingPending};
@@ -9,10 +9,10 @@ ghost use Rattle.pm_disk.specs.Moments.{AllMoments};
 ghost use Rattle.pm_disk.specs.Worlds.{World};
 ghost use Rattle.pm_model.specs.Eval.{Pairs, after_all};
 ghost use Rattle.pm_segments.specs.Ends.{EndsThere};
-ghost use Rattle.pm_engine.specs.Engines.{running, Stands, HasSegments};
+ghost use Rattle.pm_engine.specs.Engines.{running, IsAtRest, HasSegments};
 ghost use Rattle.pm_engine.specs.Held.{Holds, HasNumbers};
 ghost use Rattle.pm_top.specs.declared.shape.TheConstants.{SHAPE};
-ghost use Rattle.pm_top.specs.Crashes.{KeepsAcknowledged};
+ghost use Rattle.pm_top.specs.Crashes.{CrashHoldsAcknowledged};
 ghost use Rattle.pm_top.specs.Promises.{Ends, EndsRefused, IsDamaged, IsLeft};
 ghost use Rattle.pm_top.specs.Runs.{SameConsole, SameFiles, LeavesStore};
 ghost use Rattle.pm_top.specs.Scripts.{IsWithinLimits, PassesLimit};
@@ -58,7 +58,7 @@ pub fn top<Q: AllocGlobal, H: Host>(rt: &Q, words: &[String], host: &mut H) -> R
         (holds : Holds SHAPE (H.history host.old).world shape pairs) → HasNumbers holds.frames →
         NothingPending (H.history host.old).world →
         AllMoments (H.history host.old) (H.history host.new)
-        (KeepsAcknowledged (H.history host.old).world shape pairs result.order.items) }
+        (CrashHoldsAcknowledged (H.history host.old).world shape pairs result.order.items) }
 
     // A script that is done leaves a sound store for the next call.
     ensures leaves { H.tells → result.status ≡ 0 → (shape : Shape) (pairs : Pairs) →
@@ -71,19 +71,19 @@ pub fn top<Q: AllocGlobal, H: Host>(rt: &Q, words: &[String], host: &mut H) -> R
     ensures usage { result.status ≡ 1 → is_command (map string_bytes words.now) ≡ false }
     ensures refused { is_command (map string_bytes words.now) ≡ false →
         (result.status ≡ 1) ⊎ (result.status ≡ 3) }
-    ensures failed { result.status ≡ 3 → Rose (H.faults host.old) (H.faults host.new) }
+    ensures failed { result.status ≡ 3 → Rose (H.state host.old) (H.state host.new) }
     ensures long { H.tells → result.status ≡ 6 → PassesLimit (H.history host.old).world.input }
     ensures passes { H.tells → IsTrue (is_command (map string_bytes words.now)) →
         (shape : Shape) (pairs : Pairs) → Holds SHAPE (H.history host.old).world shape pairs →
         PassesLimit (H.history host.old).world.input →
-        (Rose (H.faults host.old) (H.faults host.new) → ⊥) →
+        (Rose (H.state host.old) (H.state host.new) → ⊥) →
         (result.status ≡ 6) ⊎ (result.status ≡ 4) }
 
     // Where nothing fails and the script is within its limits, it is answered whole, or memory runs out.
     ensures complete { H.tells → IsTrue (is_command (map string_bytes words.now)) →
         (shape : Shape) (pairs : Pairs) → Holds SHAPE (H.history host.old).world shape pairs →
         IsWithinLimits (H.history host.old).world.input →
-        (Rose (H.faults host.old) (H.faults host.new) → ⊥) →
+        (Rose (H.state host.old) (H.state host.new) → ⊥) →
         (result.status ≡ 0) ⊎ (result.status ≡ 4) }
 {
     let outcome = command(rt.alloc(), words, host);
@@ -132,7 +132,7 @@ fn command<H: Host>(alloc: Global, words: &[String], host: &mut H) -> Outcome
         (holds : Holds SHAPE (H.history host.old).world shape pairs) → HasNumbers holds.frames →
         NothingPending (H.history host.old).world →
         AllMoments (H.history host.old) (H.history host.new)
-        (KeepsAcknowledged (H.history host.old).world shape pairs result.order.items) }
+        (CrashHoldsAcknowledged (H.history host.old).world shape pairs result.order.items) }
     ensures leaves { H.tells → result.status ≡ Status.Done → (shape : Shape) (pairs : Pairs) →
         (holds : Holds SHAPE (H.history host.old).world shape pairs) → HasNumbers holds.frames →
         NothingPending (H.history host.old).world →
@@ -141,7 +141,7 @@ fn command<H: Host>(alloc: Global, words: &[String], host: &mut H) -> Outcome
     ensures usage { result.status ≡ Status.Usage → is_command (map string_bytes words.now) ≡ false }
     ensures refused { is_command (map string_bytes words.now) ≡ false →
         (result.status ≡ Status.Usage) ⊎ (result.status ≡ Status.Failed) }
-    ensures failed { result.status ≡ Status.Failed → Rose (H.faults host.old) (H.faults host.new) }
+    ensures failed { result.status ≡ Status.Failed → Rose (H.state host.old) (H.state host.new) }
     ensures long { H.tells → result.status ≡ Status.Long →
         PassesLimit (H.history host.old).world.input }
 {
@@ -156,6 +156,7 @@ fn command<H: Host>(alloc: Global, words: &[String], host: &mut H) -> Outcome
 
 // Opens the store and answers the script of the input, or names the record that is bad.
 fn run<H: Host>(alloc: Global, host: &mut H) -> Outcome
+    requires usable { IsUsable (H.state host.old) }
     ensures ends { H.tells → (shape : Shape) (pairs : Pairs) →
         Holds SHAPE (H.history host.old).world shape pairs →
         Ends result.status (H.history host.old).world (H.history host.new).world
@@ -166,17 +167,17 @@ fn run<H: Host>(alloc: Global, host: &mut H) -> Outcome
         (holds : Holds SHAPE (H.history host.old).world shape pairs) → HasNumbers holds.frames →
         NothingPending (H.history host.old).world →
         AllMoments (H.history host.old) (H.history host.new)
-        (KeepsAcknowledged (H.history host.old).world shape pairs result.order.items) }
+        (CrashHoldsAcknowledged (H.history host.old).world shape pairs result.order.items) }
     ensures leaves { H.tells → result.status ≡ Status.Done → (shape : Shape) (pairs : Pairs) →
         (holds : Holds SHAPE (H.history host.old).world shape pairs) → HasNumbers holds.frames →
         NothingPending (H.history host.old).world →
         IsLeft holds.frames (2 ^ 23) (H.history host.new).world shape
         (after_all shape (script_of (H.history host.old).world.input) pairs) }
     ensures known { result.status ≢ Status.Usage }
-    ensures failed { result.status ≡ Status.Failed → Rose (H.faults host.old) (H.faults host.new) }
+    ensures failed { result.status ≡ Status.Failed → Rose (H.state host.old) (H.state host.new) }
     ensures long { H.tells → result.status ≡ Status.Long →
         PassesLimit (H.history host.old).world.input }
-    ensures later { H.faults host.old ≤ H.faults host.new }
+    ensures later { H.state host.old ≤ H.state host.new }
 {
     match Engine::open_store(alloc, host, SHAPE) {
         Ok(engine) => answer_script(alloc, host, engine),
@@ -189,6 +190,7 @@ fn run<H: Host>(alloc: Global, host: &mut H) -> Outcome
 
 // Answers the script of the input over an open store, and tells a limit.
 fn answer_script<H: Host>(alloc: Global, host: &mut H, engine: Engine) -> Outcome
+    requires usable { IsUsable (H.state host.old) }
     requires shape { IsShape engine.shape }
     requires order { engine.order.items ≡ [] }
     requires end { H.tells → EndsThere engine.log (H.history host.old).world }
@@ -197,19 +199,19 @@ fn answer_script<H: Host>(alloc: Global, host: &mut H, engine: Engine) -> Outcom
         Ends result.status start (H.history host.new).world engine.shape engine.map
         result.lines result.order.items }
     ensures moments { H.tells → (start : World) → SameConsole start (H.history host.old).world →
-        Stands SHAPE (running engine) (H.history host.old).world →
+        IsAtRest SHAPE (running engine) (H.history host.old).world →
         HasSegments (running engine) (2 ^ 24) →
         AllMoments (H.history host.old) (H.history host.new)
-        (KeepsAcknowledged start engine.shape engine.map result.order.items) }
+        (CrashHoldsAcknowledged start engine.shape engine.map result.order.items) }
     ensures leaves { H.tells → result.status ≡ Status.Done → (start : World) →
         SameConsole start (H.history host.old).world →
-        Stands SHAPE (running engine) (H.history host.old).world →
+        IsAtRest SHAPE (running engine) (H.history host.old).world →
         HasSegments (running engine) (2 ^ 24) →
         LeavesStore start (H.history host.new).world (running engine) }
     ensures sound { result.status ≢ Status.Damaged }
     ensures known { result.status ≢ Status.Usage }
-    ensures failed { result.status ≡ Status.Failed → Rose (H.faults host.old) (H.faults host.new) }
-    ensures later { H.faults host.old ≤ H.faults host.new }
+    ensures failed { result.status ≡ Status.Failed → Rose (H.state host.old) (H.state host.new) }
+    ensures later { H.state host.old ≤ H.state host.new }
 {
     let mut run = Run::new(alloc, engine);
     let status = match run.serve(alloc, host) {

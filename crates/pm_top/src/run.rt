@@ -1,5 +1,6 @@
 //! A run over a script, a batch at a time.
 
+ghost use Rattle.pm_disk.specs.States.{IsUsable};
 ghost use Rattle.std.specs.Prelude.{◌≡◌, ◌≤◌, ◌<◌, ◌+◌, ◌^◌, ℕ, List, [], ◌++◌, length, IfOk, OnOk, OnErr, IsErrOf};
 ghost use Rattle.std.specs.List.{All};
 ghost use Rattle.pm_types.specs.declared.limits.TheConstants.{LINES_MAX as most_lines, BATCH_LINES_MAX as most_batch};
@@ -14,9 +15,9 @@ ghost use Rattle.pm_script.specs.Reading.{rest_of};
 ghost use Rattle.pm_script.specs.Texts.{texts_of};
 ghost use Rattle.pm_segments.specs.Ends.{EndsThere};
 ghost use Rattle.pm_engine.specs.Batches.{HasPlainFault};
-ghost use Rattle.pm_engine.specs.Engines.{running, Stands, HasSegments};
+ghost use Rattle.pm_engine.specs.Engines.{running, IsAtRest, HasSegments};
 ghost use Rattle.pm_top.specs.declared.shape.TheConstants.{SHAPE};
-ghost use Rattle.pm_top.specs.Crashes.{KeepsAcknowledged};
+ghost use Rattle.pm_top.specs.Crashes.{CrashHoldsAcknowledged};
 ghost use Rattle.pm_top.specs.Promises.{IsBroken, IsShort, Stops};
 ghost use Rattle.pm_top.specs.Runs.{Progress, SameConsole, SameFiles, StandsSince, StandsOver, TurnsTo, LeavesRun};
 ghost use Rattle.pm_top.specs.Served.{script_of};
@@ -64,6 +65,7 @@ impl Run {
 
     /// Answers the script of the input, batch after batch, up to its end or to a limit. At its end the log is forced.
     pub fn serve<H: Host>(&mut self, alloc: Global, host: &mut H) -> Result<Stop, StoreFault>
+        requires usable { IsUsable (H.state host.old) }
         requires shape { IsShape self.old.engine.shape }
         requires lines { self.old.lines ≡ 0 }
         requires order { self.old.engine.order.items ≡ [] }
@@ -83,16 +85,16 @@ impl Run {
 
         // What a crash leaves, meanwhile and from then on.
         ensures moments { H.tells → (start : World) → SameConsole start (H.history host.old).world →
-            Stands SHAPE (running self.old.engine) (H.history host.old).world →
+            IsAtRest SHAPE (running self.old.engine) (H.history host.old).world →
             HasSegments (running self.old.engine) (2 ^ 24) →
-            AllMoments (H.history host.old) (H.history host.new) (KeepsAcknowledged start
+            AllMoments (H.history host.old) (H.history host.new) (CrashHoldsAcknowledged start
             self.old.engine.shape self.old.engine.map self.new.engine.order.items) }
         ensures leaves { H.tells → (start : World) → SameConsole start (H.history host.old).world →
-            Stands SHAPE (running self.old.engine) (H.history host.old).world →
+            IsAtRest SHAPE (running self.old.engine) (H.history host.old).world →
             HasSegments (running self.old.engine) (2 ^ 24) →
             IfOk result (λ stop. stop ≡ Stop.Done → LeavesRun start
             self.old.engine.shape self.old.engine.map self.old self.new (H.history host.new).world) }
-        ensures cause { HasPlainFault (H.faults host.old) (H.faults host.new) result }
+        ensures cause { HasPlainFault (H.state host.old) (H.state host.new) result }
     {
         let mut input = Lines::new(alloc)?;
         'batches: loop {
@@ -114,6 +116,7 @@ impl Run {
         host: &mut H,
         input: &mut Lines,
     ) -> Result<Behind, StoreFault>
+        requires usable { IsUsable (H.state host.old) }
         requires shape { IsShape self.old.engine.shape }
         requires counted { self.old.lines ≡ input.old.lines }
         requires few { self.old.lines ≤ most_lines }
@@ -139,19 +142,19 @@ impl Run {
             IsShort start (H.history host.new).world shape pairs self.new.lines self.new.engine.order.items }
 
         // What a crash leaves.
-        ensures stands { H.tells → Stands SHAPE (running self.old.engine) (H.history host.old).world →
+        ensures stands { H.tells → IsAtRest SHAPE (running self.old.engine) (H.history host.old).world →
             HasSegments (running self.old.engine) 2048 →
             OnOk result (StandsOver self.old self.new (H.history host.new).world) }
         ensures moments { H.tells → (start : World) (shape : Shape) (pairs : Pairs) →
             Progress start (H.history host.old).world
             (script_of (rest_of input.old (H.history host.old).world)) shape pairs self.old →
-            Stands SHAPE (running self.old.engine) (H.history host.old).world →
+            IsAtRest SHAPE (running self.old.engine) (H.history host.old).world →
             HasSegments (running self.old.engine) 2048 →
             AllMoments (H.history host.old) (H.history host.new)
-            (KeepsAcknowledged start shape pairs self.new.engine.order.items) }
+            (CrashHoldsAcknowledged start shape pairs self.new.engine.order.items) }
         ensures extends { (more : List ℕ) ×
             (self.new.engine.order.items ≡ self.old.engine.order.items ++ more) }
-        ensures cause { HasPlainFault (H.faults host.old) (H.faults host.new) result }
+        ensures cause { HasPlainFault (H.state host.old) (H.state host.new) result }
     {
         let batch = gather(alloc, host, input)?;
         self.answer(alloc, host, &batch.lines)?;
@@ -166,6 +169,7 @@ impl Run {
         host: &mut H,
         lines: &[Line],
     ) -> Result<(), StoreFault>
+        requires usable { IsUsable (H.state host.old) }
         requires shape { IsShape self.old.engine.shape }
         requires caches { All HasCache lines.now }
         requires few { length lines.now ≤ most_batch }
@@ -193,16 +197,16 @@ impl Run {
             IsShort start (H.history host.new).world shape pairs self.new.lines self.new.engine.order.items }
 
         // What a crash leaves.
-        ensures stands { H.tells → Stands SHAPE (running self.old.engine) (H.history host.old).world →
+        ensures stands { H.tells → IsAtRest SHAPE (running self.old.engine) (H.history host.old).world →
             HasSegments (running self.old.engine) (length lines.now) → OnOk result
             (StandsSince self.old self.new (length lines.now) (H.history host.new).world) }
         ensures moments { H.tells → (start : World) (left : List Line) (shape : Shape) (pairs : Pairs) →
             Progress start (H.history host.old).world (lines.now ++ left) shape pairs self.old →
-            Stands SHAPE (running self.old.engine) (H.history host.old).world →
+            IsAtRest SHAPE (running self.old.engine) (H.history host.old).world →
             HasSegments (running self.old.engine) (length lines.now) →
             AllMoments (H.history host.old) (H.history host.new)
-            (KeepsAcknowledged start shape pairs self.new.engine.order.items) }
-        ensures cause { HasPlainFault (H.faults host.old) (H.faults host.new) result }
+            (CrashHoldsAcknowledged start shape pairs self.new.engine.order.items) }
+        ensures cause { HasPlainFault (H.state host.old) (H.state host.new) result }
     {
         if lines.is_empty() {
             return Ok(());

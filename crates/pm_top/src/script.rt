@@ -1,5 +1,6 @@
 //! The lines of a script, as they are served.
 
+ghost use Rattle.pm_disk.specs.States.{IsUsable};
 ghost use Rattle.std.specs.Prelude.{◌≡◌, IfOk};
 ghost use Rattle.pm_disk.specs.Moments.{AllMoments};
 ghost use Rattle.pm_script.specs.Reading.{rest_of, OnlyTakes};
@@ -30,6 +31,7 @@ pub fn next_line<H: Host>(
     host: &mut H,
     input: &mut Lines,
 ) -> Result<Next, StoreFault>
+    requires usable { IsUsable (H.state host.old) }
     ensures reads { H.tells → IfOk result (Reads input.old input.new
         (rest_of input.old (H.history host.old).world) (rest_of input.new
         (H.history host.new).world)) }
@@ -37,7 +39,7 @@ pub fn next_line<H: Host>(
     ensures numbered { IfOk result HasCacheNext }
     ensures takes { H.tells → AllMoments (H.history host.old) (H.history host.new) (OnlyTakes
         (H.history host.old).world) }
-    ensures cause { HasPlainFault (H.faults host.old) (H.faults host.new) result }
+    ensures cause { HasPlainFault (H.state host.old) (H.state host.new) result }
 {
     match input.next(host)? {
         Item::Text(bytes) => Ok(Next::Line(served(read_line(alloc, bytes)?))),

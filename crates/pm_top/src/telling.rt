@@ -1,7 +1,7 @@
 //! The lines that tell faults.
 
 ghost use Rattle.std.specs.Prelude.{◌≡◌, ◌⊎◌, ◌≤◌, [], codes, OnOk};
-ghost use Rattle.pm_disk.specs.Causes.{Rose};
+ghost use Rattle.pm_disk.specs.States.{Rose};
 ghost use Rattle.pm_disk.specs.Moments.{AllMoments};
 ghost use Rattle.pm_disk.specs.Worlds.{with_said};
 ghost use Rattle.pm_top.specs.Promises.{SaysPart, fault_record};
@@ -21,7 +21,7 @@ pub fn tell_usage<H: Host>(host: &mut H) -> Status
     ensures moments { H.tells → AllMoments (H.history host.old) (H.history host.new)
         (SaysPart (codes "fault usage\n") (H.history host.old).world) }
     ensures cases { (result ≡ Status.Usage) ⊎ (result ≡ Status.Failed) }
-    ensures failed { result ≡ Status.Failed → Rose (H.faults host.old) (H.faults host.new) }
+    ensures failed { result ≡ Status.Failed → Rose (H.state host.old) (H.state host.new) }
 {
     match host.print(b"fault usage\n") {
         Ok(()) => Status::Usage,
@@ -38,8 +38,8 @@ pub fn tell_limit<H: Host>(host: &mut H) -> Status
     ensures moments { H.tells → AllMoments (H.history host.old) (H.history host.new)
         (SaysPart (codes "fault long\n") (H.history host.old).world) }
     ensures cases { (result ≡ Status.Long) ⊎ (result ≡ Status.Failed) }
-    ensures failed { result ≡ Status.Failed → Rose (H.faults host.old) (H.faults host.new) }
-    ensures later { H.faults host.old ≤ H.faults host.new }
+    ensures failed { result ≡ Status.Failed → Rose (H.state host.old) (H.state host.new) }
+    ensures later { H.state host.old ≤ H.state host.new }
 {
     match host.print(b"fault long\n") {
         Ok(()) => Status::Long,
@@ -52,8 +52,8 @@ pub fn tell_record<H: Host>(alloc: Global, host: &mut H, at: Place) -> Status
     ensures damaged { H.tells → result ≡ Status.Damaged →
         (H.history host.new).world ≡ with_said (fault_record at) (H.history host.old).world }
     ensures cases { (result ≡ Status.Damaged) ⊎ (result ≡ Status.Failed) ⊎ (result ≡ Status.Memory) }
-    ensures failed { result ≡ Status.Failed → Rose (H.faults host.old) (H.faults host.new) }
-    ensures later { H.faults host.old ≤ H.faults host.new }
+    ensures failed { result ≡ Status.Failed → Rose (H.state host.old) (H.state host.new) }
+    ensures later { H.state host.old ≤ H.state host.new }
 {
     let mut text = Vec::new(alloc);
     if write_record_fault(at, &mut text).is_err() {

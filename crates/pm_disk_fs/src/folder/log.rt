@@ -1,4 +1,4 @@
-//! The segments of the log. Writes to one of them that stand one behind the other are gathered, and
+//! The segments of the log. Writes to one of them that stand one after the other are gathered, and
 //! handed to the system as one before any other call on the log.
 
 ghost use Rattle.std.specs.Prelude.{◌≡◌, ◌<◌, ◌≤◌, ◌+◌, ◌↔◌, ◌⊎◌, [], false, length, IsTrue, IsErr, OnOk, OnErr, IfOk};
@@ -54,7 +54,7 @@ impl<R: Files + AllocGlobal> Folder<R> {
         self.read(rt, StoreFile::Segment(seg), at, into)
     }
 
-    /// Writes the bytes into a segment from the offset on: it gathers them, behind what is gathered
+    /// Writes the bytes into a segment from the offset on: it gathers them, after what is gathered
     /// where they stand there, and otherwise once that was written. What can't be gathered is written.
     pub fn write_log(&mut self, rt: &R, seg: u64, at: u64, bytes: &[u8]) -> io::Result<()>
         ensures refused { IsTrue self.old.is_broken → IsErr result }

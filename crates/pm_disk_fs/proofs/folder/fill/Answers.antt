@@ -1,4 +1,4 @@
--- What was read stands behind what was read before.
+-- What was read stands after what was read before.
 use Rattle.std.proofs.Common.{◌-◌, ◌≤◌, List, ℕ, length, take, sym, subst, arith}
 use Rattle.std.specs.Io.KnownBytes.{Consumes}
 use Rattle.pm_disk_fs.proofs.Fills.{consumes-append, take-put_mid-add, length-put_mid-ge}

@@ -3,7 +3,7 @@ use Rattle.std.proofs.lemmas.List.{take_all}
 use Rattle.pm_model.specs.Eval.{replies_to}
 use Rattle.pm_disk.proofs.Chain.{at_last}
 use Rattle.pm_segments.specs.Written.{ChangesLog}
-use Rattle.pm_engine.specs.Engines.{running, Goes}
+use Rattle.pm_engine.specs.Engines.{running, HasDone}
 use Rattle.pm_engine.proofs.Trying.{log_still}
 use Rattle.pm_engine.proofs.Batching.{Comes, comes_first, comes_next, tries_some, tries_line, log_joined, told_more, none_taken}
 use Rattle.pm_engine.proofs.engine.run_lines.Goals as goal
@@ -106,4 +106,4 @@ returns-clause-goes g c t wanted stands segments =
     let lines = c.args.lines.now in
     let goes = (c.each.invariant.goes t wanted stands segments).0 in
     let all : take c.each.line-index lines ≡ lines = take_all c.each.line-index lines (omega arith) in
-    (subst (λ ls. Goes wanted c.args.engine.now.map ls (running c.each.engine) (g.H.Device.history c.each.host).world) all goes.0, omega (arith, goes.1))
+    (subst (λ ls. HasDone wanted c.args.engine.now.map ls (running c.each.engine) (g.H.Device.history c.each.host).world) all goes.0, omega (arith, goes.1))

@@ -1,11 +1,12 @@
+use Rattle.pm_disk.specs.States.{IsLaterState}
 use Rattle.std.proofs.Common.{◌≡◌, ◌+◌, ◌≤◌, ◌++◌, length, take}
 use Rattle.pm_types.specs.declared.shape.Shape.{Shape}
 use Rattle.pm_disk.specs.Moments.{AllMoments}
 use Rattle.pm_model.specs.Eval.{replies_to, after_all, accepted}
 use Rattle.pm_segments.specs.Ends.{EndsThere}
 use Rattle.pm_segments.specs.Written.{ChangesLog}
-use Rattle.pm_engine.specs.Held.{KeepsSome}
-use Rattle.pm_engine.specs.Engines.{running, Stands, GoesOn, HasSegments}
+use Rattle.pm_engine.specs.Held.{CrashHoldsPrefix}
+use Rattle.pm_engine.specs.Engines.{running, IsAtRest, HasDoneWithin, HasSegments}
 use Rattle.pm_engine.proofs.engine.run_lines.Given as goal
 
 abbrev pub invariant-each : goal.invariant-each
@@ -20,9 +21,9 @@ invariant-each g l =
       map : l.engine.map ≡ after_all start.shape done start.map;
       order : l.engine.order.items ≡ start.order.items ++ accepted start.shape l.first done start.map;
       number : l.number ≡ l.first + l.line-index;
-      later : g.H.Device.faults l.fn.host ≤ g.H.Device.faults l.host;
+      state : IsLaterState (g.H.Device.state l.fn.host) (g.H.Device.state l.host);
       end : g.H.Device.tells → EndsThere l.engine.log now.world;
-      goes : g.H.Device.tells → (wanted : Shape) → Stands wanted (running start) old.world → HasSegments (running start) (length l.lines)
-          → GoesOn wanted start.map done l.line-index (running start) (running l.engine) now.world × AllMoments old now (KeepsSome wanted start.shape start.map done);
+      goes : g.H.Device.tells → (wanted : Shape) → IsAtRest wanted (running start) old.world → HasSegments (running start) (length l.lines)
+          → HasDoneWithin wanted start.map done l.line-index (running start) (running l.engine) now.world × AllMoments old now (CrashHoldsPrefix wanted start.shape start.map done);
       log_only : g.H.Device.tells → AllMoments old now (ChangesLog old.world);
     }

@@ -1,3 +1,4 @@
+use Rattle.pm_disk.specs.States.{IsLaterState}
 use Rattle.std.proofs.Common.{◌≡◌, ◌+◌, ◌-◌, ◌*◌, ◌^◌, ◌≤◌}
 use Rattle.pm_frame.specs.declared.limits.TheConstants.{SEGMENT_END_MAX}
 use Rattle.pm_types.specs.Shapes.{IsShape}
@@ -8,11 +9,11 @@ use Rattle.pm_engine.proofs.open.read_log.Given as goal
 
 abbrev pub invariant-frames : goal.invariant-frames
 invariant-frames g l =
-    let faults = g.H.Device.faults in
+    let state = g.H.Device.state in
     let old = g.H.Device.history l.fn.host in
     let now = g.H.Device.history l.host in
     record {
-      later : faults l.fn.host ≤ faults l.host;
+      state : IsLaterState (state l.fn.host) (state l.host);
       shape : IsShape l.found.shape;
       bound : l.scan.next.off ≤ SEGMENT_END_MAX;
       same : g.H.Device.tells → AllMoments old now (IsSame old.world);

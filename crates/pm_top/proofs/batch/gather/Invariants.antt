@@ -1,3 +1,4 @@
+use Rattle.pm_disk.specs.States.{IsLaterState}
 use Rattle.std.proofs.Common.{◌≡◌, ◌+◌, ◌-◌, ◌≤◌, ◌<◌, length}
 use Rattle.std.specs.List.{All}
 use Rattle.pm_types.specs.declared.limits.TheConstants.{BATCH_LINES_MAX, LINES_MAX}
@@ -16,7 +17,7 @@ invariant-lines g l =
       caches : All HasCache l.lines.items;
       count : l.input.lines ≡ l.fn.input.lines + length l.lines.items;
       limit : l.fn.input.lines ≤ LINES_MAX → l.input.lines ≤ LINES_MAX;
-      later : g.H.Device.faults l.fn.host ≤ g.H.Device.faults l.host;
+      state : IsLaterState (g.H.Device.state l.fn.host) (g.H.Device.state l.host);
       gathers : g.H.Device.tells → Gathers l.fn.input l.input (rest_of l.fn.input old.world) (rest_of l.input now.world) l.lines.items;
       takes : g.H.Device.tells → AllMoments old now (OnlyTakes old.world);
     }

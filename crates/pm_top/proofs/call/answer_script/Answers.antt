@@ -5,10 +5,10 @@ use Rattle.pm_disk.specs.Moments.{AllMoments}
 use Rattle.pm_disk.specs.Worlds.{World}
 use Rattle.pm_script.specs.Lines.{lines_of}
 use Rattle.pm_engine.specs.declared.engine.Engine.{Engine}
-use Rattle.pm_engine.specs.Engines.{running, Stands, HasSegments}
+use Rattle.pm_engine.specs.Engines.{running, IsAtRest, HasSegments}
 use Rattle.pm_top.specs.declared.shape.TheConstants.{SHAPE}
 use Rattle.pm_top.specs.declared.status.Status.{Status}
-use Rattle.pm_top.specs.Crashes.{KeepsAcknowledged}
+use Rattle.pm_top.specs.Crashes.{CrashHoldsAcknowledged}
 use Rattle.pm_top.specs.Promises.{Ends, Stops, IsDone, IsStopped}
 use Rattle.pm_top.specs.Runs.{LeavesStore}
 use Rattle.pm_top.specs.Served.{line_of}
@@ -54,8 +54,8 @@ returns-clause-moments g c t start same stands room =
     let old = g.H.Device.history c.args.host.now in
     let mid = g.H.Device.history c.serve.new.host in
     let new = g.H.Device.history c.match-serve.host in
-    let K : World → Type 0 = KeepsAcknowledged start engine.shape engine.map order in
-    let stands_here : Stands SHAPE (running engine) old.world = subst (λ (e : Engine). Stands SHAPE (running e) old.world) (sym c.new-run.ensures.engine) stands in
+    let K : World → Type 0 = CrashHoldsAcknowledged start engine.shape engine.map order in
+    let stands_here : IsAtRest SHAPE (running engine) old.world = subst (λ (e : Engine). IsAtRest SHAPE (running e) old.world) (sym c.new-run.ensures.engine) stands in
     let room_here : HasSegments (running engine) (2 ^ 24) = subst (λ (e : Engine). HasSegments (running e) (2 ^ 24)) (sym c.new-run.ensures.engine) room in
     let served : AllMoments old mid K = c.serve.ensures.moments t start same stands_here room_here in
     let all : AllMoments old new K = elim c.match-serve.branch [
@@ -68,8 +68,8 @@ returns-clause-moments g c t start same stands room =
       | in-Err-Failed w ↦ subst (λ h. AllMoments old (g.H.Device.history h) K) (sym w.host-is) served
       | in-Err-Memory w ↦ subst (λ h. AllMoments old (g.H.Device.history h) K) (sym w.host-is) served
     ] in
-    subst (λ (e : Engine). AllMoments old new (KeepsAcknowledged start e.shape e.map c.into_order.result.items)) c.new-run.ensures.engine
-    (subst (λ (o : List ℕ). AllMoments old new (KeepsAcknowledged start engine.shape engine.map o)) (sym c.into_order.ensures) all)
+    subst (λ (e : Engine). AllMoments old new (CrashHoldsAcknowledged start e.shape e.map c.into_order.result.items)) c.new-run.ensures.engine
+    (subst (λ (o : List ℕ). AllMoments old new (CrashHoldsAcknowledged start engine.shape engine.map o)) (sym c.into_order.ensures) all)
 
 pub returns-clause-leaves : goal.returns-clause-leaves
 returns-clause-leaves g c t is start same stands room =
@@ -81,7 +81,7 @@ returns-clause-leaves g c t is start same stands room =
     let old = g.H.Device.history c.args.host.now in
     let mid = (g.H.Device.history c.serve.new.host).world in
     let new = (g.H.Device.history c.match-serve.host).world in
-    let stands_here : Stands SHAPE (running engine) old.world = subst (λ (e : Engine). Stands SHAPE (running e) old.world) (sym c.new-run.ensures.engine) stands in
+    let stands_here : IsAtRest SHAPE (running engine) old.world = subst (λ (e : Engine). IsAtRest SHAPE (running e) old.world) (sym c.new-run.ensures.engine) stands in
     let room_here : HasSegments (running engine) (2 ^ 24) = subst (λ (e : Engine). HasSegments (running e) (2 ^ 24)) (sym c.new-run.ensures.engine) room in
     let left : LeavesStore start new (running engine) = elim c.match-serve.branch [
       | in-Ok-Done w ↦

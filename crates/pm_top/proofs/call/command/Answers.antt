@@ -6,7 +6,7 @@ use Rattle.pm_disk.proofs.Chain.{joined}
 use Rattle.pm_model.specs.Eval.{after_all}
 use Rattle.pm_engine.specs.Held.{Holds, HasNumbers}
 use Rattle.pm_top.specs.declared.shape.TheConstants.{SHAPE}
-use Rattle.pm_top.specs.Crashes.{KeepsAcknowledged}
+use Rattle.pm_top.specs.Crashes.{CrashHoldsAcknowledged}
 use Rattle.pm_top.specs.Promises.{IsLeft}
 use Rattle.pm_top.specs.Served.{script_of}
 use Rattle.pm_top.proofs.Opened.{rest_keeps, refused_moments, bound_moments}
@@ -24,9 +24,9 @@ returns-in-Ok-clause-crash g c t shape pairs holds numbers nothing =
     let new = g.H.Device.history c.run.new.host in
     let order = c.run.result.order.items in
     let same : mid.world ≡ old.world = (c.in-Ok.ensures.does t).ok in
-    joined old mid new (KeepsAcknowledged old.world shape pairs order)
+    joined old mid new (CrashHoldsAcknowledged old.world shape pairs order)
     (bound_moments old mid c.bind.result shape pairs order (g.H.Device.sound c.args.host.now t) (rest_keeps old.world shape pairs holds numbers nothing) (c.bind.ensures.does t))
-    (subst (λ (w : World). (holds : Holds SHAPE w shape pairs) → HasNumbers holds.frames → NothingPending w → AllMoments mid new (KeepsAcknowledged w shape pairs order)) same (c.run.ensures.moments t shape pairs) holds numbers nothing)
+    (subst (λ (w : World). (holds : Holds SHAPE w shape pairs) → HasNumbers holds.frames → NothingPending w → AllMoments mid new (CrashHoldsAcknowledged w shape pairs order)) same (c.run.ensures.moments t shape pairs) holds numbers nothing)
 
 pub returns-in-Ok-clause-leaves : goal.returns-in-Ok-clause-leaves
 returns-in-Ok-clause-leaves g c t is shape pairs holds numbers nothing =

@@ -6,7 +6,7 @@ use Rattle.pm_disk.proofs.Chain.{at_last, joined}
 use Rattle.pm_model.specs.Eval.{Pairs}
 use Rattle.pm_segments.specs.Written.{ChangesLog}
 use Rattle.pm_engine.specs.Engines.{running, HasSegments}
-use Rattle.pm_top.specs.Crashes.{KeepsAcknowledged}
+use Rattle.pm_top.specs.Crashes.{CrashHoldsAcknowledged}
 use Rattle.pm_top.specs.Promises.{Ends, fault_record}
 use Rattle.pm_top.proofs.Answering.{log_files}
 use Rattle.pm_top.proofs.Leaving.{is_left}
@@ -32,10 +32,10 @@ returns-in-Ok-clause-moments g c t shape pairs holds numbers nothing =
     let only = at_last old mid (ChangesLog old.world) (g.H.Device.sound c.open_store.new.host t) (c.open_store.ensures.log_only t) in
     let opens = c.in-Ok.ensures.holds t shape pairs holds in
     let order = c.answer_script.result.order.items in
-    let K : World → Type 0 = KeepsAcknowledged old.world shape pairs order in
+    let K : World → Type 0 = CrashHoldsAcknowledged old.world shape pairs order in
     let stands = c.in-Ok.ensures.stands t shape pairs holds numbers nothing in
     let room : HasSegments (running c.in-Ok.engine) (2 ^ 24) = omega (arith, stands.1, numbers) in
-    let second : AllMoments mid new K = subst (λ (x : Shape × Pairs). AllMoments mid new (KeepsAcknowledged old.world x.0 x.1 order)) (λ i. (opens.0 i, opens.1 i))
+    let second : AllMoments mid new K = subst (λ (x : Shape × Pairs). AllMoments mid new (CrashHoldsAcknowledged old.world x.0 x.1 order)) (λ i. (opens.0 i, opens.1 i))
     (c.answer_script.ensures.moments t old.world (same_console old.world mid.world only) stands.0 room) in
     joined old mid new K (opening_moments old mid shape pairs order (c.open_store.ensures.moments t shape pairs holds numbers nothing) (c.open_store.ensures.log_only t)) second
 

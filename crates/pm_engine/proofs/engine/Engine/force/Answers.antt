@@ -1,7 +1,7 @@
 use Rattle.std.proofs.Common.{sym, subst}
 use Rattle.std.specs.Prelude.{OnOk}
 use Rattle.pm_segments.specs.Ends.{EndsThere}
-use Rattle.pm_engine.specs.Engines.{running, StandsOn}
+use Rattle.pm_engine.specs.Engines.{running, IsAtRestWithin}
 use Rattle.pm_engine.proofs.Forcing.{forced_ends, forced_stands, forced_moments, forced_log}
 use Rattle.pm_engine.proofs.engine.Engine.force.Goals as goal
 
@@ -15,7 +15,7 @@ pub returns-clause-stands : goal.returns-clause-stands
 returns-clause-stands g c t wanted start done goes =
     let new = g.H.Device.history c.force.new.dev in
     let before = running c.args.self.now in
-    subst (λ e. OnOk c.force.result (StandsOn wanted 0 before e new.world)) (λ i. record before { log = sym c.force.ensures.unmoved i })
+    subst (λ e. OnOk c.force.result (IsAtRestWithin wanted 0 before e new.world)) (λ i. record before { log = sym c.force.ensures.unmoved i })
     (forced_stands (g.H.Device.history c.args.host.now) new before c.force.result (c.force.ensures.does t) wanted start done goes)
 
 pub returns-clause-moments : goal.returns-clause-moments

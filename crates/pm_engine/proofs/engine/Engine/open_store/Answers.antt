@@ -10,7 +10,7 @@ use Rattle.pm_segments.specs.Ends.{CutsTail}
 use Rattle.pm_segments.specs.Steps.{DoesSome, steps_of, world_after}
 use Rattle.pm_segments.specs.Written.{ChangesLog}
 use Rattle.pm_segments.proofs.Quiet.{log_same, log_then, cuts_change, some_change}
-use Rattle.pm_engine.specs.Held.{KeepsSome}
+use Rattle.pm_engine.specs.Held.{CrashHoldsPrefix}
 use Rattle.pm_engine.specs.Openings.{IsSame, ReadsAll, IsBadStore}
 use Rattle.pm_engine.proofs.Opening.{end_within, reads_held, cutting_keeps, cut_all, some_all, stands_all}
 use Rattle.pm_engine.proofs.engine.Engine.open_store.Goals as goal
@@ -25,8 +25,8 @@ returns-in_err-end-clause-moments g c t shape pairs holds numbered quiet =
     let old = g.H.Device.history c.args.host.now in
     let mid = g.H.Device.history c.read_log.new.host in
     let wanted = c.args.wanted in
-    let P = KeepsSome wanted shape pairs [] in
-    (weaker old mid (IsSame old.world) (KeepsSome wanted shape pairs []) (λ w is. cutting_keeps wanted old.world shape pairs holds numbered quiet w (inl is)) (c.read_log.ensures.same t))
+    let P = CrashHoldsPrefix wanted shape pairs [] in
+    (weaker old mid (IsSame old.world) (CrashHoldsPrefix wanted shape pairs []) (λ w is. cutting_keeps wanted old.world shape pairs holds numbered quiet w (inl is)) (c.read_log.ensures.same t))
 
 pub cut_tail-requires-clause-long : goal.cut_tail-requires-clause-long
 cut_tail-requires-clause-long g c t =
@@ -44,8 +44,8 @@ returns-in_err-log-clause-moments g c t shape pairs holds numbered quiet =
     let same = at_last old mid (IsSame old.world) (g.H.Device.sound c.read_log.new.host t) (c.read_log.ensures.same t) in
     let reads = subst (λ s. ReadsAll s old.world c.in_ok-end.end c.read_log.new.found) c.new-found.ensures.shape (c.in_ok-end.ensures.reads t) in
     let wanted = c.args.wanted in
-    let P = KeepsSome wanted shape pairs [] in
-    let first : AllMoments old mid P = (weaker old mid (IsSame old.world) (KeepsSome wanted shape pairs []) (λ w is. cutting_keeps wanted old.world shape pairs holds numbered quiet w (inl is)) (c.read_log.ensures.same t)) in
+    let P = CrashHoldsPrefix wanted shape pairs [] in
+    let first : AllMoments old mid P = (weaker old mid (IsSame old.world) (CrashHoldsPrefix wanted shape pairs []) (λ w is. cutting_keeps wanted old.world shape pairs holds numbered quiet w (inl is)) (c.read_log.ensures.same t)) in
     let second : AllMoments old cut P = joined old mid cut P first
     (weaker mid cut (CutsTail c.in_ok-end.end mid.world) P (λ w cuts. cut_all wanted old.world shape pairs holds numbered quiet c.in_ok-end.end c.read_log.new.found reads mid.world same w cuts) (c.cut_tail.ensures.moments t)) in
     second
@@ -69,8 +69,8 @@ returns-in_err-append-clause-moments g c t shape pairs holds numbered quiet =
     let same = at_last old mid (IsSame old.world) (g.H.Device.sound c.read_log.new.host t) (c.read_log.ensures.same t) in
     let reads = subst (λ s. ReadsAll s old.world c.in_ok-end.end c.read_log.new.found) c.new-found.ensures.shape (c.in_ok-end.ensures.reads t) in
     let wanted = c.args.wanted in
-    let P = KeepsSome wanted shape pairs [] in
-    let first : AllMoments old mid P = (weaker old mid (IsSame old.world) (KeepsSome wanted shape pairs []) (λ w is. cutting_keeps wanted old.world shape pairs holds numbered quiet w (inl is)) (c.read_log.ensures.same t)) in
+    let P = CrashHoldsPrefix wanted shape pairs [] in
+    let first : AllMoments old mid P = (weaker old mid (IsSame old.world) (CrashHoldsPrefix wanted shape pairs []) (λ w is. cutting_keeps wanted old.world shape pairs holds numbered quiet w (inl is)) (c.read_log.ensures.same t)) in
     let second : AllMoments old cut P = joined old mid cut P first
     (weaker mid cut (CutsTail c.in_ok-end.end mid.world) P (λ w cuts. cut_all wanted old.world shape pairs holds numbered quiet c.in_ok-end.end c.read_log.new.found reads mid.world same w cuts) (c.cut_tail.ensures.moments t)) in
     let new = g.H.Device.history c.append.new.dev in
@@ -124,8 +124,8 @@ returns-clause-moments g c t shape pairs holds numbered quiet =
     let same = at_last old mid (IsSame old.world) (g.H.Device.sound c.read_log.new.host t) (c.read_log.ensures.same t) in
     let reads = subst (λ s. ReadsAll s old.world c.in_ok-end.end c.read_log.new.found) c.new-found.ensures.shape (c.in_ok-end.ensures.reads t) in
     let wanted = c.args.wanted in
-    let P = KeepsSome wanted shape pairs [] in
-    let first : AllMoments old mid P = (weaker old mid (IsSame old.world) (KeepsSome wanted shape pairs []) (λ w is. cutting_keeps wanted old.world shape pairs holds numbered quiet w (inl is)) (c.read_log.ensures.same t)) in
+    let P = CrashHoldsPrefix wanted shape pairs [] in
+    let first : AllMoments old mid P = (weaker old mid (IsSame old.world) (CrashHoldsPrefix wanted shape pairs []) (λ w is. cutting_keeps wanted old.world shape pairs holds numbered quiet w (inl is)) (c.read_log.ensures.same t)) in
     let second : AllMoments old cut P = joined old mid cut P first
     (weaker mid cut (CutsTail c.in_ok-end.end mid.world) P (λ w cuts. cut_all wanted old.world shape pairs holds numbered quiet c.in_ok-end.end c.read_log.new.found reads mid.world same w cuts) (c.cut_tail.ensures.moments t)) in
     let new = g.H.Device.history c.append.new.dev in

@@ -1,3 +1,4 @@
+use Rattle.pm_disk.specs.States.{IsLaterState}
 use Rattle.std.proofs.Common.{◌≡◌, ◌⊎◌, ◌<◌, ◌≤◌, ◌-◌, [], true}
 use Rattle.pm_types.specs.declared.limits.TheConstants.{SCRIPT_BYTES_MAX, LINES_MAX}
 use Rattle.pm_disk.specs.Moments.{AllMoments}
@@ -6,13 +7,13 @@ use Rattle.pm_script.proofs.lines.Lines.advance.Given as goal
 
 abbrev pub invariant-pieces : goal.invariant-pieces
 invariant-pieces g l =
-    let faults = g.H.Device.faults in
+    let state = g.H.Device.state in
     let history = g.H.Device.history in
     record {
       same_lines : l.self.lines ≡ l.fn.self.lines;
       is_open : l.self.is_open ≡ true;
       counted : (l.self.line ≡ []) ⊎ (l.self.lines < LINES_MAX);
-      later : faults l.fn.host ≤ faults l.host;
+      state : IsLaterState (state l.fn.host) (state l.host);
       takes : g.H.Device.tells → AllMoments (history l.fn.host) (history l.host) (OnlyTakes (history l.fn.host).world);
       going : g.H.Device.tells → Going l.fn.self l.self (rest_of l.fn.self (history l.fn.host).world) (rest_of l.self (history l.host).world);
     }

@@ -4,7 +4,7 @@ use Rattle.pm_disk.proofs.Chain.{at_last}
 use Rattle.pm_model.specs.Eval.{replies_to}
 use Rattle.pm_script.specs.Texts.{texts_of}
 use Rattle.pm_segments.specs.Written.{ChangesLog}
-use Rattle.pm_engine.specs.Engines.{running, Stands}
+use Rattle.pm_engine.specs.Engines.{running, IsAtRest}
 use Rattle.pm_engine.proofs.Batching.{ok_holds}
 use Rattle.pm_top.specs.declared.shape.TheConstants.{SHAPE}
 use Rattle.pm_top.proofs.Answering.{said_stands, log_files, said_files, rest_moments, broken_batch, short_batch, batch_moments, all_tried, saying_moments}
@@ -200,6 +200,6 @@ returns-clause-stands g c t stands segments =
     let later = running c.batch.new.self in
     let done = c.in_ok-batch.ensures.stands t SHAPE stands segments in
     record {
-      stands = subst (Stands SHAPE later) (sym (c.in_ok-print.ensures.says t).ok) (said_stands SHAPE later mid.world c.deref-2.result.now done.stands);
+      stands = subst (IsAtRest SHAPE later) (sym (c.in_ok-print.ensures.says t).ok) (said_stands SHAPE later mid.world c.deref-2.result.now done.stands);
       climbs = done.climbs;
     }

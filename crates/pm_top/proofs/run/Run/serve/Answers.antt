@@ -8,7 +8,7 @@ use Rattle.pm_script.specs.Reading.{rest_of, Unread}
 use Rattle.pm_segments.specs.Written.{ChangesLog}
 use Rattle.pm_engine.specs.Engines.{Running}
 use Rattle.pm_top.specs.declared.run.Run.{Run}
-use Rattle.pm_top.specs.Crashes.{KeepsAcknowledged}
+use Rattle.pm_top.specs.Crashes.{CrashHoldsAcknowledged}
 use Rattle.pm_top.specs.declared.shape.TheConstants.{SHAPE}
 use Rattle.pm_top.specs.Runs.{Progress}
 use Rattle.pm_top.specs.Scripts.{after_lines}
@@ -187,7 +187,7 @@ returns-in_err-close-in-End-clause-moments g c t start same stands room =
     let progress = end_progress c.in_ok-turn.field-0 (c.in_ok-turn.ensures.turns t) old.world.input c.in-End.is start first.engine.shape first.engine.map (so_far.progress t start same) in
     let closing = closing_moments new end progress (c.close.ensures.moments t SHAPE (c.in_ok-turn.ensures.stands t over.stands segments).stands) (c.close.ensures.log_only t) in
     then_moments start first.engine.shape first.engine.map old new end c.turn.new.self.engine.order.items [] c.close.new.self.order.items (ap (λ (r : Running). r.order) c.close.ensures.same ∙ sym (append-nil c.turn.new.self.engine.order.items)) turned
-    (subst (λ o. AllMoments new end (KeepsAcknowledged start first.engine.shape first.engine.map o)) (sym (ap (λ (r : Running). r.order) c.close.ensures.same)) closing)
+    (subst (λ o. AllMoments new end (CrashHoldsAcknowledged start first.engine.shape first.engine.map o)) (sym (ap (λ (r : Running). r.order) c.close.ensures.same)) closing)
 
 pub returns-in-End-clause-moments : goal.returns-in-End-clause-moments
 returns-in-End-clause-moments g c t start same stands room =
@@ -205,7 +205,7 @@ returns-in-End-clause-moments g c t start same stands room =
     let progress = end_progress c.in_ok-turn.field-0 (c.in_ok-turn.ensures.turns t) old.world.input c.in-End.is start first.engine.shape first.engine.map (so_far.progress t start same) in
     let closing = closing_moments new end progress (c.close.ensures.moments t SHAPE (c.in_ok-turn.ensures.stands t over.stands segments).stands) (c.close.ensures.log_only t) in
     then_moments start first.engine.shape first.engine.map old new end c.turn.new.self.engine.order.items [] c.close.new.self.order.items (ap (λ (r : Running). r.order) c.close.ensures.same ∙ sym (append-nil c.turn.new.self.engine.order.items)) turned
-    (subst (λ o. AllMoments new end (KeepsAcknowledged start first.engine.shape first.engine.map o)) (sym (ap (λ (r : Running). r.order) c.close.ensures.same)) closing)
+    (subst (λ o. AllMoments new end (CrashHoldsAcknowledged start first.engine.shape first.engine.map o)) (sym (ap (λ (r : Running). r.order) c.close.ensures.same)) closing)
 
 pub returns-in-End-clause-stops : goal.returns-in-End-clause-stops
 returns-in-End-clause-stops g c t start same =

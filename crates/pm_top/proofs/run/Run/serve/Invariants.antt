@@ -1,3 +1,4 @@
+use Rattle.pm_disk.specs.States.{IsLaterState}
 use Rattle.std.proofs.Common.{◌≡◌, ◌+◌, ◌-◌, ◌≤◌, ◌^◌, length}
 use Rattle.pm_types.specs.declared.limits.TheConstants.{SCRIPT_BYTES_MAX, LINES_MAX}
 use Rattle.pm_types.specs.Shapes.{IsShape}
@@ -5,9 +6,9 @@ use Rattle.pm_disk.specs.Moments.{AllMoments}
 use Rattle.pm_disk.specs.Worlds.{World}
 use Rattle.pm_script.specs.Reading.{rest_of}
 use Rattle.pm_segments.specs.Ends.{EndsThere}
-use Rattle.pm_engine.specs.Engines.{running, Stands, HasSegments}
+use Rattle.pm_engine.specs.Engines.{running, IsAtRest, HasSegments}
 use Rattle.pm_top.specs.declared.shape.TheConstants.{SHAPE}
-use Rattle.pm_top.specs.Crashes.{KeepsAcknowledged}
+use Rattle.pm_top.specs.Crashes.{CrashHoldsAcknowledged}
 use Rattle.pm_top.specs.Runs.{Progress, SameConsole, SameFiles, StandsOver}
 use Rattle.pm_top.specs.Scripts.{after_lines}
 use Rattle.pm_top.specs.Served.{script_of}
@@ -16,14 +17,14 @@ use Rattle.pm_top.proofs.run.Run.serve.Given as goal
 abbrev pub invariant-batches : goal.invariant-batches
 invariant-batches g l =
     let tells = g.H.Device.tells in
-    let faults = g.H.Device.faults in
+    let state = g.H.Device.state in
     let old = g.H.Device.history l.fn.host in
     let now = g.H.Device.history l.host in
     let first = l.fn.self in
     record {
       counted : l.self.lines ≡ l.input.lines;
       few : l.input.lines ≤ LINES_MAX;
-      later : faults l.fn.host ≤ faults l.host;
+      state : IsLaterState (state l.fn.host) (state l.host);
       shape : IsShape l.self.engine.shape;
       limit : tells → l.input.bytes ≤ SCRIPT_BYTES_MAX;
       end : tells → EndsThere l.self.engine.log now.world;
@@ -32,11 +33,11 @@ invariant-batches g l =
       place : tells → rest_of l.input now.world ≡ after_lines l.input.lines old.world.input;
       progress : tells → (start : World) → SameConsole start old.world
           → Progress start now.world (script_of (rest_of l.input now.world)) first.engine.shape first.engine.map l.self;
-      stands : tells → Stands SHAPE (running first.engine) old.world → HasSegments (running first.engine) (2 ^ 24)
+      stands : tells → IsAtRest SHAPE (running first.engine) old.world → HasSegments (running first.engine) (2 ^ 24)
           → StandsOver first l.self now.world;
-      moments : tells → (start : World) → SameConsole start old.world → Stands SHAPE (running first.engine) old.world
+      moments : tells → (start : World) → SameConsole start old.world → IsAtRest SHAPE (running first.engine) old.world
           → HasSegments (running first.engine) (2 ^ 24)
-          → AllMoments old now (KeepsAcknowledged start first.engine.shape first.engine.map l.self.engine.order.items);
+          → AllMoments old now (CrashHoldsAcknowledged start first.engine.shape first.engine.map l.self.engine.order.items);
     }
 
 abbrev pub decreases-batches : goal.decreases-batches

@@ -1,0 +1,65 @@
+-- What every object of the outside reports about itself: how often a call failed, and which calls may be made.
+use Rattle.std.specs.Prelude.{◌≡◌, ◌+◌, ◌-◌, ◌^◌, ◌≤◌, ℕ, min, List, Bool, true, false, Option, Some, IsSome, Result, OnOk, OnErr}
+use Rattle.pm_types.specs.declared.page_id.PageId.{PageId}
+
+-- Which calls may be made on an object.
+pub record Access : Type 0 where
+  -- the bytes of the folder's name, none before one is bound
+  pub folder : Option (List ℕ)
+  -- whether its parts are lent to workers
+  pub is_lent : Bool
+  -- the pages that may be read
+  pub reads : PageId → Bool
+  -- the pages that may be written
+  pub writes : PageId → Bool
+
+-- What an object reports about itself.
+pub record DeviceState : Type 0 where
+  -- how often a call failed: the count never falls, and stands still at 2^64 - 1
+  pub faults : ℕ
+  pub access : Access
+
+-- A folder is bound, and no part is lent: calls may be made.
+pub record IsUsable (state : DeviceState) : Type 0 where
+  pub bound : IsSome state.access.folder
+  pub whole : state.access.is_lent ≡ false
+
+-- this page may be read
+pub record MayRead (state : DeviceState) (page : PageId) : Type 0 where
+  pub usable : IsUsable state
+  pub allowed : state.access.reads page ≡ true
+
+-- this page may be written
+pub record MayWrite (state : DeviceState) (page : PageId) : Type 0 where
+  pub usable : IsUsable state
+  pub allowed : state.access.writes page ≡ true
+
+-- each page may be read and written, once calls may be made
+pub record MayUseAllPages (state : DeviceState) : Type 0 where
+  pub reads : (page : PageId) → state.access.reads page ≡ true
+  pub writes : (page : PageId) → state.access.writes page ≡ true
+
+-- the count of faults has risen, or stands at its last value
+abbrev pub Rose : DeviceState → DeviceState → Type 0
+Rose before now = min (before.faults + 1) (2 ^ 64 - 1) ≤ now.faults
+
+-- The count of faults doesn't fall, an `Err` comes only where it rose, and the same calls may be made as before.
+pub record HasCause {T E : Type 0} (before now : DeviceState) (result : Result T E) : Type 0 where
+  pub later : before.faults ≤ now.faults
+  pub failed : OnErr result (Rose before now)
+  pub access : now.access ≡ before.access
+  pub usable : IsUsable before → IsUsable now
+
+-- A call that binds a folder: at `Ok` this one is bound, and at an `Err`, which comes only where the count of faults rose,
+-- the one that was.
+pub record Binds {T E : Type 0} (before now : DeviceState) (folder : List ℕ) (result : Result T E) : Type 0 where
+  pub later : before.faults ≤ now.faults
+  pub bound : OnOk result (now.access ≡ record before.access { folder = Some folder })
+  pub failed : OnErr result (Rose before now)
+  pub unchanged : OnErr result (now.access ≡ before.access)
+
+-- Of two states of an object, between which no folder was bound: the count of faults doesn't fall, and the same calls may be made.
+pub record IsLaterState (before now : DeviceState) : Type 0 where
+  pub later : before.faults ≤ now.faults
+  pub access : now.access ≡ before.access
+  pub usable : IsUsable before → IsUsable now
