@@ -1,3 +1,11 @@
 pub mod CacheKeys
 pub mod CountedRows
 pub mod Runs
+pub mod AppliedOrders
+pub mod OrderJoins
+pub mod OrderLaws
+pub mod OrderLists
+pub mod OrderNumbers
+pub mod OrderReplies
+pub mod PartitionRows
+pub mod SwappedLines

@@ -1,5 +1,6 @@
 pub mod Batches
 pub mod Counts
 pub mod Eval
+pub mod Orders
 pub mod Partitions
 pub mod ReplyLists
