@@ -1,4 +1,4 @@
-use Rattle.std.proofs.Common.{rules, ◌≡◌, ◌∙◌, ◌+◌, ◌++◌, take, sym, ap, subst, arith, append-nil}
+use Rattle.std.proofs.Common.{rules, ◌≡◌, ◌∙◌, ◌+◌, ◌++◌, take, refl, sym, ap, subst, arith, append-nil}
 use Rattle.std.proofs.lemmas.List.{take_all}
 use Rattle.pm_model.specs.Eval.{replies_to}
 use Rattle.pm_disk.proofs.Chain.{at_last}
@@ -20,7 +20,7 @@ each-init g c =
       map = first.map;
       order = first.order;
       number = search rules;
-      later = omega arith;
+      state = record { later = omega arith; access = refl; usable = λ usable. usable };
       end = c.requires.end;
       goes = first.goes;
       log_only = first.log_only;
@@ -47,7 +47,11 @@ each-preserved g c =
       map = next.map;
       order = next.order;
       number = omega (arith, v.number);
-      later = omega (arith, v.later, c.run_line.ensures.cause.later);
+      state = record {
+        later = omega (arith, v.state.later, c.run_line.ensures.cause.later);
+        access = c.run_line.ensures.cause.access ∙ v.state.access;
+        usable = λ usable. c.run_line.ensures.cause.usable (v.state.usable usable);
+      };
       end = λ t. c.in_ok-reply.ensures.end t;
       goes = next.goes;
       log_only = next.log_only;

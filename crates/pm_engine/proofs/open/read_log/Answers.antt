@@ -16,7 +16,7 @@ frames-init g c =
     let scan = c.in_ok-scan.scan in
     let is = c.in_ok-scan.ensures in
     record {
-      later = omega arith;
+      state = record { later = omega arith; access = refl; usable = λ usable. usable };
       shape = c.requires.shape;
       bound = omega (arith, ap (λ (s : Scanned). s.next.off) is);
       same = λ t. started old (IsSame old.world) (g.H.Device.sound c.args.host.now t) refl;
@@ -37,7 +37,11 @@ frames-preserved g c =
     let v = c.frames.invariant in
     let same = λ (t : g.H.Device.tells). does old before now c.take_next.result before.world (IsSame old.world) (v.same t) (c.take_next.ensures.does t) (v.world t) (v.world t) in
     record {
-      later = omega (arith, v.later, c.take_next.ensures.cause.later);
+      state = record {
+        later = omega (arith, v.state.later, c.take_next.ensures.cause.later);
+        access = c.take_next.ensures.cause.access ∙ v.state.access;
+        usable = λ usable. c.take_next.ensures.cause.usable (v.state.usable usable);
+      };
       shape = c.in_ok-took.ensures.shape;
       bound = c.in_ok-took.ensures.bound;
       same = same;

@@ -1,8 +1,8 @@
-use Rattle.pm_disk.specs.States.{IsLaterState}
 use Rattle.std.proofs.Common.{◌≡◌, ◌+◌, ◌-◌, ◌*◌, ◌^◌, ◌≤◌}
 use Rattle.pm_frame.specs.declared.limits.TheConstants.{SEGMENT_END_MAX}
 use Rattle.pm_types.specs.Shapes.{IsShape}
 use Rattle.pm_disk.specs.Moments.{AllMoments}
+use Rattle.pm_disk.specs.States.{IsLaterState}
 use Rattle.pm_segments.specs.Scans.{IsAhead}
 use Rattle.pm_engine.specs.Openings.{IsSame, ReadsSome}
 use Rattle.pm_engine.proofs.open.read_log.Given as goal
