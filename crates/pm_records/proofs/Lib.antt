@@ -1,8 +1,17 @@
 pub mod Decoded
 pub mod DeltaLengths
+pub mod FileSteps
+pub mod FrameGrammar
+pub mod GrammarLaws
 pub mod GrammarTests
+pub mod HeldLog
 pub mod LogicalBytes
+pub mod OpeningLaw
 pub mod OtherBytes
 pub mod PageBytes
+pub mod QuietLog
 pub mod RecordOf
+pub mod Runs
 pub mod ShapeBytes
+pub mod Tracing
+pub mod Writing
