@@ -5,7 +5,7 @@ use Rattle.pm_disk.specs.Worlds.{World}
 use Rattle.pm_model.specs.Eval.{Pairs}
 use Rattle.pm_top.specs.declared.status.Status.{Status}
 use Rattle.pm_top.specs.declared.status.Status.TheVariants.{Done, Usage, Failed, Memory, Damaged, Long}
-use Rattle.pm_top.specs.Promises.{Ends}
+use Rattle.pm_top.specs.Promises.{OutcomeIs}
 use Rattle.pm_top.specs.Scripts.{IsWithinLimits, PassesLimit}
 use Rattle.pm_top.specs.Statuses.{code_of}
 
@@ -14,7 +14,7 @@ limits_clash : (input : List ℕ) → PassesLimit input → IsWithinLimits input
 limits_clash input passes within = elim passes [ inl bytes ↦ omega (arith, bytes, within.bytes) | inr many ↦ omega (arith, many, within.lines) ]
 
 -- within the limits, and with no failure, the script is answered whole, or memory runs out
-pub whole_or_memory : (status : Status) (code : ℕ) (old new : World) (shape : Shape) (pairs : Pairs) (lines : ℕ) (order : List ℕ) → code ≡ code_of status → Ends status old new shape pairs lines order
+pub whole_or_memory : (status : Status) (code : ℕ) (old new : World) (shape : Shape) (pairs : Pairs) (lines : ℕ) (order : List ℕ) → code ≡ code_of status → OutcomeIs status old new shape pairs lines order
     → IsWithinLimits old.input → (status ≡ Failed → ⊥) → (code ≡ 0) ⊎ (code ≡ 4)
 whole_or_memory Done code old new shape pairs lines order is ends within sound = inl is
 whole_or_memory Usage code old new shape pairs lines order is ends within sound = absurd ends
@@ -24,11 +24,11 @@ whole_or_memory Damaged code old new shape pairs lines order is ends within soun
 whole_or_memory Long code old new shape pairs lines order is ends within sound = absurd (limits_clash old.input ends.passes within)
 
 -- past a limit, and with no failure, that is told, or memory runs out
-pub told_or_memory : (status : Status) (code : ℕ) (old new : World) (shape : Shape) (pairs : Pairs) (lines : ℕ) (order : List ℕ) → code ≡ code_of status → Ends status old new shape pairs lines order
+pub limit_or_memory : (status : Status) (code : ℕ) (old new : World) (shape : Shape) (pairs : Pairs) (lines : ℕ) (order : List ℕ) → code ≡ code_of status → OutcomeIs status old new shape pairs lines order
     → PassesLimit old.input → (status ≡ Failed → ⊥) → (code ≡ 6) ⊎ (code ≡ 4)
-told_or_memory Done code old new shape pairs lines order is ends passes sound = absurd (limits_clash old.input passes ends.limits)
-told_or_memory Usage code old new shape pairs lines order is ends passes sound = absurd ends
-told_or_memory Failed code old new shape pairs lines order is ends passes sound = absurd (sound refl)
-told_or_memory Memory code old new shape pairs lines order is ends passes sound = inr is
-told_or_memory Damaged code old new shape pairs lines order is ends passes sound = absurd ends
-told_or_memory Long code old new shape pairs lines order is ends passes sound = inl is
+limit_or_memory Done code old new shape pairs lines order is ends passes sound = absurd (limits_clash old.input passes ends.limits)
+limit_or_memory Usage code old new shape pairs lines order is ends passes sound = absurd ends
+limit_or_memory Failed code old new shape pairs lines order is ends passes sound = absurd (sound refl)
+limit_or_memory Memory code old new shape pairs lines order is ends passes sound = inr is
+limit_or_memory Damaged code old new shape pairs lines order is ends passes sound = absurd ends
+limit_or_memory Long code old new shape pairs lines order is ends passes sound = inl is

@@ -14,7 +14,7 @@ use Rattle.pm_top.specs.declared.shape.TheConstants.{SHAPE}
 use Rattle.pm_top.specs.Crashes.{CrashHoldsAcknowledged}
 use Rattle.pm_top.specs.Promises.{SaysPart}
 use Rattle.pm_top.specs.Runs.{SameConsole}
-use Rattle.pm_top.proofs.Answering.{both}
+use Rattle.pm_top.proofs.AnsweredLines.{both}
 use Rattle.pm_top.proofs.Lasting.{start_keeps, refused_keeps}
 
 pub opening_moments : (old mid : History) (shape : Shape) (pairs : Pairs) (order : List ℕ) → AllMoments old mid (CrashHoldsPrefix SHAPE shape pairs []) → AllMoments old mid (ChangesLog old.world) → AllMoments old mid (CrashHoldsAcknowledged old.world shape pairs order)

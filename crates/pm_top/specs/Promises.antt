@@ -30,7 +30,7 @@ abbrev pub SaysPart : List ℕ → World → World → Type 0
 SaysPart text old new = (n : ℕ) × (new ≡ with_said (take n text) old)
 
 -- the replies to the first lines were said, and this after them
-pub record Answers (old new : World) (shape : Shape) (pairs : Pairs) (lines : ℕ) (tail : List ℕ) : Type 0 where
+pub record HasAnswered (old new : World) (shape : Shape) (pairs : Pairs) (lines : ℕ) (tail : List ℕ) : Type 0 where
   pub within : lines ≤ length (script_of old.input)
   pub said : new.said ≡ old.said ++ texts_of (take lines (replies_of shape old.input pairs)) ++ tail
 
@@ -48,7 +48,7 @@ pub record HasTried (shape : Shape) (input : List ℕ) (pairs : Pairs) (lines : 
 
 -- the script was answered whole
 pub record IsDone (old new : World) (shape : Shape) (pairs : Pairs) (lines : ℕ) (order : List ℕ) : Type 0 where
-  pub answers : Answers old new shape pairs lines []
+  pub answers : HasAnswered old new shape pairs lines []
   pub order_is : IsOrder shape old.input pairs lines order
   pub all : lines ≡ length (script_of old.input)
   pub read : new.input ≡ []
@@ -59,37 +59,37 @@ abbrev pub IsTail : List Reply → List ℕ → Type 0
 IsTail next tail = (n : ℕ) × ((tail ≡ take n (texts_of next)) ⊎ (tail ≡ take n (codes "fault long\n")))
 
 -- a call failed after the replies to the first lines
-pub record IsBroken (old new : World) (shape : Shape) (pairs : Pairs) (lines : ℕ) (order : List ℕ) : Type 0 where
+pub record HasFailed (old new : World) (shape : Shape) (pairs : Pairs) (lines : ℕ) (order : List ℕ) : Type 0 where
   pub tail : List ℕ
-  pub answers : Answers old new shape pairs lines tail
+  pub answers : HasAnswered old new shape pairs lines tail
   pub prefix : IsTail (drop lines (replies_of shape old.input pairs)) tail
   pub tried : HasTried shape old.input pairs lines order
 
 -- memory ran out after the replies to the first lines
-pub record IsShort (old new : World) (shape : Shape) (pairs : Pairs) (lines : ℕ) (order : List ℕ) : Type 0 where
-  pub answers : Answers old new shape pairs lines []
+pub record HasNoMemory (old new : World) (shape : Shape) (pairs : Pairs) (lines : ℕ) (order : List ℕ) : Type 0 where
+  pub answers : HasAnswered old new shape pairs lines []
   pub tried : HasTried shape old.input pairs lines order
 
 -- all lines that are ended within both limits were answered, and this was said after their replies
 pub record IsStopped (old new : World) (shape : Shape) (pairs : Pairs) (lines : ℕ) (order : List ℕ) (tail : List ℕ) : Type 0 where
-  pub answers : Answers old new shape pairs lines tail
+  pub answers : HasAnswered old new shape pairs lines tail
   pub order_is : IsOrder shape old.input pairs lines order
   pub passes : PassesLimit old.input
   pub within : AreWithin old.input lines
 
 -- what each status says of a `run` over a sound store
-abbrev pub Ends : Status → World → World → Shape → Pairs → ℕ → List ℕ → Type 0
-Ends Done old new shape pairs lines order = IsDone old new shape pairs lines order
-Ends Usage old new shape pairs lines order = ⊥
-Ends Failed old new shape pairs lines order = IsBroken old new shape pairs lines order
-Ends Memory old new shape pairs lines order = IsShort old new shape pairs lines order
-Ends Damaged old new shape pairs lines order = ⊥
-Ends Long old new shape pairs lines order = IsStopped old new shape pairs lines order (codes "fault long\n")
+abbrev pub OutcomeIs : Status → World → World → Shape → Pairs → ℕ → List ℕ → Type 0
+OutcomeIs Done old new shape pairs lines order = IsDone old new shape pairs lines order
+OutcomeIs Usage old new shape pairs lines order = ⊥
+OutcomeIs Failed old new shape pairs lines order = HasFailed old new shape pairs lines order
+OutcomeIs Memory old new shape pairs lines order = HasNoMemory old new shape pairs lines order
+OutcomeIs Damaged old new shape pairs lines order = ⊥
+OutcomeIs Long old new shape pairs lines order = IsStopped old new shape pairs lines order (codes "fault long\n")
 
 -- what is said of it before a limit is told
-abbrev pub Stops : Stop → World → World → Shape → Pairs → ℕ → List ℕ → Type 0
-Stops stop.Done old new shape pairs lines order = IsDone old new shape pairs lines order
-Stops stop.Limit old new shape pairs lines order = IsStopped old new shape pairs lines order []
+abbrev pub StopIs : Stop → World → World → Shape → Pairs → ℕ → List ℕ → Type 0
+StopIs stop.Done old new shape pairs lines order = IsDone old new shape pairs lines order
+StopIs stop.Limit old new shape pairs lines order = IsStopped old new shape pairs lines order []
 
 -- The store is sound and holds this map, and nothing is pending. Its log has so many segments more at most.
 pub record IsLeft (frames : List Frame) (more : ℕ) (new : World) (shape : Shape) (pairs : Pairs) : Type 0 where
@@ -117,10 +117,10 @@ pub record IsRefused (old new : World) (lines : ℕ) (order : List ℕ) : Type 0
   pub order_is : order ≡ []
 
 -- what each status says where the words aren't a command
-abbrev pub EndsRefused : Status → World → World → ℕ → List ℕ → Type 0
-EndsRefused Done old new lines order = ⊥
-EndsRefused Usage old new lines order = IsRefused old new lines order
-EndsRefused Failed old new lines order = SaysPart (codes "fault usage\n") old new
-EndsRefused Memory old new lines order = ⊥
-EndsRefused Damaged old new lines order = ⊥
-EndsRefused Long old new lines order = ⊥
+abbrev pub RefusalIs : Status → World → World → ℕ → List ℕ → Type 0
+RefusalIs Done old new lines order = ⊥
+RefusalIs Usage old new lines order = IsRefused old new lines order
+RefusalIs Failed old new lines order = SaysPart (codes "fault usage\n") old new
+RefusalIs Memory old new lines order = ⊥
+RefusalIs Damaged old new lines order = ⊥
+RefusalIs Long old new lines order = ⊥

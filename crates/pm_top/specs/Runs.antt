@@ -11,10 +11,10 @@ use Rattle.pm_segments.specs.Grammars.{place}
 use Rattle.pm_segments.specs.Logs.{after_frames}
 use Rattle.pm_engine.specs.Engines.{Running, running, IsAtRest}
 use Rattle.pm_engine.specs.Held.{Holds}
-use Rattle.pm_top.specs.declared.batch.Behind.{Behind}
+use Rattle.pm_top.specs.declared.batch.Continuation.{Continuation}
 use Rattle.pm_top.specs.declared.run.Run.{Run}
 use Rattle.pm_top.specs.declared.shape.TheConstants.{SHAPE}
-use Rattle.pm_top.specs.Scripts.{Gathers, GoesOnAs}
+use Rattle.pm_top.specs.Scripts.{LinesAreTaken, ContinuationIs}
 use Rattle.pm_top.specs.Served.{script_of}
 
 -- nothing was said and no input taken since the start
@@ -39,28 +39,28 @@ pub record Progress (start now : World) (left : List Line) (shape : Shape) (pair
   pub order : run.engine.order.items ≡ accepted shape 1 done pairs
 
 -- The engine of a run stands, its log in the same segment as an earlier one's or in the next so many.
-pub record StandsSince (before now : Run) (count : ℕ) (world : World) : Type 0 where
+pub record IsAtRestSince (before now : Run) (count : ℕ) (world : World) : Type 0 where
   pub stands : IsAtRest SHAPE (running now.engine) world
   pub climbs : now.engine.log.end.seg ≤ before.engine.log.end.seg + count
 
 -- How a run went on by some lines of its script, which goes on so after them.
-pub record TurnsTo (goes_on_as : Behind) (old new : Unread) (rest now_rest : List ℕ) (world now : World) (before later : Run) : Type 0 where
+pub record BatchIsAnswered (continuation : Continuation) (old new : Unread) (rest now_rest : List ℕ) (world now : World) (before later : Run) : Type 0 where
   pub lines : List Line
   pub at : Unread
   pub left : List ℕ
-  pub gathers : Gathers old at rest left lines
+  pub taken : LinesAreTaken old at rest left lines
   pub count : later.lines ≡ before.lines + length lines
-  pub goes_on : GoesOnAs goes_on_as at new left now_rest
+  pub continues : ContinuationIs continuation at new left now_rest
   pub progress : (start : World) (shape : Shape) (pairs : Pairs) → Progress start world (script_of rest) shape pairs before → Progress start now (script_of left) shape pairs later
 
 -- the engine of a run stands, its log by at most as many segments further as lines were done
-pub record StandsOver (before later : Run) (world : World) : Type 0 where
+pub record IsAtRestAfter (before later : Run) (world : World) : Type 0 where
   pub stands : IsAtRest SHAPE (running later.engine) world
   pub climbs : later.engine.log.end.seg + before.lines ≤ before.engine.log.end.seg + later.lines
 
 -- The script is done: the engine has the map that its lines leave, and nothing of its log is pending.
 pub record LeavesRun (start : World) (shape : Shape) (pairs : Pairs) (before later : Run) (world : World) : Type 0 where
-  pub over : StandsOver before later world
+  pub over : IsAtRestAfter before later world
   pub lasting : (seg : ℕ) → (world.log seg).since ≡ []
   pub shape_is : later.engine.shape ≡ shape
   pub map : later.engine.map ≡ after_all shape (script_of start.input) pairs

@@ -13,7 +13,7 @@ ghost use Rattle.pm_engine.specs.Engines.{running, IsAtRest, HasSegments};
 ghost use Rattle.pm_engine.specs.Held.{Holds, HasNumbers};
 ghost use Rattle.pm_top.specs.declared.shape.TheConstants.{SHAPE};
 ghost use Rattle.pm_top.specs.Crashes.{CrashHoldsAcknowledged};
-ghost use Rattle.pm_top.specs.Promises.{Ends, EndsRefused, IsDamaged, IsLeft};
+ghost use Rattle.pm_top.specs.Promises.{OutcomeIs, RefusalIs, IsDamaged, IsLeft};
 ghost use Rattle.pm_top.specs.Runs.{SameConsole, SameFiles, LeavesStore};
 ghost use Rattle.pm_top.specs.Scripts.{IsWithinLimits, PassesLimit};
 ghost use Rattle.pm_top.specs.Served.{script_of};
@@ -24,7 +24,7 @@ use crate::report::Report;
 use crate::run::{Run, Stop};
 use crate::shape::SHAPE;
 use crate::status::Status;
-use crate::telling::{tell_limit, tell_record, tell_usage};
+use crate::fault_lines::{print_limit_fault, print_record_fault, print_usage_fault};
 use crate::words::is_run;
 use pm_disk::Host;
 use pm_engine::Engine;
@@ -44,10 +44,10 @@ pub fn top<Q: AllocGlobal, H: Host>(rt: &Q, words: &[String], host: &mut H) -> R
     // Which lines are answered, and with what.
     ensures replies { H.tells → IsTrue (is_command (map string_bytes words.now)) →
         (shape : Shape) (pairs : Pairs) → Holds SHAPE (H.history host.old).world shape pairs →
-        Ends (status_of result.status) (H.history host.old).world (H.history host.new).world
+        OutcomeIs (status_of result.status) (H.history host.old).world (H.history host.new).world
         shape pairs result.lines result.order.items }
     ensures refusal { H.tells → is_command (map string_bytes words.now) ≡ false →
-        EndsRefused (status_of result.status) (H.history host.old).world
+        RefusalIs (status_of result.status) (H.history host.old).world
         (H.history host.new).world result.lines result.order.items }
     ensures damaged { H.tells → result.status ≡ 5 → IsDamaged (H.history host.old).world
         (H.history host.new).world result.lines result.order.items }
@@ -121,10 +121,10 @@ impl Outcome {
 fn command<H: Host>(alloc: Global, words: &[String], host: &mut H) -> Outcome
     ensures replies { H.tells → IsTrue (is_command (map string_bytes words.now)) →
         (shape : Shape) (pairs : Pairs) → Holds SHAPE (H.history host.old).world shape pairs →
-        Ends result.status (H.history host.old).world (H.history host.new).world
+        OutcomeIs result.status (H.history host.old).world (H.history host.new).world
         shape pairs result.lines result.order.items }
     ensures refusal { H.tells → is_command (map string_bytes words.now) ≡ false →
-        EndsRefused result.status (H.history host.old).world
+        RefusalIs result.status (H.history host.old).world
         (H.history host.new).world result.lines result.order.items }
     ensures damaged { H.tells → result.status ≡ Status.Damaged → IsDamaged (H.history host.old).world
         (H.history host.new).world result.lines result.order.items }
@@ -146,7 +146,7 @@ fn command<H: Host>(alloc: Global, words: &[String], host: &mut H) -> Outcome
         PassesLimit (H.history host.old).world.input }
 {
     if !is_run(words) {
-        return Outcome::without(alloc, tell_usage(host));
+        return Outcome::without(alloc, print_usage_fault(host));
     }
     match host.bind(words[1].as_str()) {
         Ok(()) => run(alloc, host),
@@ -159,7 +159,7 @@ fn run<H: Host>(alloc: Global, host: &mut H) -> Outcome
     requires usable { IsUsable (H.state host.old) }
     ensures ends { H.tells → (shape : Shape) (pairs : Pairs) →
         Holds SHAPE (H.history host.old).world shape pairs →
-        Ends result.status (H.history host.old).world (H.history host.new).world
+        OutcomeIs result.status (H.history host.old).world (H.history host.new).world
         shape pairs result.lines result.order.items }
     ensures damaged { H.tells → result.status ≡ Status.Damaged → IsDamaged (H.history host.old).world
         (H.history host.new).world result.lines result.order.items }
@@ -183,7 +183,7 @@ fn run<H: Host>(alloc: Global, host: &mut H) -> Outcome
         Ok(engine) => answer_script(alloc, host, engine),
         Err(StoreFault::Failed) => Outcome::without(alloc, Status::Failed),
         Err(StoreFault::Memory) => Outcome::without(alloc, Status::Memory),
-        Err(StoreFault::BadRecord(at)) => Outcome::without(alloc, tell_record(alloc, host, at)),
+        Err(StoreFault::BadRecord(at)) => Outcome::without(alloc, print_record_fault(alloc, host, at)),
         Err(StoreFault::BadPage(_)) => unreachable!(),
     }
 }
@@ -196,7 +196,7 @@ fn answer_script<H: Host>(alloc: Global, host: &mut H, engine: Engine) -> Outcom
     requires end { H.tells → EndsThere engine.log (H.history host.old).world }
     ensures same { H.tells → SameFiles (H.history host.old).world (H.history host.new).world }
     ensures ends { H.tells → (start : World) → SameConsole start (H.history host.old).world →
-        Ends result.status start (H.history host.new).world engine.shape engine.map
+        OutcomeIs result.status start (H.history host.new).world engine.shape engine.map
         result.lines result.order.items }
     ensures moments { H.tells → (start : World) → SameConsole start (H.history host.old).world →
         IsAtRest SHAPE (running engine) (H.history host.old).world →
@@ -216,7 +216,7 @@ fn answer_script<H: Host>(alloc: Global, host: &mut H, engine: Engine) -> Outcom
     let mut run = Run::new(alloc, engine);
     let status = match run.serve(alloc, host) {
         Ok(Stop::Done) => Status::Done,
-        Ok(Stop::Limit) => tell_limit(host),
+        Ok(Stop::Limit) => print_limit_fault(host),
         Err(StoreFault::Failed) => Status::Failed,
         Err(StoreFault::Memory) => Status::Memory,
         Err(StoreFault::BadPage(_) | StoreFault::BadRecord(_)) => unreachable!(),

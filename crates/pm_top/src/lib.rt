@@ -8,7 +8,7 @@ mod run;
 mod script;
 mod shape;
 mod status;
-mod telling;
+mod fault_lines;
 mod words;
 
 pub use call::top;

@@ -15,7 +15,7 @@ use Rattle.pm_top.proofs.call.command.Goals as goal
 pub returns-then-not-is_run-clause-crash : goal.returns-then-not-is_run-clause-crash
 returns-then-not-is_run-clause-crash g c t shape pairs holds numbers nothing =
     let old = g.H.Device.history c.args.host.now in
-    refused_moments old (g.H.Device.history c.tell_usage.new.host) shape pairs c.without.result.order.items (rest_keeps old.world shape pairs holds numbers nothing) (c.tell_usage.ensures.moments t)
+    refused_moments old (g.H.Device.history c.print_usage_fault.new.host) shape pairs c.without.result.order.items (rest_keeps old.world shape pairs holds numbers nothing) (c.print_usage_fault.ensures.moments t)
 
 pub returns-in-Ok-clause-crash : goal.returns-in-Ok-clause-crash
 returns-in-Ok-clause-crash g c t shape pairs holds numbers nothing =

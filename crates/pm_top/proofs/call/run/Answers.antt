@@ -7,8 +7,8 @@ use Rattle.pm_model.specs.Eval.{Pairs}
 use Rattle.pm_segments.specs.Written.{ChangesLog}
 use Rattle.pm_engine.specs.Engines.{running, HasSegments}
 use Rattle.pm_top.specs.Crashes.{CrashHoldsAcknowledged}
-use Rattle.pm_top.specs.Promises.{Ends, fault_record}
-use Rattle.pm_top.proofs.Answering.{log_files}
+use Rattle.pm_top.specs.Promises.{OutcomeIs, fault_record}
+use Rattle.pm_top.proofs.AnsweredLines.{log_files}
 use Rattle.pm_top.proofs.Leaving.{is_left}
 use Rattle.pm_top.proofs.Opened.{opening_moments, same_console}
 use Rattle.pm_top.proofs.call.run.Goals as goal
@@ -21,7 +21,7 @@ returns-in-Ok-clause-ends g c t shape pairs holds =
     let only = at_last old mid (ChangesLog old.world) (g.H.Device.sound c.open_store.new.host t) (c.open_store.ensures.log_only t) in
     let opens = c.in-Ok.ensures.holds t shape pairs holds in
     let outcome = c.answer_script.result in
-    subst (λ (x : Shape × Pairs). Ends outcome.status old.world new.world x.0 x.1 outcome.lines outcome.order.items) (λ i. (opens.0 i, opens.1 i))
+    subst (λ (x : Shape × Pairs). OutcomeIs outcome.status old.world new.world x.0 x.1 outcome.lines outcome.order.items) (λ i. (opens.0 i, opens.1 i))
     (c.answer_script.ensures.ends t old.world (same_console old.world mid.world only))
 
 pub returns-in-Ok-clause-moments : goal.returns-in-Ok-clause-moments
@@ -58,7 +58,7 @@ returns-in-Ok-clause-long g c t is =
     let new = g.H.Device.history c.answer_script.new.host in
     let only = at_last old mid (ChangesLog old.world) (g.H.Device.sound c.open_store.new.host t) (c.open_store.ensures.log_only t) in
     let outcome = c.answer_script.result in
-    let stopped = subst (λ s. Ends s old.world new.world c.in-Ok.engine.shape c.in-Ok.engine.map outcome.lines outcome.order.items) is (c.answer_script.ensures.ends t old.world (same_console old.world mid.world only)) in
+    let stopped = subst (λ s. OutcomeIs s old.world new.world c.in-Ok.engine.shape c.in-Ok.engine.map outcome.lines outcome.order.items) is (c.answer_script.ensures.ends t old.world (same_console old.world mid.world only)) in
     stopped.passes
 
 pub returns-in-Err-Failed-clause-moments : goal.returns-in-Err-Failed-clause-moments
@@ -89,7 +89,7 @@ returns-in-Err-BadRecord-clause-damaged g c t is =
       at = at;
       record_is = bad.record_is;
       unsound = bad.unsound;
-      now = c.tell_record.ensures.damaged t (sym c.without-in-Err-BadRecord.ensures.status ∙ is) ∙ ap (with_said (fault_record at)) bad.same;
+      now = c.print_record_fault.ensures.damaged t (sym c.without-in-Err-BadRecord.ensures.status ∙ is) ∙ ap (with_said (fault_record at)) bad.same;
       none = c.without-in-Err-BadRecord.ensures.lines;
       order_is = c.without-in-Err-BadRecord.ensures.order;
     }

@@ -9,7 +9,7 @@ use Rattle.pm_segments.specs.Ends.{EndsThere}
 use Rattle.pm_engine.specs.Engines.{running, IsAtRest, HasSegments}
 use Rattle.pm_top.specs.declared.shape.TheConstants.{SHAPE}
 use Rattle.pm_top.specs.Crashes.{CrashHoldsAcknowledged}
-use Rattle.pm_top.specs.Runs.{Progress, SameConsole, SameFiles, StandsOver}
+use Rattle.pm_top.specs.Runs.{Progress, SameConsole, SameFiles, IsAtRestAfter}
 use Rattle.pm_top.specs.Scripts.{after_lines}
 use Rattle.pm_top.specs.Served.{script_of}
 use Rattle.pm_top.proofs.run.Run.serve.Given as goal
@@ -34,7 +34,7 @@ invariant-batches g l =
       progress : tells → (start : World) → SameConsole start old.world
           → Progress start now.world (script_of (rest_of l.input now.world)) first.engine.shape first.engine.map l.self;
       stands : tells → IsAtRest SHAPE (running first.engine) old.world → HasSegments (running first.engine) (2 ^ 24)
-          → StandsOver first l.self now.world;
+          → IsAtRestAfter first l.self now.world;
       moments : tells → (start : World) → SameConsole start old.world → IsAtRest SHAPE (running first.engine) old.world
           → HasSegments (running first.engine) (2 ^ 24)
           → AllMoments old now (CrashHoldsAcknowledged start first.engine.shape first.engine.map l.self.engine.order.items);

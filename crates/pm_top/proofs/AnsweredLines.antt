@@ -18,10 +18,10 @@ use Rattle.pm_engine.proofs.Going.{goes_keep}
 use Rattle.pm_top.specs.declared.run.Run.{Run}
 use Rattle.pm_top.specs.declared.shape.TheConstants.{SHAPE}
 use Rattle.pm_top.specs.Crashes.{CrashHoldsAcknowledged}
-use Rattle.pm_top.specs.Promises.{IsBroken, IsShort}
+use Rattle.pm_top.specs.Promises.{HasFailed, HasNoMemory}
 use Rattle.pm_top.specs.Runs.{Progress, SameFiles}
 use Rattle.pm_top.proofs.Lasting.{keeps_rest, keeps_doing, keeps_saying, keeps_said}
-use Rattle.pm_top.proofs.Progressing.{broken_unsaid, short_unsaid}
+use Rattle.pm_top.proofs.Progressing.{failed_unsaid, memory_unsaid}
 
 -- two promises at once
 pub both : (old new : History) (P Q : World → Type 0) → AllMoments old new P → AllMoments old new Q → AllMoments old new (λ w. P w × Q w)
@@ -76,11 +76,11 @@ rest_moments old {start = start} {shape = shape} {pairs = pairs} {run = run} pro
 module _ {T E : Type 0} (tells : Type 0) (old mid : History) (run : Run) (later : Running) (lines : List Line) (result : Result T E) (tries : TriesLines {T = T} {E = E} tells old mid (running run.engine) later (run.lines + 1) lines result)
     {start : World} {shape : Shape} {pairs : Pairs} (left : List Line) (progress : Progress start old.world (lines ++ left) shape pairs run) where
   -- a fault came while the batch was done
-  pub broken_batch : length lines ≤ BATCH_LINES_MAX → mid.world.said ≡ old.world.said → IsBroken start mid.world shape pairs run.lines later.order
-  broken_batch few same = broken_unsaid lines left progress mid.world tries.count later.order few tries.within same tries.order
+  pub failed_batch : length lines ≤ BATCH_LINES_MAX → mid.world.said ≡ old.world.said → HasFailed start mid.world shape pairs run.lines later.order
+  failed_batch few same = failed_unsaid lines left progress mid.world tries.count later.order few tries.within same tries.order
 
-  pub short_batch : length lines ≤ BATCH_LINES_MAX → mid.world.said ≡ old.world.said → IsShort start mid.world shape pairs run.lines later.order
-  short_batch few same = short_unsaid lines left progress mid.world tries.count later.order few tries.within same tries.order
+  pub memory_batch : length lines ≤ BATCH_LINES_MAX → mid.world.said ≡ old.world.said → HasNoMemory start mid.world shape pairs run.lines later.order
+  memory_batch few same = memory_unsaid lines left progress mid.world tries.count later.order few tries.within same tries.order
 
   -- what a crash left meanwhile
   pub batch_moments : tells → AllMoments old mid (ChangesLog old.world) → IsAtRest SHAPE (running run.engine) old.world → HasSegments (running run.engine) (length lines) → AllMoments old mid (CrashHoldsAcknowledged start shape pairs later.order)

@@ -7,9 +7,9 @@ use Rattle.pm_segments.specs.Written.{ChangesLog}
 use Rattle.pm_engine.specs.Engines.{running, IsAtRest}
 use Rattle.pm_engine.proofs.Batching.{ok_holds}
 use Rattle.pm_top.specs.declared.shape.TheConstants.{SHAPE}
-use Rattle.pm_top.proofs.Answering.{said_stands, log_files, said_files, rest_moments, broken_batch, short_batch, batch_moments, all_tried, saying_moments}
-use Rattle.pm_top.proofs.Progressing.{short_still, broken_saying, progress_more}
-use Rattle.pm_top.proofs.run.Run.answer.Goals as goal
+use Rattle.pm_top.proofs.AnsweredLines.{said_stands, log_files, said_files, rest_moments, failed_batch, memory_batch, batch_moments, all_tried, saying_moments}
+use Rattle.pm_top.proofs.Progressing.{memory_still, failed_saying, progress_more}
+use Rattle.pm_top.proofs.run.Run.answer_lines.Goals as goal
 
 pub returns-then-is_empty-clause-moments : goal.returns-then-is_empty-clause-moments
 returns-then-is_empty-clause-moments g c t start left shape pairs progress stands segments =
@@ -17,7 +17,7 @@ returns-then-is_empty-clause-moments g c t start left shape pairs progress stand
 
 pub returns-in_err-replies-clause-short : goal.returns-in_err-replies-clause-short
 returns-in_err-replies-clause-short g c t memory start left shape pairs progress =
-    short_still progress (g.H.Device.history c.args.host.now).world refl
+    memory_still progress (g.H.Device.history c.args.host.now).world refl
 
 pub returns-in_err-replies-clause-moments : goal.returns-in_err-replies-clause-moments
 returns-in_err-replies-clause-moments g c t start left shape pairs progress stands segments =
@@ -43,7 +43,7 @@ returns-in_err-batch-clause-broken g c t failed start left shape pairs progress 
     let lines = c.args.lines.now in
     let tries = c.batch.ensures.tries in
     let only = at_last old mid (ChangesLog old.world) (g.H.Device.sound c.batch.new.host t) (c.batch.ensures.log_only t) in
-    broken_batch g.H.Device.tells old mid run later lines c.batch.result tries left progress c.requires.few only.said
+    failed_batch g.H.Device.tells old mid run later lines c.batch.result tries left progress c.requires.few only.said
 
 pub returns-in_err-batch-clause-short : goal.returns-in_err-batch-clause-short
 returns-in_err-batch-clause-short g c t memory start left shape pairs progress =
@@ -54,7 +54,7 @@ returns-in_err-batch-clause-short g c t memory start left shape pairs progress =
     let lines = c.args.lines.now in
     let tries = c.batch.ensures.tries in
     let only = at_last old mid (ChangesLog old.world) (g.H.Device.sound c.batch.new.host t) (c.batch.ensures.log_only t) in
-    short_batch g.H.Device.tells old mid run later lines c.batch.result tries left progress c.requires.few only.said
+    memory_batch g.H.Device.tells old mid run later lines c.batch.result tries left progress c.requires.few only.said
 
 pub returns-in_err-batch-clause-moments : goal.returns-in_err-batch-clause-moments
 returns-in_err-batch-clause-moments g c t start left shape pairs progress stands segments =
@@ -87,7 +87,7 @@ returns-in_err-write_replies-clause-short g c t memory start left shape pairs pr
     let lines = c.args.lines.now in
     let tries = c.batch.ensures.tries in
     let only = at_last old mid (ChangesLog old.world) (g.H.Device.sound c.batch.new.host t) (c.batch.ensures.log_only t) in
-    short_batch g.H.Device.tells old mid run later lines c.batch.result tries left progress c.requires.few only.said
+    memory_batch g.H.Device.tells old mid run later lines c.batch.result tries left progress c.requires.few only.said
 
 pub returns-in_err-write_replies-clause-moments : goal.returns-in_err-write_replies-clause-moments
 returns-in_err-write_replies-clause-moments g c t start left shape pairs progress stands segments =
@@ -127,7 +127,7 @@ returns-in_err-print-clause-broken g c t failed start left shape pairs progress 
     let all = ok_holds c.batch.result _ (tries.count ≡ length lines) c.in_ok-batch.was tries.all in
     let text : c.deref-2.result.now ≡ texts_of (replies_to run.engine.shape lines run.engine.map) = c.deref-2.ensures.value ∙ c.in_ok-write_replies.ensures ∙ ap texts_of (c.deref.ensures.value ∙ replies) in
     let part = (c.print.ensures.says t).part in
-    broken_saying lines left progress new.world part.0 later.order c.requires.few
+    failed_saying lines left progress new.world part.0 later.order c.requires.few
     (ap (λ (w : World). w.said) part.2 ∙ ap (λ (u : List ℕ). u ++ take part.0 c.deref-2.result.now) only.said ∙ ap (λ x. old.world.said ++ take part.0 x) text)
     (all_tried g.H.Device.tells old mid run later lines c.batch.result tries left progress all)
 
@@ -176,8 +176,8 @@ returns-clause-same g c t =
     let only = at_last old mid (ChangesLog old.world) (g.H.Device.sound c.batch.new.host t) (c.batch.ensures.log_only t) in
     said_files old.world mid.world (g.H.Device.history c.print.new.self).world c.deref-2.result.now only (c.in_ok-print.ensures.says t).ok
 
-pub returns-clause-goes_on : goal.returns-clause-goes_on
-returns-clause-goes_on g c t start left shape pairs progress =
+pub returns-clause-continues : goal.returns-clause-continues
+returns-clause-continues g c t start left shape pairs progress =
     let old = g.H.Device.history c.args.host.now in
     let mid = g.H.Device.history c.batch.new.host in
     let run = c.args.self.now in

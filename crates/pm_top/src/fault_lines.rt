@@ -13,7 +13,7 @@ use pm_types::Place;
 use std::alloc::{AllocError, Global};
 
 /// Prints the line that says that the words aren't a command.
-pub fn tell_usage<H: Host>(host: &mut H) -> Status
+pub fn print_usage_fault<H: Host>(host: &mut H) -> Status
     ensures usage { H.tells → result ≡ Status.Usage →
         (H.history host.new).world ≡ with_said (codes "fault usage\n") (H.history host.old).world }
     ensures part { H.tells → result ≡ Status.Failed →
@@ -30,7 +30,7 @@ pub fn tell_usage<H: Host>(host: &mut H) -> Status
 }
 
 /// Prints the line that says that the script passes a limit.
-pub fn tell_limit<H: Host>(host: &mut H) -> Status
+pub fn print_limit_fault<H: Host>(host: &mut H) -> Status
     ensures long { H.tells → result ≡ Status.Long →
         (H.history host.new).world ≡ with_said (codes "fault long\n") (H.history host.old).world }
     ensures part { H.tells → result ≡ Status.Failed →
@@ -48,7 +48,7 @@ pub fn tell_limit<H: Host>(host: &mut H) -> Status
 }
 
 /// Prints the line that names a record that is bad. Where there is no memory for it nothing is printed.
-pub fn tell_record<H: Host>(alloc: Global, host: &mut H, at: Place) -> Status
+pub fn print_record_fault<H: Host>(alloc: Global, host: &mut H, at: Place) -> Status
     ensures damaged { H.tells → result ≡ Status.Damaged →
         (H.history host.new).world ≡ with_said (fault_record at) (H.history host.old).world }
     ensures cases { (result ≡ Status.Damaged) ⊎ (result ≡ Status.Failed) ⊎ (result ≡ Status.Memory) }

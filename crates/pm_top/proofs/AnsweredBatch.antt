@@ -1,4 +1,4 @@
--- One turn of a run: the next lines are gathered, and done.
+-- One batch of a run: the next lines are taken off the script, and done.
 use Rattle.std.proofs.Common.{◌≡◌, ℕ, ◌+◌, ◌≤◌, List, [], ◌++◌, refl, ap, sym, ◌∙◌, subst, arith}
 use Rattle.pm_types.specs.declared.shape.Shape.{Shape}
 use Rattle.pm_disk.specs.Worlds.{World}
@@ -12,7 +12,7 @@ use Rattle.pm_engine.proofs.Going.{goes_keep}
 use Rattle.pm_top.specs.declared.run.Run.{Run}
 use Rattle.pm_top.specs.declared.shape.TheConstants.{SHAPE}
 use Rattle.pm_top.specs.Crashes.{CrashHoldsAcknowledged}
-use Rattle.pm_top.specs.Runs.{Progress, SameFiles, StandsSince, StandsOver}
+use Rattle.pm_top.specs.Runs.{Progress, SameFiles, IsAtRestSince, IsAtRestAfter}
 use Rattle.pm_top.proofs.Lasting.{keeps_rest, keeps_taken, order_longer}
 
 -- ---- what taking input leaves
@@ -46,5 +46,5 @@ then_moments start shape pairs old mid new order more later is first second =
     joined old mid new (CrashHoldsAcknowledged start shape pairs later) (longer_moments start shape pairs old mid order more later is first) second
 
 -- a run goes on
-pub stands_then : (before mid later : Run) (m n : ℕ) (world : World) → mid.lines ≡ before.lines + m → later.lines ≡ mid.lines + n → mid.engine.log.end.seg ≤ before.engine.log.end.seg + m → StandsSince mid later n world → StandsOver before later world
+pub stands_then : (before mid later : Run) (m n : ℕ) (world : World) → mid.lines ≡ before.lines + m → later.lines ≡ mid.lines + n → mid.engine.log.end.seg ≤ before.engine.log.end.seg + m → IsAtRestSince mid later n world → IsAtRestAfter before later world
 stands_then before mid later m n world first second climbs stands = record { stands = stands.stands; climbs = omega (arith, first, second, climbs, stands.climbs) }
