@@ -19,28 +19,28 @@ use Rattle.pm_disk.specs.Worlds.{World, log_forced, segment_in}
 use Rattle.pm_disk.specs.Images.{NothingPending}
 use Rattle.pm_disk.proofs.Families.{file_there}
 use Rattle.pm_model.specs.Eval.{Pairs}
-use Rattle.pm_segments.specs.Ends.{LogEnd, fresh_log, cut_at, CutsTail, place_behind, has_room}
+use Rattle.pm_segments.specs.Ends.{LogEnd, fresh_log, cut_at, CutsTail, place_after, has_room}
 use Rattle.pm_segments.specs.Grammars.{place, all_frames}
 use Rattle.pm_segments.specs.Logs.{IsLog, HasFrames, Ready, after_frames, next, contents, is_seal}
 use Rattle.pm_segments.specs.Read.{log_end}
 use Rattle.pm_segments.specs.Scans.{following, is_last}
-use Rattle.pm_segments.specs.Steps.{seal_frame, world_after, DoesSome, room_steps, roll_steps, append_steps, steps_of, grown}
-use Rattle.pm_segments.specs.Written.{Written, written_after, IsWritten, IsRecordFrame, IsOpen, IsQuietBut}
+use Rattle.pm_segments.specs.Steps.{seal_frame, world_after, DoesPrefix, room_steps, roll_steps, append_steps, steps_of, grown}
+use Rattle.pm_segments.specs.Written.{Written, written_after, IsWritten, IsRecordFrame, LogIsOpen, IsQuietBut}
 use Rattle.pm_segments.proofs.AppendLaw.{append_written}
 use Rattle.pm_segments.proofs.Laws.{grammar_laws, kept_some}
 use Rattle.pm_segments.proofs.OpeningLaw.{opened, opening_image}
 use Rattle.pm_segments.proofs.OpenLog.{room_frames, append_frames, grown_end, grown_seg, append_open, append_image}
 use Rattle.pm_segments.proofs.Quiet.{append_quiet}
 use Rattle.pm_segments.proofs.Reading.{one_log_from}
-use Rattle.pm_segments.proofs.Runs.{bool_cases, climbs, next-plain, next-seal}
+use Rattle.pm_segments.proofs.Runs.{bool_cases, rises, next-plain, next-seal}
 use Rattle.pm_segments.proofs.Writing.{frames_in, frames_after, lasting_after}
 use Rattle.pm_engine.specs.Records.{record_in, restart_frame}
 use Rattle.pm_engine.specs.Held.{is_restart, shape_told, replayed, all_replayed, IsHeld, Holds, HasNumbers, CrashHoldsPrefix}
 use Rattle.pm_engine.specs.Engines.{Running, every, frames_of, HeldAfterPrefix, IsAtRest}
 use Rattle.pm_engine.specs.Openings.{ReadsAll}
-use Rattle.pm_engine.specs.declared.found.Found.{Found}
-use Rattle.pm_engine.proofs.Finding.{holds_log}
-use Rattle.pm_engine.proofs.Going.{held_push, held_seal, before_push}
+use Rattle.pm_engine.specs.declared.replay.Replay.{Replay}
+use Rattle.pm_engine.proofs.Replaying.{holds_log}
+use Rattle.pm_engine.proofs.DoneLines.{held_push, held_seal, before_push}
 
 zero_or : (n : ℕ) → (n ≡ 0) ⊎ (0 < n)
 zero_or n = grind arith
@@ -51,11 +51,11 @@ zero_or n = grind arith
 following_is : (p : Place) (f : Frame) → (next p f).seg < 2 ^ 64 → following p f ≡ next p f
 following_is p f few = elim (bool_cases (is_seal f)) [
   | inr plain ↦
-      ap (λ (b : Bool). let q : Place = if b && not (is_last p.seg) then place (p.seg + 1) 0 else place_behind p f in q) plain ∙ sym (next-plain p f plain)
+      ap (λ (b : Bool). let q : Place = if b && not (is_last p.seg) then place (p.seg + 1) 0 else place_after p f in q) plain ∙ sym (next-plain p f plain)
   | inl sealed ↦ elim (bool_cases (is_last p.seg)) [
     | inr inner ↦
-        ap (λ (b : Bool). let q : Place = if b && not (is_last p.seg) then place (p.seg + 1) 0 else place_behind p f in q) sealed
-        ∙ ap (λ (b : Bool). let q : Place = if not b then place (p.seg + 1) 0 else place_behind p f in q) inner ∙ sym (next-seal p f sealed)
+        ap (λ (b : Bool). let q : Place = if b && not (is_last p.seg) then place (p.seg + 1) 0 else place_after p f in q) sealed
+        ∙ ap (λ (b : Bool). let q : Place = if not b then place (p.seg + 1) 0 else place_after p f in q) inner ∙ sym (next-seal p f sealed)
     | inl last ↦
         let there : (next p f).seg ≡ p.seg + 1 = ap (λ (q : Place). q.seg) (next-seal p f sealed) in
         let seg : p.seg ≡ 2 ^ 64 - 1 = eqb-true p.seg (2 ^ 64 - 1) last in
@@ -66,7 +66,7 @@ following_is p f few = elim (bool_cases (is_seal f)) [
 log_end_is : (p : Place) (fs : List Frame) → (after_frames p fs).seg < 2 ^ 62 → log_end p fs ≡ after_frames p fs
 log_end_is p [] few = refl
 log_end_is p (f ∷ fs) few =
-    let up : (next p f).seg < 2 ^ 64 = elim (climbs (next p f) fs) [ inl lt ↦ omega (arith, lt, few) | inr there ↦ omega (arith, there.0, few) ] in
+    let up : (next p f).seg < 2 ^ 64 = elim (rises (next p f) fs) [ inl lt ↦ omega (arith, lt, few) | inr there ↦ omega (arith, there.0, few) ] in
     ap (λ q. log_end q fs) (following_is p f up) ∙ log_end_is (next p f) fs few
 
 -- it ends within its file
@@ -74,28 +74,28 @@ log_end_within : (c : ℕ → List ℕ) (p : Place) (fs : List Frame) → p.off 
 log_end_within c p [] le run = le
 log_end_within c p (f ∷ fs) le run = elim (bool_cases (is_seal f)) [
   | inr plain ↦
-      let to : following p f ≡ place_behind p f = ap (λ (b : Bool). let q : Place = if b && not (is_last p.seg) then place (p.seg + 1) 0 else place_behind p f in q) plain in
-      let same : place_behind p f ≡ next p f = sym (next-plain p f plain) in
+      let to : following p f ≡ place_after p f = ap (λ (b : Bool). let q : Place = if b && not (is_last p.seg) then place (p.seg + 1) 0 else place_after p f in q) plain in
+      let same : place_after p f ≡ next p f = sym (next-plain p f plain) in
       subst (λ (r : Place). (log_end r fs).off ≤ length (c (log_end r fs).seg)) (sym to)
-      (log_end_within c (place_behind p f) fs ((grammar_laws every).within p.seg p.off (c p.seg) f run.0) (subst (λ (q : Place). HasFrames all_frames c q fs) (sym same) run.1))
+      (log_end_within c (place_after p f) fs ((grammar_laws every).within p.seg p.off (c p.seg) f run.0) (subst (λ (q : Place). HasFrames all_frames c q fs) (sym same) run.1))
   | inl sealed ↦ elim (bool_cases (is_last p.seg)) [
     | inr inner ↦
         let to : following p f ≡ place (p.seg + 1) 0 =
-        ap (λ (b : Bool). let q : Place = if b && not (is_last p.seg) then place (p.seg + 1) 0 else place_behind p f in q) sealed
-        ∙ ap (λ (b : Bool). let q : Place = if not b then place (p.seg + 1) 0 else place_behind p f in q) inner in
+        ap (λ (b : Bool). let q : Place = if b && not (is_last p.seg) then place (p.seg + 1) 0 else place_after p f in q) sealed
+        ∙ ap (λ (b : Bool). let q : Place = if not b then place (p.seg + 1) 0 else place_after p f in q) inner in
         subst (λ (r : Place). (log_end r fs).off ≤ length (c (log_end r fs).seg)) (sym to)
         (log_end_within c (place (p.seg + 1) 0) fs (omega arith) (subst (λ (q : Place). HasFrames all_frames c q fs) (next-seal p f sealed) run.1))
     | inl last ↦
-        let to : following p f ≡ place_behind p f =
-        ap (λ (b : Bool). let q : Place = if b && not (is_last p.seg) then place (p.seg + 1) 0 else place_behind p f in q) sealed
-        ∙ ap (λ (b : Bool). let q : Place = if not b then place (p.seg + 1) 0 else place_behind p f in q) last in
-        let within : (place_behind p f).off ≤ length (c p.seg) = (grammar_laws every).within p.seg p.off (c p.seg) f run.0 in
+        let to : following p f ≡ place_after p f =
+        ap (λ (b : Bool). let q : Place = if b && not (is_last p.seg) then place (p.seg + 1) 0 else place_after p f in q) sealed
+        ∙ ap (λ (b : Bool). let q : Place = if not b then place (p.seg + 1) 0 else place_after p f in q) last in
+        let within : (place_after p f).off ≤ length (c p.seg) = (grammar_laws every).within p.seg p.off (c p.seg) f run.0 in
         over last to within (subst (λ (q : Place). HasFrames all_frames c q fs) (next-seal p f sealed) run.1)
   ]
 ]
   where
     -- no frame is in a segment after the last one
-    over : is_last p.seg ≡ true → following p f ≡ place_behind p f → (place_behind p f).off ≤ length (c p.seg) → HasFrames all_frames c (place (p.seg + 1) 0) fs → (log_end (following p f) fs).off ≤ length (c (log_end (following p f) fs).seg)
+    over : is_last p.seg ≡ true → following p f ≡ place_after p f → (place_after p f).off ≤ length (c p.seg) → HasFrames all_frames c (place (p.seg + 1) 0) fs → (log_end (following p f) fs).off ≤ length (c (log_end (following p f) fs).seg)
     over last to within runs = none_left fs runs
       where
         none_left : (gs : List Frame) → HasFrames all_frames c (place (p.seg + 1) 0) gs → (log_end (following p f) gs).off ≤ length (c (log_end (following p f) gs).seg)
@@ -116,11 +116,11 @@ run_room c p (f ∷ fs) le run = elim (bool_cases (is_seal f)) [
       let head = (frame_at-some p (drop p.off (c p.seg)) f (kept_some every _ f run.0).0).0 in
       let latest : end_max f.kind ≡ FRAME_END_MAX = ap (λ (b : Bool). if b then SEGMENT_END_MAX else FRAME_END_MAX) plain in
       let to = next-plain p f plain in
-      subst (λ (r : Place). (after_frames r fs).off ≤ FRAME_END_MAX) (sym to) (run_room c (place_behind p f) fs (omega (arith, head.ends, latest)) (subst (λ (r : Place). HasFrames all_frames c r fs) to run.1))
+      subst (λ (r : Place). (after_frames r fs).off ≤ FRAME_END_MAX) (sym to) (run_room c (place_after p f) fs (omega (arith, head.ends, latest)) (subst (λ (r : Place). HasFrames all_frames c r fs) to run.1))
 ]
 
 -- the end that was read is within its file
-pub end_within : (wanted : Shape) (old : World) (end : Place) (found : Found) → ReadsAll wanted old end found → end.off ≤ length (bytes_of (segment_in old end.seg))
+pub end_within : (wanted : Shape) (old : World) (end : Place) (found : Replay) → ReadsAll wanted old end found → end.off ≤ length (bytes_of (segment_in old end.seg))
 end_within wanted old end found all = subst (λ (p : Place). p.off ≤ length (bytes_of (segment_in old p.seg))) (sym all.ends) (log_end_within (contents old.log) (place 1 0) all.frames (omega arith) all.log.run)
 
 -- ---- the frame that tells the shape
@@ -146,10 +146,10 @@ module _ (wanted : Shape) (old : World) (shape : Shape) (pairs : Pairs) (holds :
   end = after_frames (place 1 0) holds.frames
 
   -- what was read is what the store holds
-  pub reads_same : (at : Place) (found : Found) (all : ReadsAll wanted old at found) → all.frames ≡ holds.frames
+  pub reads_same : (at : Place) (found : Replay) (all : ReadsAll wanted old at found) → all.frames ≡ holds.frames
   reads_same at found all = one_log_from old (place 1 0) all.frames holds.frames all.log (holds_log wanted old shape pairs holds)
 
-  pub reads_held : (at : Place) (found : Found) → ReadsAll wanted old at found → (found.shape ≡ shape) × (found.map ≡ pairs)
+  pub reads_held : (at : Place) (found : Replay) → ReadsAll wanted old at found → (found.shape ≡ shape) × (found.map ≡ pairs)
   reads_held at found all =
       let held = subst (λ fs. IsHeld wanted fs found.shape found.map) (reads_same at found all) all.held in
       let shapes : found.shape ≡ shape = held.told ∙ sym holds.held.told in
@@ -157,7 +157,7 @@ module _ (wanted : Shape) (old : World) (shape : Shape) (pairs : Pairs) (holds :
       (shapes, same_Some found.map pairs maps)
 
   module _ (numbered : HasNumbers holds.frames) (quiet : NothingPending old) where
-    pub reads_end : (at : Place) (found : Found) → ReadsAll wanted old at found → at ≡ end
+    pub reads_end : (at : Place) (found : Replay) → ReadsAll wanted old at found → at ≡ end
     reads_end at found all = all.ends ∙ ap (log_end (place 1 0)) (reads_same at found all) ∙ log_end_is (place 1 0) frames numbered
 
     long : 0 ≤ length (contents old.log 1)
@@ -200,7 +200,7 @@ module _ (wanted : Shape) (old : World) (shape : Shape) (pairs : Pairs) (holds :
       is_record : IsRecordFrame every f
       is_record = record { known_from = omega arith; known_to = omega arith; short = payload_of-short (Restart shape) sound; kept = refl }
 
-      is_open : IsOpen log s
+      is_open : LogIsOpen log s
       is_open =
           let room = run_room (contents old.log) (place 1 0) frames (omega arith) holds.log.run in
           record {
@@ -267,7 +267,7 @@ module _ (wanted : Shape) (old : World) (shape : Shape) (pairs : Pairs) (holds :
       nothing_pending = append-nil frames
 
       -- while the RESTART is appended
-      pub restart_keeps : (tried : Bool) (now : World) → DoesSome (steps_of tried log f) end cut now → CrashHoldsPrefix wanted shape pairs [] now
+      pub restart_keeps : (tried : Bool) (now : World) → DoesPrefix (steps_of tried log f) end cut now → CrashHoldsPrefix wanted shape pairs [] now
       restart_keeps tried now some image leaves honest =
           let left = append_image every refl log f is_record s is_open tried cut now 1 (place 1 0) written some image.log leaves.log honest.frames in
           let log_is = subst (λ fs. IsLog all_frames (λ seg. bytes_of (image.log seg)) (place 1 0) (take left.0 (fs ++ frames_in (steps_of tried log f)))) nothing_pending left.2 in
@@ -275,9 +275,9 @@ module _ (wanted : Shape) (old : World) (shape : Shape) (pairs : Pairs) (holds :
           (h.0, h.1, record { frames = take left.0 (frames ++ frames_in (steps_of tried log f)); log = log_is; held = h.2 })
 
       -- once it is
-      pub restart_stands : (order : List ℕ) (world : World) → world ≡ world_after (append_steps log f) end cut
+      pub restart_at_rest : (order : List ℕ) (world : World) → world ≡ world_after (append_steps log f) end cut
           → IsAtRest wanted (record { shape = shape; pairs = pairs; log = grown log f; order = order }) world × ((grown log f).end.seg ≤ end.seg + 1)
-      restart_stands order world is =
+      restart_at_rest order world is =
           let steps = append_steps log f in
           let t = written_after steps s in
           let to = grown_end every refl log f is_record s is_open in
@@ -300,7 +300,7 @@ module _ (wanted : Shape) (old : World) (shape : Shape) (pairs : Pairs) (holds :
 -- ---- the calls of opening
 
 module _ (wanted : Shape) (old : World) (shape : Shape) (pairs : Pairs) (holds : Holds wanted old shape pairs) (numbered : HasNumbers holds.frames) (quiet : NothingPending old)
-    (at : Place) (found : Found) (all : ReadsAll wanted old at found) (mid : World) (same : mid ≡ old) where
+    (at : Place) (found : Replay) (all : ReadsAll wanted old at found) (mid : World) (same : mid ≡ old) where
   there : at ≡ after_frames (place 1 0) holds.frames
   there = reads_end wanted old shape pairs holds numbered quiet at found all
 
@@ -331,19 +331,19 @@ module _ (wanted : Shape) (old : World) (shape : Shape) (pairs : Pairs) (holds :
         ∙ ap (λ w. log_forced (after_frames (place 1 0) holds.frames).seg (cut_at (after_frames (place 1 0) holds.frames) w)) same
 
     -- the RESTART is appended
-    pub some_all : (tried : Bool) (now : World) → DoesSome (steps_of tried log frame) log.end cut_world now → CrashHoldsPrefix wanted shape pairs [] now
+    pub some_all : (tried : Bool) (now : World) → DoesPrefix (steps_of tried log frame) log.end cut_world now → CrashHoldsPrefix wanted shape pairs [] now
     some_all tried now some =
         restart_keeps wanted old shape pairs holds numbered quiet its_shape tried now
-        (subst (λ (x : LogEnd × (Frame × World)). DoesSome (steps_of tried x.0 x.1.0) x.0.end x.1.1 now) (λ i. (log_is i, (frame_is i, cut_is i))) some)
+        (subst (λ (x : LogEnd × (Frame × World)). DoesPrefix (steps_of tried x.0 x.1.0) x.0.end x.1.1 now) (λ i. (log_is i, (frame_is i, cut_is i))) some)
 
-    pub stands_all : (engine : Running) (now : World) → engine.shape ≡ found.shape → engine.pairs ≡ found.map → engine.log ≡ grown log frame → now ≡ world_after (append_steps log frame) log.end cut_world
+    pub opened_at_rest : (engine : Running) (now : World) → engine.shape ≡ found.shape → engine.pairs ≡ found.map → engine.log ≡ grown log frame → now ≡ world_after (append_steps log frame) log.end cut_world
         → IsAtRest wanted engine now × (engine.log.end.seg ≤ (after_frames (place 1 0) holds.frames).seg + 1)
-    stands_all engine now its maps logs is =
+    opened_at_rest engine now its maps logs is =
         let held = reads_held wanted old shape pairs holds at found all in
         let log_now : engine.log ≡ grown (fresh_log 1 (after_frames (place 1 0) holds.frames) shape.segment_bytes) (restart_frame shape) = logs ∙ (λ i. grown (log_is i) (frame_is i)) in
         let world_now : now ≡ world_after (append_steps (fresh_log 1 (after_frames (place 1 0) holds.frames) shape.segment_bytes) (restart_frame shape)) (after_frames (place 1 0) holds.frames) (log_forced (after_frames (place 1 0) holds.frames).seg (cut_at (after_frames (place 1 0) holds.frames) old)) =
         is ∙ (λ i. world_after (append_steps (log_is i) (frame_is i)) (log_is i).end (cut_is i)) in
-        let done = restart_stands wanted old shape pairs holds numbered quiet its_shape engine.order now world_now in
+        let done = restart_at_rest wanted old shape pairs holds numbered quiet its_shape engine.order now world_now in
         let maps_to : engine.pairs ≡ pairs = maps ∙ held.1 in
         let shapes_to : engine.shape ≡ shape = its ∙ held.0 in
         subst (λ (e : Running). IsAtRest wanted e now × (e.log.end.seg ≤ (after_frames (place 1 0) holds.frames).seg + 1))

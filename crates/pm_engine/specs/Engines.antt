@@ -7,7 +7,7 @@ use Rattle.pm_model.specs.declared.line.Line.{Line}
 use Rattle.pm_model.specs.Eval.{Pairs, after_all}
 use Rattle.pm_segments.specs.Ends.{LogEnd}
 use Rattle.pm_segments.specs.Grammars.{place}
-use Rattle.pm_segments.specs.Written.{Written, IsWritten, IsOpen, IsQuietBut}
+use Rattle.pm_segments.specs.Written.{Written, IsWritten, LogIsOpen, IsQuietBut}
 use Rattle.pm_engine.specs.Held.{IsHeld}
 use Rattle.pm_engine.specs.declared.engine.Engine.{Engine}
 
@@ -41,7 +41,7 @@ HeldAfterPrefix wanted shape start lines frames =
 pub record HasDone (wanted : Shape) (start : Pairs) (done : List Line) (engine : Running) (world : World) : Type 0 where
   pub written : Written
   pub stands : IsWritten every world 1 (place 1 0) engine.log.end written
-  pub is_open : IsOpen engine.log written
+  pub is_open : LogIsOpen engine.log written
   pub held : IsHeld wanted (frames_of written) engine.shape engine.pairs
   pub map : engine.pairs ≡ after_all engine.shape done start
   pub some : 0 < length (frames_of written)
@@ -64,5 +64,5 @@ HasDoneWithin wanted start done count before engine world =
 -- the engine stands again, its log in the same segment or in the next so many, and nothing of its log is pending
 pub record IsAtRestWithin (wanted : Shape) (count : ℕ) (before engine : Running) (world : World) : Type 0 where
   pub stands : IsAtRest wanted engine world
-  pub climbs : engine.log.end.seg ≤ before.log.end.seg + count
+  pub rises : engine.log.end.seg ≤ before.log.end.seg + count
   pub lasting : (seg : ℕ) → (world.log seg).since ≡ []

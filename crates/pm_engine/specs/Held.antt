@@ -49,7 +49,7 @@ abbrev pub shape_of : Shape → List Frame → Shape
 shape_of wanted [] = wanted
 shape_of wanted (frame ∷ frames) = shape_told wanted (record_in frame)
 
--- the map after a put that is done again, none where its partition is full
+-- the map after a put that is replayed, none where its partition is full
 abbrev pub put_replayed : Shape → Line → Pairs → Option Pairs
 put_replayed shape line pairs = if is_accepted shape line pairs then Some (after shape line pairs) else None
 

@@ -12,12 +12,12 @@ use Rattle.pm_disk.specs.Files.{bytes_of}
 use Rattle.pm_disk.specs.Images.{Leaves, IsTrueOf}
 use Rattle.pm_segments.specs.Ends.{LogEnd, HasRoom, has_room}
 use Rattle.pm_segments.specs.Grammars.{place, grammar}
-use Rattle.pm_segments.specs.Logs.{IsLog, Loose, Ready, Plain, is_seal}
-use Rattle.pm_segments.specs.Steps.{Step, Append, Force, NextSegment, next_segment, end_after, world_after, DoesSome, seal_frame, turn_steps, roll_steps, room_steps, append_steps, steps_of}
-use Rattle.pm_segments.specs.Written.{is_sealed, Written, tail_forced, written_after, IsWritten, IsRecordFrame, IsOpen}
+use Rattle.pm_segments.specs.Logs.{IsLog, Loose, Ready, HasNoSeal, is_seal}
+use Rattle.pm_segments.specs.Steps.{Step, Append, Force, NextSegment, next_segment, end_after, world_after, DoesPrefix, seal_frame, enter_steps, roll_steps, room_steps, append_steps, steps_of}
+use Rattle.pm_segments.specs.Written.{is_sealed, Written, tail_forced, written_after, IsWritten, IsRecordFrame, LogIsOpen}
 use Rattle.pm_segments.proofs.Runs.{bool_cases}
 use Rattle.pm_segments.proofs.Sealing.{fits_seal}
-use Rattle.pm_segments.proofs.Tracing.{some_first}
+use Rattle.pm_segments.proofs.Tracing.{prefix_first}
 use Rattle.pm_segments.proofs.Writing.{frames_in, CanAll, steps_keep, crash_law}
 
 is_sealed-last : (fs : List Frame) → is_sealed (fs ++ seal_frame ∷ []) ≡ true
@@ -25,11 +25,11 @@ is_sealed-last [] = refl
 is_sealed-last (f ∷ []) = refl
 is_sealed-last (f ∷ h ∷ fs) = is_sealed-last (h ∷ fs)
 
-plain-append : (fs : List Frame) (f : Frame) → Plain fs → is_seal f ≡ false → Plain (fs ++ f ∷ [])
+plain-append : (fs : List Frame) (f : Frame) → HasNoSeal fs → is_seal f ≡ false → HasNoSeal (fs ++ f ∷ [])
 plain-append [] f plain open_ = (open_, tt)
 plain-append (h ∷ fs) f plain open_ = (plain.0, plain-append fs f plain.1 open_)
 
-module _ (keep : Frame → Bool) (seals : keep seal_frame ≡ true) (log : LogEnd) (frame : Frame) (is : IsRecordFrame keep frame) (s : Written) (is_open : IsOpen log s) where
+module _ (keep : Frame → Bool) (seals : keep seal_frame ≡ true) (log : LogEnd) (frame : Frame) (is : IsRecordFrame keep frame) (s : Written) (is_open : LogIsOpen log s) where
   abbrev end : Place
   end = log.end
 
@@ -67,7 +67,7 @@ module _ (keep : Frame → Bool) (seals : keep seal_frame ≡ true) (log : LogEn
         let sealed = fits_seal end is_open.room_to_seal in
         let same : append_steps log frame ≡ rolling =
         ap (λ (b : Bool). let steps : List Step = if b then [] else roll_steps end in steps ++ Append frame ∷ []) full
-        ∙ ap (λ (b : Bool). let steps : List Step = if b then Append seal_frame ∷ [] else [] in (steps ++ turn_steps) ++ Append frame ∷ []) sealed in
+        ∙ ap (λ (b : Bool). let steps : List Step = if b then Append seal_frame ∷ [] else [] in (steps ++ enter_steps) ++ Append frame ∷ []) sealed in
         subst P (sym same) roll
   ]
 
@@ -81,20 +81,20 @@ module _ (keep : Frame → Bool) (seals : keep seal_frame ≡ true) (log : LogEn
   pub append_tail : (written_after (append_steps log frame) s).tail ≡ Ready
   append_tail = append_cases (λ steps. (written_after steps s).tail ≡ Ready) (λ room. is_open.ready) refl
 
-  pub append_plain : Plain (written_after (append_steps log frame) s).pending
-  append_plain = append_cases (λ steps. Plain (written_after steps s).pending) (λ room. plain-append s.pending frame is_open.plain no_seal) (no_seal, tt)
+  pub append_plain : HasNoSeal (written_after (append_steps log frame) s).pending
+  append_plain = append_cases (λ steps. HasNoSeal (written_after steps s).pending) (λ room. plain-append s.pending frame is_open.plain no_seal) (no_seal, tt)
 
-  some_append : (tried : Bool) (old now : World) → DoesSome (steps_of tried log frame) end old now → DoesSome (append_steps log frame) end old now
-  some_append true old now some = some
-  some_append false old now some = some_first (room_steps log (length frame.payload)) (Append frame ∷ []) end old now some
+  prefix_append : (tried : Bool) (old now : World) → DoesPrefix (steps_of tried log frame) end old now → DoesPrefix (append_steps log frame) end old now
+  prefix_append true old now some = some
+  prefix_append false old now some = prefix_first (room_steps log (length frame.payload)) (Append frame ∷ []) end old now some
 
   -- once it is done, one frame more stands at the log's end, and all others as they stood
   pub append_written : (old : World) (low : ℕ) (from : Place) → IsWritten keep old low from end s → IsWritten keep (world_after (append_steps log frame) end old) low from (end_after (append_steps log frame) end) (written_after (append_steps log frame) s)
   append_written old low from written = steps_keep keep (append_steps log frame) old low from end s written append_can
 
   -- at each moment of it a crash leaves a first part of the log that has all that was lasting
-  pub append_crash : (tried : Bool) (old now : World) (low : ℕ) (from : Place) → IsWritten keep old low from end s → DoesSome (steps_of tried log frame) end old now
+  pub append_crash : (tried : Bool) (old now : World) (low : ℕ) (from : Place) → IsWritten keep old low from end s → DoesPrefix (steps_of tried log frame) end old now
       → (left : ℕ → Option (List ℕ)) → ((seg : ℕ) → Leaves (now.log seg) (left seg)) → ((seg : ℕ) → IsTrueOf ((grammar keep).frame_at seg) (now.log seg) (left seg))
       → (n : ℕ) × (length s.lasting ≤ n) × IsLog (grammar keep) (λ seg. bytes_of (left seg)) from (take n ((s.lasting ++ s.pending) ++ frames_in (append_steps log frame)))
   append_crash tried old now low from written some left leaves honest =
-      crash_law keep (append_steps log frame) old now low from end s written append_can (some_append tried old now some) left leaves honest
+      crash_law keep (append_steps log frame) old now low from end s written append_can (prefix_append tried old now some) left leaves honest

@@ -3,11 +3,10 @@ use Rattle.std.proofs.Common.{◌≡◌, ℕ, zero, suc, ◌+◌, ◌<◌, ◌�
 use Rattle.std.specs.Prelude.{slice_get, if◌then◌else◌}
 use Rattle.std.proofs.lemmas.Bool.{and_parts}
 use Rattle.std.proofs.lemmas.List.{length-take, length-drop, append-nil, drop_at}
-use Rattle.pm_frame.specs.Frames.{Frame, frame_bytes, frame_at, is_frame}
+use Rattle.pm_frame.specs.Frames.{Frame, frame_bytes, frame_at, is_frame, frame_len}
 use Rattle.pm_frame.proofs.FrameAt.{length-frame_bytes, frame_at-bytes, frame_at-same, frame_at-within, IsFrame-from}
 use Rattle.pm_disk.proofs.Files.{same_reads}
 use Rattle.pm_segments.specs.Grammars.{place, kept, grammar}
-use Rattle.pm_segments.specs.Logs.{size}
 use Rattle.pm_segments.proofs.GrammarLaws.{IsGrammar}
 use Rattle.pm_segments.proofs.LogSteps.{slice_get-take}
 
@@ -45,12 +44,12 @@ grammar_laws keep = record {
       ∙ kept_passing keep f parts.1;
 }
   where
-    within : (seg off : ℕ) (bytes : List ℕ) (f : Frame) → frame_at (place seg off) (drop off bytes) ≡ Some f → off + size f ≤ length bytes
+    within : (seg off : ℕ) (bytes : List ℕ) (f : Frame) → frame_at (place seg off) (drop off bytes) ≡ Some f → off + frame_len f ≤ length bytes
     within seg off bytes f is = omega (arith, frame_at-within (place seg off) (drop off bytes) f is, length-drop off bytes)
 
-    decided : (seg off : ℕ) (old new : List ℕ) (f : Frame) → frame_at (place seg off) (drop off old) ≡ Some f → off + size f ≤ length new → ((i : ℕ) → i < off + size f → slice_get new i ≡ slice_get old i) → frame_at (place seg off) (drop off new) ≡ Some f
+    decided : (seg off : ℕ) (old new : List ℕ) (f : Frame) → frame_at (place seg off) (drop off old) ≡ Some f → off + frame_len f ≤ length new → ((i : ℕ) → i < off + frame_len f → slice_get new i ≡ slice_get old i) → frame_at (place seg off) (drop off new) ≡ Some f
     decided seg off old new f is le same =
-        let n = size f in
+        let n = frame_len f in
         let old_long = within seg off old f is in
         frame_at-same (place seg off) (drop off old) (drop off new) f is
         (same_reads (take n (drop off new)) (take n (drop off old))

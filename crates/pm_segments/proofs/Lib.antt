@@ -11,7 +11,7 @@ pub mod Quiet
 pub mod Reading
 pub mod Runs
 pub mod Sealing
-pub mod Standing
+pub mod HeldLog
 pub mod Tracing
-pub mod Turning
+pub mod PastSeal
 pub mod Writing

@@ -7,9 +7,9 @@ use Rattle.pm_disk.specs.Worlds.{with_file}
 use Rattle.pm_disk.specs.Images.{Below}
 use Rattle.pm_disk.proofs.Families.{file_here, file_there, file_cases}
 use Rattle.pm_disk.proofs.Files.{quiet_below, each_change, content_change, below_push, content_long, below_less, forced_change}
-use Rattle.pm_frame.specs.Frames.{Frame}
+use Rattle.pm_frame.specs.Frames.{Frame, frame_len}
 use Rattle.pm_types.specs.declared.place.Place.{Place}
-use Rattle.pm_segments.specs.Logs.{Grammar, size, next, after_frames, HasFrames, RunIn, Plain, sizes, Stood, Tail, Loose, Cutting, Ready, LogStands}
+use Rattle.pm_segments.specs.Logs.{Grammar, next, after_frames, HasFrames, SegmentHasFrames, HasNoSeal, frames_len, OnlyTheseStood, Tail, Loose, Cutting, Ready, FilesHoldLog}
 use Rattle.pm_segments.proofs.GrammarLaws.{IsGrammar}
 use Rattle.pm_segments.proofs.Runs.{next-plain, none_past}
 
@@ -31,22 +31,22 @@ at_end-write bytes more end is =
     ∙ ap (λ (l : List ℕ). bytes ++ more ++ l) (drop_all (end + length more) bytes (omega (arith, is)))
     ∙ append-nil (bytes ++ more)
 
-pub sizes-append : (xs ys : List Frame) → sizes (xs ++ ys) ≡ sizes xs + sizes ys
-sizes-append [] ys = omega arith
-sizes-append (x ∷ xs) ys = omega (arith, sizes-append xs ys)
+pub frames_len-append : (xs ys : List Frame) → frames_len (xs ++ ys) ≡ frames_len xs + frames_len ys
+frames_len-append [] ys = omega arith
+frames_len-append (x ∷ xs) ys = omega (arith, frames_len-append xs ys)
 
-pub plain_behind : (seg off : ℕ) (fs : List Frame) → Plain fs → after_frames (record { seg = seg; off = off }) fs ≡ record { seg = seg; off = off + sizes fs }
-plain_behind seg off [] plain = let e : off ≡ off + 0 = omega arith in ap (λ n. let q : Place = record { seg = seg; off = n } in q) e
-plain_behind seg off (f ∷ fs) plain =
-    let e : off + size f + sizes fs ≡ off + (size f + sizes fs) = omega arith in
+pub plain_after : (seg off : ℕ) (fs : List Frame) → HasNoSeal fs → after_frames (record { seg = seg; off = off }) fs ≡ record { seg = seg; off = off + frames_len fs }
+plain_after seg off [] plain = let e : off ≡ off + 0 = omega arith in ap (λ n. let q : Place = record { seg = seg; off = n } in q) e
+plain_after seg off (f ∷ fs) plain =
+    let e : off + frame_len f + frames_len fs ≡ off + (frame_len f + frames_len fs) = omega arith in
     ap (λ (q : Place). after_frames q fs) (next-plain (record { seg = seg; off = off }) f plain.0)
-    ∙ plain_behind seg (off + size f) fs plain.1 ∙ ap (λ n. let q : Place = record { seg = seg; off = n } in q) e
+    ∙ plain_after seg (off + frame_len f) fs plain.1 ∙ ap (λ n. let q : Place = record { seg = seg; off = n } in q) e
 
 -- frames in one segment are a run, where no SEAL is among them
-pub plain_run : (g : Grammar) (laws : IsGrammar g) (c : ℕ → List ℕ) (seg off : ℕ) (fs : List Frame) → Plain fs → RunIn g seg (c seg) off fs → HasFrames g c (record { seg = seg; off = off }) fs
+pub plain_run : (g : Grammar) (laws : IsGrammar g) (c : ℕ → List ℕ) (seg off : ℕ) (fs : List Frame) → HasNoSeal fs → SegmentHasFrames g seg (c seg) off fs → HasFrames g c (record { seg = seg; off = off }) fs
 plain_run g laws c seg off [] plain run = tt
 plain_run g laws c seg off (f ∷ fs) plain run =
-    (run.0, subst (λ (q : Place). HasFrames g c q fs) (sym (next-plain (record { seg = seg; off = off }) f plain.0)) (plain_run g laws c seg (off + size f) fs plain.1 run.1))
+    (run.0, subst (λ (q : Place). HasFrames g c q fs) (sym (next-plain (record { seg = seg; off = off }) f plain.0)) (plain_run g laws c seg (off + frame_len f) fs plain.1 run.1))
 
 pub run_join : (g : Grammar) (laws : IsGrammar g) (c : ℕ → List ℕ) (p : Place) (xs ys : List Frame) → HasFrames g c p xs → HasFrames g c (after_frames p xs) ys → HasFrames g c p (xs ++ ys)
 run_join g laws c p [] ys first second = second
@@ -68,10 +68,10 @@ module _ (g : Grammar) (laws : IsGrammar g) (seg end : ℕ) (file : File) (f : F
   now_is : bytes_of now ≡ before ++ bytes
   now_is = at_end-write before bytes end is_end
 
-  bytes_size : length bytes ≡ size f
+  bytes_size : length bytes ≡ frame_len f
   bytes_size = ap (λ (l : List ℕ). length l) is_bytes ∙ laws.bytes_length seg end f
 
-  now_length : length (bytes_of now) ≡ end + size f
+  now_length : length (bytes_of now) ≡ end + frame_len f
   now_length = omega (arith, ap (λ (l : List ℕ). length l) now_is, length-append before bytes, is_end, bytes_size)
 
   stands : g.frame_at seg end (bytes_of now) ≡ Some f
@@ -87,11 +87,11 @@ module _ (g : Grammar) (laws : IsGrammar g) (seg end : ℕ) (file : File) (f : F
       laws.own seg off before (bytes_of now) h is (omega (arith, w, now_length, is_end))
       (λ i lt. ap (λ (l : List ℕ). slice_get l i) now_is ∙ slice_get-append before bytes i (omega (arith, lt, w)))
 
-  pub runin_append : (off : ℕ) (fs : List Frame) → RunIn g seg before off fs → off + sizes fs ≡ end → RunIn g seg (bytes_of now) off (fs ++ f ∷ [])
+  pub runin_append : (off : ℕ) (fs : List Frame) → SegmentHasFrames g seg before off fs → off + frames_len fs ≡ end → SegmentHasFrames g seg (bytes_of now) off (fs ++ f ∷ [])
   runin_append off [] run at = let e : end ≡ off = omega (arith, at) in (subst (λ n. g.frame_at seg n (bytes_of now) ≡ Some f) e stands, tt)
-  runin_append off (p ∷ fs) run at = (still off p run.0, runin_append (off + size p) fs run.1 (omega (arith, at)))
+  runin_append off (p ∷ fs) run at = (still off p run.0, runin_append (off + frame_len p) fs run.1 (omega (arith, at)))
 
-  pub stood_append : (off : ℕ) (fs : List Frame) → Plain fs → RunIn g seg before off fs → off + sizes fs ≡ end → Stood g seg file off fs → Stood g seg grown off (fs ++ f ∷ [])
+  pub stood_append : (off : ℕ) (fs : List Frame) → HasNoSeal fs → SegmentHasFrames g seg before off fs → off + frames_len fs ≡ end → OnlyTheseStood g seg file off fs → OnlyTheseStood g seg grown off (fs ++ f ∷ [])
   stood_append off [] plain run at stood =
       let here : off ≡ end = omega (arith, at) in
       let one : g.frame_at seg off (bytes_of now) ≡ Some f = subst (λ n. g.frame_at seg n (bytes_of now) ≡ Some f) (sym here) stands in (
@@ -99,60 +99,60 @@ module _ (g : Grammar) (laws : IsGrammar g) (seg end : ℕ) (file : File) (f : F
             (λ j j_le x x_is. let no : None ≡ Some x = sym (stood j j_le) ∙ x_is in cc)
             (λ x x_is. let same : Some x ≡ Some f = sym x_is ∙ one in cc) k le h is,
         λ sealed. refl,
-        λ open_. each_change file (Write end bytes) (λ o. g.frame_at seg (off + size f) (bytes_of o) ≡ None)
-            (λ j j_le. none_past g laws seg (off + size f) (bytes_of (at_change file j)) (omega (arith, short j j_le, here)))
-            (none_past g laws seg (off + size f) (bytes_of now) (omega (arith, now_length, here))),
+        λ open_. each_change file (Write end bytes) (λ o. g.frame_at seg (off + frame_len f) (bytes_of o) ≡ None)
+            (λ j j_le. none_past g laws seg (off + frame_len f) (bytes_of (at_change file j)) (omega (arith, short j j_le, here)))
+            (none_past g laws seg (off + frame_len f) (bytes_of now) (omega (arith, now_length, here))),
       )
   stood_append off (p ∷ fs) plain run at stood = (
     λ k h le is. each_change file (Write end bytes) (λ o. (h : Frame) → g.frame_at seg off (bytes_of o) ≡ Some h → h ≡ p)
         (λ j j_le x x_is. stood.0 j x j_le x_is)
         (λ x x_is. let same : Some x ≡ Some p = sym x_is ∙ still off p run.0 in cc) k le h is,
     λ sealed. let no : true ≡ false = sym sealed ∙ plain.0 in cc,
-    λ open_. stood_append (off + size p) fs plain.1 run.1 (omega (arith, at)) (stood.2 plain.0),
+    λ open_. stood_append (off + frame_len p) fs plain.1 run.1 (omega (arith, at)) (stood.2 plain.0),
   )
 
   pub below_append : (off : ℕ) → off ≤ end → Below file off → Below grown off
   below_append off le below = below_push file (Write end bytes) off below (λ i lt touch. absurd (omega (arith, lt, le, touch.0))) (omega (arith, now_length, le))
       (λ i lt. ap (λ (l : List ℕ). slice_get l i) now_is ∙ slice_get-append before bytes i (omega (arith, lt, le, is_end)))
 
-  pub short_append : (k : ℕ) → k ≤ length grown.since → length (bytes_of (at_change grown k)) ≤ end + size f
-  short_append = each_change file (Write end bytes) (λ o. length (bytes_of o) ≤ end + size f) (λ k le. omega (arith, short k le)) (omega (arith, now_length))
+  pub short_append : (k : ℕ) → k ≤ length grown.since → length (bytes_of (at_change grown k)) ≤ end + frame_len f
+  short_append = each_change file (Write end bytes) (λ o. length (bytes_of o) ≤ end + frame_len f) (λ k le. omega (arith, short k le)) (omega (arith, now_length))
 
-  pub exact_append : length (bytes_of (content grown)) ≡ end + size f
+  pub exact_append : length (bytes_of (content grown)) ≡ end + frame_len f
   exact_append = ap (λ (o : Option (List ℕ)). length (bytes_of o)) (content_change file (Write end bytes)) ∙ now_length
 
-  pub run_grown : (off : ℕ) (fs : List Frame) → RunIn g seg before off fs → off + sizes fs ≡ end → RunIn g seg (bytes_of (content grown)) off (fs ++ f ∷ [])
-  run_grown off fs run at = subst (λ (o : Option (List ℕ)). RunIn g seg (bytes_of o) off (fs ++ f ∷ [])) (sym (content_change file (Write end bytes))) (runin_append off fs run at)
+  pub run_grown : (off : ℕ) (fs : List Frame) → SegmentHasFrames g seg before off fs → off + frames_len fs ≡ end → SegmentHasFrames g seg (bytes_of (content grown)) off (fs ++ f ∷ [])
+  run_grown off fs run at = subst (λ (o : Option (List ℕ)). SegmentHasFrames g seg (bytes_of o) off (fs ++ f ∷ [])) (sym (content_change file (Write end bytes))) (runin_append off fs run at)
 
 -- One more frame is written after those that are pending, where none of them is a SEAL.
 pub log_append : (g : Grammar) (laws : IsGrammar g) (log : ℕ → File) (low : ℕ) (at : Place) (pending : List Frame) (f : Frame) (bytes : List ℕ)
-    → LogStands g log low at pending Ready → Plain pending → g.fits at.seg (at.off + sizes pending) f ≡ true → bytes ≡ g.frame_bytes at.seg (at.off + sizes pending) f
-    → LogStands g (with_file log at.seg (with_change (log at.seg) (Write (at.off + sizes pending) bytes))) low at (pending ++ f ∷ []) Ready
+    → FilesHoldLog g log low at pending Ready → HasNoSeal pending → g.fits at.seg (at.off + frames_len pending) f ≡ true → bytes ≡ g.frame_bytes at.seg (at.off + frames_len pending) f
+    → FilesHoldLog g (with_file log at.seg (with_change (log at.seg) (Write (at.off + frames_len pending) bytes))) low at (pending ++ f ∷ []) Ready
 log_append g laws log low at pending f bytes s plain fits is_bytes =
-    let end = at.off + sizes pending in
+    let end = at.off + frames_len pending in
     let w = s.tail_is in
     let file = log at.seg in
     let grown : File = with_change file (Write end bytes) in
-    let more : at.off + sizes (pending ++ f ∷ []) ≡ end + size f = omega (arith, sizes-append pending (f ∷ [])) in
+    let more : at.off + frames_len (pending ++ f ∷ []) ≡ end + frame_len f = omega (arith, frames_len-append pending (f ∷ [])) in
     let at_seg : with_file log at.seg grown at.seg ≡ grown = file_here log at.seg grown in
     let back : grown ≡ with_file log at.seg grown at.seg = sym at_seg in
     record {
       reaches = s.reaches;
       older = file_cases log at.seg grown (λ m x. low ≤ m → m < at.seg → x.since ≡ []) (λ le no. absurd (omega (arith, no))) (λ m apart. s.older m);
       below = subst (λ (x : File). Below x at.off) back (below_append g laws at.seg end file f bytes w.exact is_bytes fits w.short at.off (omega arith) s.below);
-      stood = subst (λ (x : File). Stood g at.seg x at.off (pending ++ f ∷ [])) back (stood_append g laws at.seg end file f bytes w.exact is_bytes fits w.short at.off pending plain w.run refl s.stood);
+      stood = subst (λ (x : File). OnlyTheseStood g at.seg x at.off (pending ++ f ∷ [])) back (stood_append g laws at.seg end file f bytes w.exact is_bytes fits w.short at.off pending plain w.run refl s.stood);
       above = file_cases log at.seg grown (λ m x. at.seg < m → (k : ℕ) → k ≤ length x.since → length (bytes_of (at_change x k)) ≤ 0) (λ no. absurd (omega (arith, no))) (λ m apart. s.above m);
       tail_is = record {
-        run = subst (λ (x : File). RunIn g at.seg (bytes_of (content x)) at.off (pending ++ f ∷ [])) back (run_grown g laws at.seg end file f bytes w.exact is_bytes fits w.short at.off pending w.run refl);
-        short = subst (λ (x : File). (k : ℕ) → k ≤ length x.since → length (bytes_of (at_change x k)) ≤ at.off + sizes (pending ++ f ∷ [])) back
+        run = subst (λ (x : File). SegmentHasFrames g at.seg (bytes_of (content x)) at.off (pending ++ f ∷ [])) back (run_grown g laws at.seg end file f bytes w.exact is_bytes fits w.short at.off pending w.run refl);
+        short = subst (λ (x : File). (k : ℕ) → k ≤ length x.since → length (bytes_of (at_change x k)) ≤ at.off + frames_len (pending ++ f ∷ [])) back
             (subst (λ n. (k : ℕ) → k ≤ length grown.since → length (bytes_of (at_change grown k)) ≤ n) (sym more) (short_append g laws at.seg end file f bytes w.exact is_bytes fits w.short));
-        exact = subst (λ (x : File). length (bytes_of (content x)) ≡ at.off + sizes (pending ++ f ∷ [])) back (exact_append g laws at.seg end file f bytes w.exact is_bytes fits w.short ∙ sym more);
+        exact = subst (λ (x : File). length (bytes_of (content x)) ≡ at.off + frames_len (pending ++ f ∷ [])) back (exact_append g laws at.seg end file f bytes w.exact is_bytes fits w.short ∙ sym more);
       };
     }
 
 -- The log's last segment is cut at the log's end.
-pub log_cut : (g : Grammar) (laws : IsGrammar g) (log : ℕ → File) (low : ℕ) (at : Place) (tail : Tail) → LogStands g log low at [] tail
-    → LogStands g (with_file log at.seg (with_change (log at.seg) (Cut at.off))) low at [] Cutting
+pub log_cut : (g : Grammar) (laws : IsGrammar g) (log : ℕ → File) (low : ℕ) (at : Place) (tail : Tail) → FilesHoldLog g log low at [] tail
+    → FilesHoldLog g (with_file log at.seg (with_change (log at.seg) (Cut at.off))) low at [] Cutting
 log_cut g laws log low at tail s =
     let file = log at.seg in
     let c : Change = Cut at.off in
@@ -164,18 +164,18 @@ log_cut g laws log low at tail s =
       reaches = s.reaches;
       older = file_cases log at.seg new (λ m x. low ≤ m → m < at.seg → x.since ≡ []) (λ le no. absurd (omega (arith, no))) (λ m apart. s.older m);
       below = subst (λ (x : File). Below x at.off) back (below_push file c at.off s.below (λ i lt touch. absurd (omega (arith, lt, touch))) (omega (arith, len)) (λ i lt. slice_get-take at.off (bytes_of (content file)) i lt));
-      stood = subst (λ (x : File). Stood g at.seg x at.off []) back
+      stood = subst (λ (x : File). OnlyTheseStood g at.seg x at.off []) back
           (each_change file c (λ o. g.frame_at at.seg at.off (bytes_of o) ≡ None) s.stood (none_past g laws at.seg at.off (take at.off (bytes_of (content file))) (omega (arith, len))));
       above = file_cases log at.seg new (λ m x. at.seg < m → (k : ℕ) → k ≤ length x.since → length (bytes_of (at_change x k)) ≤ 0) (λ no. absurd (omega (arith, no))) (λ m apart. s.above m);
       tail_is = (refl, subst (λ (x : File). length (bytes_of (content x)) ≡ at.off) back (ap (λ (o : Option (List ℕ)). length (bytes_of o)) (content_change file c) ∙ len));
     }
 
 -- The last segment is forced, and the frames that were pending in it are lasting.
-pub log_force : (g : Grammar) (laws : IsGrammar g) (log : ℕ → File) (low : ℕ) (at : Place) (pending : List Frame) → LogStands g log low at pending Ready → Plain pending
-    → LogStands g (with_file log at.seg (all_forced (log at.seg))) low (record { seg = at.seg; off = at.off + sizes pending }) [] Ready
+pub log_force : (g : Grammar) (laws : IsGrammar g) (log : ℕ → File) (low : ℕ) (at : Place) (pending : List Frame) → FilesHoldLog g log low at pending Ready → HasNoSeal pending
+    → FilesHoldLog g (with_file log at.seg (all_forced (log at.seg))) low (record { seg = at.seg; off = at.off + frames_len pending }) [] Ready
 log_force g laws log low at pending s plain =
     let file = log at.seg in
-    let end = at.off + sizes pending in
+    let end = at.off + frames_len pending in
     let w = s.tail_is in
     let new : File = all_forced file in
     let back : new ≡ with_file log at.seg new at.seg = sym (file_here log at.seg new) in
@@ -183,7 +183,7 @@ log_force g laws log low at pending s plain =
       reaches = s.reaches;
       older = file_cases log at.seg new (λ m x. low ≤ m → m < at.seg → x.since ≡ []) (λ le no. absurd (omega (arith, no))) (λ m apart. s.older m);
       below = subst (λ (x : File). Below x end) back (below_less new end (length (bytes_of (content file))) (omega (arith, w.exact)) (quiet_below new refl));
-      stood = subst (λ (x : File). Stood g at.seg x end []) back (forced_change file (λ o. g.frame_at at.seg end (bytes_of o) ≡ None) (none_past g laws at.seg end (bytes_of (content file)) (omega (arith, w.exact))));
+      stood = subst (λ (x : File). OnlyTheseStood g at.seg x end []) back (forced_change file (λ o. g.frame_at at.seg end (bytes_of o) ≡ None) (none_past g laws at.seg end (bytes_of (content file)) (omega (arith, w.exact))));
       above = file_cases log at.seg new (λ m x. at.seg < m → (k : ℕ) → k ≤ length x.since → length (bytes_of (at_change x k)) ≤ 0) (λ no. absurd (omega (arith, no))) (λ m apart. s.above m);
       tail_is = record {
         run = tt;
@@ -193,8 +193,8 @@ log_force g laws log low at pending s plain =
     }
 
 -- Where the last pending frame is a SEAL, the log ends in the next segment once it is forced.
-pub log_force_sealed : (g : Grammar) (laws : IsGrammar g) (log : ℕ → File) (low : ℕ) (at : Place) (pending : List Frame) → LogStands g log low at pending Ready
-    → LogStands g (with_file log at.seg (all_forced (log at.seg))) low (record { seg = at.seg + 1; off = 0 }) [] Loose
+pub log_force_sealed : (g : Grammar) (laws : IsGrammar g) (log : ℕ → File) (low : ℕ) (at : Place) (pending : List Frame) → FilesHoldLog g log low at pending Ready
+    → FilesHoldLog g (with_file log at.seg (all_forced (log at.seg))) low (record { seg = at.seg + 1; off = 0 }) [] Loose
 log_force_sealed g laws log low at pending s =
     let file = log at.seg in
     let new : File = all_forced file in
@@ -204,14 +204,14 @@ log_force_sealed g laws log low at pending s =
       reaches = omega (arith, s.reaches);
       older = file_cases log at.seg new (λ m x. low ≤ m → m < at.seg + 1 → x.since ≡ []) (λ le lt. refl) (λ m apart le lt. s.older m le (omega arith));
       below = record { forced = omega arith; untouched = λ i lt. absurd (omega (arith, lt)); long = λ k le. omega arith; same = λ k le i lt. absurd (omega (arith, lt)) };
-      stood = subst (λ (x : File). Stood g (at.seg + 1) x 0 []) (sym there) (λ k le. none_past g laws (at.seg + 1) 0 (bytes_of (at_change (log (at.seg + 1)) k)) (empty k le));
+      stood = subst (λ (x : File). OnlyTheseStood g (at.seg + 1) x 0 []) (sym there) (λ k le. none_past g laws (at.seg + 1) 0 (bytes_of (at_change (log (at.seg + 1)) k)) (empty k le));
       above = file_cases log at.seg new (λ m x. at.seg + 1 < m → (k : ℕ) → k ≤ length x.since → length (bytes_of (at_change x k)) ≤ 0) (λ isnt. absurd (omega (arith, isnt))) (λ m apart lt. s.above m (omega (arith, lt)));
       tail_is = refl;
     }
 
 -- Once the cut is forced, frames may be written after the log's end.
-pub log_force_cut : (g : Grammar) (laws : IsGrammar g) (log : ℕ → File) (low : ℕ) (at : Place) → LogStands g log low at [] Cutting
-    → LogStands g (with_file log at.seg (all_forced (log at.seg))) low at [] Ready
+pub log_force_cut : (g : Grammar) (laws : IsGrammar g) (log : ℕ → File) (low : ℕ) (at : Place) → FilesHoldLog g log low at [] Cutting
+    → FilesHoldLog g (with_file log at.seg (all_forced (log at.seg))) low at [] Ready
 log_force_cut g laws log low at s =
     let file = log at.seg in
     let exact = s.tail_is.1 in
@@ -221,7 +221,7 @@ log_force_cut g laws log low at s =
       reaches = s.reaches;
       older = file_cases log at.seg new (λ m x. low ≤ m → m < at.seg → x.since ≡ []) (λ le isnt. absurd (omega (arith, isnt))) (λ m apart. s.older m);
       below = subst (λ (x : File). Below x at.off) back (below_less new at.off (length (bytes_of (content file))) (omega (arith, exact)) (quiet_below new refl));
-      stood = subst (λ (x : File). Stood g at.seg x at.off []) back (forced_change file (λ o. g.frame_at at.seg at.off (bytes_of o) ≡ None) (none_past g laws at.seg at.off (bytes_of (content file)) (omega (arith, exact))));
+      stood = subst (λ (x : File). OnlyTheseStood g at.seg x at.off []) back (forced_change file (λ o. g.frame_at at.seg at.off (bytes_of o) ≡ None) (none_past g laws at.seg at.off (bytes_of (content file)) (omega (arith, exact))));
       above = file_cases log at.seg new (λ m x. at.seg < m → (k : ℕ) → k ≤ length x.since → length (bytes_of (at_change x k)) ≤ 0) (λ isnt. absurd (omega (arith, isnt))) (λ m apart. s.above m);
       tail_is = record {
         run = tt;

@@ -9,19 +9,19 @@ use Rattle.pm_frame.specs.Frames.{Frame}
 use Rattle.pm_disk.specs.Files.{bytes_of}
 use Rattle.pm_disk.specs.Worlds.{World, log_forced}
 use Rattle.pm_disk.specs.Images.{Leaves, IsTrueOf}
-use Rattle.pm_segments.specs.Ends.{LogEnd, HasRoom, has_room, place_behind}
+use Rattle.pm_segments.specs.Ends.{LogEnd, HasRoom, has_room, place_after}
 use Rattle.pm_segments.specs.Grammars.{grammar}
-use Rattle.pm_segments.specs.Logs.{IsLog, Loose, Ready, Plain}
-use Rattle.pm_segments.specs.Steps.{Step, Append, Force, step_end, next_segment, end_after, DoesSome, seal_frame, turn_steps, roll_steps, room_steps, roomy, rolled, grown, append_steps, steps_of}
-use Rattle.pm_segments.specs.Written.{is_sealed, Written, tail_forced, next_written, written_after, IsWritten, IsRecordFrame, IsOpen}
+use Rattle.pm_segments.specs.Logs.{IsLog, Loose, Ready, HasNoSeal}
+use Rattle.pm_segments.specs.Steps.{Step, Append, Force, step_end, next_segment, end_after, DoesPrefix, seal_frame, enter_steps, roll_steps, room_steps, roomy, rolled, grown, append_steps, steps_of}
+use Rattle.pm_segments.specs.Written.{is_sealed, Written, tail_forced, next_written, written_after, IsWritten, IsRecordFrame, LogIsOpen}
 use Rattle.pm_segments.proofs.AppendLaw.{append_can, append_tail, append_plain}
 use Rattle.pm_segments.proofs.Runs.{bool_cases}
 use Rattle.pm_segments.proofs.Sealing.{fits_seal, roomy_end}
-use Rattle.pm_segments.proofs.Tracing.{end_after-append, some_none}
+use Rattle.pm_segments.proofs.Tracing.{end_after-append, prefix_none}
 use Rattle.pm_segments.proofs.Writing.{frames_in, frames_in-append, CanAll, step_keeps, crash_law}
 
 -- without a SEAL among them the frames don't end with one
-plain_unsealed : (fs : List Frame) → Plain fs → is_sealed fs ≡ false
+plain_unsealed : (fs : List Frame) → HasNoSeal fs → is_sealed fs ≡ false
 plain_unsealed [] plain = refl
 plain_unsealed (f ∷ []) plain = plain.0
 plain_unsealed (f ∷ h ∷ fs) plain = plain_unsealed (h ∷ fs) plain.1
@@ -31,12 +31,12 @@ pub open_image : (keep : Frame → Bool) (world : World) (low : ℕ) (from end :
     → (left : ℕ → Option (List ℕ)) → ((seg : ℕ) → Leaves (world.log seg) (left seg)) → ((seg : ℕ) → IsTrueOf ((grammar keep).frame_at seg) (world.log seg) (left seg))
     → (n : ℕ) × (length s.lasting ≤ n) × IsLog (grammar keep) (λ seg. bytes_of (left seg)) from (take n (s.lasting ++ s.pending))
 open_image keep world low from end s written left leaves honest =
-    let image = crash_law keep [] world world low from end s written tt (some_none [] end world) left leaves honest in
+    let image = crash_law keep [] world world low from end s written tt (prefix_none [] end world) left leaves honest in
     (image.0, image.1, subst (λ fs. IsLog (grammar keep) (λ seg. bytes_of (left seg)) from (take image.0 fs)) (append-nil (s.lasting ++ s.pending)) image.2)
 
 -- ---- an append
 
-module _ (keep : Frame → Bool) (seals : keep seal_frame ≡ true) (log : LogEnd) (frame : Frame) (is : IsRecordFrame keep frame) (s : Written) (is_open : IsOpen log s) where
+module _ (keep : Frame → Bool) (seals : keep seal_frame ≡ true) (log : LogEnd) (frame : Frame) (is : IsRecordFrame keep frame) (s : Written) (is_open : LogIsOpen log s) where
   abbrev end : Place
   end = log.end
 
@@ -50,7 +50,7 @@ module _ (keep : Frame → Bool) (seals : keep seal_frame ≡ true) (log : LogEn
   sealed full =
       let fits = fits_seal end is_open.room_to_seal in
       ap (λ (c : Bool). frames_in (if c then [] else roll_steps end)) full
-      ∙ ap (λ (c : Bool). let first : List Step = if c then Append seal_frame ∷ [] else [] in frames_in (first ++ turn_steps)) fits
+      ∙ ap (λ (c : Bool). let first : List Step = if c then Append seal_frame ∷ [] else [] in frames_in (first ++ enter_steps)) fits
 
   -- the frames that come before the record: a SEAL where the record doesn't fit
   pub room_frames : (frames_in (room_steps log len) ≡ []) ⊎ (frames_in (room_steps log len) ≡ seal_frame ∷ [])
@@ -65,7 +65,7 @@ module _ (keep : Frame → Bool) (seals : keep seal_frame ≡ true) (log : LogEn
 
   -- where the log ends after it
   pub grown_end : end_after steps end ≡ (grown log frame).end
-  grown_end = end_after-append (room_steps log len) (Append frame ∷ []) end ∙ ap (λ (p : Place). place_behind p frame) (roomy_end log len)
+  grown_end = end_after-append (room_steps log len) (Append frame ∷ []) end ∙ ap (λ (p : Place). place_after p frame) (roomy_end log len)
 
   -- the record fits where it goes
   abbrev Fits : LogEnd → Type 0
@@ -85,7 +85,7 @@ module _ (keep : Frame → Bool) (seals : keep seal_frame ≡ true) (log : LogEn
   grown_seg = roomy_fits.2
 
   -- and is open again
-  pub append_open : end.seg + 2 < 2 ^ 64 → IsOpen (grown log frame) (written_after steps s)
+  pub append_open : end.seg + 2 < 2 ^ 64 → LogIsOpen (grown log frame) (written_after steps s)
   append_open numbered =
       let f = roomy_fits in
       record {
@@ -109,7 +109,7 @@ module _ (keep : Frame → Bool) (seals : keep seal_frame ≡ true) (log : LogEn
   can_try false = can_before (room_steps log len) (Append frame ∷ []) end s (append_can keep seals log frame is s is_open)
 
   -- what a crash at a moment of it leaves
-  pub append_image : (tried : Bool) (old now : World) (low : ℕ) (from : Place) → IsWritten keep old low from end s → DoesSome (steps_of tried log frame) end old now
+  pub append_image : (tried : Bool) (old now : World) (low : ℕ) (from : Place) → IsWritten keep old low from end s → DoesPrefix (steps_of tried log frame) end old now
       → (left : ℕ → Option (List ℕ)) → ((seg : ℕ) → Leaves (now.log seg) (left seg)) → ((seg : ℕ) → IsTrueOf ((grammar keep).frame_at seg) (now.log seg) (left seg))
       → (n : ℕ) × (length s.lasting ≤ n) × IsLog (grammar keep) (λ seg. bytes_of (left seg)) from (take n ((s.lasting ++ s.pending) ++ frames_in (steps_of tried log frame)))
   append_image tried old now low from written some left leaves honest =
@@ -117,13 +117,13 @@ module _ (keep : Frame → Bool) (seals : keep seal_frame ≡ true) (log : LogEn
 
 -- ---- a force
 
-module _ (keep : Frame → Bool) (log : LogEnd) (s : Written) (is_open : IsOpen log s) where
+module _ (keep : Frame → Bool) (log : LogEnd) (s : Written) (is_open : LogIsOpen log s) where
   -- all frames are lasting then
   pub force_written : (world : World) (low : ℕ) (from : Place) → IsWritten keep world low from log.end s → IsWritten keep (log_forced log.end.seg world) low from log.end (next_written Force s)
   force_written world low from written = step_keeps keep Force world low from log.end s written (inl is_open.ready)
 
   -- and the log is open
-  pub force_open : IsOpen log (next_written Force s)
+  pub force_open : LogIsOpen log (next_written Force s)
   force_open = record {
     limits = is_open.limits;
     ready = ap (λ t. tail_forced t s.pending) is_open.ready ∙ ap (λ (b : Bool). if b then Loose else Ready) (plain_unsealed s.pending is_open.plain);

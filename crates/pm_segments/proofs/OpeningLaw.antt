@@ -9,10 +9,10 @@ use Rattle.pm_disk.specs.Images.{Leaves, IsTrueOf}
 use Rattle.pm_segments.specs.Ends.{cut_at, CutsTail}
 use Rattle.pm_segments.specs.Grammars.{grammar}
 use Rattle.pm_segments.specs.Logs.{Grammar, IsLog, HasFrames, Tail, Loose, Cutting, Ready, after_frames, next, is_seal, contents}
-use Rattle.pm_segments.specs.Written.{Standing, IsWritten}
+use Rattle.pm_segments.specs.Written.{HoldsLog, IsWritten}
 use Rattle.pm_segments.proofs.Laws.{grammar_laws}
 use Rattle.pm_segments.proofs.Runs.{bool_cases, next-plain, next-seal}
-use Rattle.pm_segments.proofs.Standing.{quiet_standing, standing_cut, standing_force_cut, standing_image}
+use Rattle.pm_segments.proofs.HeldLog.{quiet_standing, standing_cut, standing_force_cut, standing_image}
 
 -- a run ends within the file of its last segment
 pub run_within : (keep : Frame → Bool) (c : ℕ → List ℕ) (p : Place) (fs : List Frame) → p.off ≤ length (c p.seg) → HasFrames (grammar keep) c p fs → (after_frames p fs).off ≤ length (c (after_frames p fs).seg)
@@ -32,13 +32,13 @@ module _ (keep : Frame → Bool) (world : World) (low : ℕ) (from : Place) (fs 
   abbrev end : Place
   end = after_frames from fs
 
-  loose : Standing g world.log low from end fs [] Loose
+  loose : HoldsLog g world.log low from end fs [] Loose
   loose = quiet_standing g (grammar_laws keep) world.log low from end fs quiet kept is_log refl (run_within keep (contents world.log) from fs long is_log.run)
 
-  cut : Standing g (cut_at end world).log low from end fs [] Cutting
+  cut : HoldsLog g (cut_at end world).log low from end fs [] Cutting
   cut = standing_cut g (grammar_laws keep) world.log low from end fs Loose loose
 
-  forced : Standing g (log_forced end.seg (cut_at end world)).log low from end fs [] Ready
+  forced : HoldsLog g (log_forced end.seg (cut_at end world)).log low from end fs [] Ready
   forced = standing_force_cut g (grammar_laws keep) (cut_at end world).log low from end fs cut
 
   -- once the tail is cut and forced, the log is ready for more
@@ -59,7 +59,7 @@ module _ (keep : Frame → Bool) (world : World) (low : ℕ) (from : Place) (fs 
       leaves_all : World → Type 0
       leaves_all w = (left : ℕ → Option (List ℕ)) → ((seg : ℕ) → Leaves (w.log seg) (left seg)) → ((seg : ℕ) → IsTrueOf (g.frame_at seg) (w.log seg) (left seg)) → IsLog g (λ seg. bytes_of (left seg)) from fs
 
-      by : (w : World) (tail : Tail) → Standing g w.log low from end fs [] tail → leaves_all w
+      by : (w : World) (tail : Tail) → HoldsLog g w.log low from end fs [] tail → leaves_all w
       by w tail stands left leaves honest =
           let image = standing_image g (grammar_laws keep) w.log low from end fs [] tail stands left leaves honest in
           let none : take image.0 [] ≡ [] = take_all image.0 [] (omega arith) in

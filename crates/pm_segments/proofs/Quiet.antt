@@ -8,7 +8,7 @@ use Rattle.pm_disk.specs.Files.{File, Change, with_change, all_forced}
 use Rattle.pm_disk.specs.Worlds.{World, log_changed, log_forced}
 use Rattle.pm_disk.proofs.Families.{file_here, file_there}
 use Rattle.pm_segments.specs.Ends.{LogEnd, has_room, written, CutsTail}
-use Rattle.pm_segments.specs.Steps.{Step, Append, Force, NextSegment, step_end, step_world, end_after, world_after, DoesSome, seal_frame, can_seal, seal_steps, turn_steps, roll_steps, append_steps}
+use Rattle.pm_segments.specs.Steps.{Step, Append, Force, NextSegment, step_end, step_world, end_after, world_after, DoesPrefix, seal_frame, can_seal, seal_steps, enter_steps, roll_steps, append_steps}
 use Rattle.pm_segments.specs.Written.{IsQuietBut, ChangesLog}
 use Rattle.pm_segments.proofs.Runs.{bool_cases}
 
@@ -28,16 +28,16 @@ forced_quiet seg world quiet n = elim (eq_cases n seg) [
 
 -- a roll, and the record after it
 rolled_quiet : (end : Place) (frame : Frame) (world : World) → IsQuietBut world end.seg → (first : List Step) → (first ≡ []) ⊎ (first ≡ Append seal_frame ∷ [])
-    → IsQuietBut (world_after ((first ++ turn_steps) ++ Append frame ∷ []) end world) (end_after ((first ++ turn_steps) ++ Append frame ∷ []) end).seg
+    → IsQuietBut (world_after ((first ++ enter_steps) ++ Append frame ∷ []) end world) (end_after ((first ++ enter_steps) ++ Append frame ∷ []) end).seg
 rolled_quiet end frame world quiet first which = elim which [
-  | inl none ↦ subst (λ steps. IsQuietBut (world_after ((steps ++ turn_steps) ++ Append frame ∷ []) end world) (end_after ((steps ++ turn_steps) ++ Append frame ∷ []) end).seg) (sym none)
-      (behind end world quiet)
-  | inr one ↦ subst (λ steps. IsQuietBut (world_after ((steps ++ turn_steps) ++ Append frame ∷ []) end world) (end_after ((steps ++ turn_steps) ++ Append frame ∷ []) end).seg) (sym one)
-      (behind (step_end (Append seal_frame) end) (written end seal_frame world) (changed_quiet end.seg _ world quiet))
+  | inl none ↦ subst (λ steps. IsQuietBut (world_after ((steps ++ enter_steps) ++ Append frame ∷ []) end world) (end_after ((steps ++ enter_steps) ++ Append frame ∷ []) end).seg) (sym none)
+      (entered end world quiet)
+  | inr one ↦ subst (λ steps. IsQuietBut (world_after ((steps ++ enter_steps) ++ Append frame ∷ []) end world) (end_after ((steps ++ enter_steps) ++ Append frame ∷ []) end).seg) (sym one)
+      (entered (step_end (Append seal_frame) end) (written end seal_frame world) (changed_quiet end.seg _ world quiet))
 ]
   where
-    behind : (at : Place) (w : World) → IsQuietBut w at.seg → IsQuietBut (world_after (turn_steps ++ Append frame ∷ []) at w) (end_after (turn_steps ++ Append frame ∷ []) at).seg
-    behind at w still =
+    entered : (at : Place) (w : World) → IsQuietBut w at.seg → IsQuietBut (world_after (enter_steps ++ Append frame ∷ []) at w) (end_after (enter_steps ++ Append frame ∷ []) at).seg
+    entered at w still =
         let next : Place = step_end NextSegment at in
         let forced = log_forced at.seg w in
         let cut = step_world NextSegment at forced in
@@ -89,8 +89,8 @@ steps_change (step ∷ steps) end world =
     log_then world (step_world step end world) (world_after (step ∷ steps) end world) (step_changes step end world)
     (steps_change steps (step_end step end) (step_world step end world))
 
-pub some_change : (steps : List Step) (end : Place) (old now : World) → DoesSome steps end old now → ChangesLog old now
-some_change steps end old now some = subst (λ w. ChangesLog old w) (sym some.2) (steps_change (take some.0 steps) end old)
+pub prefix_changes : (steps : List Step) (end : Place) (old now : World) → DoesPrefix steps end old now → ChangesLog old now
+prefix_changes steps end old now some = subst (λ w. ChangesLog old w) (sym some.2) (steps_change (take some.0 steps) end old)
 
 pub cuts_change : (end : Place) (old now : World) → CutsTail end old now → ChangesLog old now
 cuts_change end old now cuts = elim cuts [

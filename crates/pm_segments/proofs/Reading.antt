@@ -7,15 +7,15 @@ use Rattle.pm_types.specs.declared.place.Place.{Place}
 use Rattle.pm_frame.specs.Frames.{Frame, frame_at}
 use Rattle.pm_frame.proofs.FrameAt.{frame_at-some}
 use Rattle.pm_disk.specs.Worlds.{World}
-use Rattle.pm_segments.specs.Ends.{place_behind}
+use Rattle.pm_segments.specs.Ends.{place_after}
 use Rattle.pm_segments.specs.Grammars.{place, kept, all_frames}
 use Rattle.pm_segments.specs.Logs.{HasFrames, after_frames, next, is_seal, contents}
-use Rattle.pm_segments.specs.Scans.{Scanned, behind_place, stands_next, following, is_last, Advances}
+use Rattle.pm_segments.specs.Scans.{Scanned, bytes_after, frame_ahead, following, is_last, Advances}
 use Rattle.pm_segments.specs.Read.{point, log_end, HasScanned, IsLogFrom}
 use Rattle.pm_segments.proofs.Laws.{grammar_laws}
 use Rattle.pm_segments.proofs.LogSteps.{run_join}
 use Rattle.pm_segments.proofs.Runs.{bool_cases, option_cases, next-plain, next-seal}
-use Rattle.pm_segments.proofs.Standing.{behind-append}
+use Rattle.pm_segments.proofs.HeldLog.{after_frames-append}
 
 log_end-append : (p : Place) (fs : List Frame) (f : Frame) → log_end p (fs ++ f ∷ []) ≡ following (log_end p fs) f
 log_end-append p [] f = refl
@@ -28,14 +28,14 @@ point_over : (scan : Scanned) → scan.is_over ≡ true → point scan ≡ recor
 point_over scan over = ap (λ (b : Bool). let p : Place = if b then record { seg = scan.next.seg + 1; off = 0 } else scan.next in p) over
 
 -- the frame that stands next, by whether the log is over
-pub stands_going : (scan : Scanned) (world : World) → scan.is_over ≡ false → stands_next scan world ≡ frame_at scan.next (behind_place scan.next world)
-stands_going scan world going = ap (λ (b : Bool). if b then None else frame_at scan.next (behind_place scan.next world)) going
+pub stands_going : (scan : Scanned) (world : World) → scan.is_over ≡ false → frame_ahead scan world ≡ frame_at scan.next (bytes_after scan.next world)
+stands_going scan world going = ap (λ (b : Bool). if b then None else frame_at scan.next (bytes_after scan.next world)) going
 
-pub going_on : (scan : Scanned) (world : World) (f : Frame) → stands_next scan world ≡ Some f → scan.is_over ≡ false
+pub going_on : (scan : Scanned) (world : World) (f : Frame) → frame_ahead scan world ≡ Some f → scan.is_over ≡ false
 going_on scan world f stands = elim (bool_cases scan.is_over) [
   | inr going ↦ going
   | inl over ↦
-      let none : None ≡ Some f = sym (ap (λ (b : Bool). if b then None else frame_at scan.next (behind_place scan.next world)) over) ∙ stands in
+      let none : None ≡ Some f = sym (ap (λ (b : Bool). if b then None else frame_at scan.next (bytes_after scan.next world)) over) ∙ stands in
       absurd cc
 ]
 
@@ -47,20 +47,20 @@ follows : (p : Place) (f : Frame) (new : Scanned) → new.next ≡ following p f
 follows p f new to over = elim (bool_cases (is_seal f)) [
   | inr plain ↦
       let going : new.is_over ≡ false = over ∙ ap (λ b. b && is_last p.seg) plain in
-      let there : following p f ≡ place_behind p f = ap (λ (b : Bool). let q : Place = if b && not (is_last p.seg) then record { seg = p.seg + 1; off = 0 } else place_behind p f in q) plain in
+      let there : following p f ≡ place_after p f = ap (λ (b : Bool). let q : Place = if b && not (is_last p.seg) then record { seg = p.seg + 1; off = 0 } else place_after p f in q) plain in
       (next-plain p f plain ∙ sym there ∙ sym to ∙ sym (point_going new going), λ ended. let isnt : true ≡ false = sym ended ∙ going in absurd cc)
   | inl sealed ↦ elim (bool_cases (is_last p.seg)) [
     | inr inner ↦
         let going : new.is_over ≡ false = over ∙ ap (λ b. b && is_last p.seg) sealed ∙ inner in
         let there : following p f ≡ record { seg = p.seg + 1; off = 0 } =
-        ap (λ (b : Bool). let q : Place = if b && not (is_last p.seg) then record { seg = p.seg + 1; off = 0 } else place_behind p f in q) sealed
-        ∙ ap (λ (b : Bool). let q : Place = if not b then record { seg = p.seg + 1; off = 0 } else place_behind p f in q) inner in
+        ap (λ (b : Bool). let q : Place = if b && not (is_last p.seg) then record { seg = p.seg + 1; off = 0 } else place_after p f in q) sealed
+        ∙ ap (λ (b : Bool). let q : Place = if not b then record { seg = p.seg + 1; off = 0 } else place_after p f in q) inner in
         (next-seal p f sealed ∙ sym there ∙ sym to ∙ sym (point_going new going), λ ended. let isnt : true ≡ false = sym ended ∙ going in absurd cc)
     | inl last ↦
         let ended : new.is_over ≡ true = over ∙ ap (λ b. b && is_last p.seg) sealed ∙ last in
-        let there : following p f ≡ place_behind p f =
-        ap (λ (b : Bool). let q : Place = if b && not (is_last p.seg) then record { seg = p.seg + 1; off = 0 } else place_behind p f in q) sealed
-        ∙ ap (λ (b : Bool). let q : Place = if not b then record { seg = p.seg + 1; off = 0 } else place_behind p f in q) last in
+        let there : following p f ≡ place_after p f =
+        ap (λ (b : Bool). let q : Place = if b && not (is_last p.seg) then record { seg = p.seg + 1; off = 0 } else place_after p f in q) sealed
+        ∙ ap (λ (b : Bool). let q : Place = if not b then record { seg = p.seg + 1; off = 0 } else place_after p f in q) last in
         let same : new.next.seg ≡ p.seg = ap (λ (q : Place). q.seg) (to ∙ there) in (
           next-seal p f sealed ∙ ap (λ n. let q : Place = record { seg = n + 1; off = 0 } in q) (sym same) ∙ sym (point_over new ended),
           λ is. omega (arith, same, is_last-true p.seg last),
@@ -78,7 +78,7 @@ scan_starts world from scan is going = record {
 }
 
 -- one frame more
-pub scan_goes : (world : World) (from : Place) (fs : List Frame) (old new : Scanned) (f : Frame) → HasScanned world from fs old → stands_next old world ≡ Some f → Advances old new (Some f) → HasScanned world from (fs ++ f ∷ []) new
+pub scan_goes : (world : World) (from : Place) (fs : List Frame) (old new : Scanned) (f : Frame) → HasScanned world from fs old → frame_ahead old world ≡ Some f → Advances old new (Some f) → HasScanned world from (fs ++ f ∷ []) new
 scan_goes world from fs old new f was stands advances =
     let going = going_on old world f stands in
     let there : after_frames from fs ≡ old.next = was.goes_on ∙ point_going old going in
@@ -87,20 +87,20 @@ scan_goes world from fs old new f was stands advances =
     record {
       run = run_join all_frames (grammar_laws (λ _. true)) (contents world.log) from fs (f ∷ []) was.run
           (subst (λ (q : Place). HasFrames all_frames (contents world.log) q (f ∷ [])) (sym there) (here, tt));
-      goes_on = behind-append from fs (f ∷ []) ∙ ap (λ (q : Place). next q f) there ∙ to.0;
+      goes_on = after_frames-append from fs (f ∷ []) ∙ ap (λ (q : Place). next q f) there ∙ to.0;
       end = log_end-append from fs f ∙ ap (λ (q : Place). following q f) was.end ∙ sym advances.1;
       last = to.1;
     }
 
 -- no frame has a place in a segment after the last one
-none_behind : (seg off : ℕ) (bytes : List ℕ) → seg ≡ 2 ^ 64 → all_frames.frame_at seg off bytes ≡ None
-none_behind seg off bytes is = elim (option_cases (frame_at (place seg off) (drop off bytes))) [
+none_after : (seg off : ℕ) (bytes : List ℕ) → seg ≡ 2 ^ 64 → all_frames.frame_at seg off bytes ≡ None
+none_after seg off bytes is = elim (option_cases (frame_at (place seg off) (drop off bytes))) [
   | inl none ↦ ap (kept (λ _. true)) none
   | inr some ↦ let head = (frame_at-some (place seg off) (drop off bytes) some.0 some.1).0 in absurd (omega (arith, head.numbered, is))
 ]
 
 -- none any more: those are the log, and the scan tells where it ends
-pub scan_ends : (world : World) (from : Place) (fs : List Frame) (old new : Scanned) → HasScanned world from fs old → stands_next old world ≡ None → Advances old new None → IsLogFrom world from fs × (new.place ≡ log_end from fs)
+pub scan_ends : (world : World) (from : Place) (fs : List Frame) (old new : Scanned) → HasScanned world from fs old → frame_ahead old world ≡ None → Advances old new None → IsLogFrom world from fs × (new.place ≡ log_end from fs)
 scan_ends world from fs old new was stands advances = (record { run = was.run; ends = ends }, advances.0 ∙ sym was.end)
   where
     none_at : Place → Type 0
@@ -109,7 +109,7 @@ scan_ends world from fs old new was stands advances = (record { run = was.run; e
     ends : none_at (after_frames from fs)
     ends = elim (bool_cases old.is_over) [
       | inr going ↦ subst none_at (sym (was.goes_on ∙ point_going old going)) (ap (kept (λ _. true)) (sym (stands_going old world going) ∙ stands))
-      | inl over ↦ subst none_at (sym (was.goes_on ∙ point_over old over)) (none_behind (old.next.seg + 1) 0 (contents world.log (old.next.seg + 1)) (was.last over))
+      | inl over ↦ subst none_at (sym (was.goes_on ∙ point_over old over)) (none_after (old.next.seg + 1) 0 (contents world.log (old.next.seg + 1)) (was.last over))
     ]
 
 -- a place has one log

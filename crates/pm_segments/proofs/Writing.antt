@@ -11,12 +11,12 @@ use Rattle.pm_disk.specs.Worlds.{World, log_changed, log_forced}
 use Rattle.pm_disk.specs.Images.{Leaves, IsTrueOf}
 use Rattle.pm_segments.specs.Ends.{written}
 use Rattle.pm_segments.specs.Grammars.{grammar}
-use Rattle.pm_segments.specs.Logs.{Grammar, IsLog, Tail, Loose, Cutting, Ready, Plain, sizes, after_frames}
-use Rattle.pm_segments.specs.Steps.{Step, Append, Force, NextSegment, next_segment, next_begin, step_end, step_world, end_after, world_after, DoesSome}
-use Rattle.pm_segments.specs.Written.{Standing, Written, tail_forced, next_written, written_after, IsWritten}
+use Rattle.pm_segments.specs.Logs.{Grammar, IsLog, Tail, Loose, Cutting, Ready, HasNoSeal, frames_len, after_frames}
+use Rattle.pm_segments.specs.Steps.{Step, Append, Force, NextSegment, next_segment, next_begin, step_end, step_world, end_after, world_after, DoesPrefix}
+use Rattle.pm_segments.specs.Written.{HoldsLog, Written, tail_forced, next_written, written_after, IsWritten}
 use Rattle.pm_segments.proofs.Laws.{grammar_laws}
-use Rattle.pm_segments.proofs.LogSteps.{sizes-append}
-use Rattle.pm_segments.proofs.Standing.{Open, Sealed, pending_cases, standing_append, standing_force, standing_force_sealed, standing_cut, standing_force_cut, standing_image}
+use Rattle.pm_segments.proofs.LogSteps.{frames_len-append}
+use Rattle.pm_segments.proofs.HeldLog.{Open, Sealed, pending_cases, standing_append, standing_force, standing_force_sealed, standing_cut, standing_force_cut, standing_image}
 
 -- the frames that steps append
 abbrev pub frames_in : List Step → List Frame
@@ -31,7 +31,7 @@ module _ (keep : Frame → Bool) where
 
   -- when a step may be made
   abbrev pub CanStep : Step → Place → Written → Type 0
-  CanStep (Append frame) end s = (s.tail ≡ Ready) × Plain s.pending × (g.fits end.seg end.off frame ≡ true)
+  CanStep (Append frame) end s = (s.tail ≡ Ready) × HasNoSeal s.pending × (g.fits end.seg end.off frame ≡ true)
   CanStep Force end s = (s.tail ≡ Ready) ⊎ (s.tail ≡ Cutting)
   CanStep NextSegment end s = (s.tail ≡ Loose) × (end.seg + 1 < 2 ^ 64)
 
@@ -45,12 +45,12 @@ module _ (keep : Frame → Bool) where
     abbrev state : List Frame → Tail → Written
     state fs tail = record { at = at; lasting = lasting; pending = fs; tail = tail }
 
-    keeps_append : (f : Frame) → IsWritten keep world low from end (state pending Ready) → Plain pending → g.fits end.seg end.off f ≡ true → IsWritten keep (written end f world) low from (step_end (Append f) end) (state (pending ++ f ∷ []) Ready)
+    keeps_append : (f : Frame) → IsWritten keep world low from end (state pending Ready) → HasNoSeal pending → g.fits end.seg end.off f ≡ true → IsWritten keep (written end f world) low from (step_end (Append f) end) (state (pending ++ f ∷ []) Ready)
     keeps_append f s open_ fits =
-        let there : Place = record { seg = at.seg; off = at.off + sizes pending } in
-        let more : at.off + sizes pending + frame_len f ≡ at.off + sizes (pending ++ f ∷ []) = omega (arith, sizes-append pending (f ∷ [])) in
+        let there : Place = record { seg = at.seg; off = at.off + frames_len pending } in
+        let more : at.off + frames_len pending + frame_len f ≡ at.off + frames_len (pending ++ f ∷ []) = omega (arith, frames_len-append pending (f ∷ [])) in
         record {
-          standing = subst (λ (p : Place). g.fits p.seg p.off f ≡ true → Standing g (written p f world).log low from at lasting (pending ++ f ∷ []) Ready) (sym s.ends)
+          standing = subst (λ (p : Place). g.fits p.seg p.off f ≡ true → HoldsLog g (written p f world).log low from at lasting (pending ++ f ∷ []) Ready) (sym s.ends)
               (λ fits_there. standing_append g (grammar_laws keep) world.log low from at lasting pending f s.standing open_ fits_there) fits;
           ends = ap (λ (p : Place). let q : Place = record { seg = p.seg; off = p.off + frame_len f } in q) s.ends ∙ ap (λ n. let q : Place = record { seg = at.seg; off = n } in q) more;
         }
@@ -62,10 +62,10 @@ module _ (keep : Frame → Bool) where
         subst (λ n. IsWritten keep (log_forced n world) low from end (next_written Force (state pending Ready))) same_seg
         (elim (pending_cases g laws at.seg at.off (world.log at.seg) pending s.standing.stands.stood) [
           | Open plain last to ↦
-              let there : Place = record { seg = at.seg; off = at.off + sizes pending } in
+              let there : Place = record { seg = at.seg; off = at.off + frames_len pending } in
               let forced = standing_force g laws world.log low from at lasting pending s.standing plain to in
               let tail : Ready ≡ tail_forced Ready pending = ap (λ (b : Bool). if b then Loose else Ready) (sym last) in
-              let nothing : at.off + sizes pending ≡ at.off + sizes pending + 0 = omega arith in
+              let nothing : at.off + frames_len pending ≡ at.off + frames_len pending + 0 = omega arith in
               let done : IsWritten keep (log_forced at.seg world) low from end (record { at = there; lasting = lasting ++ pending; pending = []; tail = Ready }) = record {
                 standing = forced;
                 ends = s.ends ∙ ap (λ n. let q : Place = record { seg = at.seg; off = n } in q) nothing;
@@ -86,20 +86,20 @@ module _ (keep : Frame → Bool) where
     keeps_next s numbered =
         let later : next_segment end.seg ≡ end.seg + 1 = grind (arith, nat_tests) in
         let there : at ≡ record { seg = next_segment end.seg; off = 0 } = s.ends.0 ∙ ap (λ n. let q : Place = record { seg = n; off = 0 } in q) (sym later) in
-        let empty : Standing g world.log low from at lasting [] Loose = subst (λ (l : List Frame). Standing g world.log low from at lasting l Loose) s.ends.1 s.standing in
+        let empty : HoldsLog g world.log low from at lasting [] Loose = subst (λ (l : List Frame). HoldsLog g world.log low from at lasting l Loose) s.ends.1 s.standing in
         let cut = standing_cut g (grammar_laws keep) world.log low from at lasting Loose empty in
-        let named : Standing g (log_changed (next_segment end.seg) (Cut 0) world).log low from at lasting [] Cutting =
-        subst (λ (p : Place). Standing g (log_changed p.seg (Cut p.off) world).log low from at lasting [] Cutting) there cut in
-        record { standing = subst (λ (l : List Frame). Standing g (log_changed (next_segment end.seg) (Cut 0) world).log low from at lasting l Cutting) (sym s.ends.1) named; ends = (sym there, s.ends.1) }
+        let named : HoldsLog g (log_changed (next_segment end.seg) (Cut 0) world).log low from at lasting [] Cutting =
+        subst (λ (p : Place). HoldsLog g (log_changed p.seg (Cut p.off) world).log low from at lasting [] Cutting) there cut in
+        record { standing = subst (λ (l : List Frame). HoldsLog g (log_changed (next_segment end.seg) (Cut 0) world).log low from at lasting l Cutting) (sym s.ends.1) named; ends = (sym there, s.ends.1) }
 
     keeps_force_cut : IsWritten keep world low from end (state pending Cutting) → IsWritten keep (log_forced end.seg world) low from end (next_written Force (state pending Cutting))
     keeps_force_cut s =
         let same_seg : at.seg ≡ end.seg = sym (ap (λ (p : Place). p.seg) s.ends.0) in
-        let cut : Standing g world.log low from at lasting [] Cutting = subst (λ (l : List Frame). Standing g world.log low from at lasting l Cutting) s.ends.1 s.standing in
+        let cut : HoldsLog g world.log low from at lasting [] Cutting = subst (λ (l : List Frame). HoldsLog g world.log low from at lasting l Cutting) s.ends.1 s.standing in
         let forced = standing_force_cut g (grammar_laws keep) world.log low from at lasting cut in
         let e : at.off ≡ at.off + 0 = omega arith in
         let done : IsWritten keep (log_forced at.seg world) low from end (record { at = at; lasting = lasting ++ []; pending = []; tail = Ready }) = record {
-          standing = subst (λ (l : List Frame). Standing g (log_forced at.seg world).log low from at l [] Ready) (sym (append-nil lasting)) forced;
+          standing = subst (λ (l : List Frame). HoldsLog g (log_forced at.seg world).log low from at l [] Ready) (sym (append-nil lasting)) forced;
           ends = s.ends.0 ∙ ap (λ n. let q : Place = record { seg = at.seg; off = n } in q) e;
         } in
         subst (λ n. IsWritten keep (log_forced n world) low from end (next_written Force (state pending Cutting))) same_seg
@@ -131,7 +131,7 @@ module _ (keep : Frame → Bool) where
   can_first (suc k) (step ∷ steps) end s can = (can.0, can_first k steps (step_end step end) (next_written step s) can.1)
 
   -- at each moment among them the log is written so far
-  pub moment_keeps : (steps : List Step) (old now : World) (low : ℕ) (from end : Place) (s : Written) → IsWritten keep old low from end s → CanAll steps end s → DoesSome steps end old now
+  pub moment_keeps : (steps : List Step) (old now : World) (low : ℕ) (from end : Place) (s : Written) → IsWritten keep old low from end s → CanAll steps end s → DoesPrefix steps end old now
       → (k : ℕ) × (k ≤ length steps) × IsWritten keep now low from (end_after (take k steps) end) (written_after (take k steps) s)
   moment_keeps steps old now low from end s is can some =
       let k = some.0 in
@@ -167,7 +167,7 @@ front lasting pending rest n le =
 
 -- What a crash at any moment among these steps leaves, as long as no sum is right by chance: a first part of the log
 -- that has all that was lasting.
-pub crash_law : (keep : Frame → Bool) (steps : List Step) (old now : World) (low : ℕ) (from end : Place) (s : Written) → IsWritten keep old low from end s → CanAll keep steps end s → DoesSome steps end old now
+pub crash_law : (keep : Frame → Bool) (steps : List Step) (old now : World) (low : ℕ) (from end : Place) (s : Written) → IsWritten keep old low from end s → CanAll keep steps end s → DoesPrefix steps end old now
     → (left : ℕ → Option (List ℕ)) → ((seg : ℕ) → Leaves (now.log seg) (left seg)) → ((seg : ℕ) → IsTrueOf ((grammar keep).frame_at seg) (now.log seg) (left seg))
     → (n : ℕ) × (length s.lasting ≤ n) × IsLog (grammar keep) (λ seg. bytes_of (left seg)) from (take n ((s.lasting ++ s.pending) ++ frames_in steps))
 crash_law keep steps old now low from end s is can some left leaves honest =

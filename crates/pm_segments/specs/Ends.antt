@@ -48,13 +48,13 @@ abbrev pub counted : ℕ → ℕ → ℕ
 counted total more = min (total + more) (2 ^ 64 - 1)
 
 -- the place after a frame in its segment
-abbrev pub place_behind : Place → Frame → Place
-place_behind place frame = record { seg = place.seg; off = place.off + frame_len frame }
+abbrev pub place_after : Place → Frame → Place
+place_after place frame = record { seg = place.seg; off = place.off + frame_len frame }
 
 -- the log after a frame more
 abbrev pub moved : LogEnd → Frame → LogEnd
 moved log frame = record log {
-  end = place_behind log.end frame;
+  end = place_after log.end frame;
   tried = true;
   total = counted log.total (frame_len frame);
 }

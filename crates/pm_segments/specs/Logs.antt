@@ -6,10 +6,6 @@ use Rattle.pm_frame.specs.Frames.{Frame, frame_len}
 use Rattle.pm_disk.specs.Files.{File, bytes_of, content, at_change}
 use Rattle.pm_disk.specs.Images.{Below}
 
--- how many bytes a frame has
-abbrev pub size : Frame → ℕ
-size f = frame_len f
-
 -- whether the log goes on in the next segment after a frame
 abbrev pub is_seal : Frame → Bool
 is_seal f = f.kind == SEAL
@@ -28,7 +24,7 @@ abbrev pub next : Place → Frame → Place
 next p f =
     if is_seal f
     then record { seg = p.seg + 1; off = 0 }
-    else record { seg = p.seg; off = p.off + size f }
+    else record { seg = p.seg; off = p.off + frame_len f }
 
 -- the place after frames that stand one after the other
 abbrev pub after_frames : Place → List Frame → Place
@@ -48,39 +44,39 @@ pub record IsLog (g : Grammar) (bytes : ℕ → List ℕ) (p : Place) (fs : List
   pub clear : (seg : ℕ) → (after_frames p fs).seg < seg → bytes seg ≡ []
 
 -- how many bytes these frames have
-abbrev pub sizes : List Frame → ℕ
-sizes [] = 0
-sizes (f ∷ fs) = size f + sizes fs
+abbrev pub frames_len : List Frame → ℕ
+frames_len [] = 0
+frames_len (f ∷ fs) = frame_len f + frames_len fs
 
 -- what the segments' files hold now
 abbrev pub contents : (ℕ → File) → ℕ → List ℕ
 contents files n = bytes_of (content (files n))
 
 -- what they held when they were forced last
-abbrev pub forceds : (ℕ → File) → ℕ → List ℕ
-forceds files n = bytes_of (files n).forced
+abbrev pub forced_contents : (ℕ → File) → ℕ → List ℕ
+forced_contents files n = bytes_of (files n).forced
 
 -- Since the last force no other frame stood at these frames' places, nor one after them. Only the
 -- last may be a SEAL.
-abbrev pub Stood : Grammar → ℕ → File → ℕ → List Frame → Type 0
-Stood g seg file off [] = (k : ℕ) → k ≤ length file.since
+abbrev pub OnlyTheseStood : Grammar → ℕ → File → ℕ → List Frame → Type 0
+OnlyTheseStood g seg file off [] = (k : ℕ) → k ≤ length file.since
     → g.frame_at seg off (bytes_of (at_change file k)) ≡ None
-Stood g seg file off (f ∷ fs) =
+OnlyTheseStood g seg file off (f ∷ fs) =
     ((k : ℕ) (h : Frame) → k ≤ length file.since
     → g.frame_at seg off (bytes_of (at_change file k)) ≡ Some h → h ≡ f)
     × (is_seal f ≡ true → fs ≡ [])
-    × (is_seal f ≡ false → Stood g seg file (off + size f) fs)
+    × (is_seal f ≡ false → OnlyTheseStood g seg file (off + frame_len f) fs)
 
 -- the frames stand one after the other in one segment
-abbrev pub RunIn : Grammar → ℕ → List ℕ → ℕ → List Frame → Type 0
-RunIn g seg bytes off [] = Unit {0}
-RunIn g seg bytes off (f ∷ fs) =
-    (g.frame_at seg off bytes ≡ Some f) × RunIn g seg bytes (off + size f) fs
+abbrev pub SegmentHasFrames : Grammar → ℕ → List ℕ → ℕ → List Frame → Type 0
+SegmentHasFrames g seg bytes off [] = Unit {0}
+SegmentHasFrames g seg bytes off (f ∷ fs) =
+    (g.frame_at seg off bytes ≡ Some f) × SegmentHasFrames g seg bytes (off + frame_len f) fs
 
 -- no SEAL is among them
-abbrev pub Plain : List Frame → Type 0
-Plain [] = Unit {0}
-Plain (f ∷ fs) = (is_seal f ≡ false) × Plain fs
+abbrev pub HasNoSeal : List Frame → Type 0
+HasNoSeal [] = Unit {0}
+HasNoSeal (f ∷ fs) = (is_seal f ≡ false) × HasNoSeal fs
 
 -- what is known of the bytes after the log's end
 pub data Tail : Type 0 where
@@ -90,10 +86,10 @@ pub data Tail : Type 0 where
 
 -- the segment's file holds the pending frames and nothing after them, and was never longer
 pub record Writable (g : Grammar) (log : ℕ → File) (at : Place) (pending : List Frame) : Type 0 where
-  pub run : RunIn g at.seg (contents log at.seg) at.off pending
+  pub run : SegmentHasFrames g at.seg (contents log at.seg) at.off pending
   pub short : (k : ℕ) → k ≤ length (log at.seg).since
-      → length (bytes_of (at_change (log at.seg) k)) ≤ at.off + sizes pending
-  pub exact : length (contents log at.seg) ≡ at.off + sizes pending
+      → length (bytes_of (at_change (log at.seg) k)) ≤ at.off + frames_len pending
+  pub exact : length (contents log at.seg) ≡ at.off + frames_len pending
 
 -- the file of the last segment is what is known of its tail
 abbrev pub TailIs : Grammar → (ℕ → File) → Place → List Frame → Tail → Type 0
@@ -103,19 +99,19 @@ TailIs g log at pending Ready = Writable g log at pending
 
 -- What the segments' files are: the log is lasting up to a place, and from there on these frames
 -- were written.
-pub record LogStands (g : Grammar) (log : ℕ → File) (low : ℕ) (at : Place) (pending : List Frame)
+pub record FilesHoldLog (g : Grammar) (log : ℕ → File) (low : ℕ) (at : Place) (pending : List Frame)
     (tail : Tail) : Type 0 where
   pub reaches : low ≤ at.seg
   pub older : (seg : ℕ) → low ≤ seg → seg < at.seg → (log seg).since ≡ []
   pub below : Below (log at.seg) at.off
-  pub stood : Stood g at.seg (log at.seg) at.off pending
+  pub stood : OnlyTheseStood g at.seg (log at.seg) at.off pending
   pub above : (seg : ℕ) → at.seg < seg → (k : ℕ) → k ≤ length (log seg).since
       → length (bytes_of (at_change (log seg) k)) ≤ 0
   pub tail_is : TailIs g log at pending tail
 
 -- these lasting frames lead from a place to the lasting end
-pub record Leads (g : Grammar) (log : ℕ → File) (low : ℕ) (at : Place) (p : Place) (fs : List Frame)
+pub record HasLasting (g : Grammar) (log : ℕ → File) (low : ℕ) (at : Place) (p : Place) (fs : List Frame)
     : Type 0 where
   pub kept : low ≤ p.seg
-  pub run : HasFrames g (forceds log) p fs
+  pub run : HasFrames g (forced_contents log) p fs
   pub to : after_frames p fs ≡ at

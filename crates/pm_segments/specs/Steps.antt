@@ -13,7 +13,7 @@ use Rattle.pm_frame.specs.Frames.{Frame}
 use Rattle.pm_disk.specs.Files.{Cut}
 use Rattle.pm_disk.specs.Worlds.{World, log_changed, log_forced}
 use Rattle.pm_disk.specs.Moments.{History, AllMoments}
-use Rattle.pm_segments.specs.Ends.{LogEnd, has_room, place_behind, written, moved, counted}
+use Rattle.pm_segments.specs.Ends.{LogEnd, has_room, place_after, written, moved, counted}
 
 pub data Step : Type 0 where
   Append : (frame : Frame) → Step
@@ -30,7 +30,7 @@ next_begin end = record { seg = next_segment end.seg; off = 0 }
 
 -- where the log ends after a step
 abbrev pub step_end : Step → Place → Place
-step_end (Append frame) end = place_behind end frame
+step_end (Append frame) end = place_after end frame
 step_end Force end = end
 step_end NextSegment end = next_begin end
 
@@ -52,15 +52,15 @@ world_after (step ∷ steps) end world =
     world_after steps (step_end step end) (step_world step end world)
 
 -- a prefix of these steps were done
-abbrev pub DoesSome : List Step → Place → World → World → Type 0
-DoesSome steps end old now =
+abbrev pub DoesPrefix : List Step → Place → World → World → Type 0
+DoesPrefix steps end old now =
     (k : ℕ) × (k ≤ length steps) × (now ≡ world_after (take k steps) end old)
 
 -- These steps were done, one after the other; at an `Err` a prefix of them.
 pub record DoesSteps {T E : Type 0} (old new : History) (result : Result T E) (steps : List Step) (end : Place)
     : Type 0 where
   pub all : OnOk result (new.world ≡ world_after steps end old.world)
-  pub moments : AllMoments old new (DoesSome steps end old.world)
+  pub moments : AllMoments old new (DoesPrefix steps end old.world)
 
 -- the frame that leads to the next segment
 abbrev pub seal_frame : Frame
@@ -83,12 +83,12 @@ abbrev pub begin_steps : List Step
 begin_steps = NextSegment ∷ Force ∷ []
 
 -- the segment is forced, the next one cut to nothing and forced
-abbrev pub turn_steps : List Step
-turn_steps = Force ∷ begin_steps
+abbrev pub enter_steps : List Step
+enter_steps = Force ∷ begin_steps
 
 -- the log goes on in the next segment
 abbrev pub roll_steps : Place → List Step
-roll_steps end = seal_steps end ++ turn_steps
+roll_steps end = seal_steps end ++ enter_steps
 
 -- the log that goes on in the next segment
 abbrev pub rolled : LogEnd → LogEnd
@@ -120,9 +120,9 @@ abbrev pub tried_log : LogEnd → LogEnd
 tried_log log = record log { tried = true }
 
 -- the log as an append leaves it that failed
-abbrev pub broken : Bool → LogEnd → Frame → LogEnd
-broken true log frame = tried_log (roomy log (length frame.payload))
-broken false log frame = record log { tried = false }
+abbrev pub failed_append : Bool → LogEnd → Frame → LogEnd
+failed_append true log frame = tried_log (roomy log (length frame.payload))
+failed_append false log frame = record log { tried = false }
 
 -- at the end of an append that came to the frame's own write all steps before it were done
 abbrev pub Reaches : Bool → LogEnd → Frame → World → World → Type 0

@@ -9,15 +9,15 @@ use Rattle.pm_disk.specs.Files.{File}
 use Rattle.pm_disk.specs.Worlds.{World}
 use Rattle.pm_segments.specs.Ends.{LogEnd, IsLogEnd}
 use Rattle.pm_segments.specs.Grammars.{grammar}
-use Rattle.pm_segments.specs.Logs.{Grammar, LogStands, Leads, Tail, Loose, Cutting, Ready, Plain, sizes, is_seal, after_frames}
+use Rattle.pm_segments.specs.Logs.{Grammar, FilesHoldLog, HasLasting, Tail, Loose, Cutting, Ready, HasNoSeal, frames_len, is_seal, after_frames}
 use Rattle.pm_segments.specs.Steps.{Step, Append, Force, NextSegment}
 
 -- Of the log from a place on these frames are lasting, these were written after them, and so much is known of
 -- what is after.
-pub record Standing (g : Grammar) (log : ℕ → File) (low : ℕ) (from at : Place) (lasting pending : List Frame) (tail : Tail)
+pub record HoldsLog (g : Grammar) (log : ℕ → File) (low : ℕ) (from at : Place) (lasting pending : List Frame) (tail : Tail)
     : Type 0 where
-  pub stands : LogStands g log low at pending tail
-  pub leads : Leads g log low at from lasting
+  pub stands : FilesHoldLog g log low at pending tail
+  pub leads : HasLasting g log low at from lasting
 
 -- whether the last frame is a SEAL
 abbrev pub is_sealed : List Frame → Bool
@@ -59,13 +59,13 @@ written_after (step ∷ steps) s = written_after steps (next_written step s)
 
 -- the writer's end: after what is pending, after the forced SEAL of the segment before, or at the begin of the cut segment
 abbrev pub EndIs : Tail → Place → Place → List Frame → Type 0
-EndIs Ready end at pending = end ≡ record { seg = at.seg; off = at.off + sizes pending }
+EndIs Ready end at pending = end ≡ record { seg = at.seg; off = at.off + frames_len pending }
 EndIs Loose end at pending = (at ≡ record { seg = end.seg + 1; off = 0 }) × (pending ≡ [])
 EndIs Cutting end at pending = (end ≡ at) × (pending ≡ [])
 
 -- the world's log is written so far, and the writer stands there
 pub record IsWritten (keep : Frame → Bool) (world : World) (low : ℕ) (from end : Place) (s : Written) : Type 0 where
-  pub standing : Standing (grammar keep) world.log low from s.at s.lasting s.pending s.tail
+  pub standing : HoldsLog (grammar keep) world.log low from s.at s.lasting s.pending s.tail
   pub ends : EndIs s.tail end s.at s.pending
 
 -- a record that isn't a SEAL, of the kinds that a log takes
@@ -77,10 +77,10 @@ pub record IsRecordFrame (keep : Frame → Bool) (frame : Frame) : Type 0 where
 
 -- The log's tail was cut and forced, and only whole frames were written after it; the end isn't after the SEAL of the
 -- last segment.
-pub record IsOpen (log : LogEnd) (s : Written) : Type 0 where
+pub record LogIsOpen (log : LogEnd) (s : Written) : Type 0 where
   pub limits : IsLogEnd log
   pub ready : s.tail ≡ Ready
-  pub plain : Plain s.pending
+  pub plain : HasNoSeal s.pending
   pub room_to_seal : log.end.off ≤ FRAME_END_MAX
   pub numbered : log.end.seg + 1 < 2 ^ 64
 

@@ -10,7 +10,7 @@ ghost use Rattle.pm_disk.specs.Files.{bytes_of};
 ghost use Rattle.pm_disk.specs.Worlds.{segment_in, log_forced};
 ghost use Rattle.pm_disk.specs.Moments.{Does, AllMoments};
 ghost use Rattle.pm_segments.specs.Ends.{fresh_log, HasRoom, EndsThere, moved, written, cut_at, CutsTail};
-ghost use Rattle.pm_segments.specs.Steps.{DoesSteps, next_segment, next_begin, seal_len, seal_steps, turn_steps, begin_steps, roll_steps, rolled, room_steps, roomy, append_steps, grown, steps_of, tried_log, broken, Reaches};
+ghost use Rattle.pm_segments.specs.Steps.{DoesSteps, next_segment, next_begin, seal_len, seal_steps, enter_steps, begin_steps, roll_steps, rolled, room_steps, roomy, append_steps, grown, steps_of, tried_log, failed_append, Reaches};
 
 use pm_disk::{Failed, LogFile};
 use pm_frame::{FRAME_END_MAX, FRAME_EXTRA, FRAME_MAX, SEAL, write_frame};
@@ -147,8 +147,8 @@ impl Log {
             (steps_of self.new.tried self.old (record { kind = kind; payload = payload.now })) self.old.end }
         ensures reaches { L.tells → Reaches self.new.tried self.old
             (record { kind = kind; payload = payload.now }) (L.history dev.old).world (L.history dev.new).world }
-        ensures broken { OnErr result (self.new
-            ≡ broken self.new.tried self.old (record { kind = kind; payload = payload.now })) }
+        ensures failed_append { OnErr result (self.new
+            ≡ failed_append self.new.tried self.old (record { kind = kind; payload = payload.now })) }
         ensures cause { HasCause (L.state dev.old) (L.state dev.new) result }
     {
         self.tried = false;
@@ -200,11 +200,11 @@ impl Log {
         ensures cause { HasCause (L.state dev.old) (L.state dev.new) result }
     {
         let sealed = self.seal(dev)?;
-        let behind = Place {
+        let sealed_end = Place {
             seg: self.end.seg,
             off: self.end.off + sealed,
         };
-        self.end = turn(dev, behind)?;
+        self.end = enter_next(dev, sealed_end)?;
         self.total = self.total.saturating_add(sealed as u64);
         Ok(())
     }
@@ -274,17 +274,17 @@ impl Log {
 }
 
 // Forces the segment that the log ended in, cuts the next one to nothing, forces it, and gives its begin.
-fn turn<L: LogFile>(dev: &mut L, behind: Place) -> Result<Place, Failed>
+fn enter_next<L: LogFile>(dev: &mut L, sealed_end: Place) -> Result<Place, Failed>
     requires usable { IsUsable (L.state dev.old) }
-    ensures begin { IfOk result (λ begin. begin ≡ next_begin behind) }
+    ensures begin { IfOk result (λ begin. begin ≡ next_begin sealed_end) }
     ensures empty { L.tells → OnOk result
-        (length (bytes_of (segment_in (L.history dev.new).world (next_segment behind.seg))) ≡ 0) }
+        (length (bytes_of (segment_in (L.history dev.new).world (next_segment sealed_end.seg))) ≡ 0) }
     ensures steps { L.tells →
-        DoesSteps (L.history dev.old) (L.history dev.new) result turn_steps behind }
+        DoesSteps (L.history dev.old) (L.history dev.new) result enter_steps sealed_end }
     ensures cause { HasCause (L.state dev.old) (L.state dev.new) result }
 {
-    dev.force_log(behind.seg)?;
-    begin_next(dev, behind)
+    dev.force_log(sealed_end.seg)?;
+    begin_next(dev, sealed_end)
 }
 
 // Cuts the segment after the one of the log's end to nothing, forces it, and gives its begin.

@@ -52,7 +52,7 @@ pub returns-clause-stands : goal.returns-clause-stands
 returns-clause-stands g c t wanted stands segments =
     let goes = c.in_ok-run_lines.ensures.goes t wanted stands segments in
     let forced = c.in_ok-force.ensures.stands t wanted c.args.self.now.map c.args.lines.now goes.0 in
-    record { stands = forced.stands; climbs = omega (arith, forced.climbs, goes.1); lasting = forced.lasting }
+    record { stands = forced.stands; rises = omega (arith, forced.rises, goes.1); lasting = forced.lasting }
 
 pub returns-clause-log_only : goal.returns-clause-log_only
 returns-clause-log_only g c t =

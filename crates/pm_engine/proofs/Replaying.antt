@@ -1,4 +1,4 @@
--- What is found in a log, frame after frame.
+-- The replay of a log, frame after frame.
 use Rattle.std.proofs.Common.{◌≡◌, ◌⊎◌, inl, inr, ◌+◌, ◌<◌, List, [], ◌∷◌, ◌++◌, Option, Some, None, refl, sym, ◌∙◌, ap, subst, arith, Bool, true, false, append_assoc}
 use Rattle.std.specs.Prelude.{◌&&◌, not, if◌then◌else◌, Err, IsErrOf}
 use Rattle.pm_types.specs.declared.fault.StoreFault.{StoreFault}
@@ -11,18 +11,18 @@ use Rattle.pm_frame.specs.Frames.{Frame}
 use Rattle.pm_records.specs.Records.{Record, Logical, Snapshot, Delta, CpBegin, Restart, Seal}
 use Rattle.pm_disk.specs.Worlds.{World}
 use Rattle.pm_model.specs.Eval.{Pairs}
-use Rattle.pm_segments.specs.Ends.{place_behind}
+use Rattle.pm_segments.specs.Ends.{place_after}
 use Rattle.pm_segments.specs.Grammars.{place, all_frames}
 use Rattle.pm_segments.specs.Logs.{HasFrames, after_frames, next, contents, is_seal}
-use Rattle.pm_segments.specs.Scans.{Scanned, stands_next, Advances, is_last}
+use Rattle.pm_segments.specs.Scans.{Scanned, frame_ahead, Advances, is_last}
 use Rattle.pm_segments.specs.Read.{IsLogFrom}
 use Rattle.pm_segments.proofs.Reading.{scan_goes, scan_ends, point_going, going_on}
 use Rattle.pm_segments.proofs.Runs.{bool_cases}
 use Rattle.pm_engine.specs.Records.{record_in}
 use Rattle.pm_engine.specs.Held.{is_restart, shape_told, shape_of, replayed, then_replayed, all_replayed, IsHeld, Holds}
-use Rattle.pm_engine.specs.Openings.{IsBadBehind, IsBadRecord, TakesFrame, IsFound, ReadsSome, ReadsAll}
-use Rattle.pm_engine.specs.declared.found.Found.{Found}
-use Rattle.pm_engine.proofs.Going.{all_redone-append}
+use Rattle.pm_engine.specs.Openings.{IsBadAfter, IsBadRecord, AppliesFrame, IsReplayOf, ReadsPrefix, ReadsAll}
+use Rattle.pm_engine.specs.declared.replay.Replay.{Replay}
+use Rattle.pm_engine.proofs.DoneLines.{all_replayed-append}
 
 -- a RESTART leaves the map as it is
 restart_leaves : (shape : Shape) (found : Option Record) (pairs : Pairs) → is_restart found ≡ true → replayed shape found pairs ≡ Some pairs
@@ -44,16 +44,16 @@ restart_tells one other (Some (CpBegin number replay)) is = absurd cc
 restart_tells one other (Some (Restart told)) is = refl
 restart_tells one other (Some Seal) is = absurd cc
 
--- nothing was read
-pub found_none : (wanted : Shape) (found : Found) → found.shape ≡ wanted → found.map ≡ empty → found.has_begun ≡ false → IsFound wanted [] found
-found_none wanted found shapes maps begun = record {
+-- no frame was replayed
+pub replay_none : (wanted : Shape) (replay : Replay) → replay.shape ≡ wanted → replay.map ≡ empty → replay.has_begun ≡ false → IsReplayOf wanted [] replay
+replay_none wanted replay shapes maps begun = record {
   held = record { begins = refl; told = shapes; map = ap (λ p. Some p) (sym maps) };
   begun = begun;
 }
 
--- a frame was taken
-pub found_more : (wanted : Shape) (frames : List Frame) (old new : Found) (f : Frame) → IsFound wanted frames old → TakesFrame true old new (record_in f) → IsFound wanted (frames ++ f ∷ []) new
-found_more wanted [] old new f found takes =
+-- a frame was replayed
+pub replay_more : (wanted : Shape) (frames : List Frame) (old new : Replay) (f : Frame) → IsReplayOf wanted frames old → AppliesFrame true old new (record_in f) → IsReplayOf wanted (frames ++ f ∷ []) new
+replay_more wanted [] old new f found takes =
     let first = takes.0 found.begun in
     record {
       held = record {
@@ -63,22 +63,22 @@ found_more wanted [] old new f found takes =
       };
       begun = first.3;
     }
-found_more wanted (g ∷ gs) old new f found takes =
+replay_more wanted (g ∷ gs) old new f found takes =
     let more = takes.1 found.begun in
     record {
       held = record {
         begins = found.held.begins;
         told = more.1 ∙ found.held.told;
         map = ap (λ s. all_replayed s ((g ∷ gs) ++ f ∷ []) (Some empty)) more.1
-            ∙ all_redone-append old.shape (g ∷ gs) (f ∷ []) (Some empty) ∙ ap (then_replayed old.shape f) found.held.map ∙ more.0;
+            ∙ all_replayed-append old.shape (g ∷ gs) (f ∷ []) (Some empty) ∙ ap (then_replayed old.shape f) found.held.map ∙ more.0;
       };
       begun = more.2;
     }
 
 -- or it can't stand there
-pub found_bad : (wanted : Shape) (frames : List Frame) (old new : Found) (f : Frame) → IsFound wanted frames old → TakesFrame false old new (record_in f) → IsBadBehind wanted frames f
-found_bad wanted [] old new f found takes = takes.0 found.begun
-found_bad wanted (g ∷ gs) old new f found takes =
+pub replay_bad : (wanted : Shape) (frames : List Frame) (old new : Replay) (f : Frame) → IsReplayOf wanted frames old → AppliesFrame false old new (record_in f) → IsBadAfter wanted frames f
+replay_bad wanted [] old new f found takes = takes.0 found.begun
+replay_bad wanted (g ∷ gs) old new f found takes =
     let shape : old.shape ≡ shape_of wanted (g ∷ gs) = found.held.told in (
       old.map,
       ap (λ s. all_replayed s (g ∷ gs) (Some empty)) (sym shape) ∙ found.held.map,
@@ -92,12 +92,12 @@ none_stays : (shape : Shape) (frames : List Frame) → all_replayed shape frames
 none_stays shape [] = refl
 none_stays shape (f ∷ frames) = none_stays shape frames
 
-pub bad_unsound : (wanted : Shape) (before : List Frame) (f : Frame) (rest : List Frame) (shape : Shape) (pairs : Pairs) → IsBadBehind wanted before f → IsHeld wanted (before ++ f ∷ rest) shape pairs → ⊥
+pub bad_unsound : (wanted : Shape) (before : List Frame) (f : Frame) (rest : List Frame) (shape : Shape) (pairs : Pairs) → IsBadAfter wanted before f → IsHeld wanted (before ++ f ∷ rest) shape pairs → ⊥
 bad_unsound wanted [] f rest shape pairs bad held = let both : true ≡ false = sym held.begins ∙ bad in absurd cc
 bad_unsound wanted (g ∷ gs) f rest shape pairs bad held =
     let all : all_replayed shape ((g ∷ gs) ++ f ∷ rest) (Some empty) ≡ None =
     ap (λ s. all_replayed s ((g ∷ gs) ++ f ∷ rest) (Some empty)) held.told
-    ∙ all_redone-append (shape_of wanted (g ∷ gs)) (g ∷ gs) (f ∷ rest) (Some empty)
+    ∙ all_replayed-append (shape_of wanted (g ∷ gs)) (g ∷ gs) (f ∷ rest) (Some empty)
     ∙ ap (λ o. all_replayed (shape_of wanted (g ∷ gs)) rest (then_replayed (shape_of wanted (g ∷ gs)) f o)) bad.1
     ∙ ap (all_replayed (shape_of wanted (g ∷ gs)) rest) bad.2
     ∙ none_stays (shape_of wanted (g ∷ gs)) rest in
@@ -106,24 +106,24 @@ bad_unsound wanted (g ∷ gs) f rest shape pairs bad held =
 -- ---- a scan
 
 -- it goes up
-pub climbs_by : (scan later : Scanned) (f : Frame) → Advances scan later (Some f) → (scan.next.seg < later.next.seg) ⊎ ((scan.next.seg ≡ later.next.seg) × (scan.next.off < later.next.off))
-climbs_by scan later f advances = elim (bool_cases (is_seal f && not (is_last scan.next.seg))) [
+pub further_by : (scan later : Scanned) (f : Frame) → Advances scan later (Some f) → (scan.next.seg < later.next.seg) ⊎ ((scan.next.seg ≡ later.next.seg) × (scan.next.off < later.next.off))
+further_by scan later f advances = elim (bool_cases (is_seal f && not (is_last scan.next.seg))) [
   | inl goes ↦
-      let to : later.next ≡ place (scan.next.seg + 1) 0 = advances.1 ∙ ap (λ (b : Bool). let p : Place = if b then record { seg = scan.next.seg + 1; off = 0 } else place_behind scan.next f in p) goes in
+      let to : later.next ≡ place (scan.next.seg + 1) 0 = advances.1 ∙ ap (λ (b : Bool). let p : Place = if b then record { seg = scan.next.seg + 1; off = 0 } else place_after scan.next f in p) goes in
       inl (omega (arith, ap (λ (p : Place). p.seg) to))
   | inr stays ↦
-      let to : later.next ≡ place_behind scan.next f = advances.1 ∙ ap (λ (b : Bool). let p : Place = if b then record { seg = scan.next.seg + 1; off = 0 } else place_behind scan.next f in p) stays in
+      let to : later.next ≡ place_after scan.next f = advances.1 ∙ ap (λ (b : Bool). let p : Place = if b then record { seg = scan.next.seg + 1; off = 0 } else place_after scan.next f in p) stays in
       inr (sym (ap (λ (p : Place). p.seg) to), omega (arith, ap (λ (p : Place). p.off) to))
 ]
 
 -- what a run begins with, the log begins with
-run_front : (world : World) (from : Place) (xs fs : List Frame) → HasFrames all_frames (contents world.log) from xs → IsLogFrom world from fs → (rest : List Frame) × (fs ≡ xs ++ rest)
-run_front world from [] fs run log = (fs, refl)
-run_front world from (x ∷ xs) [] run log = let none : None ≡ Some x = sym log.ends ∙ run.0 in absurd cc
-run_front world from (x ∷ xs) (f ∷ fs) run log =
+run_begins : (world : World) (from : Place) (xs fs : List Frame) → HasFrames all_frames (contents world.log) from xs → IsLogFrom world from fs → (rest : List Frame) × (fs ≡ xs ++ rest)
+run_begins world from [] fs run log = (fs, refl)
+run_begins world from (x ∷ xs) [] run log = let none : None ≡ Some x = sym log.ends ∙ run.0 in absurd cc
+run_begins world from (x ∷ xs) (f ∷ fs) run log =
     let same : f ≡ x = same_Some f x (sym log.run.0 ∙ run.0) in
     let left : IsLogFrom world (next from f) fs = record { run = log.run.1; ends = log.ends } in
-    let more = run_front world (next from x) xs fs run.1 (subst (λ g. IsLogFrom world (next from g) fs) same left) in
+    let more = run_begins world (next from x) xs fs run.1 (subst (λ g. IsLogFrom world (next from g) fs) same left) in
     (more.0, ap (λ g. g ∷ fs) same ∙ ap (λ gs. x ∷ gs) more.1)
 
 run_last : (world : World) (from : Place) (xs : List Frame) (f : Frame) → HasFrames all_frames (contents world.log) from (xs ++ f ∷ [])
@@ -135,23 +135,23 @@ run_last world from (x ∷ xs) f run = run_last world (next from x) xs f run.1
 pub holds_log : (wanted : Shape) (world : World) (shape : Shape) (pairs : Pairs) (holds : Holds wanted world shape pairs) → IsLogFrom world (place 1 0) holds.frames
 holds_log wanted world shape pairs holds = record { run = holds.log.run; ends = holds.log.ends }
 
-module _ (wanted : Shape) (world : World) (scan later : Scanned) (old new : Found) (reads : ReadsSome wanted world scan old) where
+module _ (wanted : Shape) (world : World) (scan later : Scanned) (old new : Replay) (reads : ReadsPrefix wanted world scan old) where
   -- one frame more was read
-  pub reads_more : (f : Frame) → stands_next scan world ≡ Some f → Advances scan later (Some f) → TakesFrame true old new (record_in f) → ReadsSome wanted world later new
+  pub reads_more : (f : Frame) → frame_ahead scan world ≡ Some f → Advances scan later (Some f) → AppliesFrame true old new (record_in f) → ReadsPrefix wanted world later new
   reads_more f stands advances takes = record {
     frames = reads.frames ++ f ∷ [];
     scanned = scan_goes world (place 1 0) reads.frames scan later f reads.scanned stands advances;
-    is_found = found_more wanted reads.frames old new f reads.is_found takes;
+    is_replay = replay_more wanted reads.frames old new f reads.is_replay takes;
   }
 
   -- all were read
-  pub reads_all : stands_next scan world ≡ None → Advances scan later None → new ≡ old → ReadsAll wanted world later.place new
+  pub reads_all : frame_ahead scan world ≡ None → Advances scan later None → new ≡ old → ReadsAll wanted world later.place new
   reads_all none advances same =
       let ends = scan_ends world (place 1 0) reads.frames scan later reads.scanned none advances in
-      record { frames = reads.frames; log = ends.0; ends = ends.1; held = subst (λ f. IsHeld wanted reads.frames f.shape f.map) (sym same) reads.is_found.held }
+      record { frames = reads.frames; log = ends.0; ends = ends.1; held = subst (λ f. IsHeld wanted reads.frames f.shape f.map) (sym same) reads.is_replay.held }
 
   -- the next one is bad
-  pub reads_bad : (f : Frame) → stands_next scan world ≡ Some f → Advances scan later (Some f) → TakesFrame false old new (record_in f) → IsBadRecord wanted world later.place
+  pub reads_bad : (f : Frame) → frame_ahead scan world ≡ Some f → Advances scan later (Some f) → AppliesFrame false old new (record_in f) → IsBadRecord wanted world later.place
   reads_bad f stands advances takes =
       let goes = scan_goes world (place 1 0) reads.frames scan later f reads.scanned stands advances in
       let there : after_frames (place 1 0) reads.frames ≡ later.place = reads.scanned.goes_on ∙ point_going scan (going_on scan world f stands) ∙ sym advances.0 in
@@ -161,15 +161,15 @@ module _ (wanted : Shape) (world : World) (scan later : Scanned) (old new : Foun
         there = there;
         frame = f;
         stands = subst (λ (p : Place). all_frames.frame_at p.seg p.off (contents world.log p.seg) ≡ Some f) there (run_last world (place 1 0) reads.frames f goes.run);
-        bad = found_bad wanted reads.frames old new f reads.is_found takes;
+        bad = replay_bad wanted reads.frames old new f reads.is_replay takes;
       }
 
-  pub reads_unsound : (f : Frame) → stands_next scan world ≡ Some f → Advances scan later (Some f) → TakesFrame false old new (record_in f) → (shape : Shape) (pairs : Pairs) → Holds wanted world shape pairs → ⊥
+  pub reads_unsound : (f : Frame) → frame_ahead scan world ≡ Some f → Advances scan later (Some f) → AppliesFrame false old new (record_in f) → (shape : Shape) (pairs : Pairs) → Holds wanted world shape pairs → ⊥
   reads_unsound f stands advances takes shape pairs holds =
       let goes = scan_goes world (place 1 0) reads.frames scan later f reads.scanned stands advances in
-      let front = run_front world (place 1 0) (reads.frames ++ f ∷ []) holds.frames goes.run (holds_log wanted world shape pairs holds) in
+      let front = run_begins world (place 1 0) (reads.frames ++ f ∷ []) holds.frames goes.run (holds_log wanted world shape pairs holds) in
       let all : holds.frames ≡ reads.frames ++ f ∷ front.0 = front.1 ∙ append_assoc reads.frames (f ∷ []) front.0 in
-      bad_unsound wanted reads.frames f front.0 shape pairs (found_bad wanted reads.frames old new f reads.is_found takes) (subst (λ fs. IsHeld wanted fs shape pairs) all holds.held)
+      bad_unsound wanted reads.frames f front.0 shape pairs (replay_bad wanted reads.frames old new f reads.is_replay takes) (subst (λ fs. IsHeld wanted fs shape pairs) all holds.held)
 
 -- a fault names one place
 pub bad_same : {T : Type 0} (x y : Place) → IsErrOf {T = T} {E = StoreFault} (Err (BadRecord x)) (BadRecord y) → x ≡ y

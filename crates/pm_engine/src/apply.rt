@@ -1,6 +1,6 @@
-//! Records of the log, done again on a map.
+//! Records of the log, applied to a map.
 
-ghost use Rattle.std.specs.Prelude.{IfOk, OnErr, ◌≡◌, Some};
+ghost use Rattle.std.specs.Prelude.{IfOk, ◌≡◌, Some};
 ghost use Rattle.pm_records.specs.Records.{IsLogical, Logical, record_of};
 ghost use Rattle.pm_model.specs.Partitions.{ArePartitions};
 ghost use Rattle.pm_engine.specs.Openings.{ReplaysPut, Replays};
@@ -10,9 +10,9 @@ use pm_records::{LogRecord, PUT, decode};
 use pm_types::{Key, Shape, Value};
 use std::alloc::{AllocError, Global};
 
-/// Does a record again, and tells whether it can be: its payload is in its kind's grammar, and it is no put that meets
-/// a full partition. Else the map is as before, also where memory runs out.
-pub fn redo(
+/// Applies a record to the map, and answers whether it could be: its payload is in its kind's grammar, and it is no put that meets
+/// a full partition.
+pub fn apply(
     alloc: Global,
     shape: Shape,
     map: &mut PlainMap,
@@ -20,7 +20,7 @@ pub fn redo(
     payload: &[u8],
 ) -> Result<bool, AllocError>
     requires { ArePartitions shape.partitions }
-    ensures redoes { IfOk result (λ can. Replays can shape (record_of kind payload.now) map.old map.new) }
+    ensures applies { IfOk result (λ can. Replays can shape (record_of kind payload.now) map.old map.new) }
 {
     match decode(kind, payload) {
         Ok(
@@ -30,7 +30,7 @@ pub fn redo(
                 key,
                 value,
             },
-        ) => redo_logical(alloc, shape, map, op, cache, key, value),
+        ) => apply_logical(alloc, shape, map, op, cache, key, value),
         Ok(LogRecord::Restart { .. }) => Ok(true),
         Ok(LogRecord::Seal) => Ok(true),
         Ok(LogRecord::Snapshot { .. }) => Ok(true),
@@ -40,9 +40,9 @@ pub fn redo(
     }
 }
 
-// Does a put or a remove again, and tells whether it can be.
-#[tactic(auto, using(crate::proofs::Redoing::puts_redoes))]
-fn redo_logical(
+// Applies a put or a remove, and answers whether it could be.
+#[tactic(auto, using(crate::proofs::Applying::puts_apply))]
+fn apply_logical(
     alloc: Global,
     shape: Shape,
     map: &mut PlainMap,
@@ -53,13 +53,13 @@ fn redo_logical(
 ) -> Result<bool, AllocError>
     requires partitions { ArePartitions shape.partitions }
     requires logical { IsLogical op cache key.now value.now }
-    ensures redoes { IfOk result
+    ensures applies { IfOk result
         (λ can. Replays can shape (Some (Logical op cache key.now value.now)) map.old map.new) }
 {
     let key = Key::of(alloc, key)?;
     if op == PUT {
         let value = Value::of(alloc, value)?;
-        let can = put_replayed(
+        let can = apply_put(
             alloc,
             shape,
             map,
@@ -71,15 +71,15 @@ fn redo_logical(
     Ok(true)
 }
 
-// Does a put again, and tells whether its partition has room.
-fn put_replayed(
+// Applies a put, and answers whether its partition had room.
+fn apply_put(
     alloc: Global,
     shape: Shape,
     map: &mut PlainMap,
     line: Line,
 ) -> Result<bool, AllocError>
     requires partitions { ArePartitions shape.partitions }
-    ensures again { IfOk result (λ can. ReplaysPut can shape line map.old map.new) }
+    ensures applies { IfOk result (λ can. ReplaysPut can shape line map.old map.new) }
 {
     let answer = map.answer(alloc, shape, line)?;
     Ok(answer.is_accepted)

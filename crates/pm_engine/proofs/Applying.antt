@@ -1,4 +1,4 @@
--- A put of the log is done again as a put.
+-- A put of the log is replayed as a put.
 use Rattle.std.proofs.Common.{◌≡◌, ℕ, Bool, true, false, List, Option, Some, ap, ◌∙◌}
 use Rattle.std.specs.Prelude.{◌==◌, if◌then◌else◌}
 use Rattle.pm_types.specs.declared.shape.Shape.{Shape}
@@ -10,11 +10,11 @@ use Rattle.pm_model.specs.Eval.{Pairs, after}
 use Rattle.pm_engine.specs.Held.{put_replayed, replayed}
 use Rattle.pm_engine.specs.Openings.{ReplaysPut, Replays}
 
-redone_put : (shape : Shape) (op cache : ℕ) (key value : List ℕ) (pairs : Pairs) → op ≡ PUT → replayed shape (Some (Logical op cache key value)) pairs ≡ put_replayed shape (Good (Put cache key value)) pairs
-redone_put shape op cache key value pairs is =
+applied_put : (shape : Shape) (op cache : ℕ) (key value : List ℕ) (pairs : Pairs) → op ≡ PUT → replayed shape (Some (Logical op cache key value)) pairs ≡ put_replayed shape (Good (Put cache key value)) pairs
+applied_put shape op cache key value pairs is =
     ap (λ n. let o : Option Pairs = if n == PUT then put_replayed shape (Good (Put cache key value)) pairs else Some (after shape (Good (Remove cache key)) pairs) in o) is
 
-pub puts_redoes : (can : Bool) (shape : Shape) (op cache : ℕ) (key value : List ℕ) (before now : Pairs) → op ≡ PUT → ReplaysPut can shape (Good (Put cache key value)) before now
+pub puts_apply : (can : Bool) (shape : Shape) (op cache : ℕ) (key value : List ℕ) (before now : Pairs) → op ≡ PUT → ReplaysPut can shape (Good (Put cache key value)) before now
     → Replays can shape (Some (Logical op cache key value)) before now
-puts_redoes true shape op cache key value before now is puts = redone_put shape op cache key value before is ∙ puts
-puts_redoes false shape op cache key value before now is puts = redone_put shape op cache key value before is ∙ puts
+puts_apply true shape op cache key value before now is puts = applied_put shape op cache key value before is ∙ puts
+puts_apply false shape op cache key value before now is puts = applied_put shape op cache key value before is ∙ puts

@@ -1,4 +1,4 @@
--- How an engine goes on: what a crash leaves while a line is appended and while the log is forced.
+-- Lines that are done: what a crash leaves while a line is appended and while the log is forced.
 use Rattle.std.proofs.Common.{◌≡◌, ◌⊎◌, inl, inr, ℕ, ◌<◌, ◌≤◌, List, [], ◌∷◌, ◌++◌, length, take, Option, Some, None, refl, sym, ◌∙◌, ap, subst, arith, Bool, true, false, append_assoc, append-nil, length-append}
 use Rattle.std.specs.Prelude.{if◌then◌else◌}
 use Rattle.std.specs.FinMap.{empty}
@@ -19,7 +19,7 @@ use Rattle.pm_model.specs.declared.line.Line.TheVariants.{Good, Bad, Long}
 use Rattle.pm_model.specs.Eval.{Pairs, is_accepted, after, after_all}
 use Rattle.pm_model.proofs.Runs.{after_all-append, after-not_accepted}
 use Rattle.pm_segments.specs.Grammars.{place}
-use Rattle.pm_segments.specs.Steps.{Force, seal_frame, world_after, DoesSome, room_steps, append_steps, steps_of, grown}
+use Rattle.pm_segments.specs.Steps.{Force, seal_frame, world_after, DoesPrefix, room_steps, append_steps, steps_of, grown}
 use Rattle.pm_segments.specs.Written.{Written, next_written, written_after, IsWritten, IsRecordFrame, IsQuietBut}
 use Rattle.pm_segments.proofs.AppendLaw.{append_written}
 use Rattle.pm_segments.proofs.OpenLog.{open_image, room_frames, append_frames, grown_end, grown_seg, append_open, append_image, force_written, force_open}
@@ -32,9 +32,9 @@ use Rattle.pm_engine.specs.Batches.{tried_line}
 
 -- ---- what frames hold
 
-pub all_redone-append : (shape : Shape) (xs ys : List Frame) (found : Option Pairs) → all_replayed shape (xs ++ ys) found ≡ all_replayed shape ys (all_replayed shape xs found)
-all_redone-append shape [] ys found = refl
-all_redone-append shape (x ∷ xs) ys found = all_redone-append shape xs ys (then_replayed shape x found)
+pub all_replayed-append : (shape : Shape) (xs ys : List Frame) (found : Option Pairs) → all_replayed shape (xs ++ ys) found ≡ all_replayed shape ys (all_replayed shape xs found)
+all_replayed-append shape [] ys found = refl
+all_replayed-append shape (x ∷ xs) ys found = all_replayed-append shape xs ys (then_replayed shape x found)
 
 -- one frame more, after others
 pub held_push : (wanted : Shape) (frames : List Frame) (f : Frame) (shape : Shape) (pairs now : Pairs) → 0 < length frames → IsHeld wanted frames shape pairs → replayed shape (record_in f) pairs ≡ Some now
@@ -43,7 +43,7 @@ held_push wanted [] f shape pairs now some held does = absurd (omega (arith, som
 held_push wanted (g ∷ gs) f shape pairs now some held does = record {
   begins = held.begins;
   told = held.told;
-  map = all_redone-append shape (g ∷ gs) (f ∷ []) (Some empty) ∙ ap (then_replayed shape f) held.map ∙ does;
+  map = all_replayed-append shape (g ∷ gs) (f ∷ []) (Some empty) ∙ ap (then_replayed shape f) held.map ∙ does;
 }
 
 seal_record : record_in seal_frame ≡ Some Seal
@@ -54,7 +54,7 @@ seal_record = record_of-payload Seal tt
 pub held_seal : (wanted : Shape) (frames : List Frame) (shape : Shape) (pairs : Pairs) → 0 < length frames → IsHeld wanted frames shape pairs → IsHeld wanted (frames ++ seal_frame ∷ []) shape pairs
 held_seal wanted frames shape pairs some held = held_push wanted frames seal_frame shape pairs pairs some held (ap (λ r. replayed shape r pairs) seal_record)
 
--- the frame of a line that is accepted does the line again
+-- the frame of a line that is accepted replays the line
 pub record LogsLine (shape : Shape) (line : Line) (pairs : Pairs) (payload : List ℕ) : Type 0 where
   pub again : replayed shape (record_in (logical_frame payload)) pairs ≡ Some (after shape line pairs)
   pub short : length payload ≤ PAYLOAD_MAX
@@ -106,16 +106,16 @@ before_push wanted shape start done more low frames f before held n le = elim (l
 -- ---- the engine at rest
 
 -- what it keeps
-pub goes_keep : (wanted : Shape) (start : Pairs) (done : List Line) (engine : Running) (world : World) → HasDone wanted start done engine world → CrashHoldsPrefix wanted engine.shape start done world
-goes_keep wanted start done engine world goes image leaves honest =
+pub done_keeps : (wanted : Shape) (start : Pairs) (done : List Line) (engine : Running) (world : World) → HasDone wanted start done engine world → CrashHoldsPrefix wanted engine.shape start done world
+done_keeps wanted start done engine world goes image leaves honest =
     let s = goes.written in
     let left = open_image every world 1 (place 1 0) engine.log.end s goes.stands image.log leaves.log honest.frames in
     let h = goes.before left.0 left.1 in
     (h.0, h.1, record { frames = take left.0 (frames_of s); log = left.2; held = h.2 })
 
 -- more lines keep what fewer keep
-pub keeps_more : (wanted shape : Shape) (start : Pairs) (done more : List Line) (world : World) → CrashHoldsPrefix wanted shape start done world → CrashHoldsPrefix wanted shape start (done ++ more) world
-keeps_more wanted shape start done more world keeps image leaves honest =
+pub keeps_more_lines : (wanted shape : Shape) (start : Pairs) (done more : List Line) (world : World) → CrashHoldsPrefix wanted shape start done world → CrashHoldsPrefix wanted shape start (done ++ more) world
+keeps_more_lines wanted shape start done more world keeps image leaves honest =
     let h = keeps image leaves honest in (
       h.0,
       omega (arith, h.1, length-append done more),
@@ -131,9 +131,9 @@ same_engine : (engine : Running) (shape : Shape) (pairs : Pairs) (now : Running)
 same_engine engine shape pairs now shapes maps logs = λ i. record { shape = sym shapes i; pairs = sym maps i; log = sym logs i; order = now.order }
 
 -- a line that isn't accepted changes nothing
-pub goes_unlogged : (wanted : Shape) (start : Pairs) (done : List Line) (engine now : Running) (line : Line) (world : World) → HasDone wanted start done engine world → is_accepted engine.shape line engine.pairs ≡ false
+pub done_unlogged : (wanted : Shape) (start : Pairs) (done : List Line) (engine now : Running) (line : Line) (world : World) → HasDone wanted start done engine world → is_accepted engine.shape line engine.pairs ≡ false
     → now.shape ≡ engine.shape → now.pairs ≡ after engine.shape line engine.pairs → now.log ≡ engine.log → HasDoneWithin wanted start (done ++ line ∷ []) 1 engine now world
-goes_unlogged wanted start done engine now line world goes refused shapes maps logs =
+done_unlogged wanted start done engine now line world goes refused shapes maps logs =
     let same = after-not_accepted engine.shape line engine.pairs refused in
     let is = same_engine engine engine.shape engine.pairs now shapes (maps ∙ same) logs in
     let map : engine.pairs ≡ after_all engine.shape (done ++ line ∷ []) start = sym same ∙ ap (after engine.shape line) goes.map ∙ sym (after_all-append engine.shape done (line ∷ []) start) in
@@ -200,14 +200,14 @@ module _ (wanted : Shape) (start : Pairs) (done : List Line) (engine : Running) 
   regrouped : (frames ++ first) ++ f ∷ [] ≡ frames ++ whole
   regrouped = append_assoc frames first (f ∷ []) ∙ ap (λ l. frames ++ l) (sym (append_frames every refl engine.log f is_record s goes.is_open))
 
-  some_first : 0 < length (frames ++ first)
-  some_first = omega (arith, goes.some, length-append frames first)
+  prefix_first : 0 < length (frames ++ first)
+  prefix_first = omega (arith, goes.some, length-append frames first)
 
   after_is : after shape line engine.pairs ≡ after_all shape (done ++ line ∷ []) start
   after_is = ap (after shape line) goes.map ∙ sym (after_all-append shape done (line ∷ []) start)
 
   held_record : IsHeld wanted ((frames ++ first) ++ f ∷ []) shape (after shape line engine.pairs)
-  held_record = held_push wanted (frames ++ first) f shape engine.pairs (after shape line engine.pairs) some_first before_record.0 logs.again
+  held_record = held_push wanted (frames ++ first) f shape engine.pairs (after shape line engine.pairs) prefix_first before_record.0 logs.again
 
   before_whole : (n : ℕ) → length s.lasting ≤ n → HeldAfterPrefix wanted shape start (done ++ line ∷ []) (take n (frames ++ whole))
   before_whole n le = subst (λ fs. HeldAfterPrefix wanted shape start (done ++ line ∷ []) (take n fs)) regrouped
@@ -218,16 +218,16 @@ module _ (wanted : Shape) (start : Pairs) (done : List Line) (engine : Running) 
   before_try false n le = subst (λ ls. HeldAfterPrefix wanted shape start ls (take n (frames ++ first))) (sym (append-nil done)) (before_record.1 n le)
 
   -- while it is appended
-  pub append_keeps : (tried : Bool) (now : World) → DoesSome (steps_of tried engine.log f) engine.log.end old now → CrashHoldsPrefix wanted shape start (done ++ tried_line tried line) now
+  pub append_keeps : (tried : Bool) (now : World) → DoesPrefix (steps_of tried engine.log f) engine.log.end old now → CrashHoldsPrefix wanted shape start (done ++ tried_line tried line) now
   append_keeps tried now some image leaves honest =
       let left = append_image every refl engine.log f is_record s goes.is_open tried old now 1 (place 1 0) goes.stands some image.log leaves.log honest.frames in
       let h = before_try tried left.0 left.1 in
       (h.0, h.1, record { frames = take left.0 (frames ++ frames_in (steps_of tried engine.log f)); log = left.2; held = h.2 })
 
   -- once it is
-  pub append_goes : (now : Running) → now.shape ≡ shape → now.pairs ≡ after shape line engine.pairs → now.log ≡ grown engine.log f → (world : World) → world ≡ world_after (append_steps engine.log f) engine.log.end old
+  pub append_done : (now : Running) → now.shape ≡ shape → now.pairs ≡ after shape line engine.pairs → now.log ≡ grown engine.log f → (world : World) → world ≡ world_after (append_steps engine.log f) engine.log.end old
       → HasDoneWithin wanted start (done ++ line ∷ []) 1 engine now world
-  append_goes now shapes maps logs_are world is =
+  append_done now shapes maps logs_are world is =
       let steps = append_steps engine.log f in
       let t = written_after steps s in
       let end = grown_end every refl engine.log f is_record s goes.is_open in
@@ -278,7 +278,7 @@ module _ (wanted : Shape) (start : Pairs) (done : List Line) (engine : Running) 
   -- and a crash leaves the map of all lines
   pub forced_keeps : CrashHoldsPrefix wanted engine.shape start done forced
   forced_keeps image leaves honest =
-      let h = goes_keep wanted engine.pairs [] engine forced force_stands image leaves honest in
+      let h = done_keeps wanted engine.pairs [] engine forced force_stands image leaves honest in
       let none : after_all engine.shape (take h.0 []) engine.pairs ≡ engine.pairs = ap (λ ls. after_all engine.shape ls engine.pairs) (take_all h.0 [] (omega arith)) in (
         length done,
         omega arith,
