@@ -14,7 +14,7 @@ use Rattle.pm_segments.specs.Written.{ChangesLog}
 use Rattle.pm_engine.specs.Held.{CrashHoldsPrefix}
 use Rattle.pm_engine.specs.Engines.{Running, running, IsAtRest, HasSegments}
 use Rattle.pm_engine.specs.Batches.{TriesLines}
-use Rattle.pm_engine.proofs.Going.{goes_keep}
+use Rattle.pm_engine.proofs.DoneLines.{done_keeps}
 use Rattle.pm_top.specs.declared.run.Run.{Run}
 use Rattle.pm_top.specs.declared.shape.TheConstants.{SHAPE}
 use Rattle.pm_top.specs.Crashes.{CrashHoldsAcknowledged}
@@ -71,7 +71,7 @@ said_files old mid new bytes only is = subst (λ w. SameFiles old w × (w.input 
 pub rest_moments : (old : History) {start : World} {left : List Line} {shape : Shape} {pairs : Pairs} {run : Run} (progress : Progress start old.world left shape pairs run) → IsHistory old → IsAtRest SHAPE (running run.engine) old.world
     → AllMoments old old (CrashHoldsAcknowledged start shape pairs run.engine.order.items)
 rest_moments old {start = start} {shape = shape} {pairs = pairs} {run = run} progress sound stands =
-    started old (CrashHoldsAcknowledged start shape pairs run.engine.order.items) sound (keeps_rest progress old.world refl (goes_keep SHAPE run.engine.map [] (running run.engine) old.world stands))
+    started old (CrashHoldsAcknowledged start shape pairs run.engine.order.items) sound (keeps_rest progress old.world refl (done_keeps SHAPE run.engine.map [] (running run.engine) old.world stands))
 
 module _ {T E : Type 0} (tells : Type 0) (old mid : History) (run : Run) (later : Running) (lines : List Line) (result : Result T E) (tries : TriesLines {T = T} {E = E} tells old mid (running run.engine) later (run.lines + 1) lines result)
     {start : World} {shape : Shape} {pairs : Pairs} (left : List Line) (progress : Progress start old.world (lines ++ left) shape pairs run) where
@@ -98,7 +98,7 @@ module _ {T E : Type 0} (tells : Type 0) (old mid : History) (run : Run) (later 
       → later.shape ≡ run.engine.shape → later.pairs ≡ after_all run.engine.shape lines run.engine.map → IsAtRest SHAPE later mid.world → AllMoments old mid (CrashHoldsAcknowledged start shape pairs later.order) → AllMoments old new (CrashHoldsAcknowledged start shape pairs later.order)
   saying_moments new printed text all is call same shapes maps stands so_far =
       let keeps : CrashHoldsPrefix SHAPE run.engine.shape (after_all run.engine.shape lines run.engine.map) [] mid.world =
-      subst (λ (x : Shape × Pairs). CrashHoldsPrefix SHAPE x.0 x.1 [] mid.world) (λ i. (shapes i, maps i)) (goes_keep SHAPE later.pairs [] later mid.world stands) in
+      subst (λ (x : Shape × Pairs). CrashHoldsPrefix SHAPE x.0 x.1 [] mid.world) (λ i. (shapes i, maps i)) (done_keeps SHAPE later.pairs [] later mid.world stands) in
       says old mid new printed text (CrashHoldsAcknowledged start shape pairs later.order) so_far call
       (λ k le. keeps_saying lines left progress later.order (all_tried all) (with_said (take k text) mid.world) k (ap (λ s. s ++ take k text) same ∙ ap (λ t. old.world.said ++ take k t) is)
       (keeps_said run.engine.shape (after_all run.engine.shape lines run.engine.map) [] (take k text) mid.world keeps))

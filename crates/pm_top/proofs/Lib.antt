@@ -1,6 +1,7 @@
 pub mod AnsweredBatch
 pub mod AnsweredLines
 pub mod Lasting
+pub mod LaterStates
 pub mod Leaving
 pub mod Limits
 pub mod Opened

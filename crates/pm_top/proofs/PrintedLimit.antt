@@ -81,10 +81,10 @@ module _ (old w : World) (shape : Shape) (pairs : Pairs) (lines : ℕ) (tail : L
       → acknowledged old shape pairs w ≡ length (accepted shape 1 first pairs)
   acknowledged_is none =
       let texts = texts_of (take lines (replies_of shape old.input pairs)) in
-      let behind : drop (length old.said) w.said ≡ texts_of (replies_to shape first pairs) ++ tail =
+      let after_text : drop (length old.said) w.said ≡ texts_of (replies_to shape first pairs) ++ tail =
       ap (drop (length old.said)) (answers.said ∙ append_assoc old.said texts tail) ∙ drop_at old.said (texts ++ tail) (length old.said) refl
       ∙ ap (λ r. texts_of r ++ tail) replies_are in
-      ap (λ b. length (accepted shape 1 (take (begun (replies_of shape old.input pairs) b) (script_of old.input)) pairs)) behind
+      ap (λ b. length (accepted shape 1 (take (begun (replies_of shape old.input pairs) b) (script_of old.input)) pairs)) after_text
       ∙ ap (λ s. length (accepted shape 1 (take (begun (replies_to shape s pairs) (texts_of (replies_to shape first pairs) ++ tail)) s) pairs)) (sym parts)
       ∙ ap length (acknowledged_told shape first others pairs tail none)
 
@@ -99,9 +99,9 @@ told_keeps old mid shape pairs lines order w answers part keeps =
     let map = after_all shape head pairs in
     let before = acknowledged_is old mid shape pairs lines [] answers
     (ap (λ n. accepted shape (1 + length head) (take n more) map) (begun_nothing (replies_to shape more map)) ∙ ap (λ ls. accepted shape (1 + length head) ls map) (take_none more)) in
-    let behind = acknowledged_is old now shape pairs lines tail (more_said old mid now shape pairs lines tail answers refl)
+    let after_text = acknowledged_is old now shape pairs lines tail (more_said old mid now shape pairs lines tail answers refl)
     (none_acknowledged shape (1 + length head) more map part.0 108 (codes "ong\n") none_with_l) in
-    let same : acknowledged old shape pairs now ≡ acknowledged old shape pairs mid = behind ∙ sym before in
+    let same : acknowledged old shape pairs now ≡ acknowledged old shape pairs mid = after_text ∙ sym before in
     subst (λ v. CrashHoldsAcknowledged old shape pairs order v) (sym part.1) (λ image leaves honest.
     let h = keeps image (record { log = leaves.log; pages = leaves.pages; starts = leaves.starts; ends = leaves.ends }) (record { frames = honest.frames }) in
     record { count = h.count; fits = h.fits; has = omega (arith, h.has, same); holds = h.holds })

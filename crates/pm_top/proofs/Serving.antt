@@ -102,7 +102,7 @@ closed progress later new lines same said = record {
 pub leaves : {start now : World} {shape : Shape} {pairs : Pairs} (before run later : Run) (mid new : World) → Progress start now [] shape pairs later → IsAtRestAfter before run mid → later.lines ≡ run.lines → IsAtRestWithin SHAPE 0 (running run.engine) (running later.engine) new
     → LeavesRun start shape pairs before later new
 leaves {start = start} {shape = shape} {pairs = pairs} before run later mid new progress over lines on = record {
-  over = record { stands = on.stands; climbs = omega (arith, over.climbs, on.climbs, lines) };
+  over = record { stands = on.stands; rises = omega (arith, over.rises, on.rises, lines) };
   lasting = on.lasting;
   shape_is = progress.shape_is;
   map = progress.map ∙ ap (λ ls. after_all shape ls pairs) (sym (progress.script ∙ append-nil progress.done));
@@ -118,11 +118,11 @@ closing_moments mid new {start = start} {shape = shape} {pairs = pairs} {run = r
 
 -- one batch after others
 pub over_then : (before mid later : Run) (world now : World) → IsAtRestAfter before mid world → IsAtRestAfter mid later now → IsAtRestAfter before later now
-over_then before mid later world now first second = record { stands = second.stands; climbs = omega (arith, first.climbs, second.climbs) }
+over_then before mid later world now first second = record { stands = second.stands; rises = omega (arith, first.rises, second.rises) }
 
 -- there are segments for a batch
 pub room_left : (before now : Run) (world : World) → before.lines ≡ 0 → now.lines ≤ LINES_MAX → HasSegments (running before.engine) (2 ^ 24) → IsAtRestAfter before now world → HasSegments (running now.engine) 2048
-room_left before now world none few room over = omega (arith, none, few, room, over.climbs)
+room_left before now world none few room over = omega (arith, none, few, room, over.rises)
 
 -- what stands after, where there is nothing
 pub append_right : (xs ys : List ℕ) → xs ++ ys ≡ [] → ys ≡ []

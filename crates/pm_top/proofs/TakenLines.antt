@@ -1,4 +1,4 @@
--- How a batch is batch_taken, line after line.
+-- How the lines of a batch are taken off a script, one after the other.
 use Rattle.std.proofs.Common.{◌≡◌, ℕ, zero, suc, ◌+◌, List, [], ◌∷◌, ◌++◌, length, refl, sym, ◌∙◌, ap, subst, arith, append_assoc, append-nil, length-append}
 use Rattle.std.specs.List.{All}
 use Rattle.pm_model.specs.declared.line.Line.{Line}

@@ -1,7 +1,7 @@
-//! The lines that tell faults.
+//! The lines that report faults.
 
 ghost use Rattle.std.specs.Prelude.{◌≡◌, ◌⊎◌, ◌≤◌, [], codes, OnOk};
-ghost use Rattle.pm_disk.specs.States.{Rose};
+ghost use Rattle.pm_disk.specs.States.{IsLaterState, Rose};
 ghost use Rattle.pm_disk.specs.Moments.{AllMoments};
 ghost use Rattle.pm_disk.specs.Worlds.{with_said};
 ghost use Rattle.pm_top.specs.Promises.{SaysPart, fault_record};
@@ -22,6 +22,7 @@ pub fn print_usage_fault<H: Host>(host: &mut H) -> Status
         (SaysPart (codes "fault usage\n") (H.history host.old).world) }
     ensures cases { (result ≡ Status.Usage) ⊎ (result ≡ Status.Failed) }
     ensures failed { result ≡ Status.Failed → Rose (H.state host.old) (H.state host.new) }
+    ensures state { IsLaterState (H.state host.old) (H.state host.new) }
 {
     match host.print(b"fault usage\n") {
         Ok(()) => Status::Usage,
@@ -39,7 +40,7 @@ pub fn print_limit_fault<H: Host>(host: &mut H) -> Status
         (SaysPart (codes "fault long\n") (H.history host.old).world) }
     ensures cases { (result ≡ Status.Long) ⊎ (result ≡ Status.Failed) }
     ensures failed { result ≡ Status.Failed → Rose (H.state host.old) (H.state host.new) }
-    ensures later { H.state host.old ≤ H.state host.new }
+    ensures state { IsLaterState (H.state host.old) (H.state host.new) }
 {
     match host.print(b"fault long\n") {
         Ok(()) => Status::Long,
@@ -53,7 +54,7 @@ pub fn print_record_fault<H: Host>(alloc: Global, host: &mut H, at: Place) -> St
         (H.history host.new).world ≡ with_said (fault_record at) (H.history host.old).world }
     ensures cases { (result ≡ Status.Damaged) ⊎ (result ≡ Status.Failed) ⊎ (result ≡ Status.Memory) }
     ensures failed { result ≡ Status.Failed → Rose (H.state host.old) (H.state host.new) }
-    ensures later { H.state host.old ≤ H.state host.new }
+    ensures state { IsLaterState (H.state host.old) (H.state host.new) }
 {
     let mut text = Vec::new(alloc);
     if write_record_fault(at, &mut text).is_err() {

@@ -7,6 +7,7 @@ use Rattle.pm_script.specs.Reading.{rest_of}
 use Rattle.pm_script.proofs.TakenInput.{takes_on}
 use Rattle.pm_top.specs.Scripts.{GivesNextLine, CountsNextLine, LinesAreTaken, ContinuationIs, NextLineHasCache}
 use Rattle.pm_top.proofs.TakenLines.{one_more_taken, batch_taken, one_has}
+use Rattle.pm_top.proofs.LaterStates.{plain_later}
 use Rattle.pm_top.proofs.batch.next_batch.Goals as goal
 
 pub returns-in_err-line-clause-takes : goal.returns-in_err-line-clause-takes
@@ -25,8 +26,8 @@ pub returns-in_err-push-in-Line-clause-takes : goal.returns-in_err-push-in-Line-
 returns-in_err-push-in-Line-clause-takes g c t =
     takes_on (g.H.Device.history c.args.host.now) (g.H.Device.history c.lines.host) (g.H.Device.history c.next_line.new.host) (g.H.Device.sound c.lines.host t) (c.lines.invariant.takes t) (c.next_line.ensures.takes t)
 
-pub returns-then-len-eq-BATCH_LINES_MAX-clause-takes : goal.returns-then-len-eq-BATCH_LINES_MAX-clause-takes
-returns-then-len-eq-BATCH_LINES_MAX-clause-takes g c t =
+pub returns-then-not-takes_more-clause-takes : goal.returns-then-not-takes_more-clause-takes
+returns-then-not-takes_more-clause-takes g c t =
     takes_on (g.H.Device.history c.args.host.now) (g.H.Device.history c.lines.host) (g.H.Device.history c.next_line.new.host) (g.H.Device.sound c.lines.host t) (c.lines.invariant.takes t) (c.next_line.ensures.takes t)
 
 pub returns-in-End-clause-takes : goal.returns-in-End-clause-takes
@@ -51,8 +52,8 @@ returns-then-is_alone-clause-taken g c t =
       continues = (refl, refl);
     }
 
-pub returns-then-len-eq-BATCH_LINES_MAX-clause-taken : goal.returns-then-len-eq-BATCH_LINES_MAX-clause-taken
-returns-then-len-eq-BATCH_LINES_MAX-clause-taken g c t =
+pub returns-then-not-takes_more-clause-taken : goal.returns-then-not-takes_more-clause-taken
+returns-then-not-takes_more-clause-taken g c t =
     let old = g.H.Device.history c.args.host.now in
     let before = g.H.Device.history c.lines.host in
     let now = g.H.Device.history c.next_line.new.host in
@@ -74,7 +75,8 @@ lines-preserved g c =
       caches = subst (All HasCache) (sym pushed) (All-append HasCache c.lines.lines.items (c.in-Line.line ∷ []) v.caches (one_has c.in-Line.line has));
       count = omega (arith, v.count, counts.lines, longer);
       limit = λ few. counts.few_lines;
-      later = omega (arith, v.later, c.next_line.ensures.cause.later);
+      state = plain_later _ _ _ c.next_line.result v.state c.next_line.ensures.cause;
+      input_end = λ t. c.in_ok-line.ensures.input_end t;
       taken = λ t.
           let old = g.H.Device.history c.args.host.now in
           let before = g.H.Device.history c.lines.host in
