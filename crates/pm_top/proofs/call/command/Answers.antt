@@ -14,7 +14,6 @@ returns-in_default-clause-crash g c t shape pairs start =
     let old = g.H.Device.history c.args.host.now in
     refused_moments old (g.H.Device.history c.print_usage_fault.new.host) shape pairs c.without.result.order.items (rest_keeps old.world shape pairs start.holds start.numbers start.quiet) (c.print_usage_fault.ensures.moments t)
 
-
 pub returns-in-Ok-clause-run : goal.returns-in-Ok-clause-run
 returns-in-Ok-clause-run g c t is =
     let old = g.H.Device.history c.args.host.now in
@@ -22,7 +21,6 @@ returns-in-Ok-clause-run g c t is =
     let new = g.H.Device.history c.run.new.host in
     let same : mid.world ≡ old.world = (c.in-Ok.ensures.does t).ok in
     run_from old mid new c.run.result.status c.run.result.lines c.run.result.order.items same (c.run.ensures.run t)
-
 
 pub returns-in-Ok-clause-crash : goal.returns-in-Ok-clause-crash
 returns-in-Ok-clause-crash g c t shape pairs start =
@@ -35,9 +33,7 @@ returns-in-Ok-clause-crash g c t shape pairs start =
     (bound_moments old mid c.bind.result shape pairs order (g.H.Device.sound c.args.host.now t) (rest_keeps old.world shape pairs start.holds start.numbers start.quiet) (c.bind.ensures.does t))
     (subst (λ (w : World). IsStart w shape pairs → AllMoments mid new (CrashHoldsAcknowledged w shape pairs order)) same (c.run.ensures.crash t shape pairs) start)
 
-
 pub returns-in-Err-clause-crash : goal.returns-in-Err-clause-crash
 returns-in-Err-clause-crash g c t shape pairs start =
     let old = g.H.Device.history c.args.host.now in
     bound_moments old (g.H.Device.history c.bind.new.self) c.bind.result shape pairs c.without-in-Err.result.order.items (g.H.Device.sound c.args.host.now t) (rest_keeps old.world shape pairs start.holds start.numbers start.quiet) (c.bind.ensures.does t)
-

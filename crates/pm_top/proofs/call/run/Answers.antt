@@ -36,7 +36,6 @@ returns-in-Ok-clause-run g c t =
       long = λ is. (let stopped = subst (λ s. OutcomeIs s old.world new.world c.in-Ok.engine.shape c.in-Ok.engine.map outcome.lines outcome.order.items) is (c.answer_script.ensures.outcome t old.world (same_console old.world mid.world only)) in stopped.passes);
     }
 
-
 pub returns-in-Ok-clause-crash : goal.returns-in-Ok-clause-crash
 returns-in-Ok-clause-crash g c t shape pairs start =
     let old = g.H.Device.history c.args.host.now in
@@ -53,13 +52,11 @@ returns-in-Ok-clause-crash g c t shape pairs start =
     (c.answer_script.ensures.moments t old.world (same_console old.world mid.world only) can) in
     joined old mid new K (opening_moments old mid shape pairs order (c.open_store.ensures.moments t shape pairs start.holds start.numbers start.quiet) (c.open_store.ensures.log_only t)) second
 
-
 pub returns-in-Err-Failed-clause-crash : goal.returns-in-Err-Failed-clause-crash
 returns-in-Err-Failed-clause-crash g c t shape pairs start =
     let old = g.H.Device.history c.args.host.now in
     let mid = g.H.Device.history c.open_store.new.host in
     opening_moments old mid shape pairs c.without.result.order.items (c.open_store.ensures.moments t shape pairs start.holds start.numbers start.quiet) (c.open_store.ensures.log_only t)
-
 
 pub returns-in-Err-Memory-clause-crash : goal.returns-in-Err-Memory-clause-crash
 returns-in-Err-Memory-clause-crash g c t shape pairs start =
@@ -67,11 +64,9 @@ returns-in-Err-Memory-clause-crash g c t shape pairs start =
     let mid = g.H.Device.history c.open_store.new.host in
     opening_moments old mid shape pairs c.without-in-Err-Memory.result.order.items (c.open_store.ensures.moments t shape pairs start.holds start.numbers start.quiet) (c.open_store.ensures.log_only t)
 
-
 pub returns-in-Err-BadRecord-clause-crash : goal.returns-in-Err-BadRecord-clause-crash
 returns-in-Err-BadRecord-clause-crash g c t shape pairs start =
     absurd ((c.in-Err-BadRecord.ensures.bad t c.in-Err-BadRecord.at (ap Err c.in-Err-BadRecord.field-0-is)).unsound shape pairs start.holds)
-
 
 pub returns-in-Err-BadRecord-clause-run : goal.returns-in-Err-BadRecord-clause-run
 returns-in-Err-BadRecord-clause-run g c t =
@@ -89,4 +84,3 @@ returns-in-Err-BadRecord-clause-run g c t =
       };
       long = search rules;
     }
-

@@ -18,14 +18,12 @@ pub returns-in_err-batch-clause-keeps : goal.returns-in_err-batch-clause-keeps
 returns-in_err-batch-clause-keeps g c =
     record { shape = refl; more = []; order = sym (append-nil c.args.self.now.engine.order.items) }
 
-
 pub returns-in_err-batch-clause-open : goal.returns-in_err-batch-clause-open
 returns-in_err-batch-clause-open g c t =
     let old = g.H.Device.history c.args.host.now in
     let mid = g.H.Device.history c.next_batch.new.host in
     let takes = at_last old mid (OnlyTakes old.world) (g.H.Device.sound c.next_batch.new.host t) (c.next_batch.ensures.takes t) in
     record { same = taken_files old.world mid.world takes; end = search rules; input_end = search rules }
-
 
 pub returns-in_err-batch-clause-fault : goal.returns-in_err-batch-clause-fault
 returns-in_err-batch-clause-fault g c t start shape pairs progress =
@@ -35,16 +33,13 @@ returns-in_err-batch-clause-fault g c t start shape pairs progress =
     let same = taken_said old.world mid.world takes in
     record { failed = λ _. failed_still progress mid.world same; memory = λ _. memory_still progress mid.world same }
 
-
 pub returns-in_err-batch-clause-moments : goal.returns-in_err-batch-clause-moments
 returns-in_err-batch-clause-moments g c t start shape pairs progress stands segments =
     taken_moments (g.H.Device.history c.args.host.now) (g.H.Device.history c.next_batch.new.host) progress stands (c.next_batch.ensures.takes t)
 
-
 pub returns-in_err-answer_lines-clause-keeps : goal.returns-in_err-answer_lines-clause-keeps
 returns-in_err-answer_lines-clause-keeps g c =
     c.answer_lines.ensures.keeps
-
 
 pub returns-in_err-answer_lines-clause-open : goal.returns-in_err-answer_lines-clause-open
 returns-in_err-answer_lines-clause-open g c t =
@@ -53,7 +48,6 @@ returns-in_err-answer_lines-clause-open g c t =
     let takes = at_last old mid (OnlyTakes old.world) (g.H.Device.sound c.next_batch.new.host t) (c.next_batch.ensures.takes t) in
     let files = files_then old.world mid.world (g.H.Device.history c.answer_lines.new.host).world (taken_files old.world mid.world takes) (c.answer_lines.ensures.same t).0 in
     record { same = files; end = search rules; input_end = search rules }
-
 
 pub returns-in_err-answer_lines-clause-fault : goal.returns-in_err-answer_lines-clause-fault
 returns-in_err-answer_lines-clause-fault g c t start shape pairs progress =
@@ -72,7 +66,6 @@ returns-in_err-answer_lines-clause-fault g c t start shape pairs progress =
       failed = λ is. (let its : IsErrOf c.answer_lines.result Failed = search rules in fault.failed its);
       memory = λ is. (let its : IsErrOf c.answer_lines.result Memory = search rules in fault.memory its);
     }
-
 
 pub returns-in_err-answer_lines-clause-moments : goal.returns-in_err-answer_lines-clause-moments
 returns-in_err-answer_lines-clause-moments g c t start shape pairs progress stands segments =
@@ -93,11 +86,9 @@ returns-in_err-answer_lines-clause-moments g c t start shape pairs progress stan
     (taken_moments old mid progress stands (c.next_batch.ensures.takes t)) (c.answer_lines.ensures.moments t start (batch.alone.items ++ left) shape pairs first stands_taken one) in
     so_far
 
-
 pub returns-in_err-answer_lines-2-clause-keeps : goal.returns-in_err-answer_lines-2-clause-keeps
 returns-in_err-answer_lines-2-clause-keeps g c =
     keeps_both c.args.self.now c.answer_lines.new.self c.answer_lines-2.new.self c.answer_lines.ensures.keeps c.answer_lines-2.ensures.keeps
-
 
 pub returns-in_err-answer_lines-2-clause-open : goal.returns-in_err-answer_lines-2-clause-open
 returns-in_err-answer_lines-2-clause-open g c t =
@@ -107,7 +98,6 @@ returns-in_err-answer_lines-2-clause-open g c t =
     let files = files_then old.world mid.world (g.H.Device.history c.answer_lines.new.host).world (taken_files old.world mid.world takes) (c.answer_lines.ensures.same t).0 in
     let both = files_then old.world (g.H.Device.history c.answer_lines.new.host).world (g.H.Device.history c.answer_lines-2.new.host).world files (c.answer_lines-2.ensures.same t).0 in
     record { same = both; end = search rules; input_end = search rules }
-
 
 pub returns-in_err-answer_lines-2-clause-fault : goal.returns-in_err-answer_lines-2-clause-fault
 returns-in_err-answer_lines-2-clause-fault g c t start shape pairs progress =
@@ -129,7 +119,6 @@ returns-in_err-answer_lines-2-clause-fault g c t start shape pairs progress =
       failed = λ is. (let its : IsErrOf c.answer_lines-2.result Failed = search rules in fault.failed its);
       memory = λ is. (let its : IsErrOf c.answer_lines-2.result Memory = search rules in fault.memory its);
     }
-
 
 pub returns-in_err-answer_lines-2-clause-moments : goal.returns-in_err-answer_lines-2-clause-moments
 returns-in_err-answer_lines-2-clause-moments g c t start shape pairs progress stands segments =
@@ -157,11 +146,9 @@ returns-in_err-answer_lines-2-clause-moments g c t start shape pairs progress st
     then_moments start shape pairs old done (g.H.Device.history c.answer_lines-2.new.host) c.answer_lines.new.self.engine.order.items c.answer_lines-2.ensures.keeps.more c.answer_lines-2.new.self.engine.order.items c.answer_lines-2.ensures.keeps.order
     so_far (c.answer_lines-2.ensures.moments t start left shape pairs second since.stands two)
 
-
 pub returns-clause-keeps : goal.returns-clause-keeps
 returns-clause-keeps g c =
     keeps_both c.args.self.now c.answer_lines.new.self c.answer_lines-2.new.self c.answer_lines.ensures.keeps c.answer_lines-2.ensures.keeps
-
 
 pub returns-clause-open : goal.returns-clause-open
 returns-clause-open g c t =
@@ -176,7 +163,6 @@ returns-clause-open g c t =
       end = c.in_ok-answer_lines-2.ensures.end t;
       input_end = λ ended. input ∙ c.in_ok-batch.ensures.input_end t ended;
     }
-
 
 pub returns-clause-answered : goal.returns-clause-answered
 returns-clause-answered g c t =
@@ -208,7 +194,6 @@ returns-clause-answered g c t =
           (c.in_ok-answer_lines-2.ensures.answered t start left shape pairs second).done;
     }
 
-
 pub returns-clause-fault : goal.returns-clause-fault
 returns-clause-fault g c t start shape pairs progress =
     let old = g.H.Device.history c.args.host.now in
@@ -227,7 +212,6 @@ returns-clause-fault g c t start shape pairs progress =
     let new = g.H.Device.history c.answer_lines-2.new.host in
     let third = (c.in_ok-answer_lines-2.ensures.answered t start left shape pairs second).done in
     record { failed = λ _. failed_still third new.world refl; memory = λ _. memory_still third new.world refl }
-
 
 pub returns-clause-moments : goal.returns-clause-moments
 returns-clause-moments g c t start shape pairs progress stands segments =
@@ -255,7 +239,6 @@ returns-clause-moments g c t start shape pairs progress stands segments =
     then_moments start shape pairs old done (g.H.Device.history c.answer_lines-2.new.host) c.answer_lines.new.self.engine.order.items c.answer_lines-2.ensures.keeps.more c.answer_lines-2.new.self.engine.order.items c.answer_lines-2.ensures.keeps.order
     so_far (c.answer_lines-2.ensures.moments t start left shape pairs second since.stands two)
 
-
 pub returns-clause-stands : goal.returns-clause-stands
 returns-clause-stands g c t stands segments =
     let old = g.H.Device.history c.args.host.now in
@@ -270,7 +253,6 @@ returns-clause-stands g c t stands segments =
     stands_then c.args.self.now c.answer_lines.new.self c.answer_lines-2.new.self (length c.deref.result.now) (length c.deref-2.result.now) (g.H.Device.history c.answer_lines-2.new.host).world
     c.in_ok-answer_lines.ensures.lines c.in_ok-answer_lines-2.ensures.lines since.rises (c.in_ok-answer_lines-2.ensures.stands t since.stands two)
 
-
 pub returns-clause-counted : goal.returns-clause-counted
 returns-clause-counted g c =
     let batch = c.in_ok-batch.batch in
@@ -283,4 +265,3 @@ returns-clause-counted g c =
       same = λ is. omega (arith, counts.lines is, c.requires.counted, c.in_ok-answer_lines.ensures.lines, c.in_ok-answer_lines-2.ensures.lines, one, two, all);
       some = λ is. omega (arith, c.in_ok-batch.ensures.batch.some is, c.in_ok-answer_lines.ensures.lines, c.in_ok-answer_lines-2.ensures.lines, one, two, all);
     }
-

@@ -1,4 +1,6 @@
 use Rattle.std.proofs.Common.{rules, ◌≡◌, ◌++◌, ◌+◌, List, ℕ, [], length, take, refl, sym, ap, ◌∙◌, subst, append-nil}
+use Rattle.std.proofs.lemmas.Bool.{eqb-true}
+use Rattle.std.proofs.lemmas.List.{nil_from_length}
 use Rattle.pm_disk.specs.Worlds.{World}
 use Rattle.pm_disk.proofs.Chain.{at_last}
 use Rattle.pm_model.specs.Eval.{replies_to, accepted}
@@ -16,11 +18,10 @@ pub returns-then-is_empty-clause-keeps : goal.returns-then-is_empty-clause-keeps
 returns-then-is_empty-clause-keeps g c =
     record { shape = refl; more = []; order = sym (append-nil c.args.self.now.engine.order.items) }
 
-
 pub returns-then-is_empty-clause-answered : goal.returns-then-is_empty-clause-answered
 returns-then-is_empty-clause-answered g c t start left shape pairs progress =
     let world = (g.H.Device.history c.args.host.now).world in
-    let none : c.args.lines.now ≡ [] = search rules in
+    let none : c.args.lines.now ≡ [] = nil_from_length c.args.lines.now (eqb-true _ _ (sym c.is_empty.ensures ∙ c.if-is_empty.true)) in
     record {
       done = subst (λ ls. Progress start world (ls ++ left) shape pairs c.args.self.now) none progress;
       fault = record { failed = λ _. failed_still progress world refl; memory = λ _. memory_still progress world refl };
@@ -30,11 +31,9 @@ pub returns-then-is_empty-clause-moments : goal.returns-then-is_empty-clause-mom
 returns-then-is_empty-clause-moments g c t start left shape pairs progress stands segments =
     rest_moments (g.H.Device.history c.args.host.now) progress (g.H.Device.sound c.args.host.now t) stands
 
-
 pub returns-in_err-replies-clause-keeps : goal.returns-in_err-replies-clause-keeps
 returns-in_err-replies-clause-keeps g c =
     record { shape = refl; more = []; order = sym (append-nil c.args.self.now.engine.order.items) }
-
 
 pub returns-in_err-replies-clause-answered : goal.returns-in_err-replies-clause-answered
 returns-in_err-replies-clause-answered g c t start left shape pairs progress =
@@ -44,18 +43,15 @@ returns-in_err-replies-clause-answered g c t start left shape pairs progress =
       fault = record { failed = λ _. failed_still progress world refl; memory = λ _. memory_still progress world refl };
     }
 
-
 pub returns-in_err-replies-clause-moments : goal.returns-in_err-replies-clause-moments
 returns-in_err-replies-clause-moments g c t start left shape pairs progress stands segments =
     rest_moments (g.H.Device.history c.args.host.now) progress (g.H.Device.sound c.args.host.now t) stands
-
 
 pub returns-in_err-batch-clause-keeps : goal.returns-in_err-batch-clause-keeps
 returns-in_err-batch-clause-keeps g c =
     let run = c.args.self.now in
     let tries = c.batch.ensures.tries in
     record { shape = c.batch.ensures.shape; more = accepted run.engine.shape (run.lines + 1) (take tries.count c.args.lines.now) run.engine.map; order = tries.order }
-
 
 pub returns-in_err-batch-clause-same : goal.returns-in_err-batch-clause-same
 returns-in_err-batch-clause-same g c t =
@@ -67,7 +63,6 @@ returns-in_err-batch-clause-same g c t =
     let tries = c.batch.ensures.tries in
     let only = at_last old mid (ChangesLog old.world) (g.H.Device.sound c.batch.new.host t) (c.batch.ensures.log_only t) in
     log_files old.world mid.world only
-
 
 pub returns-in_err-batch-clause-answered : goal.returns-in_err-batch-clause-answered
 returns-in_err-batch-clause-answered g c t start left shape pairs progress =
@@ -86,7 +81,6 @@ returns-in_err-batch-clause-answered g c t start left shape pairs progress =
       };
     }
 
-
 pub returns-in_err-batch-clause-moments : goal.returns-in_err-batch-clause-moments
 returns-in_err-batch-clause-moments g c t start left shape pairs progress stands segments =
     let old = g.H.Device.history c.args.host.now in
@@ -98,13 +92,11 @@ returns-in_err-batch-clause-moments g c t start left shape pairs progress stands
     let only = at_last old mid (ChangesLog old.world) (g.H.Device.sound c.batch.new.host t) (c.batch.ensures.log_only t) in
     batch_moments g.H.Device.tells old mid run later lines c.batch.result tries left progress t (c.batch.ensures.log_only t) stands segments
 
-
 pub returns-in_err-write_replies-clause-keeps : goal.returns-in_err-write_replies-clause-keeps
 returns-in_err-write_replies-clause-keeps g c =
     let run = c.args.self.now in
     let tries = c.batch.ensures.tries in
     record { shape = c.batch.ensures.shape; more = accepted run.engine.shape (run.lines + 1) (take tries.count c.args.lines.now) run.engine.map; order = tries.order }
-
 
 pub returns-in_err-write_replies-clause-same : goal.returns-in_err-write_replies-clause-same
 returns-in_err-write_replies-clause-same g c t =
@@ -116,7 +108,6 @@ returns-in_err-write_replies-clause-same g c t =
     let tries = c.batch.ensures.tries in
     let only = at_last old mid (ChangesLog old.world) (g.H.Device.sound c.batch.new.host t) (c.batch.ensures.log_only t) in
     log_files old.world mid.world only
-
 
 pub returns-in_err-write_replies-clause-answered : goal.returns-in_err-write_replies-clause-answered
 returns-in_err-write_replies-clause-answered g c t start left shape pairs progress =
@@ -135,7 +126,6 @@ returns-in_err-write_replies-clause-answered g c t start left shape pairs progre
       };
     }
 
-
 pub returns-in_err-write_replies-clause-moments : goal.returns-in_err-write_replies-clause-moments
 returns-in_err-write_replies-clause-moments g c t start left shape pairs progress stands segments =
     let old = g.H.Device.history c.args.host.now in
@@ -147,13 +137,11 @@ returns-in_err-write_replies-clause-moments g c t start left shape pairs progres
     let only = at_last old mid (ChangesLog old.world) (g.H.Device.sound c.batch.new.host t) (c.batch.ensures.log_only t) in
     batch_moments g.H.Device.tells old mid run later lines c.batch.result tries left progress t (c.batch.ensures.log_only t) stands segments
 
-
 pub returns-in_err-print-clause-keeps : goal.returns-in_err-print-clause-keeps
 returns-in_err-print-clause-keeps g c =
     let run = c.args.self.now in
     let tries = c.batch.ensures.tries in
     record { shape = c.batch.ensures.shape; more = accepted run.engine.shape (run.lines + 1) (take tries.count c.args.lines.now) run.engine.map; order = tries.order }
-
 
 pub returns-in_err-print-clause-same : goal.returns-in_err-print-clause-same
 returns-in_err-print-clause-same g c t =
@@ -166,7 +154,6 @@ returns-in_err-print-clause-same g c t =
     let only = at_last old mid (ChangesLog old.world) (g.H.Device.sound c.batch.new.host t) (c.batch.ensures.log_only t) in
     let part = (c.print.ensures.says t).part in
     said_files old.world mid.world (g.H.Device.history c.print.new.self).world _ only part.2
-
 
 pub returns-in_err-print-clause-answered : goal.returns-in_err-print-clause-answered
 returns-in_err-print-clause-answered g c t start left shape pairs progress =
@@ -193,7 +180,6 @@ returns-in_err-print-clause-answered g c t start left shape pairs progress =
       };
     }
 
-
 pub returns-in_err-print-clause-moments : goal.returns-in_err-print-clause-moments
 returns-in_err-print-clause-moments g c t start left shape pairs progress stands segments =
     let old = g.H.Device.history c.args.host.now in
@@ -211,13 +197,11 @@ returns-in_err-print-clause-moments g c t start left shape pairs progress stands
     saying_moments g.H.Device.tells old mid run later lines c.batch.result tries left progress new c.print.result c.deref-2.result.now all text (c.print.ensures.says t) only.said c.batch.ensures.shape c.in_ok-batch.ensures.map
     (c.in_ok-batch.ensures.stands t SHAPE stands segments).stands (batch_moments g.H.Device.tells old mid run later lines c.batch.result tries left progress t (c.batch.ensures.log_only t) stands segments)
 
-
 pub returns-clause-keeps : goal.returns-clause-keeps
 returns-clause-keeps g c =
     let run = c.args.self.now in
     let tries = c.batch.ensures.tries in
     record { shape = c.batch.ensures.shape; more = accepted run.engine.shape (run.lines + 1) (take tries.count c.args.lines.now) run.engine.map; order = tries.order }
-
 
 pub returns-clause-same : goal.returns-clause-same
 returns-clause-same g c t =
@@ -229,7 +213,6 @@ returns-clause-same g c t =
     let tries = c.batch.ensures.tries in
     let only = at_last old mid (ChangesLog old.world) (g.H.Device.sound c.batch.new.host t) (c.batch.ensures.log_only t) in
     said_files old.world mid.world (g.H.Device.history c.print.new.self).world c.deref-2.result.now only (c.in_ok-print.ensures.says t).ok
-
 
 pub returns-clause-answered : goal.returns-clause-answered
 returns-clause-answered g c t start left shape pairs progress =
@@ -253,7 +236,6 @@ returns-clause-answered g c t start left shape pairs progress =
       fault = record { failed = λ _. failed_still done new.world refl; memory = λ _. memory_still done new.world refl };
     }
 
-
 pub returns-clause-moments : goal.returns-clause-moments
 returns-clause-moments g c t start left shape pairs progress stands segments =
     let old = g.H.Device.history c.args.host.now in
@@ -271,7 +253,6 @@ returns-clause-moments g c t start left shape pairs progress stands segments =
     saying_moments g.H.Device.tells old mid run later lines c.batch.result tries left progress new c.print.result c.deref-2.result.now all text (c.print.ensures.says t) only.said c.batch.ensures.shape c.in_ok-batch.ensures.map
     (c.in_ok-batch.ensures.stands t SHAPE stands segments).stands (batch_moments g.H.Device.tells old mid run later lines c.batch.result tries left progress t (c.batch.ensures.log_only t) stands segments)
 
-
 pub returns-clause-stands : goal.returns-clause-stands
 returns-clause-stands g c t stands segments =
     let mid = g.H.Device.history c.batch.new.host in
@@ -281,4 +262,3 @@ returns-clause-stands g c t stands segments =
       stands = subst (IsAtRest SHAPE later) (sym (c.in_ok-print.ensures.says t).ok) (said_stands SHAPE later mid.world c.deref-2.result.now done.stands);
       rises = done.rises;
     }
-
