@@ -1,6 +1,6 @@
 use Rattle.std.proofs.Common.{codes}
 use Rattle.pm_top.proofs.Says.{said_part, said_moments}
-use Rattle.pm_top.proofs.telling.tell_usage.Goals as goal
+use Rattle.pm_top.proofs.fault_lines.print_usage_fault.Goals as goal
 
 pub returns-in-Ok-clause-moments : goal.returns-in-Ok-clause-moments
 returns-in-Ok-clause-moments g c t =

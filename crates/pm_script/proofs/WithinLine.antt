@@ -4,9 +4,9 @@ use Rattle.std.proofs.lemmas.Bool.{cases_lt}
 use Rattle.std.proofs.lemmas.List.{length-take, take_all}
 use Rattle.pm_types.specs.declared.limits.TheConstants.{SCRIPT_BYTES_MAX, LINES_MAX, LINE_MAX}
 use Rattle.pm_script.specs.Lines.{first_line, after_line}
-use Rattle.pm_script.specs.Reading.{Unread, cut, KeepsLine, Going, TakesSome, TakesWhole, TakesPart, TakesLine, IsAtEnd, IsKind, IsEndedWith, IsEndedWithout, Advances}
-use Rattle.pm_script.specs.declared.lines.Next.{Next}
-use Rattle.pm_script.specs.declared.lines.Next.TheVariants.{Text, Long, End, Over}
+use Rattle.pm_script.specs.Reading.{Unread, cut, KeepsLine, IsWithinLine, TakesSome, TakesWhole, TakesPart, TakesLine, IsAtEnd, IsKind, IsEndedWith, IsEndedWithout, FindsKind}
+use Rattle.pm_script.specs.declared.lines.ItemKind.{ItemKind}
+use Rattle.pm_script.specs.declared.lines.ItemKind.TheVariants.{Text, Long, End, Over}
 use Rattle.pm_script.proofs.Unbroken.{take-take_append, first_line-append, after_line-append, after_line-lt}
 
 -- lines that are cut alike are cut alike with more after them
@@ -19,7 +19,7 @@ nothing_cut [] none = refl
 nothing_cut (b ∷ line) none = absurd (omega (arith, none, length-take (LINE_MAX + 1) (b ∷ line)))
 
 -- the next piece was read
-pub going_filled : {old now new : Unread} {rest now_rest new_rest : List ℕ} → Going old now rest now_rest → KeepsLine now new → new_rest ≡ now_rest → Going old new rest new_rest
+pub going_filled : {old now new : Unread} {rest now_rest new_rest : List ℕ} → IsWithinLine old now rest now_rest → KeepsLine now new → new_rest ≡ now_rest → IsWithinLine old new rest new_rest
 going_filled {old = old} {now = now} {new = new} {rest = rest} {now_rest = now_rest} {new_rest = new_rest} going keeps same = record {
   first = ap (λ r. cut (new.line ++ first_line r)) same ∙ cut-append new.line now.line (first_line now_rest) keeps.line ∙ going.first;
   others = ap after_line same ∙ going.others;
@@ -32,7 +32,7 @@ going_filled {old = old} {now = now} {new = new} {rest = rest} {now_rest = now_r
 }
 
 -- a part of the line was taken
-pub going_some : {old now new : Unread} {rest part : List ℕ} (left : List ℕ) → Going old now rest (now.pending ++ left) → TakesSome now new part → now.lines < LINES_MAX → Going old new rest (new.pending ++ left)
+pub going_some : {old now new : Unread} {rest part : List ℕ} (left : List ℕ) → IsWithinLine old now rest (now.pending ++ left) → TakesSome now new part → now.lines < LINES_MAX → IsWithinLine old new rest (new.pending ++ left)
 going_some {now = now} {new = new} {part = part} left going takes few =
     let next = new.pending ++ left in
     let regrouped : now.pending ++ left ≡ part ++ next = ap (λ r. r ++ left) takes.pending ∙ append_assoc part new.pending left in
@@ -53,7 +53,7 @@ going_some {now = now} {new = new} {part = part} left going takes few =
     }
 
 -- what is kept of a line tells whether it is long, and is the line where it isn't
-given : {old new : Unread} {rest now_rest : List ℕ} (next : Next) → TakesLine old new rest now_rest → cut new.line ≡ cut (first_line rest) → IsKind new.line next → Advances old new rest now_rest next
+given : {old new : Unread} {rest now_rest : List ℕ} (next : ItemKind) → TakesLine old new rest now_rest → cut new.line ≡ cut (first_line rest) → IsKind new.line next → FindsKind old new rest now_rest next
 given {new = new} {rest = rest} Text takes first short =
     let kept : length (cut new.line) ≡ length new.line = length-take (LINE_MAX + 1) new.line ∙ (let m : min (LINE_MAX + 1) (length new.line) ≡ length new.line = omega (arith, short) in m) in
     let whole : length (first_line rest) ≤ LINE_MAX = omega (arith, short, kept, ap (λ (l : List ℕ). length l) first, length-take (LINE_MAX + 1) (first_line rest)) in
@@ -70,7 +70,7 @@ given End takes first none = absurd none
 given Over takes first none = absurd none
 
 -- the rest of the line was taken, with its newline
-pub line_taken : {old now new : Unread} {rest part : List ℕ} (left : List ℕ) (next : Next) → Going old now rest (now.pending ++ left) → TakesWhole now new part → IsKind new.line next → now.lines < LINES_MAX → new.bytes ≤ SCRIPT_BYTES_MAX → Advances old new rest (new.pending ++ left) next
+pub line_taken : {old now new : Unread} {rest part : List ℕ} (left : List ℕ) (next : ItemKind) → IsWithinLine old now rest (now.pending ++ left) → TakesWhole now new part → IsKind new.line next → now.lines < LINES_MAX → new.bytes ≤ SCRIPT_BYTES_MAX → FindsKind old new rest (new.pending ++ left) next
 line_taken {old = old} {now = now} {new = new} {rest = rest} {part = part} left next going takes kind few bytes =
     let after = new.pending ++ left in
     let regrouped : now.pending ++ left ≡ part ++ (10 ∷ after) = ap (λ r. r ++ left) takes.pending ∙ append_assoc part (10 ∷ new.pending) left in
@@ -87,7 +87,7 @@ line_taken {old = old} {now = now} {new = new} {rest = rest} {part = part} left 
     } (ap cut takes.line ∙ ap (λ p. cut (now.line ++ p)) (sym (first_is ∙ append-nil part)) ∙ going.first) kind
 
 -- the input ended in a line
-line_ended : {old now new : Unread} {rest : List ℕ} (left : List ℕ) (next : Next) → Going old now rest (now.pending ++ left) → now.pending ++ left ≡ [] → IsEndedWith now new next → 0 < length now.line → new.bytes ≤ SCRIPT_BYTES_MAX → Advances old new rest (new.pending ++ left) next
+line_ended : {old now new : Unread} {rest : List ℕ} (left : List ℕ) (next : ItemKind) → IsWithinLine old now rest (now.pending ++ left) → now.pending ++ left ≡ [] → IsEndedWith now new next → 0 < length now.line → new.bytes ≤ SCRIPT_BYTES_MAX → FindsKind old new rest (new.pending ++ left) next
 line_ended {old = old} {now = now} {new = new} {rest = rest} left next going end ended some bytes =
     let same_line : new.line ≡ now.line = ap (λ (u : Unread). u.line) ended.now in
     let same_bytes : new.bytes ≡ now.bytes = ap (λ (u : Unread). u.bytes) ended.now in
@@ -103,7 +103,7 @@ line_ended {old = old} {now = now} {new = new} {rest = rest} left next going end
     } (ap cut same_line ∙ ap cut (sym (append-nil now.line) ∙ ap (λ r. now.line ++ first_line r) (sym end)) ∙ going.first) ended.kind
 
 -- the input ended after a line
-input_ended : {old now new : Unread} {rest : List ℕ} (left : List ℕ) → Going old now rest (now.pending ++ left) → now.pending ++ left ≡ [] → new ≡ now → length now.line ≡ 0 → IsAtEnd old new rest (new.pending ++ left)
+input_ended : {old now new : Unread} {rest : List ℕ} (left : List ℕ) → IsWithinLine old now rest (now.pending ++ left) → now.pending ++ left ≡ [] → new ≡ now → length now.line ≡ 0 → IsAtEnd old new rest (new.pending ++ left)
 input_ended {old = old} {now = now} {new = new} {rest = rest} left going end unchanged none =
     let same : now.pending ++ left ≡ rest = elim going.started [ inl begins ↦ begins.1 | inr on ↦ absurd (omega (arith, none, on.0)) ] in
     let bytes : now.bytes ≡ old.bytes = omega (arith, going.bytes, ap (λ (r : List ℕ). length r) same) in
@@ -115,18 +115,18 @@ input_ended {old = old} {now = now} {new = new} {rest = rest} left going end unc
     }
 
 -- the input ended, in a line or after one
-pub ended : {old now new : Unread} {rest : List ℕ} (left : List ℕ) (next : Next) → Going old now rest (now.pending ++ left) → now.pending ++ left ≡ [] → new.bytes ≤ SCRIPT_BYTES_MAX
-    → (length now.line ≡ 0 → IsEndedWithout now new next) → (0 < length now.line → IsEndedWith now new next) → Advances old new rest (new.pending ++ left) next
+pub ended : {old now new : Unread} {rest : List ℕ} (left : List ℕ) (next : ItemKind) → IsWithinLine old now rest (now.pending ++ left) → now.pending ++ left ≡ [] → new.bytes ≤ SCRIPT_BYTES_MAX
+    → (length now.line ≡ 0 → IsEndedWithout now new next) → (0 < length now.line → IsEndedWith now new next) → FindsKind old new rest (new.pending ++ left) next
 ended {old = old} {now = now} {new = new} {rest = rest} left next going end bytes none some =
     elim (cases_lt 0 (length now.line)) [
       | inl more ↦ line_ended left next going end (some more) more bytes
       | inr less ↦
           let nothing : length now.line ≡ 0 = omega arith in
-          subst (λ n. Advances old new rest (new.pending ++ left) n) (sym (none nothing).end) (input_ended left going end (none nothing).same nothing)
+          subst (λ n. FindsKind old new rest (new.pending ++ left) n) (sym (none nothing).end) (input_ended left going end (none nothing).same nothing)
     ]
 
 -- a limit is reached, and there is more
-pub over_limit : {old now : Unread} {rest now_rest : List ℕ} → Going old now rest now_rest → (now.lines ≡ LINES_MAX) ⊎ (now.bytes ≡ SCRIPT_BYTES_MAX) → 0 < length now_rest → Advances old now rest now_rest Over
+pub over_limit : {old now : Unread} {rest now_rest : List ℕ} → IsWithinLine old now rest now_rest → (now.lines ≡ LINES_MAX) ⊎ (now.bytes ≡ SCRIPT_BYTES_MAX) → 0 < length now_rest → FindsKind old now rest now_rest Over
 over_limit {old = old} {now = now} {rest = rest} {now_rest = now_rest} going full some = (
   record {
     some = elim going.started [ inl begins ↦ omega (arith, ap (λ (r : List ℕ). length r) begins.1, some) | inr on ↦ on.1 ];

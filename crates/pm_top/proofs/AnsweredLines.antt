@@ -14,14 +14,14 @@ use Rattle.pm_segments.specs.Written.{ChangesLog}
 use Rattle.pm_engine.specs.Held.{CrashHoldsPrefix}
 use Rattle.pm_engine.specs.Engines.{Running, running, IsAtRest, HasSegments}
 use Rattle.pm_engine.specs.Batches.{TriesLines}
-use Rattle.pm_engine.proofs.Going.{goes_keep}
+use Rattle.pm_engine.proofs.DoneLines.{done_keeps}
 use Rattle.pm_top.specs.declared.run.Run.{Run}
 use Rattle.pm_top.specs.declared.shape.TheConstants.{SHAPE}
 use Rattle.pm_top.specs.Crashes.{CrashHoldsAcknowledged}
-use Rattle.pm_top.specs.Promises.{IsBroken, IsShort}
+use Rattle.pm_top.specs.Promises.{HasFailed, HasNoMemory}
 use Rattle.pm_top.specs.Runs.{Progress, SameFiles}
 use Rattle.pm_top.proofs.Lasting.{keeps_rest, keeps_doing, keeps_saying, keeps_said}
-use Rattle.pm_top.proofs.Progressing.{broken_unsaid, short_unsaid}
+use Rattle.pm_top.proofs.Progressing.{failed_unsaid, memory_unsaid}
 
 -- two promises at once
 pub both : (old new : History) (P Q : World → Type 0) → AllMoments old new P → AllMoments old new Q → AllMoments old new (λ w. P w × Q w)
@@ -71,16 +71,16 @@ said_files old mid new bytes only is = subst (λ w. SameFiles old w × (w.input 
 pub rest_moments : (old : History) {start : World} {left : List Line} {shape : Shape} {pairs : Pairs} {run : Run} (progress : Progress start old.world left shape pairs run) → IsHistory old → IsAtRest SHAPE (running run.engine) old.world
     → AllMoments old old (CrashHoldsAcknowledged start shape pairs run.engine.order.items)
 rest_moments old {start = start} {shape = shape} {pairs = pairs} {run = run} progress sound stands =
-    started old (CrashHoldsAcknowledged start shape pairs run.engine.order.items) sound (keeps_rest progress old.world refl (goes_keep SHAPE run.engine.map [] (running run.engine) old.world stands))
+    started old (CrashHoldsAcknowledged start shape pairs run.engine.order.items) sound (keeps_rest progress old.world refl (done_keeps SHAPE run.engine.map [] (running run.engine) old.world stands))
 
 module _ {T E : Type 0} (tells : Type 0) (old mid : History) (run : Run) (later : Running) (lines : List Line) (result : Result T E) (tries : TriesLines {T = T} {E = E} tells old mid (running run.engine) later (run.lines + 1) lines result)
     {start : World} {shape : Shape} {pairs : Pairs} (left : List Line) (progress : Progress start old.world (lines ++ left) shape pairs run) where
   -- a fault came while the batch was done
-  pub broken_batch : length lines ≤ BATCH_LINES_MAX → mid.world.said ≡ old.world.said → IsBroken start mid.world shape pairs run.lines later.order
-  broken_batch few same = broken_unsaid lines left progress mid.world tries.count later.order few tries.within same tries.order
+  pub failed_batch : length lines ≤ BATCH_LINES_MAX → mid.world.said ≡ old.world.said → HasFailed start mid.world shape pairs run.lines later.order
+  failed_batch few same = failed_unsaid lines left progress mid.world tries.count later.order few tries.within same tries.order
 
-  pub short_batch : length lines ≤ BATCH_LINES_MAX → mid.world.said ≡ old.world.said → IsShort start mid.world shape pairs run.lines later.order
-  short_batch few same = short_unsaid lines left progress mid.world tries.count later.order few tries.within same tries.order
+  pub memory_batch : length lines ≤ BATCH_LINES_MAX → mid.world.said ≡ old.world.said → HasNoMemory start mid.world shape pairs run.lines later.order
+  memory_batch few same = memory_unsaid lines left progress mid.world tries.count later.order few tries.within same tries.order
 
   -- what a crash left meanwhile
   pub batch_moments : tells → AllMoments old mid (ChangesLog old.world) → IsAtRest SHAPE (running run.engine) old.world → HasSegments (running run.engine) (length lines) → AllMoments old mid (CrashHoldsAcknowledged start shape pairs later.order)
@@ -98,7 +98,7 @@ module _ {T E : Type 0} (tells : Type 0) (old mid : History) (run : Run) (later 
       → later.shape ≡ run.engine.shape → later.pairs ≡ after_all run.engine.shape lines run.engine.map → IsAtRest SHAPE later mid.world → AllMoments old mid (CrashHoldsAcknowledged start shape pairs later.order) → AllMoments old new (CrashHoldsAcknowledged start shape pairs later.order)
   saying_moments new printed text all is call same shapes maps stands so_far =
       let keeps : CrashHoldsPrefix SHAPE run.engine.shape (after_all run.engine.shape lines run.engine.map) [] mid.world =
-      subst (λ (x : Shape × Pairs). CrashHoldsPrefix SHAPE x.0 x.1 [] mid.world) (λ i. (shapes i, maps i)) (goes_keep SHAPE later.pairs [] later mid.world stands) in
+      subst (λ (x : Shape × Pairs). CrashHoldsPrefix SHAPE x.0 x.1 [] mid.world) (λ i. (shapes i, maps i)) (done_keeps SHAPE later.pairs [] later mid.world stands) in
       says old mid new printed text (CrashHoldsAcknowledged start shape pairs later.order) so_far call
       (λ k le. keeps_saying lines left progress later.order (all_tried all) (with_said (take k text) mid.world) k (ap (λ s. s ++ take k text) same ∙ ap (λ t. old.world.said ++ take k t) is)
       (keeps_said run.engine.shape (after_all run.engine.shape lines run.engine.map) [] (take k text) mid.world keeps))

@@ -11,15 +11,15 @@ use Rattle.pm_model.specs.declared.line.Line.{Line}
 use Rattle.pm_model.specs.Eval.{Pairs, replies_to, after_all, accepted}
 use Rattle.pm_model.proofs.Runs.{replies_to-append, length-replies_to, accepted-append}
 use Rattle.pm_script.specs.Texts.{texts_of}
-use Rattle.pm_top.specs.Crashes.{KeepsAcknowledged, acknowledged, begun}
+use Rattle.pm_top.specs.Crashes.{CrashHoldsAcknowledged, acknowledged, begun}
 use Rattle.pm_top.specs.declared.status.Status.{Status}
 use Rattle.pm_top.specs.declared.status.Status.TheVariants.{Failed, Long}
-use Rattle.pm_top.specs.Promises.{Answers, IsBroken, IsStopped, SaysPart, replies_of, Ends}
+use Rattle.pm_top.specs.Promises.{HasAnswered, HasFailed, IsStopped, SaysPart, replies_of, OutcomeIs}
 use Rattle.pm_top.specs.Served.{script_of}
 use Rattle.pm_top.proofs.Orders.{begun-texts, begun_nothing, take_none, none_acknowledged, none_with_l}
 
 -- more is said after the replies
-more_said : (old mid new : World) (shape : Shape) (pairs : Pairs) (lines : ℕ) (tail : List ℕ) → Answers old mid shape pairs lines [] → new.said ≡ mid.said ++ tail → Answers old new shape pairs lines tail
+more_said : (old mid new : World) (shape : Shape) (pairs : Pairs) (lines : ℕ) (tail : List ℕ) → HasAnswered old mid shape pairs lines [] → new.said ≡ mid.said ++ tail → HasAnswered old new shape pairs lines tail
 more_said old mid new shape pairs lines tail answers is = record {
   within = answers.within;
   said = is ∙ ap (λ s. s ++ tail) (answers.said ∙ append-nil (old.said ++ texts_of (take lines (replies_of shape old.input pairs))));
@@ -35,7 +35,7 @@ told old mid new shape pairs lines order stopped is = record {
 }
 
 pub told_part : (old mid new : World) (shape : Shape) (pairs : Pairs) (lines : ℕ) (order : List ℕ) → IsStopped old mid shape pairs lines order [] → SaysPart (codes "fault long\n") mid new
-    → IsBroken old new shape pairs lines order
+    → HasFailed old new shape pairs lines order
 told_part old mid new shape pairs lines order stopped part = record {
   tail = take part.0 (codes "fault long\n");
   answers = more_said old mid new shape pairs lines (take part.0 (codes "fault long\n")) stopped.answers (ap (λ (w : World). w.said) part.1);
@@ -60,7 +60,7 @@ acknowledged_told shape first others pairs tail none =
     ∙ ap (λ o. accepted shape 1 first pairs ++ o) none
     ∙ append-nil (accepted shape 1 first pairs)
 
-module _ (old w : World) (shape : Shape) (pairs : Pairs) (lines : ℕ) (tail : List ℕ) (answers : Answers old w shape pairs lines tail) where
+module _ (old w : World) (shape : Shape) (pairs : Pairs) (lines : ℕ) (tail : List ℕ) (answers : HasAnswered old w shape pairs lines tail) where
   abbrev first : List Line
   first = take lines (script_of old.input)
 
@@ -81,16 +81,16 @@ module _ (old w : World) (shape : Shape) (pairs : Pairs) (lines : ℕ) (tail : L
       → acknowledged old shape pairs w ≡ length (accepted shape 1 first pairs)
   acknowledged_is none =
       let texts = texts_of (take lines (replies_of shape old.input pairs)) in
-      let behind : drop (length old.said) w.said ≡ texts_of (replies_to shape first pairs) ++ tail =
+      let after_text : drop (length old.said) w.said ≡ texts_of (replies_to shape first pairs) ++ tail =
       ap (drop (length old.said)) (answers.said ∙ append_assoc old.said texts tail) ∙ drop_at old.said (texts ++ tail) (length old.said) refl
       ∙ ap (λ r. texts_of r ++ tail) replies_are in
-      ap (λ b. length (accepted shape 1 (take (begun (replies_of shape old.input pairs) b) (script_of old.input)) pairs)) behind
+      ap (λ b. length (accepted shape 1 (take (begun (replies_of shape old.input pairs) b) (script_of old.input)) pairs)) after_text
       ∙ ap (λ s. length (accepted shape 1 (take (begun (replies_to shape s pairs) (texts_of (replies_to shape first pairs) ++ tail)) s) pairs)) (sym parts)
       ∙ ap length (acknowledged_told shape first others pairs tail none)
 
 -- what a crash leaves while a limit is told
-told_keeps : (old mid : World) (shape : Shape) (pairs : Pairs) (lines : ℕ) (order : List ℕ) (w : World) → Answers old mid shape pairs lines [] → SaysPart (codes "fault long\n") mid w
-    → KeepsAcknowledged old shape pairs order mid → KeepsAcknowledged old shape pairs order w
+told_keeps : (old mid : World) (shape : Shape) (pairs : Pairs) (lines : ℕ) (order : List ℕ) (w : World) → HasAnswered old mid shape pairs lines [] → SaysPart (codes "fault long\n") mid w
+    → CrashHoldsAcknowledged old shape pairs order mid → CrashHoldsAcknowledged old shape pairs order w
 told_keeps old mid shape pairs lines order w answers part keeps =
     let tail = take part.0 (codes "fault long\n") in
     let now : World = with_said tail mid in
@@ -99,26 +99,26 @@ told_keeps old mid shape pairs lines order w answers part keeps =
     let map = after_all shape head pairs in
     let before = acknowledged_is old mid shape pairs lines [] answers
     (ap (λ n. accepted shape (1 + length head) (take n more) map) (begun_nothing (replies_to shape more map)) ∙ ap (λ ls. accepted shape (1 + length head) ls map) (take_none more)) in
-    let behind = acknowledged_is old now shape pairs lines tail (more_said old mid now shape pairs lines tail answers refl)
+    let after_text = acknowledged_is old now shape pairs lines tail (more_said old mid now shape pairs lines tail answers refl)
     (none_acknowledged shape (1 + length head) more map part.0 108 (codes "ong\n") none_with_l) in
-    let same : acknowledged old shape pairs now ≡ acknowledged old shape pairs mid = behind ∙ sym before in
-    subst (λ v. KeepsAcknowledged old shape pairs order v) (sym part.1) (λ image leaves honest.
+    let same : acknowledged old shape pairs now ≡ acknowledged old shape pairs mid = after_text ∙ sym before in
+    subst (λ v. CrashHoldsAcknowledged old shape pairs order v) (sym part.1) (λ image leaves honest.
     let h = keeps image (record { log = leaves.log; pages = leaves.pages; starts = leaves.starts; ends = leaves.ends }) (record { frames = honest.frames }) in
     record { count = h.count; fits = h.fits; has = omega (arith, h.has, same); holds = h.holds })
 
 -- the moments of a run that tells a limit
-pub told_moments : (old mid new : History) (start : World) (shape : Shape) (pairs : Pairs) (lines : ℕ) (order : List ℕ) → IsHistory mid → IsStopped start mid.world shape pairs lines order []
-    → AllMoments old mid (KeepsAcknowledged start shape pairs order) → AllMoments mid new (SaysPart (codes "fault long\n") mid.world) → AllMoments old new (KeepsAcknowledged start shape pairs order)
-told_moments old mid new start shape pairs lines order sound stopped first second =
-    let P : World → Type 0 = KeepsAcknowledged start shape pairs order in
+pub limit_moments : (old mid new : History) (start : World) (shape : Shape) (pairs : Pairs) (lines : ℕ) (order : List ℕ) → IsHistory mid → IsStopped start mid.world shape pairs lines order []
+    → AllMoments old mid (CrashHoldsAcknowledged start shape pairs order) → AllMoments mid new (SaysPart (codes "fault long\n") mid.world) → AllMoments old new (CrashHoldsAcknowledged start shape pairs order)
+limit_moments old mid new start shape pairs lines order sound stopped first second =
+    let P : World → Type 0 = CrashHoldsAcknowledged start shape pairs order in
     let here = at_last old mid P sound first in
     joined old mid new P first
     (weaker mid new (SaysPart (codes "fault long\n") mid.world) P (λ w part. told_keeps start mid.world shape pairs lines order w stopped.answers part here) second)
 
 -- a limit was told, or the call that tells it failed
 pub ends_long : (status : Status) (start mid new : World) (shape : Shape) (pairs : Pairs) (lines : ℕ) (order : List ℕ) → IsStopped start mid shape pairs lines order [] → (status ≡ Long → new ≡ with_said (codes "fault long\n") mid)
-    → (status ≡ Failed → SaysPart (codes "fault long\n") mid new) → (status ≡ Long) ⊎ (status ≡ Failed) → Ends status start new shape pairs lines order
+    → (status ≡ Failed → SaysPart (codes "fault long\n") mid new) → (status ≡ Long) ⊎ (status ≡ Failed) → OutcomeIs status start new shape pairs lines order
 ends_long status start mid new shape pairs lines order stopped long part cases = elim cases [
-  | inl is ↦ subst (λ s. Ends s start new shape pairs lines order) (sym is) (told start mid new shape pairs lines order stopped (long is))
-  | inr is ↦ subst (λ s. Ends s start new shape pairs lines order) (sym is) (told_part start mid new shape pairs lines order stopped (part is))
+  | inl is ↦ subst (λ s. OutcomeIs s start new shape pairs lines order) (sym is) (told start mid new shape pairs lines order stopped (long is))
+  | inr is ↦ subst (λ s. OutcomeIs s start new shape pairs lines order) (sym is) (told_part start mid new shape pairs lines order stopped (part is))
 ]

@@ -4,9 +4,9 @@ use Rattle.std.specs.List.{All}
 use Rattle.pm_types.specs.declared.limits.TheConstants.{BATCH_LINES_MAX, LINES_MAX}
 use Rattle.pm_disk.specs.Moments.{AllMoments}
 use Rattle.pm_model.specs.Batches.{HasCache}
-use Rattle.pm_script.specs.Reading.{rest_of, OnlyTakes}
-use Rattle.pm_top.specs.Scripts.{Gathers}
-use Rattle.pm_top.proofs.batch.gather.Given as goal
+use Rattle.pm_script.specs.Reading.{rest_of, KnowsEnd, OnlyTakes}
+use Rattle.pm_top.specs.Scripts.{LinesAreTaken}
+use Rattle.pm_top.proofs.batch.next_batch.Given as goal
 
 abbrev pub invariant-lines : goal.invariant-lines
 invariant-lines g l =
@@ -18,7 +18,8 @@ invariant-lines g l =
       count : l.input.lines ≡ l.fn.input.lines + length l.lines.items;
       limit : l.fn.input.lines ≤ LINES_MAX → l.input.lines ≤ LINES_MAX;
       state : IsLaterState (g.H.Device.state l.fn.host) (g.H.Device.state l.host);
-      gathers : g.H.Device.tells → Gathers l.fn.input l.input (rest_of l.fn.input old.world) (rest_of l.input now.world) l.lines.items;
+      input_end : g.H.Device.tells → KnowsEnd l.input now.world;
+      taken : g.H.Device.tells → LinesAreTaken l.fn.input l.input (rest_of l.fn.input old.world) (rest_of l.input now.world) l.lines.items;
       takes : g.H.Device.tells → AllMoments old now (OnlyTakes old.world);
     }
 

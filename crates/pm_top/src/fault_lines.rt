@@ -1,7 +1,7 @@
-//! The lines that tell faults.
+//! The lines that report faults.
 
 ghost use Rattle.std.specs.Prelude.{◌≡◌, ◌⊎◌, ◌≤◌, [], codes, OnOk};
-ghost use Rattle.pm_disk.specs.States.{Rose};
+ghost use Rattle.pm_disk.specs.States.{IsLaterState, Rose};
 ghost use Rattle.pm_disk.specs.Moments.{AllMoments};
 ghost use Rattle.pm_disk.specs.Worlds.{with_said};
 ghost use Rattle.pm_top.specs.Promises.{SaysPart, fault_record};
@@ -13,7 +13,7 @@ use pm_types::Place;
 use std::alloc::{AllocError, Global};
 
 /// Prints the line that says that the words aren't a command.
-pub fn tell_usage<H: Host>(host: &mut H) -> Status
+pub fn print_usage_fault<H: Host>(host: &mut H) -> Status
     ensures usage { H.tells → result ≡ Status.Usage →
         (H.history host.new).world ≡ with_said (codes "fault usage\n") (H.history host.old).world }
     ensures part { H.tells → result ≡ Status.Failed →
@@ -22,6 +22,7 @@ pub fn tell_usage<H: Host>(host: &mut H) -> Status
         (SaysPart (codes "fault usage\n") (H.history host.old).world) }
     ensures cases { (result ≡ Status.Usage) ⊎ (result ≡ Status.Failed) }
     ensures failed { result ≡ Status.Failed → Rose (H.state host.old) (H.state host.new) }
+    ensures state { IsLaterState (H.state host.old) (H.state host.new) }
 {
     match host.print(b"fault usage\n") {
         Ok(()) => Status::Usage,
@@ -30,7 +31,7 @@ pub fn tell_usage<H: Host>(host: &mut H) -> Status
 }
 
 /// Prints the line that says that the script passes a limit.
-pub fn tell_limit<H: Host>(host: &mut H) -> Status
+pub fn print_limit_fault<H: Host>(host: &mut H) -> Status
     ensures long { H.tells → result ≡ Status.Long →
         (H.history host.new).world ≡ with_said (codes "fault long\n") (H.history host.old).world }
     ensures part { H.tells → result ≡ Status.Failed →
@@ -39,7 +40,7 @@ pub fn tell_limit<H: Host>(host: &mut H) -> Status
         (SaysPart (codes "fault long\n") (H.history host.old).world) }
     ensures cases { (result ≡ Status.Long) ⊎ (result ≡ Status.Failed) }
     ensures failed { result ≡ Status.Failed → Rose (H.state host.old) (H.state host.new) }
-    ensures later { H.state host.old ≤ H.state host.new }
+    ensures state { IsLaterState (H.state host.old) (H.state host.new) }
 {
     match host.print(b"fault long\n") {
         Ok(()) => Status::Long,
@@ -48,12 +49,12 @@ pub fn tell_limit<H: Host>(host: &mut H) -> Status
 }
 
 /// Prints the line that names a record that is bad. Where there is no memory for it nothing is printed.
-pub fn tell_record<H: Host>(alloc: Global, host: &mut H, at: Place) -> Status
+pub fn print_record_fault<H: Host>(alloc: Global, host: &mut H, at: Place) -> Status
     ensures damaged { H.tells → result ≡ Status.Damaged →
         (H.history host.new).world ≡ with_said (fault_record at) (H.history host.old).world }
     ensures cases { (result ≡ Status.Damaged) ⊎ (result ≡ Status.Failed) ⊎ (result ≡ Status.Memory) }
     ensures failed { result ≡ Status.Failed → Rose (H.state host.old) (H.state host.new) }
-    ensures later { H.state host.old ≤ H.state host.new }
+    ensures state { IsLaterState (H.state host.old) (H.state host.new) }
 {
     let mut text = Vec::new(alloc);
     if write_record_fault(at, &mut text).is_err() {
