@@ -177,11 +177,13 @@ impl<R: Files + AllocGlobal + Drop> Store<R> {
             self.new.open.files.items name) }
         ensures writes { self.new.writes ≡ self.old.writes }
     {
-        if let Some(file) = self.open.take(name) {
-            return Ok(file);
+        match self.open.take(name) {
+            Some(file) => Ok(file),
+            None => {
+                self.open.make_room()?;
+                Ok(Opened::new(name, self.open_to_change(folder, name)?))
+            }
         }
-        self.open.make_room()?;
-        Ok(Opened::new(name, self.open_to_change(folder, name)?))
     }
 
     // The file to be changed, which is made where it isn't there. Its name lasts once a force has seen to
