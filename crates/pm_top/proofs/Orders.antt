@@ -12,10 +12,8 @@ use Rattle.pm_model.specs.declared.line.Cmd.TheVariants.{Put, Get, Remove, Scan,
 use Rattle.pm_model.specs.declared.reply.Reply.{Reply}
 use Rattle.pm_model.specs.declared.reply.Reply.TheVariants as reply
 use Rattle.pm_model.specs.declared.reply.Reply.TheVariants.{Done, Found, Absent, Was, Full, BadLine, LongLine}
-use Rattle.pm_model.specs.Eval.{Pairs}
-use Rattle.pm_model.specs.Eval.{found}
+use Rattle.pm_model.specs.Eval.{Pairs, found, reply_to, after, is_accepted, replies_to, after_all, accepted}
 use Rattle.pm_types.specs.declared.shape.Shape.{Shape}
-use Rattle.pm_model.specs.Eval.{reply_to, after, is_accepted, replies_to, after_all, accepted}
 use Rattle.pm_model.proofs.Runs.{after-not_accepted}
 use Rattle.pm_script.specs.Texts.{text_of, texts_of}
 use Rattle.pm_top.specs.Crashes.{begun, after_numbers}
