@@ -1,6 +1,7 @@
 -- What every object of the outside reports about itself: how often a call failed, and which calls may be made.
-use Rattle.std.specs.Prelude.{◌≡◌, ◌+◌, ◌-◌, ◌^◌, ◌≤◌, ℕ, min, List, Bool, true, false, Option, Some, IsSome, Result, OnOk, OnErr}
+use Rattle.std.specs.Prelude.{◌≡◌, ◌≤◌, ℕ, List, Bool, true, false, Option, Some, IsSome, Result, OnOk, OnErr}
 use Rattle.pm_types.specs.declared.page_id.PageId.{PageId}
+use Rattle.pm_types.specs.Counts.{HasRisen}
 
 -- Which calls may be made on an object.
 pub record Access : Type 0 where
@@ -41,7 +42,7 @@ pub record MayUseAllPages (state : DeviceState) : Type 0 where
 
 -- the count of faults has risen, or stands at its last value
 abbrev pub Rose : DeviceState → DeviceState → Type 0
-Rose before now = min (before.faults + 1) (2 ^ 64 - 1) ≤ now.faults
+Rose before now = HasRisen before.faults now.faults
 
 -- The count of faults doesn't fall, an `Err` comes only where it rose, and the same calls may be made as before.
 pub record HasCause {T E : Type 0} (before now : DeviceState) (result : Result T E) : Type 0 where
