@@ -11,8 +11,8 @@ use Rattle.pm_model.specs.declared.line.Line.{Line}
 use Rattle.pm_model.specs.declared.reply.Reply.{Reply}
 use Rattle.pm_model.specs.Eval.{Pairs, after, after_all, replies_to, reply_to, accepted}
 use Rattle.pm_model.proofs.Runs.{after_all-append, replies_to-append, accepted-append}
-use Rattle.pm_segments.specs.Written.{ChangesLog}
-use Rattle.pm_segments.proofs.Quiet.{log_then}
+use Rattle.pm_records.specs.LogFiles.{ChangesLog}
+use Rattle.pm_records.proofs.QuietLog.{log_then}
 use Rattle.pm_engine.specs.Held.{CrashHoldsPrefix}
 use Rattle.pm_engine.specs.Engines.{Running, HasDone, HasDoneWithin, IsAtRest, HasSegments}
 use Rattle.pm_engine.specs.Batches.{tried_line, TriesLine, TriesLines}

@@ -18,16 +18,18 @@ use Rattle.pm_model.specs.declared.line.Line.{Line}
 use Rattle.pm_model.specs.declared.line.Line.TheVariants.{Good, Bad, Long}
 use Rattle.pm_model.specs.Eval.{Pairs, is_accepted, after, after_all}
 use Rattle.pm_model.proofs.Runs.{after_all-append, after-not_accepted}
-use Rattle.pm_segments.specs.Grammars.{place}
-use Rattle.pm_segments.specs.Steps.{Force, seal_frame, world_after, DoesPrefix, room_steps, append_steps, steps_of, grown}
-use Rattle.pm_segments.specs.Written.{Written, next_written, written_after, IsWritten, IsRecordFrame, IsQuietBut}
+use Rattle.pm_records.specs.LogFiles.{Written, IsWritten, IsRecordFrame, IsQuietBut}
+use Rattle.pm_records.specs.LogSteps.{Force, world_after, DoesPrefix, next_written, written_after, frames_in}
+use Rattle.pm_records.specs.Logs.{record_in, place, seal_frame}
+use Rattle.pm_records.proofs.QuietLog.{forced_quiet}
+use Rattle.pm_records.proofs.Writing.{frames_after, lasting_after}
+use Rattle.pm_segments.specs.Appends.{room_steps, append_steps, steps_of, grown}
 use Rattle.pm_segments.proofs.AppendLaw.{append_written}
 use Rattle.pm_segments.proofs.OpenLog.{open_image, room_frames, append_frames, grown_end, grown_seg, append_open, append_image, force_written, force_open}
-use Rattle.pm_segments.proofs.Quiet.{append_quiet, forced_quiet}
-use Rattle.pm_segments.proofs.Writing.{frames_in, frames_after, lasting_after}
-use Rattle.pm_engine.specs.Records.{record_in, record_of_line, IsPayloadOf, logical_frame}
+use Rattle.pm_segments.proofs.Quiet.{append_quiet}
+use Rattle.pm_engine.specs.Records.{record_of_line, IsPayloadOf, logical_frame}
 use Rattle.pm_engine.specs.Held.{replayed, then_replayed, all_replayed, IsHeld, CrashHoldsPrefix}
-use Rattle.pm_engine.specs.Engines.{Running, every, frames_of, HeldAfterPrefix, HasDone, HasDoneWithin, IsAtRest, HasSegments}
+use Rattle.pm_engine.specs.Engines.{Running, frames_of, HeldAfterPrefix, HasDone, HasDoneWithin, IsAtRest, HasSegments}
 use Rattle.pm_engine.specs.Batches.{tried_line}
 
 -- ---- what frames hold
@@ -46,7 +48,7 @@ held_push wanted (g ∷ gs) f shape pairs now some held does = record {
   map = all_replayed-append shape (g ∷ gs) (f ∷ []) (Some empty) ∙ ap (then_replayed shape f) held.map ∙ does;
 }
 
-seal_record : record_in seal_frame ≡ Some Seal
+pub seal_record : record_in seal_frame ≡ Some Seal
 unfolding payload_of
 seal_record = record_of-payload Seal tt
 
@@ -109,7 +111,7 @@ before_push wanted shape start done more low frames f before held n le = elim (l
 pub done_keeps : (wanted : Shape) (start : Pairs) (done : List Line) (engine : Running) (world : World) → HasDone wanted start done engine world → CrashHoldsPrefix wanted engine.shape start done world
 done_keeps wanted start done engine world goes image leaves honest =
     let s = goes.written in
-    let left = open_image every world 1 (place 1 0) engine.log.end s goes.stands image.log leaves.log honest.frames in
+    let left = open_image world 1 (place 1 0) engine.log.end s goes.stands image.log leaves.log honest.frames in
     let h = goes.before left.0 left.1 in
     (h.0, h.1, record { frames = take left.0 (frames_of s); log = left.2; held = h.2 })
 
@@ -167,8 +169,8 @@ module _ (wanted : Shape) (start : Pairs) (done : List Line) (engine : Running) 
   abbrev shape : Shape
   shape = engine.shape
 
-  is_record : IsRecordFrame every f
-  is_record = record { known_from = omega arith; known_to = omega arith; short = logs.short; kept = refl }
+  is_record : IsRecordFrame f
+  is_record = record { known_from = omega arith; known_to = omega arith; short = logs.short }
 
   -- what comes before the record
   abbrev first : List Frame
@@ -188,7 +190,7 @@ module _ (wanted : Shape) (start : Pairs) (done : List Line) (engine : Running) 
       )
 
   before_record : HoldsStill first
-  before_record = elim (room_frames every refl engine.log f is_record s goes.is_open) [
+  before_record = elim (room_frames engine.log f is_record s goes.is_open) [
     | inl none ↦ subst HoldsStill (sym none) (subst (λ fs. IsHeld wanted fs shape engine.pairs × ((n : ℕ) → length s.lasting ≤ n → HeldAfterPrefix wanted shape start done (take n fs))) (sym (append-nil frames)) (goes.held, goes.before))
     | inr one ↦ subst HoldsStill (sym one) sealed
   ]
@@ -198,7 +200,7 @@ module _ (wanted : Shape) (start : Pairs) (done : List Line) (engine : Running) 
   whole = frames_in (append_steps engine.log f)
 
   regrouped : (frames ++ first) ++ f ∷ [] ≡ frames ++ whole
-  regrouped = append_assoc frames first (f ∷ []) ∙ ap (λ l. frames ++ l) (sym (append_frames every refl engine.log f is_record s goes.is_open))
+  regrouped = append_assoc frames first (f ∷ []) ∙ ap (λ l. frames ++ l) (sym (append_frames engine.log f is_record s goes.is_open))
 
   prefix_first : 0 < length (frames ++ first)
   prefix_first = omega (arith, goes.some, length-append frames first)
@@ -220,7 +222,7 @@ module _ (wanted : Shape) (start : Pairs) (done : List Line) (engine : Running) 
   -- while it is appended
   pub append_keeps : (tried : Bool) (now : World) → DoesPrefix (steps_of tried engine.log f) engine.log.end old now → CrashHoldsPrefix wanted shape start (done ++ tried_line tried line) now
   append_keeps tried now some image leaves honest =
-      let left = append_image every refl engine.log f is_record s goes.is_open tried old now 1 (place 1 0) goes.stands some image.log leaves.log honest.frames in
+      let left = append_image engine.log f is_record s goes.is_open tried old now 1 (place 1 0) goes.stands some image.log leaves.log honest.frames in
       let h = before_try tried left.0 left.1 in
       (h.0, h.1, record { frames = take left.0 (frames ++ frames_in (steps_of tried engine.log f)); log = left.2; held = h.2 })
 
@@ -230,22 +232,22 @@ module _ (wanted : Shape) (start : Pairs) (done : List Line) (engine : Running) 
   append_done now shapes maps logs_are world is =
       let steps = append_steps engine.log f in
       let t = written_after steps s in
-      let end = grown_end every refl engine.log f is_record s goes.is_open in
+      let end = grown_end engine.log f is_record s goes.is_open in
       let frames_are : frames_of t ≡ (frames ++ first) ++ f ∷ [] = frames_after steps s ∙ sym regrouped in
       let same : record { shape = shape; pairs = after shape line engine.pairs; log = grown engine.log f; order = now.order } ≡ now = λ i. record { shape = sym shapes i; pairs = sym maps i; log = sym logs_are i; order = now.order } in
       subst (λ w. HasDoneWithin wanted start (done ++ line ∷ []) 1 engine now w) (sym is)
       (subst (λ e. HasDoneWithin wanted start (done ++ line ∷ []) 1 engine e (world_after steps engine.log.end old)) same (
         record {
           written = t;
-          stands = subst (λ p. IsWritten every (world_after steps engine.log.end old) 1 (place 1 0) p t) end (append_written every refl engine.log f is_record s goes.is_open old 1 (place 1 0) goes.stands);
-          is_open = append_open every refl engine.log f is_record s goes.is_open (omega (arith, segments));
+          stands = subst (λ p. IsWritten (world_after steps engine.log.end old) 1 (place 1 0) p t) end (append_written engine.log f is_record s goes.is_open old 1 (place 1 0) goes.stands);
+          is_open = append_open engine.log f is_record s goes.is_open (omega (arith, segments));
           held = subst (λ fs. IsHeld wanted fs shape (after shape line engine.pairs)) (sym frames_are) held_record;
           map = after_is;
           some = omega (arith, ap (λ (l : List Frame). length l) frames_are, length-append (frames ++ first) (f ∷ []));
           before = λ n le. subst (λ fs. HeldAfterPrefix wanted shape start (done ++ line ∷ []) (take n fs)) (sym (frames_after steps s)) (before_whole n (omega (arith, le, lasting_after steps s)));
           quiet = subst (λ (p : Place). IsQuietBut (world_after steps engine.log.end old) p.seg) end (append_quiet engine.log f old goes.quiet);
         },
-        grown_seg every refl engine.log f is_record s goes.is_open,
+        grown_seg engine.log f is_record s goes.is_open,
       ))
 
 -- ---- a force
@@ -263,8 +265,8 @@ module _ (wanted : Shape) (start : Pairs) (done : List Line) (engine : Running) 
       let held : IsHeld wanted (frames_of t) engine.shape engine.pairs = subst (λ fs. IsHeld wanted fs engine.shape engine.pairs) (sym all) goes.held in
       record {
         written = t;
-        stands = force_written every engine.log s goes.is_open old 1 (place 1 0) goes.stands;
-        is_open = force_open every engine.log s goes.is_open;
+        stands = force_written engine.log s goes.is_open old 1 (place 1 0) goes.stands;
+        is_open = force_open engine.log s goes.is_open;
         held = held;
         map = refl;
         some = omega (arith, goes.some, ap (λ (l : List Frame). length l) all);

@@ -10,16 +10,14 @@ use Rattle.pm_types.specs.declared.shape.Shape.{Shape}
 use Rattle.pm_frame.specs.Frames.{Frame}
 use Rattle.pm_records.specs.Records.{Record, Logical, Snapshot, Delta, CpBegin, Restart, Seal}
 use Rattle.pm_disk.specs.Worlds.{World}
+use Rattle.pm_records.specs.FirstRecords.{is_restart, shape_in, log_shape}
+use Rattle.pm_records.specs.LogFiles.{contents}
+use Rattle.pm_records.specs.Logs.{enters_next, record_in, place_after, place, all_frames, HasFrames, after_frames, is_seal, is_last, IsLogFrom}
+use Rattle.pm_records.proofs.Runs.{next-enters, next-stays, run_begins, run_last, bool_cases}
+use Rattle.pm_segments.specs.Scans.{Scanned, frame_ahead, Advances}
+use Rattle.pm_segments.proofs.Reading.{scan_goes, scan_ends, going_on}
 use Rattle.pm_model.specs.Eval.{Pairs}
-use Rattle.pm_segments.specs.Ends.{place_after}
-use Rattle.pm_segments.specs.Grammars.{place, all_frames}
-use Rattle.pm_segments.specs.Logs.{HasFrames, after_frames, next, contents, is_seal}
-use Rattle.pm_segments.specs.Scans.{Scanned, frame_ahead, Advances, is_last}
-use Rattle.pm_segments.specs.Read.{IsLogFrom}
-use Rattle.pm_segments.proofs.Reading.{scan_goes, scan_ends, point_going, going_on}
-use Rattle.pm_segments.proofs.Runs.{bool_cases}
-use Rattle.pm_engine.specs.Records.{record_in}
-use Rattle.pm_engine.specs.Held.{is_restart, shape_told, shape_of, replayed, then_replayed, all_replayed, IsHeld, Holds}
+use Rattle.pm_engine.specs.Held.{replayed, then_replayed, all_replayed, IsHeld, Holds}
 use Rattle.pm_engine.specs.Openings.{IsBadAfter, IsBadRecord, AppliesFrame, IsReplayOf, ReadsPrefix, ReadsAll}
 use Rattle.pm_engine.specs.declared.replay.Replay.{Replay}
 use Rattle.pm_engine.proofs.DoneLines.{all_replayed-append}
@@ -35,7 +33,7 @@ restart_leaves shape (Some (Restart told)) pairs is = refl
 restart_leaves shape (Some Seal) pairs is = absurd cc
 
 -- a RESTART tells the shape, whatever was wanted
-restart_tells : (one other : Shape) (found : Option Record) → is_restart found ≡ true → shape_told one found ≡ shape_told other found
+restart_tells : (one other : Shape) (found : Option Record) → is_restart found ≡ true → shape_in one found ≡ shape_in other found
 restart_tells one other None is = absurd cc
 restart_tells one other (Some (Logical op cache key value)) is = absurd cc
 restart_tells one other (Some (Snapshot page bytes)) is = absurd cc
@@ -79,7 +77,7 @@ replay_more wanted (g ∷ gs) old new f found takes =
 pub replay_bad : (wanted : Shape) (frames : List Frame) (old new : Replay) (f : Frame) → IsReplayOf wanted frames old → AppliesFrame false old new (record_in f) → IsBadAfter wanted frames f
 replay_bad wanted [] old new f found takes = takes.0 found.begun
 replay_bad wanted (g ∷ gs) old new f found takes =
-    let shape : old.shape ≡ shape_of wanted (g ∷ gs) = found.held.told in (
+    let shape : old.shape ≡ log_shape wanted (g ∷ gs) = found.held.told in (
       old.map,
       ap (λ s. all_replayed s (g ∷ gs) (Some empty)) (sym shape) ∙ found.held.map,
       ap (λ s. replayed s (record_in f) old.map) (sym shape) ∙ takes.1 found.begun,
@@ -97,43 +95,24 @@ bad_unsound wanted [] f rest shape pairs bad held = let both : true ≡ false = 
 bad_unsound wanted (g ∷ gs) f rest shape pairs bad held =
     let all : all_replayed shape ((g ∷ gs) ++ f ∷ rest) (Some empty) ≡ None =
     ap (λ s. all_replayed s ((g ∷ gs) ++ f ∷ rest) (Some empty)) held.told
-    ∙ all_replayed-append (shape_of wanted (g ∷ gs)) (g ∷ gs) (f ∷ rest) (Some empty)
-    ∙ ap (λ o. all_replayed (shape_of wanted (g ∷ gs)) rest (then_replayed (shape_of wanted (g ∷ gs)) f o)) bad.1
-    ∙ ap (all_replayed (shape_of wanted (g ∷ gs)) rest) bad.2
-    ∙ none_stays (shape_of wanted (g ∷ gs)) rest in
+    ∙ all_replayed-append (log_shape wanted (g ∷ gs)) (g ∷ gs) (f ∷ rest) (Some empty)
+    ∙ ap (λ o. all_replayed (log_shape wanted (g ∷ gs)) rest (then_replayed (log_shape wanted (g ∷ gs)) f o)) bad.1
+    ∙ ap (all_replayed (log_shape wanted (g ∷ gs)) rest) bad.2
+    ∙ none_stays (log_shape wanted (g ∷ gs)) rest in
     let both : Some pairs ≡ None = sym held.map ∙ all in absurd cc
 
 -- ---- a scan
 
 -- it goes up
 pub further_by : (scan later : Scanned) (f : Frame) → Advances scan later (Some f) → (scan.next.seg < later.next.seg) ⊎ ((scan.next.seg ≡ later.next.seg) × (scan.next.off < later.next.off))
-further_by scan later f advances = elim (bool_cases (is_seal f && not (is_last scan.next.seg))) [
-  | inl goes ↦
-      let to : later.next ≡ place (scan.next.seg + 1) 0 = advances.1 ∙ ap (λ (b : Bool). let p : Place = if b then record { seg = scan.next.seg + 1; off = 0 } else place_after scan.next f in p) goes in
-      inl (omega (arith, ap (λ (p : Place). p.seg) to))
-  | inr stays ↦
-      let to : later.next ≡ place_after scan.next f = advances.1 ∙ ap (λ (b : Bool). let p : Place = if b then record { seg = scan.next.seg + 1; off = 0 } else place_after scan.next f in p) stays in
-      inr (sym (ap (λ (p : Place). p.seg) to), omega (arith, ap (λ (p : Place). p.off) to))
+further_by scan later f advances = elim (bool_cases (enters_next scan.next f)) [
+  | inl enters ↦ let to = advances.1 ∙ next-enters scan.next f enters in inl (omega (arith, ap (λ (p : Place). p.seg) to))
+  | inr stays ↦ let to = advances.1 ∙ next-stays scan.next f stays in inr (sym (ap (λ (p : Place). p.seg) to), omega (arith, ap (λ (p : Place). p.off) to))
 ]
 
--- what a run begins with, the log begins with
-run_begins : (world : World) (from : Place) (xs fs : List Frame) → HasFrames all_frames (contents world.log) from xs → IsLogFrom world from fs → (rest : List Frame) × (fs ≡ xs ++ rest)
-run_begins world from [] fs run log = (fs, refl)
-run_begins world from (x ∷ xs) [] run log = let none : None ≡ Some x = sym log.ends ∙ run.0 in absurd cc
-run_begins world from (x ∷ xs) (f ∷ fs) run log =
-    let same : f ≡ x = same_Some f x (sym log.run.0 ∙ run.0) in
-    let left : IsLogFrom world (next from f) fs = record { run = log.run.1; ends = log.ends } in
-    let more = run_begins world (next from x) xs fs run.1 (subst (λ g. IsLogFrom world (next from g) fs) same left) in
-    (more.0, ap (λ g. g ∷ fs) same ∙ ap (λ gs. x ∷ gs) more.1)
-
-run_last : (world : World) (from : Place) (xs : List Frame) (f : Frame) → HasFrames all_frames (contents world.log) from (xs ++ f ∷ [])
-    → all_frames.frame_at (after_frames from xs).seg (after_frames from xs).off (contents world.log (after_frames from xs).seg) ≡ Some f
-run_last world from [] f run = run.0
-run_last world from (x ∷ xs) f run = run_last world (next from x) xs f run.1
-
 -- the log that a sound store has
-pub holds_log : (wanted : Shape) (world : World) (shape : Shape) (pairs : Pairs) (holds : Holds wanted world shape pairs) → IsLogFrom world (place 1 0) holds.frames
-holds_log wanted world shape pairs holds = record { run = holds.log.run; ends = holds.log.ends }
+pub holds_log : (wanted : Shape) (world : World) (shape : Shape) (pairs : Pairs) (holds : Holds wanted world shape pairs) → IsLogFrom all_frames (contents world.log) (place 1 0) holds.frames
+holds_log wanted world shape pairs holds = holds.log.log
 
 module _ (wanted : Shape) (world : World) (scan later : Scanned) (old new : Replay) (reads : ReadsPrefix wanted world scan old) where
   -- one frame more was read
@@ -154,20 +133,20 @@ module _ (wanted : Shape) (world : World) (scan later : Scanned) (old new : Repl
   pub reads_bad : (f : Frame) → frame_ahead scan world ≡ Some f → Advances scan later (Some f) → AppliesFrame false old new (record_in f) → IsBadRecord wanted world later.place
   reads_bad f stands advances takes =
       let goes = scan_goes world (place 1 0) reads.frames scan later f reads.scanned stands advances in
-      let there : after_frames (place 1 0) reads.frames ≡ later.place = reads.scanned.goes_on ∙ point_going scan (going_on scan world f stands) ∙ sym advances.0 in
+      let there : after_frames (place 1 0) reads.frames ≡ later.place = sym reads.scanned.next ∙ sym advances.0 in
       record {
         before = reads.frames;
         run = reads.scanned.run;
         there = there;
         frame = f;
-        stands = subst (λ (p : Place). all_frames.frame_at p.seg p.off (contents world.log p.seg) ≡ Some f) there (run_last world (place 1 0) reads.frames f goes.run);
+        stands = subst (λ (p : Place). all_frames.frame_at p.seg p.off (contents world.log p.seg) ≡ Some f) there (run_last all_frames (contents world.log) (place 1 0) reads.frames f goes.run);
         bad = replay_bad wanted reads.frames old new f reads.is_replay takes;
       }
 
   pub reads_unsound : (f : Frame) → frame_ahead scan world ≡ Some f → Advances scan later (Some f) → AppliesFrame false old new (record_in f) → (shape : Shape) (pairs : Pairs) → Holds wanted world shape pairs → ⊥
   reads_unsound f stands advances takes shape pairs holds =
       let goes = scan_goes world (place 1 0) reads.frames scan later f reads.scanned stands advances in
-      let front = run_begins world (place 1 0) (reads.frames ++ f ∷ []) holds.frames goes.run (holds_log wanted world shape pairs holds) in
+      let front = run_begins all_frames (contents world.log) (place 1 0) (reads.frames ++ f ∷ []) holds.frames goes.run (holds_log wanted world shape pairs holds) in
       let all : holds.frames ≡ reads.frames ++ f ∷ front.0 = front.1 ∙ append_assoc reads.frames (f ∷ []) front.0 in
       bad_unsound wanted reads.frames f front.0 shape pairs (replay_bad wanted reads.frames old new f reads.is_replay takes) (subst (λ fs. IsHeld wanted fs shape pairs) all holds.held)
 

@@ -6,9 +6,10 @@ use Rattle.pm_disk.specs.Moments.{History, IsHistory, AllMoments}
 use Rattle.pm_disk.proofs.Chain.{started, weaker}
 use Rattle.pm_model.specs.declared.line.Line.{Line}
 use Rattle.pm_model.specs.Eval.{Pairs, is_accepted, accepted}
-use Rattle.pm_segments.specs.Steps.{DoesPrefix, steps_of}
-use Rattle.pm_segments.specs.Written.{ChangesLog}
-use Rattle.pm_segments.proofs.Quiet.{log_same, prefix_changes}
+use Rattle.pm_records.specs.LogFiles.{ChangesLog}
+use Rattle.pm_records.specs.LogSteps.{DoesPrefix}
+use Rattle.pm_records.proofs.QuietLog.{log_same, prefix_changes}
+use Rattle.pm_segments.specs.Appends.{steps_of}
 use Rattle.pm_engine.specs.Records.{logical_frame}
 use Rattle.pm_engine.specs.Held.{CrashHoldsPrefix}
 use Rattle.pm_engine.specs.Engines.{Running}

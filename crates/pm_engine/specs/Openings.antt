@@ -6,14 +6,14 @@ use Rattle.pm_types.specs.declared.shape.Shape.{Shape}
 use Rattle.pm_frame.specs.Frames.{Frame}
 use Rattle.pm_records.specs.Records.{Record}
 use Rattle.pm_disk.specs.Worlds.{World}
+use Rattle.pm_records.specs.FirstRecords.{is_restart, shape_in, log_shape}
+use Rattle.pm_records.specs.LogFiles.{contents}
+use Rattle.pm_records.specs.Logs.{record_in, place, all_frames, HasFrames, after_frames, IsLogFrom}
+use Rattle.pm_segments.specs.Read.{HasScanned}
+use Rattle.pm_segments.specs.Scans.{Scanned, frame_ahead, Advances}
 use Rattle.pm_model.specs.declared.line.Line.{Line}
 use Rattle.pm_model.specs.Eval.{Pairs}
-use Rattle.pm_segments.specs.Grammars.{place, all_frames}
-use Rattle.pm_segments.specs.Logs.{HasFrames, contents, after_frames}
-use Rattle.pm_segments.specs.Scans.{Scanned, frame_ahead, Advances}
-use Rattle.pm_segments.specs.Read.{HasScanned, IsLogFrom, log_end}
-use Rattle.pm_engine.specs.Records.{record_in}
-use Rattle.pm_engine.specs.Held.{is_restart, shape_told, shape_of, put_replayed, replayed, then_replayed, all_replayed, IsHeld, Holds}
+use Rattle.pm_engine.specs.Held.{put_replayed, replayed, then_replayed, all_replayed, IsHeld, Holds}
 use Rattle.pm_engine.specs.Engines.{Running}
 use Rattle.pm_engine.specs.declared.replay.Replay.{Replay}
 use Rattle.pm_engine.specs.declared.replay.ReplayStep.{ReplayStep}
@@ -24,8 +24,8 @@ use Rattle.pm_engine.specs.declared.replay.ReplayStep.TheVariants as steps
 abbrev pub IsBadAfter : Shape → List Frame → Frame → Type 0
 IsBadAfter wanted [] frame = is_restart (record_in frame) ≡ false
 IsBadAfter wanted (first ∷ frames) frame =
-    (pairs : Pairs) × (all_replayed (shape_of wanted (first ∷ frames)) (first ∷ frames) (Some empty) ≡ Some pairs)
-    × (then_replayed (shape_of wanted (first ∷ frames)) frame (Some pairs) ≡ None)
+    (pairs : Pairs) × (all_replayed (log_shape wanted (first ∷ frames)) (first ∷ frames) (Some empty) ≡ Some pairs)
+    × (then_replayed (log_shape wanted (first ∷ frames)) frame (Some pairs) ≡ None)
 
 -- the record at this place of the log is bad, and none before it is
 pub record IsBadRecord (wanted : Shape) (world : World) (at : Place) : Type 0 where
@@ -53,7 +53,7 @@ ReplaysPut false shape line before now = put_replayed shape line before ≡ None
 
 -- the first frame was replayed, or it holds no shape
 abbrev pub AppliesFirst : Bool → Replay → Replay → Option Record → Type 0
-AppliesFirst true old new found = (is_restart found ≡ true) × (new.shape ≡ shape_told old.shape found) × (new.map ≡ old.map) × (new.has_begun ≡ true)
+AppliesFirst true old new found = (is_restart found ≡ true) × (new.shape ≡ shape_in old.shape found) × (new.map ≡ old.map) × (new.has_begun ≡ true)
 AppliesFirst false old new found = is_restart found ≡ false
 
 -- a further frame was replayed, or it can't be
@@ -93,14 +93,14 @@ pub record IsReplayOf (wanted : Shape) (frames : List Frame) (replay : Replay) :
 -- a prefix of the frames of the log were read
 pub record ReadsPrefix (wanted : Shape) (world : World) (scan : Scanned) (replay : Replay) : Type 0 where
   pub frames : List Frame
-  pub scanned : HasScanned world (place 1 0) frames scan
+  pub scanned : HasScanned (contents world.log) (place 1 0) frames scan
   pub is_replay : IsReplayOf wanted frames replay
 
 -- all frames of the log were read, and it ends there
 pub record ReadsAll (wanted : Shape) (world : World) (end : Place) (replay : Replay) : Type 0 where
   pub frames : List Frame
-  pub log : IsLogFrom world (place 1 0) frames
-  pub ends : end ≡ log_end (place 1 0) frames
+  pub log : IsLogFrom all_frames (contents world.log) (place 1 0) frames
+  pub ends : end ≡ after_frames (place 1 0) frames
   pub held : IsHeld wanted frames replay.shape replay.map
 
 -- nothing happened

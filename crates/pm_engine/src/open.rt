@@ -11,11 +11,10 @@ ghost use Rattle.pm_types.specs.Shapes.{IsShape};
 ghost use Rattle.pm_disk.specs.Images.{NothingPending};
 ghost use Rattle.pm_disk.specs.Moments.{Does, AllMoments};
 ghost use Rattle.pm_model.specs.Eval.{Pairs};
+ghost use Rattle.pm_records.specs.LogFiles.{ChangesLog};
+ghost use Rattle.pm_records.specs.Logs.{place, after_frames};
 ghost use Rattle.pm_segments.specs.Ends.{EndsThere};
-ghost use Rattle.pm_segments.specs.Grammars.{place};
-ghost use Rattle.pm_segments.specs.Logs.{after_frames};
 ghost use Rattle.pm_segments.specs.Scans.{IsAhead};
-ghost use Rattle.pm_segments.specs.Written.{ChangesLog};
 ghost use Rattle.pm_engine.specs.Batches.{HasStoreFault};
 ghost use Rattle.pm_engine.specs.Held.{Holds, HasNumbers, CrashHoldsPrefix};
 ghost use Rattle.pm_engine.specs.Engines.{running, IsAtRest};
@@ -94,6 +93,7 @@ fn read_log<H: Host>(alloc: Global, host: &mut H, replay: &mut Replay) -> Result
     ensures reads { H.tells → IfOk result (λ end.
         ReadsAll replay.old.shape (H.history host.old).world end replay.new) }
     ensures bound { IfOk result (λ end. end.off ≤ last_end) }
+    ensures kept { IfOk result (λ end. 1 ≤ end.seg) }
     ensures bad { H.tells → (at : Place) → IsErrOf result (StoreFault.BadRecord at) →
         IsBadStore replay.old.shape at (H.history host.old).world (H.history host.new).world }
     ensures page { (page : PageId) → IsErrOf result (StoreFault.BadPage page) → ⊥ }

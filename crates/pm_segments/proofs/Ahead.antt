@@ -12,8 +12,8 @@ use Rattle.pm_frame.proofs.HeadBytes.{length-head_bytes}
 use Rattle.pm_frame.proofs.FrameAt.{length-frame_bytes, frame_at-same, frame_at-some, frame_at-append, frame_at-within}
 use Rattle.pm_disk.specs.Files.{bytes_of}
 use Rattle.pm_disk.specs.Worlds.{World, segment_in}
+use Rattle.pm_records.proofs.Runs.{option_cases}
 use Rattle.pm_segments.specs.Scans.{Scanned, IsAhead, StepsOver, StepsTo, bytes_after}
-use Rattle.pm_segments.proofs.Runs.{option_cases}
 
 -- the first so many elements, less some of them
 pub less_first : (k m : ℕ) (xs : List ℕ) → k ≤ m → drop k (take m xs) ≡ take (m - k) (drop k xs)

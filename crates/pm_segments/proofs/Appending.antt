@@ -4,10 +4,11 @@ use Rattle.std.specs.Prelude.{if◌then◌else◌}
 use Rattle.pm_types.specs.declared.place.Place.{Place}
 use Rattle.pm_frame.specs.Frames.{Frame}
 use Rattle.pm_disk.specs.Moments.{History, IsHistory, Does, AllMoments}
-use Rattle.pm_segments.specs.Ends.{LogEnd, has_room, written}
-use Rattle.pm_segments.specs.Steps.{Step, Append, end_after, world_after, DoesPrefix, DoesSteps, rolled, room_steps, roomy, append_steps, steps_of, Reaches}
+use Rattle.pm_records.specs.LogSteps.{written, Step, Append, end_after, world_after, DoesPrefix, DoesSteps}
+use Rattle.pm_records.proofs.Tracing.{steps_one, steps_joined, world_joined}
+use Rattle.pm_segments.specs.Appends.{rolled, room_steps, roomy, append_steps, steps_of, Reaches}
+use Rattle.pm_segments.specs.Ends.{LogEnd, has_room}
 use Rattle.pm_segments.proofs.Sealing.{roomy_end}
-use Rattle.pm_segments.proofs.Tracing.{steps_one, steps_joined, world_joined}
 
 -- where a frame goes isn't changed by what the last append did
 pub untried_end : (log : LogEnd) (payload_len : ℕ) → (roomy (record log { tried = false }) payload_len).end ≡ (roomy log payload_len).end

@@ -4,10 +4,9 @@ use Rattle.std.specs.Prelude.{◌&&◌, not, if◌then◌else◌}
 use Rattle.pm_types.specs.declared.place.Place.{Place}
 use Rattle.pm_frame.specs.Frames.{Frame}
 use Rattle.pm_disk.specs.Worlds.{World}
-use Rattle.pm_segments.specs.Ends.{place_after}
-use Rattle.pm_segments.specs.Logs.{is_seal}
-use Rattle.pm_segments.specs.Scans.{Scanned, IsAhead, StepsTo, Advances, found_seal, is_last, entered, past_seal, following}
-use Rattle.pm_segments.proofs.Runs.{bool_cases}
+use Rattle.pm_records.specs.Logs.{place_after, is_seal, is_last, next_place, ends_log}
+use Rattle.pm_records.proofs.Runs.{bool_cases}
+use Rattle.pm_segments.specs.Scans.{Scanned, IsAhead, StepsTo, Advances, found_seal, entered, past_seal}
 
 abbrev over : Scanned → Scanned
 over scan = record scan { is_over = true }
@@ -59,11 +58,11 @@ module _ (old filled mid : Scanned) (stays : filled.next ≡ old.next) (going : 
       let same_seg : mid.next.seg ≡ old.next.seg = ap (λ (p : Place). p.seg) to_next in
       let place : mid.place ≡ old.next = steps.0 ∙ stays in
       let to : (b : Bool) → (last : Bool) → is_seal f ≡ b → is_last old.next.seg ≡ last
-      → (if b && not last then record { seg = old.next.seg + 1; off = 0 } else place_after old.next f) ≡ following old.next f =
+      → (if b && not last then record { seg = old.next.seg + 1; off = 0 } else place_after old.next f) ≡ next_place old.next f =
       λ b last e1 e2.
       ap (λ (c : Bool). let p : Place = if c && not last then record { seg = old.next.seg + 1; off = 0 } else place_after old.next f in p) (sym e1)
       ∙ ap (λ (c : Bool). let p : Place = if is_seal f && not c then record { seg = old.next.seg + 1; off = 0 } else place_after old.next f in p) (sym e2) in
-      let ended : (b : Bool) → (last : Bool) → is_seal f ≡ b → is_last old.next.seg ≡ last → (b && last) ≡ (is_seal f && is_last old.next.seg) =
+      let ended : (b : Bool) → (last : Bool) → is_seal f ≡ b → is_last old.next.seg ≡ last → (b && last) ≡ ends_log old.next f =
       λ b last e1 e2. ap (λ c. c && last) (sym e1) ∙ ap (λ c. is_seal f && c) (sym e2) in
       seal_cases mid (λ s. Advances old s (Some f))
       (λ isnt.

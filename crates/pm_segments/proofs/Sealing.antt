@@ -6,9 +6,11 @@ use Rattle.pm_types.specs.declared.place.Place.{Place}
 use Rattle.pm_frame.specs.declared.limits.TheConstants.{FRAME_END_MAX, FRAME_EXTRA}
 use Rattle.pm_disk.specs.Worlds.{World}
 use Rattle.pm_disk.specs.Moments.{History, IsHistory, Does, AllMoments}
-use Rattle.pm_segments.specs.Ends.{LogEnd, has_room, written}
-use Rattle.pm_segments.specs.Steps.{Step, Append, end_after, world_after, DoesPrefix, seal_frame, can_seal, seal_len, seal_steps, enter_steps, roll_steps, next_segment, next_begin, rolled, room_steps, roomy}
-use Rattle.pm_segments.proofs.Tracing.{moments_one, end_after-append}
+use Rattle.pm_records.specs.LogSteps.{written, Step, Append, end_after, world_after, DoesPrefix, next_segment, next_begin}
+use Rattle.pm_records.specs.Logs.{seal_frame}
+use Rattle.pm_records.proofs.Tracing.{moments_one, end_after-append}
+use Rattle.pm_segments.specs.Appends.{can_seal, seal_len, seal_steps, enter_steps, roll_steps, rolled, room_steps, roomy}
+use Rattle.pm_segments.specs.Ends.{LogEnd, has_room}
 
 pub fits_seal : (end : Place) → end.off ≤ FRAME_END_MAX → can_seal end ≡ true
 fits_seal end le = le-leb end.off FRAME_END_MAX le

@@ -10,7 +10,7 @@ ghost use Rattle.pm_frame.specs.Views.{frame_in};
 ghost use Rattle.pm_frame.specs.Frames.{frame_at};
 ghost use Rattle.pm_disk.specs.Files.{ReadsFrom};
 ghost use Rattle.pm_disk.specs.Worlds.{segment_in};
-ghost use Rattle.pm_segments.specs.Scans.{IsAhead, SeesFrame, StaysAt, StepsTo, StepsOver, bytes_after, frame_ahead, past_seal, Advances};
+ghost use Rattle.pm_segments.specs.Scans.{IsAhead, SeesFrame, StaysAt, StepsTo, StepsOver, bytes_after, frame_ahead, past_seal, Advances, GivesNext};
 
 use pm_disk::{Failed, LogReader};
 use pm_frame::{FRAME_EXTRA, FRAME_MAX, FrameView, HEAD_LEN, SEAL, read_frame};
@@ -105,10 +105,8 @@ impl Scan {
     pub fn next<L: LogReader>(&mut self, dev: &mut L) -> Result<Option<FrameView<'_>>, Failed>
         requires usable { IsUsable (L.state dev.old) }
         requires ahead { L.tells → IsAhead self.old (L.history dev.old).world }
-        ensures* gives { sem 𝓛 (Rests the_row self.entry (λ left. IfOk result (λ found.
-            Advances self.entry.now left (frame_in found) × (left.next.off ≤ last_end)
-            × (L.tells → (frame_in found ≡ frame_ahead self.entry.now (L.history dev.old).world)
-            × IsAhead left (L.history dev.new).world)))) }
+        ensures* gives { sem 𝓛 (Rests the_row self.entry (λ left. IfOk result (λ found. GivesNext L.tells
+            self.entry.now left (L.history dev.old).world (L.history dev.new).world (frame_in found)))) }
         ensures does { L.tells → Does (L.history dev.old) (L.history dev.new) result (L.history dev.old).world }
         ensures cause { HasCause (L.state dev.old) (L.state dev.new) result }
     {

@@ -2,7 +2,7 @@ use Rattle.std.proofs.Common.{rules, ◌≡◌, ◌∙◌, ◌+◌, ◌++◌, ta
 use Rattle.std.proofs.lemmas.List.{take_all}
 use Rattle.pm_model.specs.Eval.{replies_to}
 use Rattle.pm_disk.proofs.Chain.{at_last}
-use Rattle.pm_segments.specs.Written.{ChangesLog}
+use Rattle.pm_records.specs.LogFiles.{ChangesLog}
 use Rattle.pm_engine.specs.Engines.{running, HasDone}
 use Rattle.pm_engine.proofs.Trying.{log_still}
 use Rattle.pm_engine.proofs.Batching.{HasRun, has_run_none, has_run_more, tries_some, tries_line, log_joined, told_more, take_none}

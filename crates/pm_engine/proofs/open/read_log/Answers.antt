@@ -1,7 +1,8 @@
-use Rattle.std.proofs.Common.{◌≡◌, ◌<◌, ◌^◌, ◌∙◌, [], inl, inr, false, None, refl, ap, sym, subst, arith}
+use Rattle.std.proofs.Common.{◌≡◌, ◌<◌, ◌≤◌, ◌^◌, ◌∙◌, [], inl, inr, false, None, refl, ap, sym, subst, arith}
 use Rattle.pm_disk.proofs.Chain.{started, does, at_last}
 use Rattle.pm_types.specs.declared.place.Place.{Place}
-use Rattle.pm_segments.specs.Grammars.{place}
+use Rattle.pm_records.specs.LogFiles.{contents}
+use Rattle.pm_records.specs.Logs.{is_over, place}
 use Rattle.pm_segments.specs.Scans.{Scanned, IsAhead, bytes_after}
 use Rattle.pm_segments.proofs.Reading.{scan_starts}
 use Rattle.pm_engine.specs.Openings.{ReplaysNext, IsFurther, IsSame, ReadsPrefix, ReadsAll, IsBadRecord}
@@ -19,12 +20,13 @@ frames-init g c =
       state = record { later = omega arith; access = refl; usable = λ usable. usable };
       shape = c.requires.shape;
       bound = omega (arith, ap (λ (s : Scanned). s.next.off) is);
+      kept = omega (arith, ap (λ (s : Scanned). s.next.seg) is);
       same = λ t. started old (IsSame old.world) (g.H.Device.sound c.args.host.now t) refl;
       world = λ t. refl;
       ahead = λ t. subst (λ (s : Scanned). IsAhead s old.world) {x = record { place = place 1 0; next = place 1 0; ahead = []; is_whole = false; is_over = false; found = None }} (sym is) record { front = sym (take_none (bytes_after (place 1 0) old.world)); whole = λ whole. absurd cc };
       reads = λ t. record {
         frames = [];
-        scanned = scan_starts old.world (place 1 0) scan (ap (λ (s : Scanned). s.next) is) (ap (λ (s : Scanned). s.is_over) is);
+        scanned = scan_starts (contents old.world.log) (place 1 0) scan (ap (λ (s : Scanned). s.next) is) (ap (λ (s : Scanned). s.is_over) is);
         is_replay = replay_none c.args.replay.now.shape c.args.replay.now refl c.requires.map c.requires.begun;
       };
     }
@@ -36,6 +38,8 @@ frames-preserved g c =
     let now = g.H.Device.history c.replay_next.new.host in
     let v = c.frames.invariant in
     let same = λ (t : g.H.Device.tells). does old before now c.replay_next.result before.world (IsSame old.world) (v.same t) (c.replay_next.ensures.does t) (v.world t) (v.world t) in
+    let further = subst (λ w. IsFurther w c.frames.scan c.replay_next.new.scan) c.in-Frame.is c.in_ok-step.ensures.further in
+    let kept_on : 1 ≤ c.replay_next.new.scan.next.seg = elim further.further [ inl up ↦ omega (arith, up, v.kept) | inr on ↦ omega (arith, on.0, v.kept) ] in
     record {
       state = record {
         later = omega (arith, v.state.later, c.replay_next.ensures.cause.later);
@@ -44,6 +48,7 @@ frames-preserved g c =
       };
       shape = c.in_ok-step.ensures.shape;
       bound = c.in_ok-step.ensures.bound;
+      kept = kept_on;
       same = same;
       world = λ t. at_last old now (IsSame old.world) (g.H.Device.sound c.replay_next.new.host t) (same t);
       ahead = λ t. c.in_ok-step.ensures.ahead t;
@@ -112,6 +117,11 @@ returns-in-End-clause-same g c t =
     let before = g.H.Device.history c.frames.host in
     let v = c.frames.invariant in
     does old before (g.H.Device.history c.replay_next.new.host) c.replay_next.result before.world (IsSame old.world) (v.same t) (c.replay_next.ensures.does t) (v.world t) (v.world t)
+
+pub returns-in-End-clause-kept : goal.returns-in-End-clause-kept
+returns-in-End-clause-kept g c =
+    let place = c.place-at.ensures ∙ c.in_ok-step.ensures.further.place in
+    omega (arith, c.frames.invariant.kept, ap (λ (p : Place). p.seg) place)
 
 pub returns-in-End-clause-bound : goal.returns-in-End-clause-bound
 returns-in-End-clause-bound g c =

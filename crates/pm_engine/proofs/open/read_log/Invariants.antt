@@ -16,6 +16,7 @@ invariant-frames g l =
       state : IsLaterState (state l.fn.host) (state l.host);
       shape : IsShape l.replay.shape;
       bound : l.scan.next.off ≤ SEGMENT_END_MAX;
+      kept : 1 ≤ l.scan.next.seg;
       same : g.H.Device.tells → AllMoments old now (IsSame old.world);
       world : g.H.Device.tells → now.world ≡ old.world;
       ahead : g.H.Device.tells → IsAhead l.scan now.world;

@@ -1,7 +1,8 @@
 use Rattle.std.proofs.Common.{[], ◌∷◌, refl}
 use Rattle.pm_disk.specs.Worlds.{log_forced}
-use Rattle.pm_segments.specs.Steps.{Force, begin_steps, enter_steps}
-use Rattle.pm_segments.proofs.Tracing.{moments_one, moments_first, broke_off, steps_joined}
+use Rattle.pm_records.specs.LogSteps.{Force}
+use Rattle.pm_records.proofs.Tracing.{moments_one, moments_first, broke_off, steps_joined}
+use Rattle.pm_segments.specs.Appends.{begin_steps, enter_steps}
 use Rattle.pm_segments.proofs.log.enter_next.Goals as goal
 
 pub returns-in_err-force_log-clause-steps : goal.returns-in_err-force_log-clause-steps

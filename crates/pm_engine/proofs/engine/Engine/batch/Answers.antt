@@ -1,7 +1,7 @@
 use Rattle.std.proofs.Common.{rules, ◌≡◌, length, Ok, sym, subst, arith}
 use Rattle.pm_types.specs.declared.fault.StoreFault.{StoreFault}
 use Rattle.pm_disk.proofs.Chain.{at_last}
-use Rattle.pm_segments.specs.Written.{ChangesLog}
+use Rattle.pm_records.specs.LogFiles.{ChangesLog}
 use Rattle.pm_engine.specs.Batches.{TriesLines}
 use Rattle.pm_engine.specs.Engines.{running}
 use Rattle.pm_engine.proofs.Batching.{ok_holds, log_joined}

@@ -1,5 +1,6 @@
 use Rattle.std.proofs.Common.{rules, ◌≡◌, ◌∙◌, ◌++◌, ap, sym, subst, refl}
-use Rattle.pm_segments.specs.Steps.{steps_of, world_after}
+use Rattle.pm_records.specs.LogSteps.{world_after}
+use Rattle.pm_segments.specs.Appends.{steps_of}
 use Rattle.pm_engine.specs.Engines.{running}
 use Rattle.pm_engine.specs.Batches.{noted}
 use Rattle.pm_engine.specs.Records.{record_of_line, IsPayloadOf, logical_frame}

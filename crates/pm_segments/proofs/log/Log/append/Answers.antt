@@ -1,9 +1,10 @@
 use Rattle.std.proofs.Common.{◌≡◌, length, ◌∙◌, ap, subst}
 use Rattle.pm_frame.specs.Frames.{Frame}
+use Rattle.pm_records.specs.LogSteps.{world_after, DoesPrefix}
+use Rattle.pm_segments.specs.Appends.{room_steps, roomy}
 use Rattle.pm_segments.specs.Ends.{LogEnd}
-use Rattle.pm_segments.specs.Steps.{room_steps, roomy, world_after, DoesPrefix}
-use Rattle.pm_disk.specs.Moments.{AllMoments}
 use Rattle.pm_segments.proofs.Appending.{untried_end, append_does, append_reaches}
+use Rattle.pm_disk.specs.Moments.{AllMoments}
 use Rattle.pm_segments.proofs.log.Log.append.Goals as goal
 
 pub returns-clause-steps : goal.returns-clause-steps

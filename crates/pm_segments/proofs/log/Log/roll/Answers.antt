@@ -1,9 +1,10 @@
 use Rattle.std.proofs.Common.{◌≡◌, ◌+◌, ap, sym, ◌∙◌, subst}
 use Rattle.pm_types.specs.declared.place.Place.{Place}
+use Rattle.pm_records.specs.LogSteps.{DoesSteps, world_after, end_after}
+use Rattle.pm_records.proofs.Tracing.{moments_joined, moments_first, world_joined, broke_off}
+use Rattle.pm_segments.specs.Appends.{seal_steps, enter_steps, roll_steps}
 use Rattle.pm_segments.specs.Ends.{LogEnd}
-use Rattle.pm_segments.specs.Steps.{DoesSteps, world_after, end_after, seal_steps, enter_steps, roll_steps}
 use Rattle.pm_segments.proofs.Sealing.{sealed_end}
-use Rattle.pm_segments.proofs.Tracing.{moments_joined, moments_first, world_joined, broke_off}
 use Rattle.pm_segments.proofs.log.Log.roll.Goals as goal
 
 pub returns-clause-steps : goal.returns-clause-steps

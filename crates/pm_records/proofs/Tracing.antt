@@ -8,7 +8,7 @@ use Rattle.pm_types.specs.declared.place.Place.{Place}
 use Rattle.pm_disk.specs.Worlds.{World}
 use Rattle.pm_disk.specs.Moments.{History, IsHistory, Does, AllMoments}
 use Rattle.pm_disk.proofs.Chain.{started, does, joined, weaker}
-use Rattle.pm_segments.specs.Steps.{Step, step_end, step_world, end_after, world_after, DoesPrefix, DoesSteps}
+use Rattle.pm_records.specs.LogSteps.{Step, step_end, step_world, end_after, world_after, DoesPrefix, DoesSteps}
 
 pub end_after-append : (xs ys : List Step) (end : Place) → end_after (xs ++ ys) end ≡ end_after ys (end_after xs end)
 end_after-append [] ys end = refl

@@ -2,7 +2,7 @@
 use Rattle.std.proofs.Common.{◌≡◌, ◌<◌, ◌≤◌, ◌+◌, ℕ, List, ◌++◌, length, Some, true}
 use Rattle.std.specs.Prelude.{slice_get}
 use Rattle.pm_frame.specs.Frames.{Frame, frame_len}
-use Rattle.pm_segments.specs.Logs.{Grammar}
+use Rattle.pm_records.specs.Logs.{Grammar}
 
 -- What is read at a place is decided by its own bytes, and what is written there is read.
 pub record IsGrammar (g : Grammar) : Type 0 where

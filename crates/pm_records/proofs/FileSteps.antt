@@ -1,29 +1,19 @@
--- What each call on the log makes of it.
-use Rattle.std.proofs.Common.{◌≡◌, ℕ, zero, suc, ◌+◌, ◌<◌, ◌≤◌, List, [], ◌∷◌, ◌++◌, length, take, drop, Option, Some, None, refl, sym, ◌∙◌, ap, subst, arith, true, false, length-append}
-use Rattle.std.specs.Prelude.{slice_get}
+-- What each call on the log's files makes of the log.
+use Rattle.std.proofs.Common.{◌≡◌, ℕ, ◌+◌, ◌<◌, ◌≤◌, List, [], ◌∷◌, ◌++◌, length, take, drop, Option, Some, None, refl, sym, ◌∙◌, ap, subst, arith, true, false, length-append}
+use Rattle.std.specs.Prelude.{slice_get, ◌&&◌}
 use Rattle.std.proofs.lemmas.List.{take_all, drop_all, append-nil, length-take}
 use Rattle.pm_disk.specs.Files.{File, Change, Write, Cut, changed, at_change, content, bytes_of, with_change, all_forced}
 use Rattle.pm_disk.specs.Worlds.{with_file}
 use Rattle.pm_disk.specs.Images.{Below}
 use Rattle.pm_disk.proofs.Families.{file_here, file_there, file_cases}
 use Rattle.pm_disk.proofs.Files.{quiet_below, each_change, content_change, below_push, content_long, below_less, forced_change}
+use Rattle.pm_disk.proofs.Writes.{slice_get-take, slice_get-append_left}
 use Rattle.pm_frame.specs.Frames.{Frame, frame_len}
 use Rattle.pm_types.specs.declared.place.Place.{Place}
-use Rattle.pm_segments.specs.Logs.{Grammar, next, after_frames, HasFrames, SegmentHasFrames, HasNoSeal, frames_len, OnlyTheseStood, Tail, Loose, Cutting, Ready, FilesHoldLog}
-use Rattle.pm_segments.proofs.GrammarLaws.{IsGrammar}
-use Rattle.pm_segments.proofs.Runs.{next-plain, none_past}
-
--- the front of a longer list
-pub slice_get-append : (xs ys : List ℕ) (i : ℕ) → i < length xs → slice_get (xs ++ ys) i ≡ slice_get xs i
-slice_get-append [] ys i lt = absurd (omega (arith, lt))
-slice_get-append (x ∷ xs) ys zero lt = refl
-slice_get-append (x ∷ xs) ys (suc i) lt = slice_get-append xs ys i (omega (arith, lt))
-
-pub slice_get-take : (n : ℕ) (xs : List ℕ) (i : ℕ) → i < n → slice_get (take n xs) i ≡ slice_get xs i
-slice_get-take zero xs i lt = absurd (omega (arith, lt))
-slice_get-take (suc n) [] i lt = refl
-slice_get-take (suc n) (x ∷ xs) zero lt = refl
-slice_get-take (suc n) (x ∷ xs) (suc i) lt = slice_get-take n xs i (omega (arith, lt))
+use Rattle.pm_records.specs.LogFiles.{contents, OnlyTheseStood, Tail, Uncut, AfterSeal, Cutting, Ready, TailIs, FilesHoldLog}
+use Rattle.pm_records.specs.Logs.{Grammar, place, is_seal, is_last, ends_log, next_place, after_frames, HasFrames, SegmentHasFrames, HasNoSeal, frames_len}
+use Rattle.pm_records.proofs.GrammarLaws.{IsGrammar}
+use Rattle.pm_records.proofs.Runs.{next-plain, plain_goes_on, none_past}
 
 pub at_end-write : (bytes more : List ℕ) (end : ℕ) → length bytes ≡ end → take end bytes ++ more ++ drop (end + length more) bytes ≡ bytes ++ more
 at_end-write bytes more end is =
@@ -35,27 +25,17 @@ pub frames_len-append : (xs ys : List Frame) → frames_len (xs ++ ys) ≡ frame
 frames_len-append [] ys = omega arith
 frames_len-append (x ∷ xs) ys = omega (arith, frames_len-append xs ys)
 
-pub plain_after : (seg off : ℕ) (fs : List Frame) → HasNoSeal fs → after_frames (record { seg = seg; off = off }) fs ≡ record { seg = seg; off = off + frames_len fs }
-plain_after seg off [] plain = let e : off ≡ off + 0 = omega arith in ap (λ n. let q : Place = record { seg = seg; off = n } in q) e
+pub plain_after : (seg off : ℕ) (fs : List Frame) → HasNoSeal fs → after_frames (place seg off) fs ≡ place seg (off + frames_len fs)
+plain_after seg off [] plain = let e : off ≡ off + 0 = omega arith in ap (λ n. place seg n) e
 plain_after seg off (f ∷ fs) plain =
     let e : off + frame_len f + frames_len fs ≡ off + (frame_len f + frames_len fs) = omega arith in
-    ap (λ (q : Place). after_frames q fs) (next-plain (record { seg = seg; off = off }) f plain.0)
-    ∙ plain_after seg (off + frame_len f) fs plain.1 ∙ ap (λ n. let q : Place = record { seg = seg; off = n } in q) e
-
--- frames in one segment are a run, where no SEAL is among them
-pub plain_run : (g : Grammar) (laws : IsGrammar g) (c : ℕ → List ℕ) (seg off : ℕ) (fs : List Frame) → HasNoSeal fs → SegmentHasFrames g seg (c seg) off fs → HasFrames g c (record { seg = seg; off = off }) fs
-plain_run g laws c seg off [] plain run = tt
-plain_run g laws c seg off (f ∷ fs) plain run =
-    (run.0, subst (λ (q : Place). HasFrames g c q fs) (sym (next-plain (record { seg = seg; off = off }) f plain.0)) (plain_run g laws c seg (off + frame_len f) fs plain.1 run.1))
-
-pub run_join : (g : Grammar) (laws : IsGrammar g) (c : ℕ → List ℕ) (p : Place) (xs ys : List Frame) → HasFrames g c p xs → HasFrames g c (after_frames p xs) ys → HasFrames g c p (xs ++ ys)
-run_join g laws c p [] ys first second = second
-run_join g laws c p (x ∷ xs) ys first second = (first.0, run_join g laws c (next p x) xs ys first.1 second)
+    ap (λ (q : Place). after_frames q fs) (next-plain (place seg off) f plain.0)
+    ∙ plain_after seg (off + frame_len f) fs plain.1 ∙ ap (λ n. place seg n) e
 
 -- One frame more at the end of a segment's file.
 module _ (g : Grammar) (laws : IsGrammar g) (seg end : ℕ) (file : File) (f : Frame) (bytes : List ℕ)
     (is_end : length (bytes_of (content file)) ≡ end) (is_bytes : bytes ≡ g.frame_bytes seg end f) (fits : g.fits seg end f ≡ true)
-    (short : (k : ℕ) → k ≤ length file.since → length (bytes_of (at_change file k)) ≤ end) where
+    (short : (k : ℕ) → k ≤ length file.since → length (bytes_of (at_change file k)) ≤ end) (numbered : is_seal f ≡ true → is_last seg ≡ false) where
   abbrev before : List ℕ
   before = bytes_of (content file)
 
@@ -85,7 +65,7 @@ module _ (g : Grammar) (laws : IsGrammar g) (seg end : ℕ) (file : File) (f : F
   still off h is =
       let w = laws.within seg off before h is in
       laws.own seg off before (bytes_of now) h is (omega (arith, w, now_length, is_end))
-      (λ i lt. ap (λ (l : List ℕ). slice_get l i) now_is ∙ slice_get-append before bytes i (omega (arith, lt, w)))
+      (λ i lt. ap (λ (l : List ℕ). slice_get l i) now_is ∙ slice_get-append_left before bytes i (omega (arith, lt, w)))
 
   pub runin_append : (off : ℕ) (fs : List Frame) → SegmentHasFrames g seg before off fs → off + frames_len fs ≡ end → SegmentHasFrames g seg (bytes_of now) off (fs ++ f ∷ [])
   runin_append off [] run at = let e : end ≡ off = omega (arith, at) in (subst (λ n. g.frame_at seg n (bytes_of now) ≡ Some f) e stands, tt)
@@ -98,7 +78,7 @@ module _ (g : Grammar) (laws : IsGrammar g) (seg end : ℕ) (file : File) (f : F
         λ k h le is. each_change file (Write end bytes) (λ o. (h : Frame) → g.frame_at seg off (bytes_of o) ≡ Some h → h ≡ f)
             (λ j j_le x x_is. let no : None ≡ Some x = sym (stood j j_le) ∙ x_is in cc)
             (λ x x_is. let same : Some x ≡ Some f = sym x_is ∙ one in cc) k le h is,
-        λ sealed. refl,
+        λ sealed. (refl, numbered sealed),
         λ open_. each_change file (Write end bytes) (λ o. g.frame_at seg (off + frame_len f) (bytes_of o) ≡ None)
             (λ j j_le. none_past g laws seg (off + frame_len f) (bytes_of (at_change file j)) (omega (arith, short j j_le, here)))
             (none_past g laws seg (off + frame_len f) (bytes_of now) (omega (arith, now_length, here))),
@@ -113,7 +93,7 @@ module _ (g : Grammar) (laws : IsGrammar g) (seg end : ℕ) (file : File) (f : F
 
   pub below_append : (off : ℕ) → off ≤ end → Below file off → Below grown off
   below_append off le below = below_push file (Write end bytes) off below (λ i lt touch. absurd (omega (arith, lt, le, touch.0))) (omega (arith, now_length, le))
-      (λ i lt. ap (λ (l : List ℕ). slice_get l i) now_is ∙ slice_get-append before bytes i (omega (arith, lt, le, is_end)))
+      (λ i lt. ap (λ (l : List ℕ). slice_get l i) now_is ∙ slice_get-append_left before bytes i (omega (arith, lt, le, is_end)))
 
   pub short_append : (k : ℕ) → k ≤ length grown.since → length (bytes_of (at_change grown k)) ≤ end + frame_len f
   short_append = each_change file (Write end bytes) (λ o. length (bytes_of o) ≤ end + frame_len f) (λ k le. omega (arith, short k le)) (omega (arith, now_length))
@@ -126,9 +106,9 @@ module _ (g : Grammar) (laws : IsGrammar g) (seg end : ℕ) (file : File) (f : F
 
 -- One more frame is written after those that are pending, where none of them is a SEAL.
 pub log_append : (g : Grammar) (laws : IsGrammar g) (log : ℕ → File) (low : ℕ) (at : Place) (pending : List Frame) (f : Frame) (bytes : List ℕ)
-    → FilesHoldLog g log low at pending Ready → HasNoSeal pending → g.fits at.seg (at.off + frames_len pending) f ≡ true → bytes ≡ g.frame_bytes at.seg (at.off + frames_len pending) f
+    → FilesHoldLog g log low at pending Ready → HasNoSeal pending → g.fits at.seg (at.off + frames_len pending) f ≡ true → bytes ≡ g.frame_bytes at.seg (at.off + frames_len pending) f → (is_seal f ≡ true → is_last at.seg ≡ false)
     → FilesHoldLog g (with_file log at.seg (with_change (log at.seg) (Write (at.off + frames_len pending) bytes))) low at (pending ++ f ∷ []) Ready
-log_append g laws log low at pending f bytes s plain fits is_bytes =
+log_append g laws log low at pending f bytes s plain fits is_bytes numbered =
     let end = at.off + frames_len pending in
     let w = s.tail_is in
     let file = log at.seg in
@@ -139,14 +119,14 @@ log_append g laws log low at pending f bytes s plain fits is_bytes =
     record {
       reaches = s.reaches;
       older = file_cases log at.seg grown (λ m x. low ≤ m → m < at.seg → x.since ≡ []) (λ le no. absurd (omega (arith, no))) (λ m apart. s.older m);
-      below = subst (λ (x : File). Below x at.off) back (below_append g laws at.seg end file f bytes w.exact is_bytes fits w.short at.off (omega arith) s.below);
-      stood = subst (λ (x : File). OnlyTheseStood g at.seg x at.off (pending ++ f ∷ [])) back (stood_append g laws at.seg end file f bytes w.exact is_bytes fits w.short at.off pending plain w.run refl s.stood);
+      below = subst (λ (x : File). Below x at.off) back (below_append g laws at.seg end file f bytes w.exact is_bytes fits w.short numbered at.off (omega arith) s.below);
+      stood = subst (λ (x : File). OnlyTheseStood g at.seg x at.off (pending ++ f ∷ [])) back (stood_append g laws at.seg end file f bytes w.exact is_bytes fits w.short numbered at.off pending plain w.run refl s.stood);
       above = file_cases log at.seg grown (λ m x. at.seg < m → (k : ℕ) → k ≤ length x.since → length (bytes_of (at_change x k)) ≤ 0) (λ no. absurd (omega (arith, no))) (λ m apart. s.above m);
       tail_is = record {
-        run = subst (λ (x : File). SegmentHasFrames g at.seg (bytes_of (content x)) at.off (pending ++ f ∷ [])) back (run_grown g laws at.seg end file f bytes w.exact is_bytes fits w.short at.off pending w.run refl);
+        run = subst (λ (x : File). SegmentHasFrames g at.seg (bytes_of (content x)) at.off (pending ++ f ∷ [])) back (run_grown g laws at.seg end file f bytes w.exact is_bytes fits w.short numbered at.off pending w.run refl);
         short = subst (λ (x : File). (k : ℕ) → k ≤ length x.since → length (bytes_of (at_change x k)) ≤ at.off + frames_len (pending ++ f ∷ [])) back
-            (subst (λ n. (k : ℕ) → k ≤ length grown.since → length (bytes_of (at_change grown k)) ≤ n) (sym more) (short_append g laws at.seg end file f bytes w.exact is_bytes fits w.short));
-        exact = subst (λ (x : File). length (bytes_of (content x)) ≡ at.off + frames_len (pending ++ f ∷ [])) back (exact_append g laws at.seg end file f bytes w.exact is_bytes fits w.short ∙ sym more);
+            (subst (λ n. (k : ℕ) → k ≤ length grown.since → length (bytes_of (at_change grown k)) ≤ n) (sym more) (short_append g laws at.seg end file f bytes w.exact is_bytes fits w.short numbered));
+        exact = subst (λ (x : File). length (bytes_of (content x)) ≡ at.off + frames_len (pending ++ f ∷ [])) back (exact_append g laws at.seg end file f bytes w.exact is_bytes fits w.short numbered ∙ sym more);
       };
     }
 
@@ -194,7 +174,7 @@ log_force g laws log low at pending s plain =
 
 -- Where the last pending frame is a SEAL, the log ends in the next segment once it is forced.
 pub log_force_sealed : (g : Grammar) (laws : IsGrammar g) (log : ℕ → File) (low : ℕ) (at : Place) (pending : List Frame) → FilesHoldLog g log low at pending Ready
-    → FilesHoldLog g (with_file log at.seg (all_forced (log at.seg))) low (record { seg = at.seg + 1; off = 0 }) [] Loose
+    → FilesHoldLog g (with_file log at.seg (all_forced (log at.seg))) low (place (at.seg + 1) 0) [] AfterSeal
 log_force_sealed g laws log low at pending s =
     let file = log at.seg in
     let new : File = all_forced file in
@@ -228,4 +208,27 @@ log_force_cut g laws log low at s =
         short = subst (λ (x : File). (k : ℕ) → k ≤ length x.since → length (bytes_of (at_change x k)) ≤ at.off + 0) back (forced_change file (λ o. length (bytes_of o) ≤ at.off + 0) (omega (arith, exact)));
         exact = subst (λ (x : File). length (bytes_of (content x)) ≡ at.off + 0) back (omega (arith, exact));
       };
+    }
+
+-- A file below the segments that are kept is of no account.
+pub log_below : (g : Grammar) (log : ℕ → File) (low : ℕ) (at : Place) (pending : List Frame) (tail : Tail) (seg : ℕ) (x : File) → seg < low → FilesHoldLog g log low at pending tail → FilesHoldLog g (with_file log seg x) low at pending tail
+log_below g log low at pending tail seg x lt s =
+    let there : log at.seg ≡ with_file log seg x at.seg = sym (file_there log seg at.seg x (λ is. omega (arith, is, lt, s.reaches))) in
+    record {
+      reaches = s.reaches;
+      older = file_cases log seg x (λ m y. low ≤ m → m < at.seg → y.since ≡ []) (λ le no. absurd (omega (arith, le, lt))) (λ m apart. s.older m);
+      below = subst (λ (y : File). Below y at.off) there s.below;
+      stood = subst (λ (y : File). OnlyTheseStood g at.seg y at.off pending) there s.stood;
+      above = file_cases log seg x (λ m y. at.seg < m → (k : ℕ) → k ≤ length y.since → length (bytes_of (at_change y k)) ≤ 0) (λ up. absurd (omega (arith, up, lt, s.reaches))) (λ m apart. s.above m);
+      tail_is = its_tail tail there s.tail_is;
+    }
+  where
+    its_tail : (t : Tail) → log at.seg ≡ with_file log seg x at.seg → TailIs g log at pending t → TailIs g (with_file log seg x) at pending t
+    its_tail Uncut there is = is
+    its_tail AfterSeal there is = is
+    its_tail Cutting there is = (is.0, subst (λ (y : File). length (bytes_of (content y)) ≡ at.off) there is.1)
+    its_tail Ready there is = record {
+      run = subst (λ (y : File). SegmentHasFrames g at.seg (bytes_of (content y)) at.off pending) there is.run;
+      short = subst (λ (y : File). (k : ℕ) → k ≤ length y.since → length (bytes_of (at_change y k)) ≤ at.off + frames_len pending) there is.short;
+      exact = subst (λ (y : File). length (bytes_of (content y)) ≡ at.off + frames_len pending) there is.exact;
     }
