@@ -1,2 +1,4 @@
 pub mod Fills
 pub mod Names
+pub mod StayingOpen
+pub mod TakingOut

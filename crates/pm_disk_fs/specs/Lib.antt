@@ -1,4 +1,6 @@
-pub mod Gathered
 pub mod Host
+pub mod OpenFiles
 pub mod Paths
-pub mod Stands
+pub mod Positions
+pub mod WriteBuffer
+pub mod Writes

@@ -1,227 +1,259 @@
 //! The host over the process's files and standard streams.
 
-ghost use Rattle.std.specs.Prelude.{◌≡◌, ◌≤◌, ◌↔◌, [], false, length, Ok, IsTrue, IsErr, IfOk, OnOk};
+ghost use Rattle.std.specs.Prelude.{◌≡◌, ◌≤◌, ◌↔◌, [], false, length, refl, Ok, None, Some, IsTrue, IsErr, IsNone, IfOk, OnOk, OnErr};
+ghost use Rattle.std.specs.Option.{option_copied};
 ghost use Rattle.pm_types.specs.declared.limits.TheConstants.{PAGE_SIZE_MAX};
-ghost use Rattle.pm_disk.specs.Causes.{HasCause};
+ghost use Rattle.pm_disk.specs.States.{HasCause, Binds};
 ghost use Rattle.pm_disk.specs.Moments.{nothing_told};
-ghost use Rattle.pm_disk_fs.specs.Gathered.{Gathers, GoesOn, Joins};
+ghost use Rattle.pm_disk_fs.specs.WriteBuffer.{IsBufferedOrWritten, FitsAfter, IsAppended};
+ghost use Rattle.pm_disk_fs.specs.Writes.{ChangesFile, ChangesLog, FlushesBuffer, PoisonsOnFailure};
+ghost use Rattle.pm_disk_fs.specs.Host.{state_of, KeepsFirstFailure};
 
+use crate::failure::{Failure, Object, SystemCall, named};
 use crate::folder::Folder;
+use crate::store::Store;
 use pm_disk::{
     Device, Failed, Host, LogFile, LogReader, MarkFile, PageReader, PageWriter, SLOT_LEN, StoreFile,
 };
 use pm_types::PageId;
-use std::io::{self, Read};
+use std::io::Read;
 use std::marker::Model;
 use std::rt::Files;
 
-/// Disk and console of the process, which tell nothing of their content. A clause sees how often a call
-/// has failed, whether a change or a force of a file has, and what of the log isn't with the system yet.
+/// Disk and console of the process, whose content no contract can observe. A clause sees how often a call
+/// has failed and the first failure, which folder is bound, whether a change or a force of a file has
+/// failed, and what of the log isn't with the system yet.
 #[derive(Drop)]
-pub struct FsHost<R: Files + Input> {
-    rt: R,
+pub struct FsHost<R: Files + Input + Drop> {
+    folder: Folder<R>,
     // Kept, since each new reader would ask the system whether the input can seek.
     input: R::Reader,
-    folder: Folder<R>,
+    store: Store<R>,
     faults: u64,
+    first: Option<Failure>,
 }
 
-impl<R: Files + Input> Model for FsHost<R> {
+impl<R: Files + Input + Drop> Model for FsHost<R> {
+    ghost use Rattle.std.specs.Prelude.{◌≡◌, ◌<◌, option_map, is_some, nat_lt};
+    ghost use Rattle.std.specs.String.{string_bytes};
     ghost use Rattle.pm_disk_fs.specs.Host.{HostView};
 
     ghost Value = { HostView };
 
     ghost view = { λ host. record {
       faults = host.faults;
-      is_broken = host.folder.is_broken;
-      gathered = host.folder.gathered;
+      first = host.first;
+      folder = option_map string_bytes host.folder.dir;
+      writes = host.store.writes;
     } };
+
+    ghost invariant = { λ host. is_some host.first ≡ nat_lt 0 host.faults };
 }
 
 impl<R: Files + Input + Print + AllocGlobal + Clone + Send + Drop> FsHost<R> {
-    /// A host whose calls haven't failed yet.
+    /// A host whose calls haven't failed yet, and that is bound to no folder.
     pub fn new(rt: R) -> FsHost<R>
         ensures unfailed { result.faults ≡ 0 }
-        ensures whole { result.is_broken ≡ false }
-        ensures empty { result.gathered.bytes ≡ [] }
+        ensures unbound { result.folder ≡ None }
+        ensures sound { result.writes.is_poisoned ≡ false }
+        ensures empty { result.writes.buffer.bytes ≡ [] }
     {
         let input = rt.reader();
-        let folder = Folder::new(rt.alloc());
+        let store = Store::new(rt.alloc());
         FsHost {
-            rt,
+            folder: Folder::new(rt),
             input,
-            folder,
+            store,
             faults: 0,
+            first: None,
         }
     }
 }
 
-impl<R: Files + Input> FsHost<R> {
-    // What the system answered, an error of it counted.
-    fn counted<T>(&mut self, answer: io::Result<T>) -> Result<T, Failed>
-        ensures cause { HasCause self.old.faults self.new.faults result }
-        ensures broken { self.new.is_broken ≡ self.old.is_broken }
-        ensures gathered { self.new.gathered ≡ self.old.gathered }
-        ensures value { IfOk result (λ v. answer ≡ Ok v) }
-        ensures error { IsErr result → IsErr answer }
+impl<R: Files + Input + Drop> FsHost<R> {
+    /// Why the first call failed of those that did, none where none has.
+    pub fn first_failure(&self) -> Option<&Failure>
+        ensures first { option_copied result ≡ self.now.first }
+        ensures none { IsNone result ↔ (self.now.faults ≡ 0) }
     {
-        match answer {
+        self.first.as_ref()
+    }
+
+    // What a call made, a failure of it counted.
+    fn counted<T>(&mut self, made: Result<T, Failure>) -> Result<T, Failed>
+        ensures cause { HasCause (state_of self.old) (state_of self.new) result }
+        ensures first { KeepsFirstFailure self.old self.new result }
+        ensures writes { self.new.writes ≡ self.old.writes }
+        ensures value { IfOk result (λ v. made ≡ Ok v) }
+        ensures error { IsErr result → IsErr made }
+    {
+        match made {
             Ok(value) => Ok(value),
-            Err(_) => {
+            Err(failure) => {
                 self.faults = self.faults.saturating_add(1);
+                self.first = self.first.or(Some(failure));
                 Err(Failed)
             }
         }
     }
 }
 
-impl<R: Files + Input> Device for FsHost<R> {
+impl<R: Files + Input + AllocGlobal + Drop> FsHost<R> {
+    // Binds the folder, after all that is left to do in the one that is bound.
+    fn rebind(&mut self, dir: &str) -> Result<(), Failure>
+        ensures faults { self.new.faults ≡ self.old.faults }
+        ensures first { self.new.first ≡ self.old.first }
+        ensures bound { OnOk result (self.new.folder ≡ Some dir.now) }
+        ensures unchanged { OnErr result (self.new.folder ≡ self.old.folder) }
+        ensures writes { FlushesBuffer self.old.writes self.new.writes result }
+        ensures refused { IsTrue self.old.writes.is_poisoned → IsErr result }
+    {
+        self.store.leave(&self.folder)?;
+        self.folder.bind(dir)
+    }
+}
+
+impl<R: Files + Input + Drop> Device for FsHost<R> {
     ghost tells = { ⊥ };
 
     ghost history = { λ _. nothing_told };
 
-    ghost faults = { λ host. host.faults };
+    ghost state = { state_of };
 
     ghost sound = { λ _ told. absurd told };
 }
 
-/// What was gathered is written first. Where that fails, the call fails, and so does each later one on
-/// the log.
-impl<R: Files + Input + AllocGlobal> LogReader for FsHost<R> {
+/// What is buffered is written first. Where that fails, the call fails, and so does each later one on the
+/// log.
+impl<R: Files + Input + AllocGlobal + Drop> LogReader for FsHost<R> {
     fn seg_len(&mut self, seg: u64) -> Result<Option<u64>, Failed>
-        ensures cause { HasCause self.old.faults self.new.faults result }
-        ensures written { OnOk result (self.new.gathered.bytes ≡ []) }
-        ensures broken { OnOk result (self.new.is_broken ≡ self.old.is_broken) }
-        ensures still_broken { IsTrue self.old.is_broken → IsTrue self.new.is_broken }
+        ensures cause { HasCause (state_of self.old) (state_of self.new) result }
+        ensures first { KeepsFirstFailure self.old self.new result }
+        ensures writes { FlushesBuffer self.old.writes self.new.writes result }
     {
-        let len = self.folder.seg_len(&self.rt, seg);
+        let len = self.store.seg_len(&self.folder, seg);
         self.counted(len)
     }
 
     fn read_log(&mut self, seg: u64, at: u64, into: &mut [u8]) -> Result<usize, Failed>
+        ensures cause { HasCause (state_of self.old) (state_of self.new) result }
+        ensures first { KeepsFirstFailure self.old self.new result }
         ensures bound { IfOk result (λ n. n ≤ length into.new) }
-        ensures cause { HasCause self.old.faults self.new.faults result }
-        ensures written { OnOk result (self.new.gathered.bytes ≡ []) }
-        ensures broken { OnOk result (self.new.is_broken ≡ self.old.is_broken) }
-        ensures still_broken { IsTrue self.old.is_broken → IsTrue self.new.is_broken }
+        ensures writes { FlushesBuffer self.old.writes self.new.writes result }
     {
-        let count = self.folder.read_log(&self.rt, seg, at, into);
+        let count = self.store.read_log(&self.folder, seg, at, into);
         self.counted(count)
     }
 }
 
-/// Where a change or a force of a file has failed, each later one fails: nobody knows then what the disk
-/// holds.
-impl<R: Files + Input + AllocGlobal> LogFile for FsHost<R> {
-    /// It may gather the bytes. What was gathered is written before another call on the log, so a write
-    /// that the system refuses may be a failure of that call. The file is made then too.
+/// Where a change or a force of a file has failed, the host is poisoned and each later one fails: nobody
+/// knows then what the disk holds.
+impl<R: Files + Input + AllocGlobal + Drop> LogFile for FsHost<R> {
+    /// It may buffer the bytes. What is buffered is written before another call on the log, so a write that
+    /// the system refuses may be a failure of that call. The file is made then too.
     fn write_log(&mut self, seg: u64, at: u64, bytes: &[u8]) -> Result<(), Failed>
-        ensures cause { HasCause self.old.faults self.new.faults result }
-        ensures refused { IsTrue self.old.is_broken → IsErr result }
-        ensures broken { IsErr result ↔ IsTrue self.new.is_broken }
-        ensures gathers { OnOk result
-            (Gathers self.old.gathered self.new.gathered seg at bytes.now) }
-        ensures joins { OnOk result (GoesOn self.old.gathered seg at bytes.now
-            → Joins self.old.gathered self.new.gathered seg at bytes.now) }
+        ensures cause { HasCause (state_of self.old) (state_of self.new) result }
+        ensures first { KeepsFirstFailure self.old self.new result }
+        ensures poisons { PoisonsOnFailure self.old.writes self.new.writes result }
+        ensures in_order { OnOk result (IsBufferedOrWritten self.old.writes.buffer
+            self.new.writes.buffer seg at bytes.now) }
+        ensures appended { OnOk result (FitsAfter self.old.writes.buffer seg at bytes.now
+            → IsAppended self.old.writes.buffer self.new.writes.buffer seg at bytes.now) }
     {
-        let written = self.folder.write_log(&self.rt, seg, at, bytes);
+        let written = self.store.write_log(&self.folder, seg, at, bytes);
         self.counted(written)
     }
 
     fn cut_log(&mut self, seg: u64, len: u64) -> Result<(), Failed>
-        ensures cause { HasCause self.old.faults self.new.faults result }
-        ensures refused { IsTrue self.old.is_broken → IsErr result }
-        ensures broken { IsErr result ↔ IsTrue self.new.is_broken }
-        ensures written { OnOk result (self.new.gathered.bytes ≡ []) }
+        ensures cause { HasCause (state_of self.old) (state_of self.new) result }
+        ensures first { KeepsFirstFailure self.old self.new result }
+        ensures changes { ChangesLog self.old.writes self.new.writes result }
     {
-        let cut = self.folder.cut_log(&self.rt, seg, len);
+        let cut = self.store.cut_log(&self.folder, seg, len);
         self.counted(cut)
     }
 
     /// It makes the names of all files lasting too.
     fn force_log(&mut self, seg: u64) -> Result<(), Failed>
-        ensures cause { HasCause self.old.faults self.new.faults result }
-        ensures refused { IsTrue self.old.is_broken → IsErr result }
-        ensures broken { IsErr result ↔ IsTrue self.new.is_broken }
-        ensures written { OnOk result (self.new.gathered.bytes ≡ []) }
+        ensures cause { HasCause (state_of self.old) (state_of self.new) result }
+        ensures first { KeepsFirstFailure self.old self.new result }
+        ensures changes { ChangesLog self.old.writes self.new.writes result }
     {
-        let forced = self.folder.force_log(&self.rt, seg);
+        let forced = self.store.force_log(&self.folder, seg);
         self.counted(forced)
     }
 }
 
-impl<R: Files + Input + AllocGlobal> PageReader for FsHost<R> {
+impl<R: Files + Input + AllocGlobal + Drop> PageReader for FsHost<R> {
     fn read_page(&mut self, page: PageId, into: &mut [u8]) -> Result<bool, Failed>
         requires { length into.old ≤ PAGE_SIZE_MAX }
-        ensures cause { HasCause self.old.faults self.new.faults result }
-        ensures broken { self.new.is_broken ≡ self.old.is_broken }
-        ensures gathered { self.new.gathered ≡ self.old.gathered }
+        ensures cause { HasCause (state_of self.old) (state_of self.new) result }
+        ensures first { KeepsFirstFailure self.old self.new result }
+        ensures writes { self.new.writes ≡ self.old.writes }
     {
         let at = page.index() as u64 * into.len() as u64;
         let name = StoreFile::Pages(page.part());
-        let is_whole = self.folder.read_whole(&self.rt, name, at, into);
+        let is_whole = self.folder.read_whole(name, at, into);
         self.counted(is_whole)
     }
 }
 
-/// Where a change or a force of a file has failed, each later one fails.
-impl<R: Files + Input + AllocGlobal> PageWriter for FsHost<R> {
+/// Where a change or a force of a file has failed, the host is poisoned and each later one fails.
+impl<R: Files + Input + AllocGlobal + Drop> PageWriter for FsHost<R> {
     /// What a file system leaves in a gap is zeros.
     fn write_page(&mut self, page: PageId, bytes: &[u8]) -> Result<(), Failed>
         requires { length bytes.now ≤ PAGE_SIZE_MAX }
-        ensures cause { HasCause self.old.faults self.new.faults result }
-        ensures refused { IsTrue self.old.is_broken → IsErr result }
-        ensures broken { IsErr result ↔ IsTrue self.new.is_broken }
-        ensures gathered { self.new.gathered ≡ self.old.gathered }
+        ensures cause { HasCause (state_of self.old) (state_of self.new) result }
+        ensures first { KeepsFirstFailure self.old self.new result }
+        ensures changes { ChangesFile self.old.writes self.new.writes result }
     {
         let at = page.index() as u64 * bytes.len() as u64;
         let name = StoreFile::Pages(page.part());
-        let written = self.folder.write(&self.rt, name, at, bytes);
+        let written = self.store.write(&self.folder, name, at, bytes);
         self.counted(written)
     }
 
     /// It makes the names of all files lasting too.
     fn force_pages(&mut self, part: u16) -> Result<(), Failed>
-        ensures cause { HasCause self.old.faults self.new.faults result }
-        ensures refused { IsTrue self.old.is_broken → IsErr result }
-        ensures broken { IsErr result ↔ IsTrue self.new.is_broken }
-        ensures gathered { self.new.gathered ≡ self.old.gathered }
+        ensures cause { HasCause (state_of self.old) (state_of self.new) result }
+        ensures first { KeepsFirstFailure self.old self.new result }
+        ensures changes { ChangesFile self.old.writes self.new.writes result }
     {
-        let forced = self.folder.force(&self.rt, StoreFile::Pages(part));
+        let forced = self.store.force(&self.folder, StoreFile::Pages(part));
         self.counted(forced)
     }
 }
 
-impl<R: Files + Input + Print + AllocGlobal> Host for FsHost<R> {
-    /// Makes the folders above it too. A file of that name is a failure. What was gathered is written to
-    /// the folder before.
+impl<R: Files + Input + Print + AllocGlobal + Drop> Host for FsHost<R> {
+    /// Makes the folders above it too, and its name lasting. A file of that name is a failure. What is left
+    /// to do in the folder that is bound comes first: what is buffered is written, and each file and name
+    /// that isn't lasting is forced. Where that fails, or the host is poisoned, that folder stays bound.
     fn bind(&mut self, dir: &str) -> Result<(), Failed>
-        ensures cause { HasCause self.old.faults self.new.faults result }
-        ensures written { OnOk result (self.new.gathered.bytes ≡ []) }
-        ensures broken { OnOk result (self.new.is_broken ≡ self.old.is_broken) }
-        ensures still_broken { IsTrue self.old.is_broken → IsTrue self.new.is_broken }
+        ensures binds { Binds (state_of self.old) (state_of self.new) dir.now result }
+        ensures first { KeepsFirstFailure self.old self.new result }
+        ensures writes { FlushesBuffer self.old.writes self.new.writes result }
+        ensures refused { IsTrue self.old.writes.is_poisoned → IsErr result }
     {
-        let made = self.folder.bind(&self.rt, dir);
-        self.counted(made)
+        let bound = self.rebind(dir);
+        self.counted(bound)
     }
 
     fn read_config(&mut self, into: &mut [u8]) -> Result<usize, Failed>
+        ensures cause { HasCause (state_of self.old) (state_of self.new) result }
+        ensures first { KeepsFirstFailure self.old self.new result }
         ensures bound { IfOk result (λ n. n ≤ length into.new) }
-        ensures cause { HasCause self.old.faults self.new.faults result }
-        ensures broken { self.new.is_broken ≡ self.old.is_broken }
-        ensures gathered { self.new.gathered ≡ self.old.gathered }
+        ensures writes { self.new.writes ≡ self.old.writes }
     {
-        let count = self.folder.read(&self.rt, StoreFile::Config, 0, into);
+        let count = self.folder.read(StoreFile::Config, 0, into);
         self.counted(count)
     }
 
     fn drop_log(&mut self, seg: u64) -> Result<(), Failed>
-        ensures cause { HasCause self.old.faults self.new.faults result }
-        ensures refused { IsTrue self.old.is_broken → IsErr result }
-        ensures broken { IsErr result ↔ IsTrue self.new.is_broken }
-        ensures written { OnOk result (self.new.gathered.bytes ≡ []) }
+        ensures cause { HasCause (state_of self.old) (state_of self.new) result }
+        ensures first { KeepsFirstFailure self.old self.new result }
+        ensures changes { ChangesLog self.old.writes self.new.writes result }
     {
-        let removed = self.folder.drop_log(&self.rt, seg);
+        let removed = self.store.drop_log(&self.folder, seg);
         self.counted(removed)
     }
 
@@ -231,61 +263,59 @@ impl<R: Files + Input + Print + AllocGlobal> Host for FsHost<R> {
         slot: u8,
         into: &mut [u8; SLOT_LEN],
     ) -> Result<bool, Failed>
-        ensures cause { HasCause self.old.faults self.new.faults result }
-        ensures broken { self.new.is_broken ≡ self.old.is_broken }
-        ensures gathered { self.new.gathered ≡ self.old.gathered }
+        ensures cause { HasCause (state_of self.old) (state_of self.new) result }
+        ensures first { KeepsFirstFailure self.old self.new result }
+        ensures writes { self.new.writes ≡ self.old.writes }
     {
         let at = slot as u64 * SLOT_LEN as u64;
-        let is_whole = self
-            .folder
-            .read_whole(&self.rt, StoreFile::Marks(file), at, into);
+        let name = StoreFile::Marks(file);
+        let is_whole = self.folder.read_whole(name, at, into);
         self.counted(is_whole)
     }
 
     /// What a file system leaves in a gap is zeros.
     fn write_mark(&mut self, file: MarkFile, slot: u8, bytes: &[u8; SLOT_LEN]) -> Result<(), Failed>
-        ensures cause { HasCause self.old.faults self.new.faults result }
-        ensures refused { IsTrue self.old.is_broken → IsErr result }
-        ensures broken { IsErr result ↔ IsTrue self.new.is_broken }
-        ensures gathered { self.new.gathered ≡ self.old.gathered }
+        ensures cause { HasCause (state_of self.old) (state_of self.new) result }
+        ensures first { KeepsFirstFailure self.old self.new result }
+        ensures changes { ChangesFile self.old.writes self.new.writes result }
     {
         let at = slot as u64 * SLOT_LEN as u64;
-        let written = self
-            .folder
-            .write(&self.rt, StoreFile::Marks(file), at, bytes);
+        let name = StoreFile::Marks(file);
+        let written = self.store.write(&self.folder, name, at, bytes);
         self.counted(written)
     }
 
     /// It makes the names of all files lasting too.
     fn force_mark(&mut self, file: MarkFile) -> Result<(), Failed>
-        ensures cause { HasCause self.old.faults self.new.faults result }
-        ensures refused { IsTrue self.old.is_broken → IsErr result }
-        ensures broken { IsErr result ↔ IsTrue self.new.is_broken }
-        ensures gathered { self.new.gathered ≡ self.old.gathered }
+        ensures cause { HasCause (state_of self.old) (state_of self.new) result }
+        ensures first { KeepsFirstFailure self.old self.new result }
+        ensures changes { ChangesFile self.old.writes self.new.writes result }
     {
-        let forced = self.folder.force(&self.rt, StoreFile::Marks(file));
+        let forced = self.store.force(&self.folder, StoreFile::Marks(file));
         self.counted(forced)
     }
 
     /// One system call. No byte is kept back, since the reader is asked for nothing else.
     fn read(&mut self, into: &mut [u8]) -> Result<usize, Failed>
+        ensures cause { HasCause (state_of self.old) (state_of self.new) result }
+        ensures first { KeepsFirstFailure self.old self.new result }
         ensures bound { IfOk result (λ n. n ≤ length into.new) }
-        ensures cause { HasCause self.old.faults self.new.faults result }
-        ensures broken { self.new.is_broken ≡ self.old.is_broken }
-        ensures gathered { self.new.gathered ≡ self.old.gathered }
+        ensures writes { self.new.writes ≡ self.old.writes }
     {
         let taken = self.input.read(into);
-        self.counted(taken)
+        self.counted(named(SystemCall::Read, Object::Input, taken))
     }
 
     /// One system call where the system takes all bytes at once; what it left is written next.
     /// Where it takes nothing, or nobody reads any more, the call fails.
     fn print(&mut self, bytes: &[u8]) -> Result<(), Failed>
-        ensures cause { HasCause self.old.faults self.new.faults result }
-        ensures broken { self.new.is_broken ≡ self.old.is_broken }
-        ensures gathered { self.new.gathered ≡ self.old.gathered }
+        ensures cause { HasCause (state_of self.old) (state_of self.new) result }
+        ensures first { KeepsFirstFailure self.old self.new result }
+        ensures writes { self.new.writes ≡ self.old.writes }
     {
-        let said = self.rt.write_all(bytes);
-        self.counted(said)
+        let said = self.folder.rt.write_all(bytes);
+        self.counted(named(SystemCall::Write, Object::Output, said))
     }
+
+    ghost all_pages = { λ _. record { reads = λ _. refl; writes = λ _. refl } };
 }

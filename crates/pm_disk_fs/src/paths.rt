@@ -6,6 +6,7 @@ ghost use Rattle.pm_types.specs.declared.limits.TheConstants.{PARTITIONS_MAX};
 ghost use Rattle.pm_disk.specs.Names.{segment_name, partition_name};
 ghost use Rattle.pm_disk_fs.specs.Paths.{name_of};
 
+use crate::failure::{Failure, Object, SystemCall, named};
 use pm_disk::{MarkFile, StoreFile, partition_name, segment_name};
 use pm_types::PARTITIONS_MAX;
 use std::alloc::{AllocError, Global};
@@ -15,40 +16,61 @@ use std::path::{Path, PathBuf};
 use std::rt::Files;
 use std::str;
 
-/// Makes the folder, and those above it, where they aren't there, and the name of each that was made
-/// lasting in the folder above it. Of one that is there already the name is taken to last.
-pub fn make_folder<R: Files + AllocGlobal>(rt: &R, dir: &str) -> io::Result<()> {
+/// Makes the folder, and those above it, where they aren't there, and makes its name lasting, also where it
+/// is there: an earlier run may have ended between making it and that, or the user may have made it just
+/// now.
+pub fn make_folder<R: Files + AllocGlobal>(rt: &R, dir: &str) -> Result<(), Failure> {
     let store = Path::new(dir);
-    if store.is_dir(rt) {
-        return Ok(());
+    if !store.is_dir(rt) {
+        make_missing(rt, store)?;
     }
+    if !store.is_dir(rt) {
+        let error = io::Error::from(ErrorKind::NotADirectory);
+        return Err(Failure::System(SystemCall::MakeFolder, Object::Folder, error));
+    }
+    sync_above(rt, store)
+}
+
+// Makes each folder on the path that isn't there, and syncs the one above it before the next is made. So
+// at most one name may be there and not last, that of the last folder that was there: it is made lasting too.
+fn make_missing<R: Files + AllocGlobal>(rt: &R, store: Path<'_>) -> Result<(), Failure> {
     let mut folder = PathBuf::new(rt.alloc());
+    let mut lasts = true;
     for part in store.components() {
         let above = folder.as_path().to_path_buf(rt.alloc())?;
         folder.push(part.as_os_str())?;
         if make_one(rt, folder.as_path())? {
-            sync_folder(rt, above.as_path())?;
+            if !lasts {
+                sync_above(rt, above.as_path())?;
+            }
+            sync_folder(rt, above.as_path(), Object::FolderAbove)?;
+            lasts = true;
+        } else {
+            lasts = false;
         }
     }
-    if store.is_dir(rt) {
-        Ok(())
-    } else {
-        Err(io::Error::from(ErrorKind::NotADirectory))
-    }
+    Ok(())
+}
+
+// Makes the name of a folder that is there lasting.
+fn sync_above<R: Files + AllocGlobal>(rt: &R, folder: Path<'_>) -> Result<(), Failure> {
+    let above = folder.join(rt.alloc(), "..")?;
+    sync_folder(rt, above.as_path(), Object::FolderAbove)
 }
 
 /// Makes the names in the folder lasting. No path is the folder where the process runs.
-pub fn sync_folder<R: Files>(rt: &R, dir: Path<'_>) -> io::Result<()> {
+pub fn sync_folder<R: Files>(rt: &R, dir: Path<'_>, object: Object) -> Result<(), Failure> {
     let folder = if dir.as_str().is_empty() {
         Path::new(".")
     } else {
         dir
     };
-    fs::open(rt, folder)?.sync_all()
+    let opened = named(SystemCall::Open, object, fs::open(rt, folder))?;
+    named(SystemCall::Sync, object, opened.sync_all())
 }
 
 /// The path of a file of the store. A partition whose number no name has is refused.
-pub fn file_path(alloc: Global, dir: &str, file: StoreFile) -> io::Result<String>
+pub fn file_path(alloc: Global, dir: &str, file: StoreFile) -> Result<String, Failure>
     ensures { IfOk result (λ path. string_bytes path ≡ dir.now ++ codes "/" ++ name_of file) }
 {
     let mut path = String::from_str(alloc, dir)?;
@@ -58,7 +80,7 @@ pub fn file_path(alloc: Global, dir: &str, file: StoreFile) -> io::Result<String
 }
 
 // Puts the name of a file after the path.
-fn push_name(path: &mut String, file: StoreFile) -> io::Result<()>
+fn push_name(path: &mut String, file: StoreFile) -> Result<(), Failure>
     ensures { OnOk result (string_bytes path.new ≡ string_bytes path.old ++ name_of file) }
 {
     match file {
@@ -68,7 +90,7 @@ fn push_name(path: &mut String, file: StoreFile) -> io::Result<()>
         StoreFile::Segment(seg) => push_segment(path, seg)?,
         StoreFile::Pages(part) => {
             if part >= PARTITIONS_MAX {
-                return Err(io::Error::from(ErrorKind::InvalidInput));
+                return Err(Failure::NoPartition(part));
             }
             push_partition(path, part)?;
         }
@@ -94,10 +116,11 @@ fn push_partition(path: &mut String, part: u16) -> Result<(), AllocError>
 }
 
 // Makes the folder, and answers whether it wasn't there before.
-fn make_one<R: Files>(rt: &R, folder: Path<'_>) -> io::Result<bool> {
-    match fs::create_dir(rt, folder) {
+fn make_one<R: Files>(rt: &R, folder: Path<'_>) -> Result<bool, Failure> {
+    let made = match fs::create_dir(rt, folder) {
         Ok(()) => Ok(true),
         Err(e) if e.kind() == ErrorKind::AlreadyExists => Ok(false),
         Err(e) => Err(e),
-    }
+    };
+    named(SystemCall::MakeFolder, Object::Folder, made)
 }

@@ -1,5 +1,5 @@
--- Which calls fail.
-use Rattle.std.specs.Prelude.{◌≡◌, ℕ, List, Option, Some, None, Bool, false, ◌||◌, nat_le, ◌==◌}
+-- Which calls fail, and how failures are counted.
+use Rattle.std.specs.Prelude.{◌≡◌, ◌≤◌, ◌+◌, ◌-◌, ◌^◌, ℕ, min, List, Option, Some, None, Bool, false, ◌||◌, nat_le, ◌==◌, Result, OnOk, OnErr}
 use Rattle.std.specs.List.{list_any}
 use Rattle.pm_disk_mem.specs.declared.failures.Failures.{Failures}
 
@@ -21,3 +21,9 @@ pub record HasPlan (failures : Failures) (failing : List ℕ) (stop : Option ℕ
 pub record KeepsPlan (old new : Failures) : Type 0 where
   pub failing : new.failing.items ≡ old.failing.items
   pub stop : new.stop ≡ old.stop
+
+-- The count of faults is as it was after a success, and rose by one at a failure. It stands still at 2^64 - 1.
+pub record IsFaultCount {T E : Type 0} (old new : ℕ) (result : Result T E) : Type 0 where
+  pub later : old ≤ new
+  pub same : OnOk result (new ≡ old)
+  pub rose : OnErr result (new ≡ min (old + 1) (2 ^ 64 - 1))

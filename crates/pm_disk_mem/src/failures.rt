@@ -1,8 +1,7 @@
 //! Which calls fail.
 
 ghost use Rattle.std.specs.Prelude.{◌≡◌, ◌≤◌, ◌+◌, ◌-◌, ◌^◌, min, is_err, Ok, IfOk, IsErr};
-ghost use Rattle.pm_disk.specs.Causes.{Rose, HasCause};
-ghost use Rattle.pm_disk_mem.specs.Plans.{is_due, is_stopped, HasPlan, KeepsPlan};
+ghost use Rattle.pm_disk_mem.specs.Plans.{is_due, is_stopped, HasPlan, KeepsPlan, IsFaultCount};
 
 use pm_disk::Failed;
 use std::alloc::{AllocError, Global};
@@ -40,7 +39,7 @@ impl Failures {
         ensures due { is_err result ≡ is_due self.old }
         ensures counted { self.new.calls ≡ min (self.old.calls + 1) (2 ^ 64 - 1) }
         ensures plan { KeepsPlan self.old self.new }
-        ensures cause { HasCause self.old.count self.new.count result }
+        ensures faults { IsFaultCount self.old.count self.new.count result }
     {
         let number = self.calls;
         self.calls = number.saturating_add(1);
@@ -56,7 +55,7 @@ impl Failures {
         ensures fails { IsErr result → IsErr made }
         ensures calls { self.new.calls ≡ self.old.calls }
         ensures plan { KeepsPlan self.old self.new }
-        ensures cause { HasCause self.old.count self.new.count result }
+        ensures faults { IsFaultCount self.old.count self.new.count result }
     {
         match made {
             Ok(value) => Ok(value),
@@ -67,7 +66,7 @@ impl Failures {
     // Counts a failure.
     fn fail(&mut self) -> Failed
         ensures later { self.old.count ≤ self.new.count }
-        ensures rose { Rose self.old.count self.new.count }
+        ensures rose { self.new.count ≡ min (self.old.count + 1) (2 ^ 64 - 1) }
         ensures calls { self.new.calls ≡ self.old.calls }
         ensures plan { KeepsPlan self.old self.new }
     {

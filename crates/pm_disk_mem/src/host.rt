@@ -1,14 +1,12 @@
 //! Disk and console in memory.
 
-ghost use Rattle.std.specs.Prelude.{◌≡◌, replicate, IfOk, OnErr};
-ghost use Rattle.pm_disk.specs.Causes.{HasCause};
+ghost use Rattle.std.specs.Prelude.{◌≡◌, replicate, IfOk, None, OnErr};
 ghost use Rattle.pm_disk.specs.Files.{content, gapped, missing};
 ghost use Rattle.pm_disk.specs.Moments.{Does};
 ghost use Rattle.pm_disk.specs.Images.{LeavesAll};
 ghost use Rattle.pm_disk_mem.specs.Disks.{image_of, world_from};
 ghost use Rattle.pm_disk_mem.specs.Held.{file_of, file_changed};
 ghost use Rattle.pm_disk_mem.specs.Picks.{IsPicked};
-ghost use Rattle.pm_disk_mem.specs.Plans.{KeepsPlan};
 ghost use Rattle.pm_disk_mem.specs.Steps.{CanStep, Stands, start_world, replay, stepped, told};
 
 use crate::bytes::write_with_gap;
@@ -32,18 +30,20 @@ pub struct MemHost {
     pub(crate) config: Vec<u8>,
     pub(crate) steps: Vec<Step>,
     pub(crate) failures: Failures,
+    // The name of the folder that is bound.
+    pub(crate) folder: Option<String>,
     ghost stands: { Stands files console
         (replay steps.items (start_world files console config.items)) },
 }
 
 impl MemHost {
-    ghost use Rattle.pm_disk_mem.specs.Hosts.{world_of, history_of, calls_of, faults_of, IsPlanned};
+    ghost use Rattle.pm_disk_mem.specs.Hosts.{world_of, history_of, calls_of, faults_of, folder_of, IsPlanned, IsStepCounted};
 
     /// A host over this disk, with a copy of the script as its input and of the bytes of the configuration.
     /// Where these are none, it has the configuration of the disk.
     ///
-    /// Of its calls that can fail, counted from 0, those fail whose number is in `failing`, and from the
-    /// number `stop` on all. Each other one fails only for out of memory.
+    /// No folder is bound yet. Of its calls that can fail, counted from 0, those fail whose number is in
+    /// `failing`, and from the number `stop` on all. Each other one fails only when it is out of memory.
     pub fn new(
         alloc: Global,
         script: &[u8],
@@ -56,6 +56,7 @@ impl MemHost {
         ensures uncalled { IfOk result (λ host. calls_of host ≡ 0) }
         ensures unfailed { IfOk result (λ host. faults_of host ≡ 0) }
         ensures plan { IfOk result (λ host. IsPlanned host failing.now stop) }
+        ensures unbound { IfOk result (λ host. folder_of host ≡ None) }
     {
         let (parts, stored) = disk.into_parts();
         Ok(MemHost {
@@ -65,6 +66,7 @@ impl MemHost {
             config: chosen(alloc, config, &stored)?,
             steps: Vec::new(alloc),
             failures: Failures::new(alloc, failing, stop)?,
+            folder: None,
         })
     }
 
@@ -103,9 +105,7 @@ impl MemHost {
             Does (history_of self.old) (history_of self.new) result (file_changed file
             (gapped was at (replicate (missing at was) 0) bytes.now) (world_of self.old)) }
         ensures unchanged { OnErr result (world_of self.new ≡ world_of self.old) }
-        ensures cause { HasCause (faults_of self.old) (faults_of self.new) result }
-        ensures calls { calls_of self.new ≡ calls_of self.old }
-        ensures plan { KeepsPlan self.old.failures self.new.failures }
+        ensures counted { IsStepCounted self.old self.new result }
     {
         let len = self.files.len(file).unwrap_or(0);
         let written = write_with_gap(self.alloc, len, at, bytes);
@@ -119,9 +119,7 @@ impl MemHost {
         ensures does { Does (history_of self.old) (history_of self.new) result
             (stepped step (world_of self.old)) }
         ensures unchanged { OnErr result (world_of self.new ≡ world_of self.old) }
-        ensures cause { HasCause (faults_of self.old) (faults_of self.new) result }
-        ensures calls { calls_of self.new ≡ calls_of self.old }
-        ensures plan { KeepsPlan self.old.failures self.new.failures }
+        ensures counted { IsStepCounted self.old self.new result }
     {
         let made = self.record_step(step);
         self.failures.counted(made)
@@ -134,6 +132,7 @@ impl MemHost {
             (stepped step (world_of self.old)) }
         ensures unchanged { OnErr result (world_of self.new ≡ world_of self.old) }
         ensures failures { self.new.failures ≡ self.old.failures }
+        ensures folder { self.new.folder ≡ self.old.folder }
     {
         self.steps.reserve(1)?;
         make(self.alloc, &mut self.files, &mut self.console, &step)?;
@@ -143,14 +142,14 @@ impl MemHost {
 }
 
 impl Device for MemHost {
-    ghost use Rattle.pm_disk_mem.specs.Hosts.{first_world, steps_of, history_of, faults_of};
+    ghost use Rattle.pm_disk_mem.specs.Hosts.{first_world, steps_of, history_of, state_of};
     ghost use Rattle.pm_disk_mem.specs.Sound.{sound};
 
     ghost tells = { Unit {0} };
 
     ghost history = { history_of };
 
-    ghost faults = { faults_of };
+    ghost state = { state_of };
 
     ghost sound = { λ host _. sound (first_world host) (steps_of host) };
 }

@@ -1,8 +1,8 @@
 //! The calls on the console, the configuration and the markers, in memory.
 
-ghost use Rattle.std.specs.Prelude.{◌≡◌, ◌<◌, ◌≤◌, [], length, take, Some, IfOk, OnErr};
+ghost use Rattle.std.specs.Prelude.{◌≡◌, ◌<◌, ◌≤◌, [], length, take, refl, Some, IfOk, OnErr};
 ghost use Rattle.std.specs.Result.{result_unwrap_or};
-ghost use Rattle.pm_disk.specs.Causes.{HasCause};
+ghost use Rattle.pm_disk.specs.States.{Binds, HasCause};
 ghost use Rattle.pm_disk.specs.Files.{Drop, ReadsFrom, ReadsWhole};
 ghost use Rattle.pm_disk.specs.Worlds.{log_changed, marks_in, marks_changed, marks_forced, slot_at, slot_change, with_taken};
 ghost use Rattle.pm_disk.specs.Moments.{Does, Says};
@@ -14,15 +14,18 @@ use crate::step::{ChangedFile, Step};
 use pm_disk::{Failed, Host, MarkFile, SLOT_LEN};
 
 impl Host for MemHost {
-    ghost use Rattle.pm_disk_mem.specs.Hosts.{world_of, history_of, faults_of, Counts};
+    ghost use Rattle.pm_disk_mem.specs.Hosts.{world_of, history_of, state_of, IsCounted, FailsAsPlanned};
 
-    /// Only counts the call: there is one folder, and it is there.
-    fn bind(&mut self, _dir: &str) -> Result<(), Failed>
+    /// There is one folder, and it is there under each name: what changes is which name is bound.
+    fn bind(&mut self, dir: &str) -> Result<(), Failed>
+        ensures binds { Binds (state_of self.old) (state_of self.new) dir.now result }
         ensures does { Does (history_of self.old) (history_of self.new) result (world_of self.old) }
-        ensures cause { HasCause (faults_of self.old) (faults_of self.new) result }
-        ensures counts { Counts self.old self.new result }
+        ensures counted { IsCounted self.old self.new result }
     {
-        self.failures.begin()
+        self.failures.begin()?;
+        let name = self.failures.counted(String::from_str(self.alloc, dir))?;
+        self.folder = Some(name);
+        Ok(())
     }
 
     fn read_config(&mut self, into: &mut [u8]) -> Result<usize, Failed>
@@ -30,8 +33,8 @@ impl Host for MemHost {
         ensures reads { IfOk result
             (λ n. ReadsFrom (Some (world_of self.old).config) 0 n into.new) }
         ensures does { Does (history_of self.old) (history_of self.new) result (world_of self.old) }
-        ensures cause { HasCause (faults_of self.old) (faults_of self.new) result }
-        ensures counts { Counts self.old self.new result }
+        ensures cause { HasCause (state_of self.old) (state_of self.new) result }
+        ensures as_planned { FailsAsPlanned self.old self.new result }
     {
         self.failures.begin()?;
         Ok(copy_front(&self.config, into))
@@ -42,8 +45,8 @@ impl Host for MemHost {
         ensures does { Does (history_of self.old) (history_of self.new) result
             (log_changed seg Drop (world_of self.old)) }
         ensures unchanged { OnErr result (world_of self.new ≡ world_of self.old) }
-        ensures cause { HasCause (faults_of self.old) (faults_of self.new) result }
-        ensures counts { Counts self.old self.new result }
+        ensures cause { HasCause (state_of self.old) (state_of self.new) result }
+        ensures counted { IsCounted self.old self.new result }
     {
         self.failures.begin()?;
         self.run(Step::Change(ChangedFile::Segment(seg), FileChange::Remove))
@@ -59,8 +62,8 @@ impl Host for MemHost {
         ensures reads { IfOk result (λ whole. ReadsWhole
             (marks_in (world_of self.old) file) (slot_at slot) whole into.new) }
         ensures does { Does (history_of self.old) (history_of self.new) result (world_of self.old) }
-        ensures cause { HasCause (faults_of self.old) (faults_of self.new) result }
-        ensures counts { Counts self.old self.new result }
+        ensures cause { HasCause (state_of self.old) (state_of self.new) result }
+        ensures as_planned { FailsAsPlanned self.old self.new result }
     {
         self.failures.begin()?;
         let at = slot as u64 * SLOT_LEN as u64;
@@ -74,8 +77,8 @@ impl Host for MemHost {
             (marks_changed file (slot_change (marks_in (world_of self.old) file) slot bytes.now)
             (world_of self.old)) }
         ensures unchanged { OnErr result (world_of self.new ≡ world_of self.old) }
-        ensures cause { HasCause (faults_of self.old) (faults_of self.new) result }
-        ensures counts { Counts self.old self.new result }
+        ensures cause { HasCause (state_of self.old) (state_of self.new) result }
+        ensures counted { IsCounted self.old self.new result }
     {
         self.failures.begin()?;
         let at = slot as u64 * SLOT_LEN as u64;
@@ -87,8 +90,8 @@ impl Host for MemHost {
         ensures does { Does (history_of self.old) (history_of self.new) result
             (marks_forced file (world_of self.old)) }
         ensures unchanged { OnErr result (world_of self.new ≡ world_of self.old) }
-        ensures cause { HasCause (faults_of self.old) (faults_of self.new) result }
-        ensures counts { Counts self.old self.new result }
+        ensures cause { HasCause (state_of self.old) (state_of self.new) result }
+        ensures counted { IsCounted self.old self.new result }
     {
         self.failures.begin()?;
         self.run(Step::Force(ChangedFile::Marks(file)))
@@ -101,8 +104,8 @@ impl Host for MemHost {
         ensures some { IfOk result (λ n. n ≡ 0 → (world_of self.old).input ≡ []) }
         ensures does { Does (history_of self.old) (history_of self.new) result
             (with_taken (result_unwrap_or result 0) (world_of self.old)) }
-        ensures cause { HasCause (faults_of self.old) (faults_of self.new) result }
-        ensures counts { Counts self.old self.new result }
+        ensures cause { HasCause (state_of self.old) (state_of self.new) result }
+        ensures counted { IsCounted self.old self.new result }
     {
         self.failures.begin()?;
         let count = self.console.peek(into);
@@ -114,11 +117,13 @@ impl Host for MemHost {
     fn print(&mut self, bytes: &[u8]) -> Result<(), Failed>
         ensures says { Says (history_of self.old) (history_of self.new) result bytes.now }
         ensures unchanged { OnErr result (world_of self.new ≡ world_of self.old) }
-        ensures cause { HasCause (faults_of self.old) (faults_of self.new) result }
-        ensures counts { Counts self.old self.new result }
+        ensures cause { HasCause (state_of self.old) (state_of self.new) result }
+        ensures counted { IsCounted self.old self.new result }
     {
         self.failures.begin()?;
         let copy = self.failures.counted(Vec::from_slice(self.alloc, bytes))?;
         self.run(Step::Print(copy))
     }
+
+    ghost all_pages = { λ _. record { reads = λ _. refl; writes = λ _. refl } };
 }

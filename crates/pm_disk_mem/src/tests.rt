@@ -1,7 +1,9 @@
 //! What the calls make of a disk, the images that a crash leaves, and calls that fail.
 
-ghost use Rattle.std.specs.Prelude.{◌≡◌, ◌≢◌, OnOk};
+ghost use Rattle.std.specs.Prelude.{◌≡◌, ◌≢◌, OnOk, IfOk};
 ghost use Rattle.pm_disk.specs.Files.{Write, Cut, with_change, all_forced};
+ghost use Rattle.pm_disk.specs.States.{IsUsable};
+ghost use Rattle.pm_disk_mem.specs.Hosts.{state_of};
 
 use crate::disk::MemDisk;
 use crate::host::MemHost;
@@ -41,7 +43,8 @@ fn writes_two<L: LogFile>(
     pending: u64,
     bytes: &[u8],
 ) -> Result<(), Failed>
-    requires { forced ≢ pending }
+    requires usable { IsUsable (L.state log.old) }
+    requires apart { forced ≢ pending }
     ensures forced { L.tells → OnOk result ((L.history log.new).world.log forced
         ≡ all_forced (with_change (with_change ((L.history log.old).world.log forced)
         (Cut 0)) (Write 0 bytes.now))) }
@@ -57,7 +60,9 @@ fn writes_two<L: LogFile>(
 }
 
 /// Makes the segments 1 and 2 with the same bytes, and forces segment 1.
-fn makes_segments(host: &mut MemHost) -> bool {
+fn makes_segments(host: &mut MemHost) -> bool
+    requires { IsUsable (state_of host.old) }
+{
     writes_two(host, 1, 2, b"abcdef").is_ok()
 }
 
@@ -91,13 +96,13 @@ fn text_of(into: &[u8]) -> &str {
 }
 
 /// What a host answers to `seg_len`.
-fn told_len(alloc: Global, host: &mut impl Host, seg: u64) -> Result<String, AllocError> {
+fn answer_len(alloc: Global, host: &mut MemHost, seg: u64) -> Result<String, AllocError> {
     let len = host.seg_len(seg);
     format!(in alloc; "{len:?}")
 }
 
 /// What a host answers to `read_page`, and what is then in place of the dots that it read into.
-fn told_page(alloc: Global, host: &mut impl Host, page: PageId) -> Result<String, AllocError> {
+fn answer_page(alloc: Global, host: &mut MemHost, page: PageId) -> Result<String, AllocError> {
     let mut into = [b'.'; PAGE];
     let whole = host.read_page(page, &mut into);
     let text = text_of(&into);
@@ -105,7 +110,7 @@ fn told_page(alloc: Global, host: &mut impl Host, page: PageId) -> Result<String
 }
 
 /// What a host answers to `read_config`, and what is then in place of the dots that it read into.
-fn told_config(alloc: Global, host: &mut impl Host, room: usize) -> Result<String, AllocError> {
+fn answer_config(alloc: Global, host: &mut MemHost, room: usize) -> Result<String, AllocError> {
     let mut into = [b'.'; 9];
     let count = host.read_config(&mut into[..room.min(9)]);
     let text = text_of(&into);
@@ -113,7 +118,7 @@ fn told_config(alloc: Global, host: &mut impl Host, room: usize) -> Result<Strin
 }
 
 /// What a host answers to `read`, and what is then in place of the dots that it read into.
-fn told_input(alloc: Global, host: &mut impl Host) -> Result<String, AllocError> {
+fn answer_input(alloc: Global, host: &mut MemHost) -> Result<String, AllocError> {
     let mut into = [b'.'; 2];
     let count = host.read(&mut into);
     let text = text_of(&into);
@@ -127,9 +132,9 @@ fn count_same(slot: &[u8; 64]) -> usize {
 }
 
 /// What a host answers to `read_mark`, and how many bytes of the slot that it read are as its first one.
-fn told_mark(
+fn answer_mark(
     alloc: Global,
-    host: &mut impl Host,
+    host: &mut MemHost,
     file: MarkFile,
     slot: u8,
 ) -> Result<String, AllocError> {
@@ -141,52 +146,52 @@ fn told_mark(
 }
 
 /// What a host answers to a write at a segment's start.
-fn write_log(log: &mut impl LogFile, seg: u64, text: &str) -> Result<(), Failed> {
-    log.write_log(seg, 0, text.as_bytes())
+fn write_log(host: &mut MemHost, seg: u64, text: &str) -> Result<(), Failed> {
+    host.write_log(seg, 0, text.as_bytes())
 }
 
 /// What a host answers to the cut of a segment to no bytes.
-fn empty_log(log: &mut impl LogFile, seg: u64) -> Result<(), Failed> {
-    log.cut_log(seg, 0)
+fn empty_log(host: &mut MemHost, seg: u64) -> Result<(), Failed> {
+    host.cut_log(seg, 0)
 }
 
 /// What a host answers to `force_log`.
-fn force_log(log: &mut impl LogFile, seg: u64) -> Result<(), Failed> {
-    log.force_log(seg)
+fn force_log(host: &mut MemHost, seg: u64) -> Result<(), Failed> {
+    host.force_log(seg)
 }
 
 /// What a host answers to `drop_log`.
-fn drop_log(host: &mut impl Host, seg: u64) -> Result<(), Failed> {
+fn drop_log(host: &mut MemHost, seg: u64) -> Result<(), Failed> {
     host.drop_log(seg)
 }
 
 /// What a host answers to `write_page`.
-fn write_page(host: &mut impl Host, page: PageId, bytes: &[u8; PAGE]) -> Result<(), Failed> {
+fn write_page(host: &mut MemHost, page: PageId, bytes: &[u8; PAGE]) -> Result<(), Failed> {
     host.write_page(page, bytes)
 }
 
 /// What a host answers to `force_pages`.
-fn force_pages(host: &mut impl Host, part: u16) -> Result<(), Failed> {
+fn force_pages(host: &mut MemHost, part: u16) -> Result<(), Failed> {
     host.force_pages(part)
 }
 
 /// What a host answers to the write of a slot whose bytes are all this one.
-fn write_mark(host: &mut impl Host, file: MarkFile, slot: u8, byte: u8) -> Result<(), Failed> {
+fn write_mark(host: &mut MemHost, file: MarkFile, slot: u8, byte: u8) -> Result<(), Failed> {
     host.write_mark(file, slot.min(1), &[byte; 64])
 }
 
 /// What a host answers to `force_mark`.
-fn force_mark(host: &mut impl Host, file: MarkFile) -> Result<(), Failed> {
+fn force_mark(host: &mut MemHost, file: MarkFile) -> Result<(), Failed> {
     host.force_mark(file)
 }
 
 /// What a host answers to `print`.
-fn print(host: &mut impl Host, text: &str) -> Result<(), Failed> {
+fn print(host: &mut MemHost, text: &str) -> Result<(), Failed> {
     host.print(text.as_bytes())
 }
 
 /// What a host answers to a call that reads nothing.
-fn change(host: &mut impl Host, call: Call) -> Result<(), Failed> {
+fn change(host: &mut MemHost, call: Call) -> Result<(), Failed> {
     match call {
         Call::WriteLog(seg, text) => write_log(host, seg, text),
         Call::EmptyLog(seg) => empty_log(host, seg),
@@ -202,32 +207,32 @@ fn change(host: &mut impl Host, call: Call) -> Result<(), Failed> {
 }
 
 /// What a host answers to a call that reads nothing, as text.
-fn told_change(alloc: Global, host: &mut impl Host, call: Call) -> Result<String, AllocError> {
+fn answer_change(alloc: Global, host: &mut MemHost, call: Call) -> Result<String, AllocError> {
     let done = change(host, call);
     format!(in alloc; "{done:?}")
 }
 
 /// What a host answers to a call, and what it read, as text.
-fn answer(alloc: Global, host: &mut impl Host, call: Call) -> Result<String, AllocError> {
+fn answer(alloc: Global, host: &mut MemHost, call: Call) -> Result<String, AllocError> {
     match call {
-        Call::SegLen(seg) => told_len(alloc, host, seg),
-        Call::ReadPage(part, index) => told_page(alloc, host, PageId::new(part, index)),
-        Call::ReadMark(file, slot) => told_mark(alloc, host, file, slot),
-        Call::ReadConfig(room) => told_config(alloc, host, room),
-        Call::Read => told_input(alloc, host),
-        _ => told_change(alloc, host, call),
+        Call::SegLen(seg) => answer_len(alloc, host, seg),
+        Call::ReadPage(part, index) => answer_page(alloc, host, PageId::new(part, index)),
+        Call::ReadMark(file, slot) => answer_mark(alloc, host, file, slot),
+        Call::ReadConfig(room) => answer_config(alloc, host, room),
+        Call::Read => answer_input(alloc, host),
+        _ => answer_change(alloc, host, call),
     }
 }
 
 /// Makes the calls, and looks for the answer that is wanted of each.
 fn make_calls(
     rt: &(impl Abort + AllocGlobal),
-    host: &mut impl Host,
+    host: &mut MemHost,
     calls: &[(Call, &str)],
 ) -> Result<(), Fail> {
     for (number, (call, wanted)) in calls.iter().enumerate() {
-        let told = answer(rt.alloc(), host, *call)?;
-        assert_eq!(rt; told.as_str(), *wanted, "{number}");
+        let given = answer(rt.alloc(), host, *call)?;
+        assert_eq!(rt; given.as_str(), *wanted, "{number}");
     }
     Ok(())
 }
@@ -252,6 +257,15 @@ fn host_with(alloc: Global, config: &[u8], disk: MemDisk) -> Result<MemHost, All
 /// A host over a disk, with nothing handed in.
 fn host_over(alloc: Global, disk: MemDisk) -> Result<MemHost, AllocError> {
     host_with(alloc, b"", disk)
+}
+
+/// A host over a disk, with nothing handed in, that is bound to a folder.
+fn bound_over(alloc: Global, disk: MemDisk) -> Result<MemHost, Fail>
+    ensures { IfOk result (λ host. IsUsable (state_of host)) }
+{
+    let mut host = host_over(alloc, disk)?;
+    host.bind("store")?;
+    Ok(host)
 }
 
 /// Whether a disk has a file with these bytes, or no such file where they are none.
@@ -286,7 +300,7 @@ fn look_at_segments(
 
 #[test]
 fn a_crash_leaves_what_the_pick_says(rt: HostRuntime) -> Result<(), Fail> {
-    let mut host = host_over(rt.alloc(), MemDisk::empty(rt.alloc()))?;
+    let mut host = bound_over(rt.alloc(), MemDisk::empty(rt.alloc()))?;
     assert!(rt; makes_segments(&mut host));
     make_calls(&rt, &mut host, &[(Call::WriteLog(1, "XYZ"), DONE)])?;
     for (pick, first, second) in [
@@ -341,7 +355,7 @@ fn a_dropped_segment_may_be_back_until_it_is_forced(rt: HostRuntime) -> Result<(
 }
 
 /// Calls that write a page after the end of its file, each with its answer.
-const BEHIND_THE_END: [(Call, &str); 3] = [
+const PAST_THE_END: [(Call, &str); 3] = [
     (Call::ReadPage(1, 1), "Ok(false) \0\0\0\0"),
     (Call::WritePage(1, 2, b"WXYZ"), DONE),
     (Call::ForcePages(0), DONE),
@@ -355,10 +369,10 @@ const FORCED_AND_READ: [(Call, &str); 3] = [
 ];
 
 #[test]
-fn a_page_behind_the_end_is_written_with_its_gap(rt: HostRuntime) -> Result<(), Fail> {
+fn a_page_past_the_end_is_written_with_its_gap(rt: HostRuntime) -> Result<(), Fail> {
     let disk = disk_with(&rt, PAGES, b"abcd")?;
     let mut host = host_over(rt.alloc(), disk)?;
-    make_calls(&rt, &mut host, &BEHIND_THE_END)?;
+    make_calls(&rt, &mut host, &PAST_THE_END)?;
     for (pick, left) in [
         (Pick::Kept, "abcd\0\0\0\0WXYZ"),
         (Pick::Lost, "abcd"),
@@ -421,7 +435,7 @@ const UP_TO_THE_STOP: [(Call, &str); 8] = [
 ];
 
 /// One call of each other kind, all of them after the stop, each with its answer.
-const BEHIND_THE_STOP: [(Call, &str); 8] = [
+const AFTER_THE_STOP: [(Call, &str); 8] = [
     (Call::DropLog(1), FAILED),
     (Call::ReadPage(0, 0), "Err(Failed) ...."),
     (Call::WritePage(0, 0, b"page"), FAILED),
@@ -445,7 +459,7 @@ fn planned_calls_fail_and_do_nothing(rt: HostRuntime) -> Result<(), Fail> {
     let mut host = MemHost::new(rt.alloc(), b"put", b"", disk, &[1, 3], Some(6))?;
     make_calls(&rt, &mut host, &UP_TO_THE_STOP)?;
     look_at_made(&rt, &host, 8)?;
-    make_calls(&rt, &mut host, &BEHIND_THE_STOP)?;
+    make_calls(&rt, &mut host, &AFTER_THE_STOP)?;
     look_at_made(&rt, &host, 16)?;
     look_at_file(&rt, &host, Pick::Kept, "part-000.pages", None)?;
     look_at_file(&rt, &host, Pick::Kept, "cp.end", None)

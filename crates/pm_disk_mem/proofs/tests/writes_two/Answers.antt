@@ -22,6 +22,6 @@ pub returns-clause-forced : goal.returns-clause-forced
 returns-clause-forced g c = λ t.
     let at = g.L.Device.history in
     let last = λ (is : (at c.force_log.new.self).world ≡ log_forced c.args.forced (at c.write_log-2.new.self).world).
-    forced_one c.args.forced c.args.pending c.args.bytes.now (at c.args.log.now).world (at c.cut_log.new.self).world (at c.cut_log-2.new.self).world (at c.write_log.new.self).world (at c.write_log-2.new.self).world (at c.force_log.new.self).world c.requires
+    forced_one c.args.forced c.args.pending c.args.bytes.now (at c.args.log.now).world (at c.cut_log.new.self).world (at c.cut_log-2.new.self).world (at c.write_log.new.self).world (at c.write_log-2.new.self).world (at c.force_log.new.self).world c.requires.apart
     (c.in_ok-cut_log.ensures.does t).ok (c.in_ok-cut_log-2.ensures.does t).ok (c.in_ok-write_log.ensures.does t).ok (c.in_ok-write_log-2.ensures.does t).ok is in
     on_ok_weaker c.force_log.result last (c.force_log.ensures.does t).ok

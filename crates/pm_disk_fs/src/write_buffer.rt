@@ -1,30 +1,31 @@
-//! Writes to the log that are handed to the system as one.
+//! The write buffer: writes to the log that are handed to the system as one.
 
 ghost use Rattle.std.specs.Prelude.{◌≡◌, ◌+◌, ◌<◌, ◌≤◌, ◌↔◌, [], length, IsTrue, OnOk, OnErr};
 ghost use Rattle.std.specs.Bool.{OnTrue, OnFalse};
 
+use crate::failure::Failure;
 use crate::opened::Opened;
 use std::alloc::Global;
 use std::fs::OpenFile;
-use std::io::{self, Seek, Write};
+use std::io::{Seek, Write};
 use std::marker::Model;
 
-/// The most bytes that are gathered, so that a batch of 1,024 puts is one write: a put's frame has less
+/// The most bytes that are buffered, so that a batch of 1,024 puts is one write: a put's frame has less
 /// than 1,024 bytes. The memory is taken by the first write, and no page of it is touched before bytes
 /// come to it.
-pub const GATHERED_MAX: usize = 1_048_576;
+pub const BUFFER_MAX: usize = 1_048_576;
 
-/// Bytes of one segment from an offset on, of writes that stand one after the other.
+/// Bytes of one segment from an offset on, of writes that follow each other.
 #[derive(Drop)]
-pub struct Gathered {
+pub struct WriteBuffer {
     seg: u64,
     at: u64,
     bytes: Vec<u8>,
 }
 
-impl Model for Gathered {
+impl Model for WriteBuffer {
     ghost use Rattle.std.specs.Vec.{vec_len, vec_capacity};
-    ghost use Rattle.pm_disk_fs.specs.Gathered.{Stretch, IsBuffer};
+    ghost use Rattle.pm_disk_fs.specs.WriteBuffer.{Stretch, IsBuffer};
 
     ghost Value = { Stretch };
 
@@ -33,22 +34,22 @@ impl Model for Gathered {
     ghost invariant = { λ a. IsBuffer (vec_len a.bytes) (vec_capacity a.bytes) };
 }
 
-impl Gathered {
-    ghost use Rattle.pm_disk_fs.specs.Gathered.{GoesOn, Joins};
-    ghost use Rattle.pm_disk_fs.specs.Stands.{EndsAt};
+impl WriteBuffer {
+    ghost use Rattle.pm_disk_fs.specs.WriteBuffer.{FitsAfter, IsAppended};
+    ghost use Rattle.pm_disk_fs.specs.Positions.{EndsAt};
 
-    /// Nothing is gathered, and no memory is taken.
-    pub fn new(alloc: Global) -> Gathered
+    /// Nothing is buffered, and no memory is taken.
+    pub fn new(alloc: Global) -> WriteBuffer
         ensures { result.bytes ≡ [] }
     {
-        Gathered {
+        WriteBuffer {
             seg: 0,
             at: 0,
             bytes: Vec::new(alloc),
         }
     }
 
-    /// Whether nothing is gathered.
+    /// Whether nothing is buffered.
     pub fn is_empty(&self) -> bool
         ensures { IsTrue result ↔ (self.now.bytes ≡ []) }
     {
@@ -62,31 +63,31 @@ impl Gathered {
         self.seg
     }
 
-    /// Gathers a write, and answers whether it did. It does not where the write stands elsewhere, where
+    /// Buffers a write, and answers whether it did. It does not where the write stands elsewhere, where
     /// there is no room left, or no memory for the buffer, or nothing to be written: the file of a write
     /// without bytes has to be made too.
     pub fn add(&mut self, seg: u64, at: u64, bytes: &[u8]) -> bool
-        ensures joins { OnTrue result (Joins self.old self.new seg at bytes.now) }
+        ensures appended { OnTrue result (IsAppended self.old self.new seg at bytes.now) }
         ensures unchanged { OnFalse result (self.new ≡ self.old) }
-        ensures bounded { length self.new.bytes ≤ GATHERED_MAX }
-        // What goes on where other bytes are gathered, and fits, is gathered too.
-        ensures goes_on { GoesOn self.old seg at bytes.now → IsTrue result }
+        ensures bounded { length self.new.bytes ≤ BUFFER_MAX }
+        // What follows the bytes that are buffered, and fits, is buffered too.
+        ensures fits { FitsAfter self.old seg at bytes.now → IsTrue result }
     {
-        if bytes.is_empty() || GATHERED_MAX - self.bytes.len() < bytes.len() {
+        if bytes.is_empty() || BUFFER_MAX - self.bytes.len() < bytes.len() {
             return false;
         }
         if self.bytes.is_empty() {
             self.begin(seg, at, bytes)
         } else {
-            self.go_on(seg, at, bytes)
+            self.append(seg, at, bytes)
         }
     }
 
-    /// Writes what is gathered into the file of its segment, and then forgets it. The memory is kept.
+    /// Writes what is buffered into the file of its segment, and then forgets it. The memory is kept.
     pub fn write_to<F: Write + Seek + OpenFile + Drop>(
         &mut self,
         file: &mut Opened<F>,
-    ) -> io::Result<()>
+    ) -> Result<(), Failure>
         ensures written { OnOk result (self.new.bytes ≡ []) }
         ensures wrote { OnOk result (EndsAt file.new file.old.name
             (self.old.at + length self.old.bytes)) }
@@ -100,11 +101,11 @@ impl Gathered {
     // Begins with this write, where memory for the buffer is there or can be had.
     fn begin(&mut self, seg: u64, at: u64, bytes: &[u8]) -> bool
         requires empty { self.old.bytes ≡ [] }
-        requires fits { length bytes.now ≤ GATHERED_MAX }
-        ensures joins { OnTrue result (Joins self.old self.new seg at bytes.now) }
+        requires room { length bytes.now ≤ BUFFER_MAX }
+        ensures appended { OnTrue result (IsAppended self.old self.new seg at bytes.now) }
         ensures unchanged { OnFalse result (self.new ≡ self.old) }
     {
-        if self.bytes.try_reserve_exact(GATHERED_MAX).is_err() {
+        if self.bytes.try_reserve_exact(BUFFER_MAX).is_err() {
             return false;
         }
         if self.bytes.extend_from_slice(bytes).is_err() {
@@ -115,13 +116,13 @@ impl Gathered {
         true
     }
 
-    // Goes on with this write, where it stands right after.
-    fn go_on(&mut self, seg: u64, at: u64, bytes: &[u8]) -> bool
+    // Appends this write, where it follows what is buffered.
+    fn append(&mut self, seg: u64, at: u64, bytes: &[u8]) -> bool
         requires some { 0 < length self.old.bytes }
-        requires fits { length self.old.bytes + length bytes.now ≤ GATHERED_MAX }
-        ensures joins { OnTrue result (Joins self.old self.new seg at bytes.now) }
+        requires room { length self.old.bytes + length bytes.now ≤ BUFFER_MAX }
+        ensures appended { OnTrue result (IsAppended self.old self.new seg at bytes.now) }
         ensures unchanged { OnFalse result (self.new ≡ self.old) }
-        ensures goes_on { GoesOn self.old seg at bytes.now → IsTrue result }
+        ensures fits { FitsAfter self.old seg at bytes.now → IsTrue result }
     {
         if seg != self.seg || at < self.at || at - self.at != self.bytes.len() as u64 {
             return false;

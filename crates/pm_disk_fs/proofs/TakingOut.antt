@@ -1,0 +1,35 @@
+-- A list is what stands before an element, the element, and what follows.
+use Rattle.std.proofs.Common.{◌≡◌, ◌<◌, ◌+◌, ℕ, suc, List, ◌∷◌, ◌++◌, [], length, take, drop, get_or, sym, ◌∙◌, ap, subst, add-one}
+use Rattle.std.specs.Prelude.{Option, Some, None, slice_get, IfSome}
+use Rattle.std.proofs.lemmas.List.{take-append-drop}
+use Rattle.std.proofs.lemmas.Option.{get_or_from_slice_get, slice_get-get_or}
+use Rattle.std.proofs.Math.Seq.{drop-cons}
+use Rattle.pm_disk.specs.declared.names.StoreFile.{StoreFile}
+use Rattle.pm_disk_fs.specs.declared.opened.Opened.{Opened}
+use Rattle.pm_disk_fs.specs.OpenFiles.{IsTakenOut}
+use Rattle.pm_disk_fs.specs.Positions.{EndsAt, IsWritten}
+
+pub split_at : {X : Type 0} (xs : List X) (i : ℕ) (x : X) → i < length xs → x ≡ get_or xs i x → xs ≡ take i xs ++ x ∷ drop (i + 1) xs
+split_at xs i x lt is =
+    sym (take-append-drop i xs)
+    ∙ ap (λ rest. take i xs ++ rest) (drop-cons xs i x lt ∙ ap (λ first. first ∷ drop (suc i) xs) (sym is) ∙ ap (λ n. x ∷ drop n xs) (sym (add-one i)))
+
+-- the file at an index is taken out
+pub taken_out : {F : Type 0} (old new : List (Opened F)) (i : ℕ) (file : Opened F) (name : StoreFile) → i < length old → IfSome (slice_get old i) (λ f. f.name ≡ name) → file ≡ get_or old i file
+    → new ≡ take i old ++ drop (i + 1) old → IsTakenOut old new name file
+taken_out old new i file name lt named is left = record {
+  named = subst (λ o. IfSome o (λ f. f.name ≡ name)) (slice_get-get_or old i file lt ∙ ap Some (sym is)) named;
+  before = take i old;
+  after = drop (i + 1) old;
+  was = split_at old i file lt is;
+  is = left;
+}
+
+-- the file that was put after the others was written last
+pub written_last : {F : Type 0} (files before : List (Opened F)) (file : Opened F) (was name : StoreFile) (end : ℕ) → files ≡ before ++ file ∷ [] → EndsAt file was end → was ≡ name → IsWritten files name end
+written_last files before file was name end last ends same = record {
+  before = before;
+  file = file;
+  last = last;
+  ends = record { named = ends.named ∙ same; noted = ends.noted };
+}

@@ -1,0 +1,12 @@
+-- What is left is what stood before the file and what followed.
+use Rattle.pm_disk_fs.proofs.StayingOpen.{others_of_taken}
+use Rattle.pm_disk_fs.proofs.TakingOut.{taken_out}
+use Rattle.pm_disk_fs.proofs.open_files.OpenFiles.take.Goals as goal
+
+pub returns-clause-taken : goal.returns-clause-taken
+returns-clause-taken g c =
+    taken_out c.args.self.now.files.items c.remove.new.self.items c.in_ok-index.index c.remove.result c.args.name
+    c.in_ok-index.ensures.0 c.in_ok-index.ensures.1 c.remove.ensures.value c.remove.ensures.by_index.2
+
+pub returns-clause-others : goal.returns-clause-others
+returns-clause-others g c = others_of_taken c.args.self.now.files.items c.remove.new.self.items c.args.name c.remove.result (returns-clause-taken g c)

@@ -1,0 +1,12 @@
+-- The file that was written stands after the others.
+use Rattle.pm_disk_fs.proofs.TakingOut.{written_last}
+use Rattle.pm_disk_fs.proofs.StayingOpen.{others_of_kept}
+use Rattle.pm_disk_fs.proofs.store.Store.put.Goals as goal
+
+pub returns-clause-wrote : goal.returns-clause-wrote
+returns-clause-wrote g c =
+    written_last c.keep.new.self.files.items c.take.new.self.open.files.items c.write.new.self c.in_ok-file.file.name c.args.name _ c.keep.ensures c.in_ok-write.ensures.ends c.in_ok-file.ensures.name
+
+pub returns-clause-others : goal.returns-clause-others
+returns-clause-others g c =
+    others_of_kept c.args.self.now.open.files.items c.take.new.self.open.files.items c.keep.new.self.files.items c.args.name c.write.new.self c.in_ok-file.ensures.others c.keep.ensures

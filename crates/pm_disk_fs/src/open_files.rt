@@ -1,0 +1,90 @@
+//! The files that are open since they were changed.
+
+ghost use Rattle.std.specs.Prelude.{◌≡◌, ◌<◌, ◌++◌, ◌∷◌, [], length, MatchOption, IfSome, OnSome, OnOk, slice_get, vec_len, vec_capacity};
+
+use crate::failure::Failure;
+use crate::opened::Opened;
+use pm_disk::StoreFile;
+use std::alloc::Global;
+use std::fs::OpenFile;
+use std::io::{Seek, Write};
+
+/// How many files may be open at a time: those of the 64 partitions, the two of the markers, and 62
+/// segments. A process may have 1,024 files open on most systems.
+pub const OPEN_MAX: usize = 128;
+
+/// The files that were changed, in the order of their last changes. Each stays open until it is forced, so
+/// that its force is told of each failed write: a system may report that only to those who had the file
+/// open then.
+#[derive(Drop)]
+pub struct OpenFiles<F: Drop> {
+    pub files: Vec<Opened<F>>,
+}
+
+impl<F: Write + Seek + OpenFile + Drop> OpenFiles<F> {
+    ghost use Rattle.pm_disk_fs.specs.OpenFiles.{IsTakenOut, OthersStayOpen, after_oldest};
+
+    /// No file is open.
+    pub fn new(alloc: Global) -> OpenFiles<F>
+        ensures { result.files.items ≡ [] }
+    {
+        OpenFiles {
+            files: Vec::new(alloc),
+        }
+    }
+
+    /// Takes the file of this name out, where it is open. There is room for it to be kept again.
+    pub fn take(&mut self, name: StoreFile) -> Option<Opened<F>>
+        ensures taken { MatchOption result (self.new.files.items ≡ self.old.files.items)
+            (λ file. IsTakenOut self.old.files.items self.new.files.items name file) }
+        ensures others { OthersStayOpen self.old.files.items self.new.files.items name }
+        ensures room { OnSome result (vec_len self.new.files < vec_capacity self.new.files) }
+    {
+        let index = self.position(name)?;
+        Some(self.files.remove(index))
+    }
+
+    /// Makes room for one more. Where as many are open as may be, the one that was changed longest ago is
+    /// forced and closed.
+    pub fn make_room(&mut self) -> Result<(), Failure>
+        ensures oldest { OnOk result (self.new.files.items ≡ after_oldest self.old.files.items) }
+        ensures room { OnOk result (vec_len self.new.files < vec_capacity self.new.files) }
+    {
+        if self.files.len() == OPEN_MAX {
+            self.files.remove(0).sync()?;
+        }
+        self.files.reserve(1)?;
+        Ok(())
+    }
+
+    /// Takes the file in that was changed last.
+    pub fn keep(&mut self, file: Opened<F>)
+        requires room { vec_len self.old.files < vec_capacity self.old.files }
+        ensures { self.new.files.items ≡ self.old.files.items ++ file ∷ [] }
+    {
+        self.files.push_reserved(file);
+    }
+
+    /// Forgets each open file, which closes it.
+    pub fn clear(&mut self)
+        ensures { self.new.files.items ≡ [] }
+    {
+        self.files.clear();
+    }
+
+    /// Forces each open file.
+    pub fn sync(&self) -> Result<(), Failure> {
+        for file in &self.files {
+            file.sync()?;
+        }
+        Ok(())
+    }
+
+    // Where the file of this name stands among the open ones.
+    fn position(&self, name: StoreFile) -> Option<usize>
+        ensures { IfSome result (λ index. index < length self.now.files.items
+            × IfSome (slice_get self.now.files.items index) (λ file. file.name ≡ name)) }
+    {
+        self.files.iter().position(|file| file.name == name)
+    }
+}

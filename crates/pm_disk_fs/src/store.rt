@@ -1,0 +1,221 @@
+//! The changes of the store's files.
+
+ghost use Rattle.std.specs.Prelude.{◌≡◌, ◌+◌, ◌<◌, [], false, length, vec_len, vec_capacity, IsTrue, IsErr, IfOk, OnOk};
+ghost use Rattle.pm_disk_fs.specs.OpenFiles.{OthersStayOpen};
+ghost use Rattle.pm_disk_fs.specs.Positions.{IsWritten};
+ghost use Rattle.pm_disk_fs.specs.Writes.{ChangesFile, FlushesBuffer};
+
+use crate::failure::Failure;
+use crate::folder::Folder;
+use crate::open_files::OpenFiles;
+use crate::opened::Opened;
+use crate::writes::Writes;
+use pm_disk::StoreFile;
+use std::alloc::Global;
+use std::rt::Files;
+
+mod log;
+
+/// The changes of the files in the store's folder. Where a change or a force of one of them has failed,
+/// each later one fails: nobody knows then what the disk holds.
+#[derive(Drop)]
+pub struct Store<R: Files> {
+    // The files that were changed.
+    open: OpenFiles<R::File>,
+    // Whether each name in the folder lasts. An earlier run may have ended before it saw to that.
+    names_last: bool,
+    pub writes: Writes,
+}
+
+impl<R: Files + AllocGlobal + Drop> Store<R> {
+    /// Before the first change. No name is in doubt before a folder is bound.
+    pub fn new(alloc: Global) -> Store<R>
+        ensures sound { result.writes.is_poisoned ≡ false }
+        ensures empty { result.writes.buffer.bytes ≡ [] }
+    {
+        Store {
+            open: OpenFiles::new(alloc),
+            names_last: true,
+            writes: Writes::new(alloc),
+        }
+    }
+
+    /// Leaves a folder for another: what is buffered is written, each file that is open is forced and
+    /// closed, and the names are made lasting. What an earlier run left of the names in the next folder
+    /// isn't known.
+    pub fn leave(&mut self, folder: &Folder<R>) -> Result<(), Failure>
+        ensures writes { FlushesBuffer self.old.writes self.new.writes result }
+        ensures refused { IsTrue self.old.writes.is_poisoned → IsErr result }
+        ensures names { OnOk result (self.new.names_last ≡ false) }
+        ensures closed { OnOk result (self.new.open.files.items ≡ []) }
+    {
+        self.flush(folder)?;
+        self.writes.begin()?;
+        self.open.sync()?;
+        self.sync_names(folder)?;
+        self.open.clear();
+        self.names_last = false;
+        self.writes.is_poisoned = false;
+        Ok(())
+    }
+
+    /// Writes the bytes from the offset on, and makes the file where it isn't there.
+    pub fn write(
+        &mut self,
+        folder: &Folder<R>,
+        name: StoreFile,
+        at: u64,
+        bytes: &[u8],
+    ) -> Result<(), Failure>
+        ensures changes { ChangesFile self.old.writes self.new.writes result }
+        ensures wrote { OnOk result (IsWritten self.new.open.files.items name (at + length bytes.now)) }
+        ensures others { OnOk result (OthersStayOpen self.old.open.files.items
+            self.new.open.files.items name) }
+    {
+        self.writes.begin()?;
+        self.put(folder, name, at, bytes)?;
+        self.writes.is_poisoned = false;
+        Ok(())
+    }
+
+    /// Cuts the file to this length in bytes, and makes it where it isn't there.
+    pub fn cut(&mut self, folder: &Folder<R>, name: StoreFile, len: u64) -> Result<(), Failure>
+        ensures changes { ChangesFile self.old.writes self.new.writes result }
+        ensures others { OnOk result (OthersStayOpen self.old.open.files.items
+            self.new.open.files.items name) }
+    {
+        self.writes.begin()?;
+        let file = self.take(folder, name)?;
+        file.cut(len)?;
+        self.open.keep(file);
+        self.writes.is_poisoned = false;
+        Ok(())
+    }
+
+    /// Makes the file's bytes and its length lasting, and all names in the folder.
+    pub fn force(&mut self, folder: &Folder<R>, name: StoreFile) -> Result<(), Failure>
+        ensures changes { ChangesFile self.old.writes self.new.writes result }
+        ensures names { OnOk result (IsTrue self.new.names_last) }
+        ensures others { OnOk result (OthersStayOpen self.old.open.files.items
+            self.new.open.files.items name) }
+    {
+        self.writes.begin()?;
+        self.sync(folder, name)?;
+        self.sync_names(folder)?;
+        self.writes.is_poisoned = false;
+        Ok(())
+    }
+
+    /// Removes the file, where it is there.
+    pub fn remove(&mut self, folder: &Folder<R>, name: StoreFile) -> Result<(), Failure>
+        ensures changes { ChangesFile self.old.writes self.new.writes result }
+        ensures names { OnOk result (self.new.names_last ≡ false) }
+        ensures others { OnOk result (OthersStayOpen self.old.open.files.items
+            self.new.open.files.items name) }
+    {
+        self.writes.begin()?;
+        self.names_last = false;
+        let _ = self.open.take(name);
+        folder.remove(name)?;
+        self.writes.is_poisoned = false;
+        Ok(())
+    }
+
+    // Writes the bytes from the offset on, and makes the file where it isn't there.
+    fn put(
+        &mut self,
+        folder: &Folder<R>,
+        name: StoreFile,
+        at: u64,
+        bytes: &[u8],
+    ) -> Result<(), Failure>
+        ensures writes { self.new.writes ≡ self.old.writes }
+        ensures wrote { OnOk result (IsWritten self.new.open.files.items name (at + length bytes.now)) }
+        ensures others { OnOk result (OthersStayOpen self.old.open.files.items
+            self.new.open.files.items name) }
+    {
+        let mut file = self.take(folder, name)?;
+        file.write(at, bytes)?;
+        self.open.keep(file);
+        Ok(())
+    }
+
+    // Makes the file's bytes and its length lasting, where it is there.
+    fn sync(&mut self, folder: &Folder<R>, name: StoreFile) -> Result<(), Failure>
+        ensures writes { self.new.writes ≡ self.old.writes }
+        ensures names { self.new.names_last ≡ self.old.names_last }
+        ensures others { OnOk result (OthersStayOpen self.old.open.files.items
+            self.new.open.files.items name) }
+    {
+        let Some(file) = self.open.take(name) else {
+            return sync_closed(folder, name);
+        };
+        file.sync()?;
+        self.open.keep(file);
+        Ok(())
+    }
+
+    // Makes all names in the folder lasting, where they aren't.
+    fn sync_names(&mut self, folder: &Folder<R>) -> Result<(), Failure>
+        ensures writes { self.new.writes ≡ self.old.writes }
+        ensures open { self.new.open ≡ self.old.open }
+        ensures names { OnOk result (IsTrue self.new.names_last) }
+    {
+        if !self.names_last {
+            folder.sync_names()?;
+            self.names_last = true;
+        }
+        Ok(())
+    }
+
+    // The file to be changed, which isn't among the open ones from now on. There is room for it.
+    fn take(&mut self, folder: &Folder<R>, name: StoreFile) -> Result<Opened<R::File>, Failure>
+        ensures name { IfOk result (λ file. file.name ≡ name) }
+        ensures room { OnOk result
+            (vec_len self.new.open.files < vec_capacity self.new.open.files) }
+        ensures others { OnOk result (OthersStayOpen self.old.open.files.items
+            self.new.open.files.items name) }
+        ensures writes { self.new.writes ≡ self.old.writes }
+    {
+        match self.open.take(name) {
+            Some(file) => Ok(file),
+            None => {
+                self.open.make_room()?;
+                Ok(Opened::new(name, self.open_to_change(folder, name)?))
+            }
+        }
+    }
+
+    // The file to be changed, which is made where it isn't there. Its name lasts once a force has seen to
+    // that.
+    fn open_to_change(&mut self, folder: &Folder<R>, name: StoreFile) -> Result<R::File, Failure>
+        ensures writes { self.new.writes ≡ self.old.writes }
+        ensures open { self.new.open ≡ self.old.open }
+    {
+        match folder.open_to_change(name)? {
+            Some(file) => Ok(file),
+            None => self.make(folder, name),
+        }
+    }
+
+    // Makes a file. Its name lasts once a force has seen to that.
+    fn make(&mut self, folder: &Folder<R>, name: StoreFile) -> Result<R::File, Failure>
+        ensures writes { self.new.writes ≡ self.old.writes }
+        ensures open { self.new.open ≡ self.old.open }
+        ensures names { self.new.names_last ≡ false }
+    {
+        self.names_last = false;
+        folder.make(name)
+    }
+}
+
+// Makes the bytes and the length of a file lasting that isn't open, where it is there.
+fn sync_closed<R: Files + AllocGlobal + Drop>(
+    folder: &Folder<R>,
+    name: StoreFile,
+) -> Result<(), Failure> {
+    match folder.open(name)? {
+        Some(file) => Opened::new(name, file).sync(),
+        None => Ok(()),
+    }
+}

@@ -1,0 +1,8 @@
+-- A folder is bound, and no part is lent.
+use Rattle.std.proofs.Common.{refl}
+use Rattle.pm_disk.proofs.Usable.{usable-bound}
+use Rattle.pm_disk_mem.specs.Hosts.{state_of}
+use Rattle.pm_disk_mem.proofs.tests.bound_over.Goals as goal
+
+pub returns : goal.returns
+returns c = ?
