@@ -1,27 +1,66 @@
-//! The program: it does what its words ask for, over real files and the standard streams.
+//! The program: it does what its words ask for, over real files and the standard streams. Where that isn't done, a line on
+//! standard error says why.
 #![tactic(auto)]
 
 use pm_disk_fs::FsHost;
 use pm_top::top;
 use std::env;
+use std::io::ErrorKind;
 use std::process::ExitCode;
 
+// The statuses that `main` itself gives, as `top` does.
+const USAGE: u8 = 1;
+const FAILED: u8 = 3;
+const OUT_OF_MEMORY: u8 = 4;
+
 fn main(rt: HostRuntime) -> ExitCode {
-    ExitCode::from(status(&rt))
+    ExitCode::from(run(&rt))
 }
 
-// The status of the process. A word that isn't UTF-8 ends it with 1, and out of memory for the words
-// with 4; neither prints anything.
-fn status(rt: &HostRuntime) -> u8 {
-    let Ok(words) = env::args(rt) else {
-        return 1;
-    };
-    let Ok(words) = words.skip(1).collect::<Vec<String>>(rt.alloc()) else {
-        return 4;
+// Does what the words of the process ask for, and says why where that isn't done.
+fn run(rt: &HostRuntime) -> u8 {
+    let words = match read_words(rt) {
+        Ok(words) => words,
+        Err(status) => return explained(rt, status),
     };
     let Ok(outside) = rt.clone() else {
-        return 4;
+        return explained(rt, OUT_OF_MEMORY);
     };
     let mut host = FsHost::new(outside);
-    top(rt, &words, &mut host).status
+    let status = top(rt, &words, &mut host).status;
+    explained(rt, status)
+}
+
+// The words after the program's name, or the status that ends the program: a word that isn't UTF-8 is no word of a command.
+fn read_words(rt: &HostRuntime) -> Result<Vec<String>, u8> {
+    match env::args(rt) {
+        Ok(words) => words
+            .skip(1)
+            .collect::<Vec<String>>(rt.alloc())
+            .map_err(|_| OUT_OF_MEMORY),
+        Err(fault) if fault.kind() == ErrorKind::OutOfMemory => Err(OUT_OF_MEMORY),
+        Err(_) => Err(USAGE),
+    }
+}
+
+// The status, once standard error has a line that says why the program ends with it. What can't be written there is lost.
+fn explained(rt: &HostRuntime, status: u8) -> u8 {
+    if let Some(reason) = reason(status) {
+        let _ = eprintln!(rt; "pagemem: {reason}");
+    }
+    status
+}
+
+// What a status means, where the work wasn't done.
+fn reason(status: u8) -> Option<&'static str> {
+    match status {
+        0 => None,
+        USAGE => Some("call it as `pagemem run DIR < SCRIPT`"),
+        FAILED => Some("a call on the disk, the input or the output failed"),
+        OUT_OF_MEMORY => Some("memory ran out"),
+        5 => Some("the store's log has a bad record, named on standard output; nothing was changed"),
+        _ => Some(
+            "the script passes 4,000,000 lines or 17,179,869,184 bytes; the lines before that are answered",
+        ),
+    }
 }

@@ -10,14 +10,14 @@ use Rattle.pm_disk.specs.Moments.{History, IsHistory, Does, AllMoments}
 use Rattle.pm_disk.proofs.Chain.{started, does, joined}
 use Rattle.pm_model.specs.declared.line.Line.{Line}
 use Rattle.pm_model.specs.Eval.{Pairs}
+use Rattle.pm_records.specs.LogFiles.{ChangesLog}
+use Rattle.pm_records.proofs.QuietLog.{log_same}
 use Rattle.pm_segments.specs.Ends.{EndsThere}
-use Rattle.pm_segments.specs.Written.{ChangesLog}
 use Rattle.pm_segments.proofs.Emptied.{forced_reads}
-use Rattle.pm_segments.proofs.Quiet.{log_same}
 use Rattle.pm_engine.specs.Held.{CrashHoldsPrefix}
 use Rattle.pm_engine.specs.Engines.{Running, HasDone, HasDoneWithin, IsAtRest, IsAtRestWithin, HasSegments}
 use Rattle.pm_engine.specs.Batches.{TriesLines}
-use Rattle.pm_engine.proofs.Going.{goes_keep, force_stands, force_quiet, forced_keeps}
+use Rattle.pm_engine.proofs.DoneLines.{done_keeps, force_stands, force_quiet, forced_keeps}
 
 module _ {T E : Type 0} (old new : History) (engine : Running) (result : Result T E) (call : Does {T = T} {E = E} old new result (log_forced engine.log.end.seg old.world)) where
   abbrev next : World
@@ -25,20 +25,20 @@ module _ {T E : Type 0} (old new : History) (engine : Running) (result : Result 
 
   -- the file of the log's last segment is as long as it was
   pub forced_ends : EndsThere engine.log old.world → OnOk result (EndsThere engine.log new.world)
-  forced_ends ends = on_ok_weaker result (λ is. subst (EndsThere engine.log) (sym is) (ap (λ o. length (bytes_of o)) (forced_reads engine.log.end.seg old.world) ∙ ends)) call.ok
+  forced_ends ends = on_ok_weaker result (λ is. subst (EndsThere engine.log) (sym is) (record { kept = ends.kept; ends = ap (λ o. length (bytes_of o)) (forced_reads engine.log.end.seg old.world) ∙ ends.ends })) call.ok
 
   -- nothing is pending then
   pub forced_stands : (wanted : Shape) (start : Pairs) (done : List Line) → HasDone wanted start done engine old.world → OnOk result (IsAtRestWithin wanted 0 engine engine new.world)
   forced_stands wanted start done goes = on_ok_weaker result (λ is. subst (IsAtRestWithin wanted 0 engine engine) (sym is) record {
     stands = force_stands wanted start done engine old.world goes;
-    climbs = omega arith;
+    rises = omega arith;
     lasting = force_quiet wanted start done engine old.world goes;
   }) call.ok
 
   pub forced_moments : (wanted : Shape) (start : Pairs) (done : List Line) → IsHistory old → HasDone wanted start done engine old.world → AllMoments old new (CrashHoldsPrefix wanted engine.shape start done)
   forced_moments wanted start done sound goes =
       let P : World → Type 0 = CrashHoldsPrefix wanted engine.shape start done in
-      let before = goes_keep wanted start done engine old.world goes in
+      let before = done_keeps wanted start done engine old.world goes in
       does old old new result next P (started old P sound before) call before (forced_keeps wanted start done engine old.world goes)
 
   pub forced_log : IsHistory old → AllMoments old new (ChangesLog old.world)

@@ -1,7 +1,7 @@
 pub mod Batching
-pub mod Finding
+pub mod Replaying
 pub mod Forcing
-pub mod Going
+pub mod DoneLines
 pub mod Opening
-pub mod Redoing
+pub mod Applying
 pub mod Trying

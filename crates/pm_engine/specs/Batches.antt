@@ -5,6 +5,7 @@ use Rattle.pm_disk.specs.States.{DeviceState, IsUsable, Rose}
 use Rattle.pm_types.specs.declared.fault.StoreFault.{StoreFault}
 use Rattle.pm_types.specs.declared.fault.StoreFault.TheVariants.{Failed, Memory, BadPage, BadRecord}
 use Rattle.pm_disk.specs.Moments.{History, AllMoments}
+use Rattle.pm_records.specs.Logs.{place}
 use Rattle.pm_model.specs.declared.line.Line.{Line}
 use Rattle.pm_model.specs.Eval.{Pairs, accepted}
 use Rattle.pm_engine.specs.Engines.{Running, HasDone, IsAtRest, HasSegments}

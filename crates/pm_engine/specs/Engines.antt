@@ -5,9 +5,9 @@ use Rattle.pm_frame.specs.Frames.{Frame}
 use Rattle.pm_disk.specs.Worlds.{World}
 use Rattle.pm_model.specs.declared.line.Line.{Line}
 use Rattle.pm_model.specs.Eval.{Pairs, after_all}
-use Rattle.pm_segments.specs.Ends.{LogEnd}
-use Rattle.pm_segments.specs.Grammars.{place}
-use Rattle.pm_segments.specs.Written.{Written, IsWritten, IsOpen, IsQuietBut}
+use Rattle.pm_records.specs.LogFiles.{Written, IsWritten, IsQuietBut}
+use Rattle.pm_records.specs.Logs.{place}
+use Rattle.pm_segments.specs.Ends.{LogEnd, LogIsOpen}
 use Rattle.pm_engine.specs.Held.{IsHeld}
 use Rattle.pm_engine.specs.declared.engine.Engine.{Engine}
 
@@ -23,10 +23,6 @@ pub record Running : Type 0 where
 abbrev pub running : Engine → Running
 running engine = record { shape = engine.shape; pairs = engine.map; log = engine.log; order = engine.order.items }
 
--- each frame counts
-abbrev pub every : Frame → Bool
-every frame = true
-
 -- the frames of the log
 abbrev pub frames_of : Written → List Frame
 frames_of written = written.lasting ++ written.pending
@@ -40,8 +36,8 @@ HeldAfterPrefix wanted shape start lines frames =
 -- holds the map after a prefix of the lines.
 pub record HasDone (wanted : Shape) (start : Pairs) (done : List Line) (engine : Running) (world : World) : Type 0 where
   pub written : Written
-  pub stands : IsWritten every world 1 (place 1 0) engine.log.end written
-  pub is_open : IsOpen engine.log written
+  pub stands : IsWritten world 1 (place 1 0) engine.log.end written
+  pub is_open : LogIsOpen engine.log written
   pub held : IsHeld wanted (frames_of written) engine.shape engine.pairs
   pub map : engine.pairs ≡ after_all engine.shape done start
   pub some : 0 < length (frames_of written)
@@ -64,5 +60,5 @@ HasDoneWithin wanted start done count before engine world =
 -- the engine stands again, its log in the same segment or in the next so many, and nothing of its log is pending
 pub record IsAtRestWithin (wanted : Shape) (count : ℕ) (before engine : Running) (world : World) : Type 0 where
   pub stands : IsAtRest wanted engine world
-  pub climbs : engine.log.end.seg ≤ before.log.end.seg + count
+  pub rises : engine.log.end.seg ≤ before.log.end.seg + count
   pub lasting : (seg : ℕ) → (world.log seg).since ≡ []

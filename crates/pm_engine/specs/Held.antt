@@ -7,6 +7,9 @@ use Rattle.std.specs.FinMap.{empty}
 use Rattle.pm_types.specs.declared.shape.Shape.{Shape}
 use Rattle.pm_frame.specs.Frames.{Frame}
 use Rattle.pm_records.specs.declared.limits.TheConstants.{PUT}
+use Rattle.pm_records.specs.FirstRecords.{begins_well, log_shape}
+use Rattle.pm_records.specs.LogFiles.{contents}
+use Rattle.pm_records.specs.Logs.{record_in, place, all_frames, after_frames, IsLogWithNothingAbove}
 use Rattle.pm_records.specs.Records.{Record, Logical, Snapshot, Delta, CpBegin, Restart, Seal}
 use Rattle.pm_disk.specs.Files.{bytes_of}
 use Rattle.pm_disk.specs.Worlds.{World}
@@ -15,41 +18,8 @@ use Rattle.pm_model.specs.declared.line.Cmd.TheVariants.{Put, Remove}
 use Rattle.pm_model.specs.declared.line.Line.{Line}
 use Rattle.pm_model.specs.declared.line.Line.TheVariants.{Good}
 use Rattle.pm_model.specs.Eval.{Pairs, is_accepted, after, after_all}
-use Rattle.pm_segments.specs.Grammars.{place, all_frames}
-use Rattle.pm_segments.specs.Logs.{IsLog, after_frames, contents}
-use Rattle.pm_engine.specs.Records.{record_in}
 
--- whether a record tells the store's shape
-abbrev pub is_restart : Option Record → Bool
-is_restart None = false
-is_restart (Some (Logical op cache key value)) = false
-is_restart (Some (Snapshot page bytes)) = false
-is_restart (Some (Delta page ranges)) = false
-is_restart (Some (CpBegin number replay)) = false
-is_restart (Some (Restart shape)) = true
-is_restart (Some Seal) = false
-
--- whether the log is empty or begins with a RESTART
-abbrev pub begins_well : List Frame → Bool
-begins_well [] = true
-begins_well (frame ∷ frames) = is_restart (record_in frame)
-
--- the shape that a record tells, or this one where it tells none
-abbrev pub shape_told : Shape → Option Record → Shape
-shape_told wanted None = wanted
-shape_told wanted (Some (Logical op cache key value)) = wanted
-shape_told wanted (Some (Snapshot page bytes)) = wanted
-shape_told wanted (Some (Delta page ranges)) = wanted
-shape_told wanted (Some (CpBegin number replay)) = wanted
-shape_told wanted (Some (Restart shape)) = shape
-shape_told wanted (Some Seal) = wanted
-
--- the store's shape: that of the first record, or the wanted one where there is none
-abbrev pub shape_of : Shape → List Frame → Shape
-shape_of wanted [] = wanted
-shape_of wanted (frame ∷ frames) = shape_told wanted (record_in frame)
-
--- the map after a put that is done again, none where its partition is full
+-- the map after a put that is replayed, none where its partition is full
 abbrev pub put_replayed : Shape → Line → Pairs → Option Pairs
 put_replayed shape line pairs = if is_accepted shape line pairs then Some (after shape line pairs) else None
 
@@ -80,13 +50,13 @@ all_replayed shape (frame ∷ frames) found = all_replayed shape frames (then_re
 -- these frames hold this shape and this map, in a store that takes the wanted shape where it is empty
 pub record IsHeld (wanted : Shape) (frames : List Frame) (shape : Shape) (pairs : Pairs) : Type 0 where
   pub begins : begins_well frames ≡ true
-  pub told : shape ≡ shape_of wanted frames
+  pub told : shape ≡ log_shape wanted frames
   pub map : all_replayed shape frames (Some empty) ≡ Some pairs
 
 -- the log in these segments' bytes holds this shape and this map
 pub record HoldsIn (wanted : Shape) (bytes : ℕ → List ℕ) (shape : Shape) (pairs : Pairs) : Type 0 where
   pub frames : List Frame
-  pub log : IsLog all_frames bytes (place 1 0) frames
+  pub log : IsLogWithNothingAbove all_frames bytes (place 1 0) frames
   pub held : IsHeld wanted frames shape pairs
 
 -- the disk is sound, and holds this shape and this map

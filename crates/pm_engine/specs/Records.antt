@@ -9,10 +9,6 @@ use Rattle.pm_model.specs.declared.line.Cmd.TheVariants.{Put, Get, Remove, Scan,
 use Rattle.pm_model.specs.declared.line.Line.{Line}
 use Rattle.pm_model.specs.declared.line.Line.TheVariants.{Good, Bad, Long}
 
--- the record of a frame, none where its payload is in no grammar
-abbrev pub record_in : Frame → Option Record
-record_in frame = record_of frame.kind frame.payload
-
 -- the record of a line, where it has one
 abbrev pub record_of_line : Line → Option Record
 record_of_line (Good (Put cache key value)) = Some (Logical PUT cache key value)
@@ -31,7 +27,3 @@ IsPayloadOf (Some found) payload = IsRecord found × (payload ≡ payload_of fou
 -- the frame of a logical record with this payload
 abbrev pub logical_frame : List ℕ → Frame
 logical_frame payload = record { kind = LOGICAL; payload = payload }
-
--- the frame that tells a store's shape
-abbrev pub restart_frame : Shape → Frame
-restart_frame shape = record { kind = RESTART; payload = payload_of (Restart shape) }

@@ -11,19 +11,18 @@ ghost use Rattle.pm_types.specs.Shapes.{IsShape};
 ghost use Rattle.pm_disk.specs.Images.{NothingPending};
 ghost use Rattle.pm_disk.specs.Moments.{Does, AllMoments};
 ghost use Rattle.pm_model.specs.Eval.{Pairs};
+ghost use Rattle.pm_records.specs.LogFiles.{ChangesLog};
+ghost use Rattle.pm_records.specs.Logs.{place, after_frames};
 ghost use Rattle.pm_segments.specs.Ends.{EndsThere};
-ghost use Rattle.pm_segments.specs.Grammars.{place};
-ghost use Rattle.pm_segments.specs.Logs.{after_frames};
 ghost use Rattle.pm_segments.specs.Scans.{IsAhead};
-ghost use Rattle.pm_segments.specs.Written.{ChangesLog};
 ghost use Rattle.pm_engine.specs.Batches.{HasStoreFault};
 ghost use Rattle.pm_engine.specs.Held.{Holds, HasNumbers, CrashHoldsPrefix};
 ghost use Rattle.pm_engine.specs.Engines.{running, IsAtRest};
-ghost use Rattle.pm_engine.specs.Openings.{TakesNext, Climbs, ReadsAll, IsSame, IsBadStore, OpensWith};
+ghost use Rattle.pm_engine.specs.Openings.{ReplaysNext, IsFurther, ReadsAll, IsSame, IsBadStore, OpensWith};
 
 use crate::engine::Engine;
-use crate::found::{Found, Took};
 use crate::record::restart_payload;
+use crate::replay::{Replay, ReplayStep};
 use pm_disk::Host;
 use pm_frame::RESTART;
 use pm_segments::{Log, Scan};
@@ -31,7 +30,7 @@ use pm_types::{Place, Shape, StoreFault};
 use std::alloc::Global;
 
 impl Engine {
-    /// Opens the store: reads its log from the first segment on, does its records again, cuts what is after the log's end, and
+    /// Opens the store: reads its log from the first segment on, replays its records, cuts what is after the log's end, and
     /// appends a RESTART with the store's shape. A store that is empty takes the wanted shape.
     ///
     /// `BadRecord` comes where the first frame is no RESTART, where a frame's payload is in no grammar, and where a put meets a
@@ -70,13 +69,13 @@ impl Engine {
             (ChangesLog (H.history host.old).world) }
         ensures cause { HasStoreFault (H.state host.old) (H.state host.new) result }
     {
-        let mut found = Found::new(alloc, wanted);
-        let end = read_log(alloc, host, &mut found)?;
-        let mut log = Log::cut_tail(host, 1, end, found.shape.segment_bytes)?;
-        log.append(host, RESTART, &restart_payload(found.shape))?;
+        let mut replay = Replay::new(alloc, wanted);
+        let end = read_log(alloc, host, &mut replay)?;
+        let mut log = Log::cut_tail(host, 1, end, replay.shape.segment_bytes)?;
+        log.append(host, RESTART, &restart_payload(replay.shape))?;
         Ok(Engine {
-            shape: found.shape,
-            map: found.map,
+            shape: replay.shape,
+            map: replay.map,
             log,
             order: Vec::new(alloc),
             payload: Vec::new(alloc),
@@ -84,18 +83,19 @@ impl Engine {
     }
 }
 
-// Reads the log, and tells where it ends.
-fn read_log<H: Host>(alloc: Global, host: &mut H, found: &mut Found) -> Result<Place, StoreFault>
+// Replays the log, and answers where it ends.
+fn read_log<H: Host>(alloc: Global, host: &mut H, replay: &mut Replay) -> Result<Place, StoreFault>
     requires usable { IsUsable (H.state host.old) }
-    requires shape { IsShape found.old.shape }
-    requires map { found.old.map ≡ empty }
-    requires begun { found.old.has_begun ≡ false }
-    ensures shape { OnOk result (IsShape found.new.shape) }
+    requires shape { IsShape replay.old.shape }
+    requires map { replay.old.map ≡ empty }
+    requires begun { replay.old.has_begun ≡ false }
+    ensures shape { OnOk result (IsShape replay.new.shape) }
     ensures reads { H.tells → IfOk result (λ end.
-        ReadsAll found.old.shape (H.history host.old).world end found.new) }
+        ReadsAll replay.old.shape (H.history host.old).world end replay.new) }
     ensures bound { IfOk result (λ end. end.off ≤ last_end) }
+    ensures kept { IfOk result (λ end. 1 ≤ end.seg) }
     ensures bad { H.tells → (at : Place) → IsErrOf result (StoreFault.BadRecord at) →
-        IsBadStore found.old.shape at (H.history host.old).world (H.history host.new).world }
+        IsBadStore replay.old.shape at (H.history host.old).world (H.history host.new).world }
     ensures page { (page : PageId) → IsErrOf result (StoreFault.BadPage page) → ⊥ }
     ensures same { H.tells → AllMoments (H.history host.old) (H.history host.new) (IsSame
         (H.history host.old).world) }
@@ -103,32 +103,32 @@ fn read_log<H: Host>(alloc: Global, host: &mut H, found: &mut Found) -> Result<P
 {
     let mut scan = Scan::new(alloc, Place { seg: 1, off: 0 })?;
     'frames: loop {
-        let took = take_next(alloc, host, &mut scan, found)?;
+        let step = replay_next(alloc, host, &mut scan, replay)?;
         let at = scan.place();
         let _segment = segment_of(at);
-        match took {
-            Took::Frame => {}
-            Took::Bad => return Err(StoreFault::BadRecord(at)),
-            Took::End => return Ok(at),
+        match step {
+            ReplayStep::Frame => {}
+            ReplayStep::Bad => return Err(StoreFault::BadRecord(at)),
+            ReplayStep::End => return Ok(at),
         }
     }
 }
 
-// Takes the next frame of the log, if there is one that can stand there.
-fn take_next<H: Host>(
+// Replays the next frame of the log, if there is one that can stand there.
+fn replay_next<H: Host>(
     alloc: Global,
     host: &mut H,
     scan: &mut Scan,
-    found: &mut Found,
-) -> Result<Took, StoreFault>
+    replay: &mut Replay,
+) -> Result<ReplayStep, StoreFault>
     requires usable { IsUsable (H.state host.old) }
-    requires shape { IsShape found.old.shape }
+    requires shape { IsShape replay.old.shape }
     requires ahead { H.tells → IsAhead scan.old (H.history host.old).world }
-    ensures shape { OnOk result (IsShape found.new.shape) }
-    ensures takes { H.tells → IfOk result (λ took.
-        TakesNext took scan.old scan.new found.old found.new (H.history host.old).world) }
+    ensures shape { OnOk result (IsShape replay.new.shape) }
+    ensures replays { H.tells → IfOk result (λ step.
+        ReplaysNext step scan.old scan.new replay.old replay.new (H.history host.old).world) }
     ensures ahead { H.tells → OnOk result (IsAhead scan.new (H.history host.new).world) }
-    ensures climbs { IfOk result (λ took. Climbs took scan.old scan.new) }
+    ensures further { IfOk result (λ step. IsFurther step scan.old scan.new) }
     ensures bound { OnOk result (scan.new.next.off ≤ last_end) }
     ensures does { H.tells →
         Does (H.history host.old) (H.history host.new) result (H.history host.old).world }
@@ -138,13 +138,13 @@ fn take_next<H: Host>(
 {
     match scan.next(host)? {
         Some(frame) => {
-            if found.take(alloc, frame.kind, frame.payload)? {
-                Ok(Took::Frame)
+            if replay.frame(alloc, frame.kind, frame.payload)? {
+                Ok(ReplayStep::Frame)
             } else {
-                Ok(Took::Bad)
+                Ok(ReplayStep::Bad)
             }
         }
-        None => Ok(Took::End),
+        None => Ok(ReplayStep::End),
     }
 }
 

@@ -63,12 +63,12 @@ unfolding named_frame frame_bytes summed_bytes head_bytes
 named_frame-bytes place frame rest short =
     let n = length frame.payload in
     let sum = to_le_bytes w32 (crc_of (summed_bytes place frame)) in
-    let behind = frame.payload ++ sum ++ rest in
+    let others = frame.payload ++ sum ++ rest in
     let len : from_le_bytes w32 (to_le_bytes w32 n) ≡ n = from_le_bytes-to_le_bytes_4 n short in
     let count : HEAD_LEN + n - HEAD_LEN ≡ n = omega arith in
-    let payload : take (HEAD_LEN + from_le_bytes w32 (to_le_bytes w32 n) - HEAD_LEN) behind ≡ frame.payload =
-    ap (λ k. take (HEAD_LEN + k - HEAD_LEN) behind) len
-    ∙ ap (λ k. take k behind) count
+    let payload : take (HEAD_LEN + from_le_bytes w32 (to_le_bytes w32 n) - HEAD_LEN) others ≡ frame.payload =
+    ap (λ k. take (HEAD_LEN + k - HEAD_LEN) others) len
+    ∙ ap (λ k. take k others) count
     ∙ ap (take n) (append_assoc frame.payload sum rest)
     ∙ take_at frame.payload (sum ++ rest) n refl
     in
@@ -130,10 +130,10 @@ pub frame_at-append : (place : Place) (bytes more : List ℕ) (frame : Frame) �
     → frame_at place (bytes ++ more) ≡ Some frame
 frame_at-append place bytes more frame e =
     let s = frame_at-some place bytes frame e in
-    let behind = drop (frame_len frame) bytes in
+    let others = drop (frame_len frame) bytes in
     ap (λ b. frame_at place (b ++ more)) s.1
-    ∙ ap (frame_at place) (append_assoc (frame_bytes place frame) behind more)
-    ∙ frame_at-bytes place frame (behind ++ more) s.0
+    ∙ ap (frame_at place) (append_assoc (frame_bytes place frame) others more)
+    ∙ frame_at-bytes place frame (others ++ more) s.0
 
 -- a frame is decided by its own bytes
 pub frame_at-same : (place : Place) (old new : List ℕ) (frame : Frame)

@@ -42,9 +42,9 @@ headed : (place : Place) (bytes : List ℕ) (frame : Frame) (rest : List ℕ) �
 unfolding summed_bytes
 headed place bytes frame rest e =
     let head = head_bytes frame.kind place (length frame.payload) in
-    let behind = to_le_bytes w32 (crc_of (summed_bytes place frame)) ++ rest in
-    ap (take HEAD_LEN) (parted place bytes frame rest e ∙ append_assoc head frame.payload behind)
-    ∙ take_at head (frame.payload ++ behind) HEAD_LEN (length-head_bytes frame.kind place (length frame.payload))
+    let others = to_le_bytes w32 (crc_of (summed_bytes place frame)) ++ rest in
+    ap (take HEAD_LEN) (parted place bytes frame rest e ∙ append_assoc head frame.payload others)
+    ∙ take_at head (frame.payload ++ others) HEAD_LEN (length-head_bytes frame.kind place (length frame.payload))
 
 -- the head of a frame that is spelled there is that frame's
 named : (place : Place) (bytes : List ℕ) (kind : ℕ) (at : Place) (len : ℕ) (frame : Frame) (rest : List ℕ)
@@ -118,14 +118,14 @@ read_spelled place bytes kind len summed stored payload are b enough s t right p
     let stored_len : length stored ≡ SUM_LEN = omega (arith, ap length t, length-take SUM_LEN (drop (HEAD_LEN + len) bytes), length-drop (HEAD_LEN + len) bytes) in
     let sum : stored ≡ to_le_bytes w32 (crc_of summed) = sym (le_bytes_4 stored (crc_of summed) stored_len stored_are (sym right)) in
     let end : HEAD_LEN + len + SUM_LEN ≡ len + FRAME_EXTRA = omega arith in
-    let behind : drop (HEAD_LEN + len) bytes ≡ stored ++ drop (len + FRAME_EXTRA) bytes =
+    let others : drop (HEAD_LEN + len) bytes ≡ stored ++ drop (len + FRAME_EXTRA) bytes =
     sym (take-append-drop SUM_LEN (drop (HEAD_LEN + len) bytes))
     ∙ (λ i. sym t i ++ drop-drop SUM_LEN (HEAD_LEN + len) bytes i)
     ∙ ap (λ k. stored ++ drop k bytes) end
     in
     let rest = drop (len + FRAME_EXTRA) bytes in
     sym (take-append-drop (HEAD_LEN + len) bytes)
-    ∙ (λ i. sym s i ++ behind i)
+    ∙ (λ i. sym s i ++ others i)
     ∙ ap (λ x. summed ++ (x ++ rest)) sum
     ∙ sym (append_assoc summed (to_le_bytes w32 (crc_of summed)) rest)
     ∙ ap (λ x. x ++ to_le_bytes w32 (crc_of x) ++ rest) whole

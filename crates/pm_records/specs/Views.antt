@@ -15,6 +15,6 @@ record_view (log.Restart shape) = Restart shape
 record_view log.Seal = Seal
 
 -- the record in an answer
-abbrev pub record_in : Result LogRecord BadPayload → Option Record
-record_in (Ok rec) = Some (record_view rec)
-record_in (Err refusal) = None
+abbrev pub record_read : Result LogRecord BadPayload → Option Record
+record_read (Ok rec) = Some (record_view rec)
+record_read (Err refusal) = None

@@ -3,7 +3,7 @@
 ghost use Rattle.std.specs.Prelude.{◌≡◌, ◌≤◌, ◌↔◌, IsTrue, IfOk, Some};
 ghost use Rattle.pm_records.specs.PageRecords.{IsSnapshot, IsPageDelta};
 ghost use Rattle.pm_records.specs.Records.{Record, IsRecord, IsLogical, kind_of, payload_of, record_of};
-ghost use Rattle.pm_records.specs.Views.{record_view, record_in};
+ghost use Rattle.pm_records.specs.Views.{record_view, record_read};
 
 use crate::limits::{CP_BEGIN_LEN, LOGICAL_HEAD_LEN, PAGE_NAME_LEN, PUT, REMOVE, SHAPE_LEN};
 use crate::page_name::is_page_name;
@@ -18,7 +18,7 @@ use pm_types::{CACHES, KEY_MAX, PAGE_SIZE_MAX, PageId, Place, VALUE_MAX, is_page
 ///
 /// It is refused exactly where the payload is not in its kind's grammar, and where there is no such kind.
 pub fn decode(kind: u8, payload: &[u8]) -> Result<LogRecord<'_>, BadPayload>
-    ensures exact { record_in result ≡ record_of kind payload.now }
+    ensures exact { record_read result ≡ record_of kind payload.now }
 
     // What is read is in the grammar, and spelled so.
     ensures fits { IfOk result (λ found. IsRecord (record_view found)) }
@@ -27,7 +27,7 @@ pub fn decode(kind: u8, payload: &[u8]) -> Result<LogRecord<'_>, BadPayload>
 
     // Whatever record is spelled is read.
     ensures read { (spelled : Record) → IsRecord spelled → kind ≡ kind_of spelled
-        → payload.now ≡ payload_of spelled → record_in result ≡ Some spelled }
+        → payload.now ≡ payload_of spelled → record_read result ≡ Some spelled }
 {
     match kind {
         LOGICAL => logical_of(payload),
@@ -41,7 +41,7 @@ pub fn decode(kind: u8, payload: &[u8]) -> Result<LogRecord<'_>, BadPayload>
 }
 
 fn logical_of(payload: &[u8]) -> Result<LogRecord<'_>, BadPayload>
-    ensures { record_in result ≡ record_of LOGICAL payload.now }
+    ensures { record_read result ≡ record_of LOGICAL payload.now }
 {
     let Some((head, rest)) = payload.split_first_chunk::<LOGICAL_HEAD_LEN>() else {
         return Err(BadPayload);
@@ -75,7 +75,7 @@ fn is_logical(op: u8, cache: u8, key: &[u8], value: &[u8]) -> bool
 }
 
 fn snapshot_of(payload: &[u8]) -> Result<LogRecord<'_>, BadPayload>
-    ensures { record_in result ≡ record_of SNAPSHOT payload.now }
+    ensures { record_read result ≡ record_of SNAPSHOT payload.now }
 {
     let Some((name, bytes)) = payload.split_first_chunk::<PAGE_NAME_LEN>() else {
         return Err(BadPayload);
@@ -94,7 +94,7 @@ fn is_snapshot(page: PageId, bytes: &[u8]) -> bool
 }
 
 fn delta_of(payload: &[u8]) -> Result<LogRecord<'_>, BadPayload>
-    ensures { record_in result ≡ record_of DELTA payload.now }
+    ensures { record_read result ≡ record_of DELTA payload.now }
 {
     let Some((name, ranges)) = payload.split_first_chunk::<PAGE_NAME_LEN>() else {
         return Err(BadPayload);
@@ -113,7 +113,7 @@ fn is_page_delta(page: PageId, ranges: &[u8]) -> bool
 }
 
 fn cp_begin_of(payload: &[u8]) -> Result<LogRecord<'_>, BadPayload>
-    ensures { record_in result ≡ record_of CP_BEGIN payload.now }
+    ensures { record_read result ≡ record_of CP_BEGIN payload.now }
 {
     if payload.len() != CP_BEGIN_LEN {
         return Err(BadPayload);
@@ -137,7 +137,7 @@ fn is_checkpoint(number: u64) -> bool
 }
 
 fn restart_of(payload: &[u8]) -> Result<LogRecord<'_>, BadPayload>
-    ensures { record_in result ≡ record_of RESTART payload.now }
+    ensures { record_read result ≡ record_of RESTART payload.now }
 {
     let Ok(bytes) = <&[u8; SHAPE_LEN]>::try_from(payload) else {
         return Err(BadPayload);
@@ -150,7 +150,7 @@ fn restart_of(payload: &[u8]) -> Result<LogRecord<'_>, BadPayload>
 }
 
 fn seal_of(payload: &[u8]) -> Result<LogRecord<'_>, BadPayload>
-    ensures { record_in result ≡ record_of SEAL payload.now }
+    ensures { record_read result ≡ record_of SEAL payload.now }
 {
     if !payload.is_empty() {
         return Err(BadPayload);

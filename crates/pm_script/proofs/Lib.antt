@@ -1,10 +1,11 @@
 pub mod Digits
 pub mod FieldTexts
+pub mod LaterStates
 pub mod Newlines
-pub mod OnTheWay
 pub mod Parts
 pub mod ScriptLines
 pub mod Spaces
-pub mod Taking
+pub mod TakenInput
 pub mod TextsReadBack
 pub mod Unbroken
+pub mod WithinLine

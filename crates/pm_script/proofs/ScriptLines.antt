@@ -20,14 +20,14 @@ lines_last true b = refl
 lines_last false b = refl
 
 -- nothing stands after it
-none_behind : (t : Bool) → lines_of (cond t [] []) ≡ []
-none_behind true = refl
-none_behind false = refl
+none_after : (t : Bool) → lines_of (cond t [] []) ≡ []
+none_after true = refl
+none_after false = refl
 
 -- the first line, and the lines of what stands after it
 pub lines_of-first : (bytes : List ℕ) → 0 < length bytes → lines_of bytes ≡ first_line bytes ∷ lines_of (after_line bytes)
 lines_of-first [] some = absurd (omega arith)
-lines_of-first (b ∷ []) some = lines_last (eqb b 10) b ∙ ap (λ lines. cond (eqb b 10) [] (b ∷ []) ∷ lines) (sym (none_behind (eqb b 10)))
+lines_of-first (b ∷ []) some = lines_last (eqb b 10) b ∙ ap (λ lines. cond (eqb b 10) [] (b ∷ []) ∷ lines) (sym (none_after (eqb b 10)))
 lines_of-first (b ∷ c ∷ bytes) some = lines_cond (eqb b 10) b (first_line (c ∷ bytes)) (c ∷ bytes) (after_line (c ∷ bytes)) (lines_of-first (c ∷ bytes) (omega arith))
 
 -- what the first line says, and what those after it say

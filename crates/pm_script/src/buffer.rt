@@ -1,9 +1,10 @@
 //! The buffer of a reader.
 
-ghost use Rattle.std.specs.Prelude.{◌≡◌, ◌≤◌, ◌<◌, ◌+◌, ◌-◌, ℕ, length, take, drop, IfOk, OnOk, OnErr, Option};
+ghost use Rattle.std.specs.Prelude.{◌≡◌, ◌≤◌, ◌<◌, ◌+◌, ◌-◌, ℕ, length, take, drop, not, IfOk, OnOk, OnErr, Option};
 ghost use Rattle.pm_disk.specs.States.{HasCause, IsUsable};
 ghost use Rattle.pm_disk.specs.Moments.{Does, AllMoments};
-ghost use Rattle.pm_script.specs.Reading.{cut, FindsNewline, OnlyTakes, ReadsBehind};
+ghost use Rattle.pm_script.specs.Lines.{is_unbroken};
+ghost use Rattle.pm_script.specs.Reading.{cut, FindsNewline, OnlyTakes, ReadsAfter};
 
 use memchr::memchr;
 use pm_disk::{Failed, Host};
@@ -14,6 +15,13 @@ pub fn newline_position(bytes: &[u8]) -> Option<usize>
     ensures { FindsNewline bytes.now result }
 {
     memchr(b'\n', bytes)
+}
+
+// Whether a newline stands in the bytes.
+pub fn has_newline(bytes: &[u8]) -> bool
+    ensures { result ≡ not (is_unbroken bytes.now) }
+{
+    newline_position(bytes).is_some()
 }
 
 // Moves a part of the buffer to its front, at most one byte more than a line may have, and says how much.
@@ -32,17 +40,13 @@ pub fn keep_front(buffer: &mut Vec<u8>, from: usize, to: usize) -> usize
 }
 
 // Reads the next piece of the input into the buffer after its first `kept` bytes.
-pub fn read_behind<H: Host>(
-    host: &mut H,
-    buffer: &mut Vec<u8>,
-    kept: usize,
-) -> Result<usize, Failed>
+pub fn read_after<H: Host>(host: &mut H, buffer: &mut Vec<u8>, kept: usize) -> Result<usize, Failed>
     requires usable { IsUsable (H.state host.old) }
-    requires { kept < length buffer.old.items }
+    requires room { kept < length buffer.old.items }
     ensures front { take kept buffer.new.items ≡ take kept buffer.old.items }
     ensures same_length { length buffer.new.items ≡ length buffer.old.items }
     ensures bound { IfOk result (λ n. kept + n ≤ length buffer.new.items) }
-    ensures read { H.tells → IfOk result (ReadsBehind (H.history host.old).world.input
+    ensures read { H.tells → IfOk result (ReadsAfter (H.history host.old).world.input
         (H.history host.new).world.input (drop kept buffer.new.items)) }
     ensures takes { H.tells → AllMoments (H.history host.old) (H.history host.new) (OnlyTakes
         (H.history host.old).world) }

@@ -12,8 +12,8 @@ use Rattle.pm_frame.proofs.HeadBytes.{length-head_bytes}
 use Rattle.pm_frame.proofs.FrameAt.{length-frame_bytes, frame_at-same, frame_at-some, frame_at-append, frame_at-within}
 use Rattle.pm_disk.specs.Files.{bytes_of}
 use Rattle.pm_disk.specs.Worlds.{World, segment_in}
-use Rattle.pm_segments.specs.Scans.{Scanned, IsAhead, StepsOver, StepsTo, behind_place}
-use Rattle.pm_segments.proofs.Runs.{option_cases}
+use Rattle.pm_records.proofs.Runs.{option_cases}
+use Rattle.pm_segments.specs.Scans.{Scanned, IsAhead, StepsOver, StepsTo, bytes_after}
 
 -- the first so many elements, less some of them
 pub less_first : (k m : ℕ) (xs : List ℕ) → k ≤ m → drop k (take m xs) ≡ take (m - k) (drop k xs)
@@ -69,20 +69,20 @@ sees place ahead there front enough = elim enough [
 -- what a scan holds after the frame that it gave
 pub ahead_after : (old new : Scanned) (world : World) (found : Option Frame) → IsAhead old world → found ≡ frame_at old.next old.ahead → StepsTo old new found → StepsOver old new found → IsAhead new world
 ahead_after old new world None is_ahead is advances steps =
-    let there : behind_place new.next world ≡ behind_place old.next world = ap (λ (p : Place). behind_place p world) advances.1 in
+    let there : bytes_after new.next world ≡ bytes_after old.next world = ap (λ (p : Place). bytes_after p world) advances.1 in
     record {
-      front = steps.0 ∙ is_ahead.front ∙ ap (λ (a : List ℕ). take (length a) (behind_place old.next world)) (sym steps.0) ∙ ap (take (length new.ahead)) (sym there);
+      front = steps.0 ∙ is_ahead.front ∙ ap (λ (a : List ℕ). take (length a) (bytes_after old.next world)) (sym steps.0) ∙ ap (take (length new.ahead)) (sym there);
       whole = λ whole. steps.0 ∙ is_ahead.whole (subst IsTrue steps.1 whole) ∙ sym there;
     }
 ahead_after old new world (Some frame) is_ahead is advances steps =
     let k = frame_len frame in
-    let there : behind_place new.next world ≡ drop k (behind_place old.next world) =
-    ap (λ (p : Place). behind_place p world) advances.1 ∙ sym (drop-drop k old.next.off (bytes_of (segment_in world old.next.seg))) in
+    let there : bytes_after new.next world ≡ drop k (bytes_after old.next world) =
+    ap (λ (p : Place). bytes_after p world) advances.1 ∙ sym (drop-drop k old.next.off (bytes_of (segment_in world old.next.seg))) in
     let within : k ≤ length old.ahead = frame_at-within old.next old.ahead frame (sym is) in
     let count : length old.ahead - k ≡ length new.ahead = omega (arith, ap (λ (a : List ℕ). length a) steps.0, length-drop k old.ahead) in
     record {
-      front = steps.0 ∙ ap (drop k) is_ahead.front ∙ less_first k (length old.ahead) (behind_place old.next world) within
-          ∙ ap (λ n. take n (drop k (behind_place old.next world))) count ∙ ap (take (length new.ahead)) (sym there);
+      front = steps.0 ∙ ap (drop k) is_ahead.front ∙ less_first k (length old.ahead) (bytes_after old.next world) within
+          ∙ ap (λ n. take n (drop k (bytes_after old.next world))) count ∙ ap (take (length new.ahead)) (sym there);
       whole = λ whole. steps.0 ∙ ap (drop k) (is_ahead.whole (subst IsTrue steps.1 whole)) ∙ sym there;
     }
 
@@ -96,7 +96,7 @@ read_more ahead there now moved kept count front is_kept first bound read = (
 
 -- a scan that holds the first so many bytes after its place
 pub is_ahead_by : (scan : Scanned) (world : World) (there now : List ℕ) (n : ℕ) → scan.ahead ≡ take n now → take n now ≡ take n there → length (take n now) ≡ n
-    → behind_place scan.next world ≡ there → (IsTrue scan.is_whole → length there ≤ n) → IsAhead scan world
+    → bytes_after scan.next world ≡ there → (IsTrue scan.is_whole → length there ≤ n) → IsAhead scan world
 is_ahead_by scan world there now n ahead_is same count there_is whole =
     let len : length scan.ahead ≡ n = ap (λ (a : List ℕ). length a) ahead_is ∙ count in
     record {

@@ -4,10 +4,11 @@ use Rattle.std.specs.Prelude.{if◌then◌else◌}
 use Rattle.pm_types.specs.declared.place.Place.{Place}
 use Rattle.pm_frame.specs.Frames.{Frame}
 use Rattle.pm_disk.specs.Moments.{History, IsHistory, Does, AllMoments}
-use Rattle.pm_segments.specs.Ends.{LogEnd, has_room, written}
-use Rattle.pm_segments.specs.Steps.{Step, Append, end_after, world_after, DoesSome, DoesSteps, rolled, room_steps, roomy, append_steps, steps_of, Reaches}
+use Rattle.pm_records.specs.LogSteps.{written, Step, Append, end_after, world_after, DoesPrefix, DoesSteps}
+use Rattle.pm_records.proofs.Tracing.{steps_one, steps_joined, world_joined}
+use Rattle.pm_segments.specs.Appends.{rolled, room_steps, roomy, append_steps, steps_of, Reaches}
+use Rattle.pm_segments.specs.Ends.{LogEnd, has_room}
 use Rattle.pm_segments.proofs.Sealing.{roomy_end}
-use Rattle.pm_segments.proofs.Tracing.{steps_one, steps_joined, world_joined}
 
 -- where a frame goes isn't changed by what the last append did
 pub untried_end : (log : LogEnd) (payload_len : ℕ) → (roomy (record log { tried = false }) payload_len).end ≡ (roomy log payload_len).end
@@ -26,7 +27,7 @@ module _ {T E : Type 0} (old mid new : History) (result : Result T E) (log : Log
   here = there ∙ sym (roomy_end log (length frame.payload))
 
   -- the steps of the append
-  pub append_does : AllMoments old mid (DoesSome first log.end old.world) → IsHistory mid → (tried : Bool) → tried ≡ true → DoesSteps {T = T} {E = E} old new result (steps_of tried log frame) log.end
+  pub append_does : AllMoments old mid (DoesPrefix first log.end old.world) → IsHistory mid → (tried : Bool) → tried ≡ true → DoesSteps {T = T} {E = E} old new result (steps_of tried log frame) log.end
   append_does moments sound tried is =
       let one = steps_one mid new result (Append frame) end sound call in
       let all = steps_joined old mid new result first (Append frame ∷ []) log.end moments before (subst (λ p. DoesSteps {T = T} {E = E} mid new result (Append frame ∷ []) p) here one) in

@@ -8,8 +8,8 @@ use Rattle.pm_disk.proofs.Files.{content_change}
 use Rattle.pm_frame.specs.Frames.{Frame, frame_len, frame_bytes}
 use Rattle.pm_frame.proofs.FrameAt.{length-frame_bytes}
 use Rattle.pm_types.specs.declared.place.Place.{Place}
-use Rattle.pm_segments.specs.Ends.{written}
-use Rattle.pm_segments.proofs.LogSteps.{at_end-write}
+use Rattle.pm_records.specs.LogSteps.{written}
+use Rattle.pm_records.proofs.FileSteps.{at_end-write}
 
 -- a force leaves what a read finds
 pub forced_reads : (seg : ℕ) (world : World) → segment_in (log_forced seg world) seg ≡ segment_in world seg

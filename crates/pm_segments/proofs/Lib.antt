@@ -2,16 +2,8 @@ pub mod Ahead
 pub mod Appending
 pub mod AppendLaw
 pub mod Emptied
-pub mod GrammarLaws
-pub mod Laws
-pub mod LogSteps
-pub mod OpeningLaw
 pub mod OpenLog
+pub mod PastSeal
 pub mod Quiet
 pub mod Reading
-pub mod Runs
 pub mod Sealing
-pub mod Standing
-pub mod Tracing
-pub mod Turning
-pub mod Writing

@@ -6,9 +6,11 @@ use Rattle.pm_types.specs.declared.place.Place.{Place}
 use Rattle.pm_frame.specs.declared.limits.TheConstants.{FRAME_END_MAX, FRAME_EXTRA}
 use Rattle.pm_disk.specs.Worlds.{World}
 use Rattle.pm_disk.specs.Moments.{History, IsHistory, Does, AllMoments}
-use Rattle.pm_segments.specs.Ends.{LogEnd, has_room, written}
-use Rattle.pm_segments.specs.Steps.{Step, Append, end_after, world_after, DoesSome, seal_frame, can_seal, seal_len, seal_steps, turn_steps, roll_steps, next_segment, next_begin, rolled, room_steps, roomy}
-use Rattle.pm_segments.proofs.Tracing.{moments_one, end_after-append}
+use Rattle.pm_records.specs.LogSteps.{written, Step, Append, end_after, world_after, DoesPrefix, next_segment, next_begin}
+use Rattle.pm_records.specs.Logs.{seal_frame}
+use Rattle.pm_records.proofs.Tracing.{moments_one, end_after-append}
+use Rattle.pm_segments.specs.Appends.{can_seal, seal_len, seal_steps, enter_steps, roll_steps, rolled, room_steps, roomy}
+use Rattle.pm_segments.specs.Ends.{LogEnd, has_room}
 
 pub fits_seal : (end : Place) → end.off ≤ FRAME_END_MAX → can_seal end ≡ true
 fits_seal end le = le-leb end.off FRAME_END_MAX le
@@ -18,9 +20,9 @@ pub seals : (end : Place) → can_seal end ≡ true → Append seal_frame ∷ []
 seals end fits = ap (λ (b : Bool). let steps : List Step = if b then Append seal_frame ∷ [] else [] in steps) (sym fits)
 
 pub moments_sealed : {T E : Type 0} (old new : History) (result : Result T E) (end : Place) → can_seal end ≡ true → IsHistory old → Does {T = T} {E = E} old new result (written end seal_frame old.world)
-    → AllMoments old new (DoesSome (seal_steps end) end old.world)
+    → AllMoments old new (DoesPrefix (seal_steps end) end old.world)
 moments_sealed old new result end fits sound call =
-    subst (λ steps. AllMoments old new (DoesSome steps end old.world)) (seals end fits)
+    subst (λ steps. AllMoments old new (DoesPrefix steps end old.world)) (seals end fits)
     (moments_one old new result (Append seal_frame) end (written end seal_frame old.world) sound refl call)
 
 pub world_sealed : (old new : World) (end : Place) → can_seal end ≡ true → new ≡ written end seal_frame old → new ≡ world_after (seal_steps end) end old
@@ -37,7 +39,7 @@ sealed_end end = each (can_seal end)
 -- a roll leads to the begin of the next segment
 pub rolled_end : (end : Place) → end_after (roll_steps end) end ≡ next_begin end
 rolled_end end =
-    end_after-append (seal_steps end) turn_steps end
+    end_after-append (seal_steps end) enter_steps end
     ∙ ap (λ (p : Place). let q : Place = record { seg = next_segment p.seg; off = 0 } in q) (sealed_end end)
 
 -- where a frame goes

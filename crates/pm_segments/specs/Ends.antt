@@ -1,11 +1,13 @@
 -- What contracts see of a log that is written.
-use Rattle.std.specs.Prelude.{◌≡◌, ◌⊎◌, ◌≤◌, ◌+◌, ◌-◌, ◌^◌, ℕ, min, length, Bool, true, false, nat_le}
+use Rattle.std.specs.Prelude.{◌≡◌, ◌≤◌, ◌<◌, ◌+◌, ◌-◌, ◌^◌, ℕ, min, length, Bool, true, false, nat_le}
 use Rattle.pm_types.specs.declared.place.Place.{Place}
-use Rattle.pm_frame.specs.declared.limits.TheConstants.{FRAME_EXTRA, SEGMENT_END_MAX}
-use Rattle.pm_frame.specs.Frames.{Frame, frame_len, frame_bytes}
 use Rattle.pm_types.specs.declared.limits.TheConstants.{SEGMENT_BYTES_MIN, SEGMENT_BYTES_MAX}
-use Rattle.pm_disk.specs.Files.{Write, Cut, bytes_of}
-use Rattle.pm_disk.specs.Worlds.{World, log_changed, log_forced, segment_in}
+use Rattle.pm_frame.specs.declared.limits.TheConstants.{FRAME_EXTRA, FRAME_END_MAX, SEGMENT_END_MAX}
+use Rattle.pm_frame.specs.Frames.{Frame, frame_len}
+use Rattle.pm_disk.specs.Files.{bytes_of}
+use Rattle.pm_disk.specs.Worlds.{World, segment_in}
+use Rattle.pm_records.specs.Logs.{HasNoSeal, place_after}
+use Rattle.pm_records.specs.LogFiles.{Written, Ready}
 
 -- Where the log ends, how long a segment may be, and what was appended.
 pub record LogEnd : Type 0 where
@@ -18,8 +20,10 @@ pub record LogEnd : Type 0 where
   -- the bytes of all frames that were appended, at most 2^64 - 1
   pub total : ℕ
 
--- the end lies within a segment of the longest size, and a segment may have as many bytes as one of a store
+-- The last segment is kept, the end lies within a segment of the longest size, and a segment may have as many bytes as one of a
+-- store.
 pub record IsLogEnd (log : LogEnd) : Type 0 where
+  pub kept : log.first ≤ log.end.seg
   pub within : log.end.off ≤ SEGMENT_END_MAX
   pub size_from : SEGMENT_BYTES_MIN ≤ log.segment_bytes
   pub size_to : log.segment_bytes ≤ SEGMENT_BYTES_MAX
@@ -39,40 +43,28 @@ abbrev pub has_room : LogEnd → ℕ → Bool
 has_room log payload_len =
     nat_le (log.end.off + (payload_len + FRAME_EXTRA) + FRAME_EXTRA) log.segment_bytes
 
--- the file of the last segment ends where the log ends
-abbrev pub EndsThere : LogEnd → World → Type 0
-EndsThere log world = length (bytes_of (segment_in world log.end.seg)) ≡ log.end.off
+-- The last segment is kept, and its file ends where the log ends.
+pub record EndsThere (log : LogEnd) (world : World) : Type 0 where
+  pub kept : log.first ≤ log.end.seg
+  pub ends : length (bytes_of (segment_in world log.end.seg)) ≡ log.end.off
 
 -- so many bytes more, up to the last value
 abbrev pub counted : ℕ → ℕ → ℕ
 counted total more = min (total + more) (2 ^ 64 - 1)
 
--- the place after a frame in its segment
-abbrev pub place_behind : Place → Frame → Place
-place_behind place frame = record { seg = place.seg; off = place.off + frame_len frame }
-
 -- the log after a frame more
 abbrev pub moved : LogEnd → Frame → LogEnd
 moved log frame = record log {
-  end = place_behind log.end frame;
+  end = place_after log.end frame;
   tried = true;
   total = counted log.total (frame_len frame);
 }
 
--- the frame was written at this place
-abbrev pub written : Place → Frame → World → World
-written place frame world =
-    log_changed place.seg (Write place.off (frame_bytes place frame)) world
-
--- the frame was written at the log's end
-abbrev pub appended : LogEnd → Frame → World → World
-appended log frame world = written log.end frame world
-
--- the segment of a place was cut there
-abbrev pub cut_at : Place → World → World
-cut_at end world = log_changed end.seg (Cut end.off) world
-
--- how far the tail of the log is cut: not yet, cut, or cut and forced
-abbrev pub CutsTail : Place → World → World → Type 0
-CutsTail end old now =
-    (now ≡ old) ⊎ (now ≡ cut_at end old) ⊎ (now ≡ log_forced end.seg (cut_at end old))
+-- The log's tail was cut and forced, and only whole frames were written after it; the end isn't after the SEAL of the last
+-- segment.
+pub record LogIsOpen (log : LogEnd) (s : Written) : Type 0 where
+  pub limits : IsLogEnd log
+  pub ready : s.tail ≡ Ready
+  pub plain : HasNoSeal s.pending
+  pub room_to_seal : log.end.off ≤ FRAME_END_MAX
+  pub numbered : log.end.seg + 1 < 2 ^ 64

@@ -1,7 +1,4 @@
+pub mod Appends
 pub mod Ends
-pub mod Grammars
-pub mod Logs
 pub mod Read
 pub mod Scans
-pub mod Steps
-pub mod Written

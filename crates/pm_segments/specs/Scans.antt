@@ -1,12 +1,11 @@
 -- What contracts see of a log that is read.
-use Rattle.std.specs.Prelude.{◌≡◌, ◌+◌, ◌-◌, ◌^◌, ◌≤◌, ◌⊎◌, ◌==◌, ◌&&◌, ℕ, List, [], length, take, drop, Bool, true, false, not, IsTrue, Option, Some, None, if◌then◌else◌}
+use Rattle.std.specs.Prelude.{◌≡◌, ◌+◌, ◌≤◌, ◌⊎◌, ℕ, List, [], length, take, drop, Bool, true, false, IsTrue, Option, Some, None, if◌then◌else◌}
 use Rattle.pm_types.specs.declared.place.Place.{Place}
 use Rattle.pm_frame.specs.declared.limits.TheConstants.{SEGMENT_END_MAX, FRAME_MAX}
 use Rattle.pm_frame.specs.Frames.{Frame, frame_len, frame_at}
 use Rattle.pm_disk.specs.Files.{bytes_of}
 use Rattle.pm_disk.specs.Worlds.{World, segment_in}
-use Rattle.pm_segments.specs.Ends.{place_behind}
-use Rattle.pm_segments.specs.Logs.{is_seal}
+use Rattle.pm_records.specs.Logs.{is_seal, is_last, place_after, next_place, ends_log}
 use Rattle.pm_segments.specs.declared.scan.TheConstants.{BUFFER}
 
 -- What a scan of the log holds.
@@ -41,21 +40,21 @@ shown has_found buffer kind payload_at payload_len =
     else None
 
 -- the bytes of a segment after a place
-abbrev pub behind_place : Place → World → List ℕ
-behind_place place world = drop place.off (bytes_of (segment_in world place.seg))
+abbrev pub bytes_after : Place → World → List ℕ
+bytes_after place world = drop place.off (bytes_of (segment_in world place.seg))
 
 -- what a scan holds is what stands on the disk after the place from which it goes on
 pub record IsAhead (scan : Scanned) (world : World) : Type 0 where
-  pub front : scan.ahead ≡ take (length scan.ahead) (behind_place scan.next world)
-  pub whole : IsTrue scan.is_whole → scan.ahead ≡ behind_place scan.next world
+  pub front : scan.ahead ≡ take (length scan.ahead) (bytes_after scan.next world)
+  pub whole : IsTrue scan.is_whole → scan.ahead ≡ bytes_after scan.next world
 
 -- a whole frame is ahead, if there is one
 abbrev pub SeesFrame : Scanned → Type 0
 SeesFrame scan = (FRAME_MAX ≤ length scan.ahead) ⊎ IsTrue scan.is_whole
 
 -- the frame that stands where a scan goes on, where the log isn't over
-abbrev pub stands_next : Scanned → World → Option Frame
-stands_next scan world = if scan.is_over then None else frame_at scan.next (behind_place scan.next world)
+abbrev pub frame_ahead : Scanned → World → Option Frame
+frame_ahead scan world = if scan.is_over then None else frame_at scan.next (bytes_after scan.next world)
 
 -- a scan stays where it was
 pub record StaysAt (old new : Scanned) : Type 0 where
@@ -67,7 +66,7 @@ pub record StaysAt (old new : Scanned) : Type 0 where
 abbrev pub StepsTo : Scanned → Scanned → Option Frame → Type 0
 StepsTo old new None = (new.place ≡ old.next) × (new.next ≡ old.next)
 StepsTo old new (Some frame) =
-    (new.place ≡ old.next) × (new.next ≡ place_behind old.next frame)
+    (new.place ≡ old.next) × (new.next ≡ place_after old.next frame)
 
 -- the bytes of a frame that was given are no longer ahead
 abbrev pub StepsOver : Scanned → Scanned → Option Frame → Type 0
@@ -80,10 +79,6 @@ abbrev pub found_seal : Option Frame → Bool
 found_seal None = false
 found_seal (Some frame) = is_seal frame
 
--- whether a segment is the last one
-abbrev pub is_last : ℕ → Bool
-is_last seg = seg == 2 ^ 64 - 1
-
 -- a scan at the begin of the next segment
 abbrev pub entered : Scanned → Scanned
 entered scan = record scan { next = record { seg = scan.next.seg + 1; off = 0 }; ahead = []; is_whole = false }
@@ -93,21 +88,19 @@ abbrev pub sealed : Scanned → Scanned
 sealed scan = if is_last scan.next.seg then record scan { is_over = true } else entered scan
 
 -- a scan after the frame that it found
-abbrev pub turned : Scanned → Scanned
-turned scan = if found_seal scan.found then sealed scan else scan
-
--- The place after a frame: after a SEAL that of the next segment's begin. The last segment has no next one, and the
--- place is just after its SEAL.
-abbrev pub following : Place → Frame → Place
-following place frame =
-    if is_seal frame && not (is_last place.seg)
-    then record { seg = place.seg + 1; off = 0 }
-    else place_behind place frame
+abbrev pub past_seal : Scanned → Scanned
+past_seal scan = if found_seal scan.found then sealed scan else scan
 
 -- a scan went on by a frame, or stays at the log's end
 abbrev pub Advances : Scanned → Scanned → Option Frame → Type 0
 Advances old new None =
     (new.place ≡ old.next) × (new.next ≡ old.next) × (new.is_over ≡ old.is_over)
 Advances old new (Some frame) =
-    (new.place ≡ old.next) × (new.next ≡ following old.next frame)
-    × (new.is_over ≡ (is_seal frame && is_last old.next.seg))
+    (new.place ≡ old.next) × (new.next ≡ next_place old.next frame) × (new.is_over ≡ ends_log old.next frame)
+
+-- The next frame was given, none at the log's end, and the scan goes on after it.
+pub record GivesNext (tells : Type 0) (old left : Scanned) (before now : World) (found : Option Frame) : Type 0 where
+  pub advances : Advances old left found
+  pub bound : left.next.off ≤ SEGMENT_END_MAX
+  pub stands : tells → found ≡ frame_ahead old before
+  pub ahead : tells → IsAhead left now

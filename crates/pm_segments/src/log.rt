@@ -8,9 +8,10 @@ ghost use Rattle.pm_frame.specs.Frames.{IsFrame, frame_len};
 ghost use Rattle.pm_types.specs.declared.limits.TheConstants.{SEGMENT_BYTES_MIN as least_size, SEGMENT_BYTES_MAX as most_size};
 ghost use Rattle.pm_disk.specs.Files.{bytes_of};
 ghost use Rattle.pm_disk.specs.Worlds.{segment_in, log_forced};
-ghost use Rattle.pm_disk.specs.Moments.{Does, AllMoments};
-ghost use Rattle.pm_segments.specs.Ends.{fresh_log, HasRoom, EndsThere, moved, written, cut_at, CutsTail};
-ghost use Rattle.pm_segments.specs.Steps.{DoesSteps, next_segment, next_begin, seal_len, seal_steps, turn_steps, begin_steps, roll_steps, rolled, room_steps, roomy, append_steps, grown, steps_of, tried_log, broken, Reaches};
+ghost use Rattle.pm_disk.specs.Moments.{Does};
+ghost use Rattle.pm_records.specs.LogSteps.{written, cut_steps, DoesSteps, next_segment, next_begin};
+ghost use Rattle.pm_segments.specs.Appends.{seal_len, seal_steps, enter_steps, begin_steps, roll_steps, rolled, room_steps, roomy, append_steps, grown, steps_of, tried_log, failed_append, Reaches};
+ghost use Rattle.pm_segments.specs.Ends.{fresh_log, HasRoom, EndsThere, moved};
 
 use pm_disk::{Failed, LogFile};
 use pm_frame::{FRAME_END_MAX, FRAME_EXTRA, FRAME_MAX, SEAL, write_frame};
@@ -53,7 +54,7 @@ impl Model for Log {
 
 impl Log {
     /// Cuts the last segment at `end` and forces it, and gives the log that ends there. Its segments
-    /// from `first` on are kept, and one may have `segment_bytes` bytes. After `Failed` the segment
+    /// from `first` on are kept, the last one among them, and one may have `segment_bytes` bytes. After `Failed` the segment
     /// may be cut or not, and what is before `end` is as it was.
     pub fn cut_tail<L: LogFile>(
         dev: &mut L,
@@ -63,16 +64,15 @@ impl Log {
     ) -> Result<Log, Failed>
         requires usable { IsUsable (L.state dev.old) }
         requires end { end.off ≤ last_end }
+        requires kept { first ≤ end.seg }
         requires size_from { least_size ≤ segment_bytes }
         requires size_to { segment_bytes ≤ most_size }
         requires long { L.tells →
             end.off ≤ length (bytes_of (segment_in (L.history dev.old).world end.seg)) }
         ensures log { IfOk result (λ log. log ≡ fresh_log first end segment_bytes) }
-        ensures world { L.tells → OnOk result
-            ((L.history dev.new).world ≡ log_forced end.seg (cut_at end (L.history dev.old).world)) }
         ensures ends { L.tells → IfOk result (λ log. EndsThere log (L.history dev.new).world) }
-        ensures moments { L.tells → AllMoments (L.history dev.old) (L.history dev.new)
-            (CutsTail end (L.history dev.old).world) }
+        ensures steps { L.tells →
+            DoesSteps (L.history dev.old) (L.history dev.new) result cut_steps end }
         ensures cause { HasCause (L.state dev.old) (L.state dev.new) result }
     {
         dev.cut_log(end.seg, end.off as u64)?;
@@ -147,8 +147,8 @@ impl Log {
             (steps_of self.new.tried self.old (record { kind = kind; payload = payload.now })) self.old.end }
         ensures reaches { L.tells → Reaches self.new.tried self.old
             (record { kind = kind; payload = payload.now }) (L.history dev.old).world (L.history dev.new).world }
-        ensures broken { OnErr result (self.new
-            ≡ broken self.new.tried self.old (record { kind = kind; payload = payload.now })) }
+        ensures failed { OnErr result (self.new
+            ≡ failed_append self.new.tried self.old (record { kind = kind; payload = payload.now })) }
         ensures cause { HasCause (L.state dev.old) (L.state dev.new) result }
     {
         self.tried = false;
@@ -200,16 +200,17 @@ impl Log {
         ensures cause { HasCause (L.state dev.old) (L.state dev.new) result }
     {
         let sealed = self.seal(dev)?;
-        let behind = Place {
+        let sealed_end = Place {
             seg: self.end.seg,
             off: self.end.off + sealed,
         };
-        self.end = turn(dev, behind)?;
+        self.end = enter_next(dev, sealed_end)?;
+        self.first = self.first.min(self.end.seg);
         self.total = self.total.saturating_add(sealed as u64);
         Ok(())
     }
 
-    // Writes a SEAL at the log's end where it fits, and tells how many bytes it has.
+    // Writes a SEAL at the log's end where it fits, and answers how many bytes it has.
     fn seal<L: LogFile>(&mut self, dev: &mut L) -> Result<u32, Failed>
         requires usable { IsUsable (L.state dev.old) }
         requires end { L.tells → EndsThere self.old (L.history dev.old).world }
@@ -254,7 +255,7 @@ impl Log {
         Ok(place)
     }
 
-    // Writes a frame at the log's end, and tells how many bytes it has. The log's end stays before it.
+    // Writes a frame at the log's end, and answers how many bytes it has. The log's end stays before it.
     fn write<L: LogFile>(&mut self, dev: &mut L, kind: u8, payload: &[u8]) -> Result<u32, Failed>
         requires usable { IsUsable (L.state dev.old) }
         requires frame { IsFrame self.old.end (record { kind = kind; payload = payload.now }) }
@@ -274,17 +275,17 @@ impl Log {
 }
 
 // Forces the segment that the log ended in, cuts the next one to nothing, forces it, and gives its begin.
-fn turn<L: LogFile>(dev: &mut L, behind: Place) -> Result<Place, Failed>
+fn enter_next<L: LogFile>(dev: &mut L, sealed_end: Place) -> Result<Place, Failed>
     requires usable { IsUsable (L.state dev.old) }
-    ensures begin { IfOk result (λ begin. begin ≡ next_begin behind) }
+    ensures begin { IfOk result (λ begin. begin ≡ next_begin sealed_end) }
     ensures empty { L.tells → OnOk result
-        (length (bytes_of (segment_in (L.history dev.new).world (next_segment behind.seg))) ≡ 0) }
+        (length (bytes_of (segment_in (L.history dev.new).world (next_segment sealed_end.seg))) ≡ 0) }
     ensures steps { L.tells →
-        DoesSteps (L.history dev.old) (L.history dev.new) result turn_steps behind }
+        DoesSteps (L.history dev.old) (L.history dev.new) result enter_steps sealed_end }
     ensures cause { HasCause (L.state dev.old) (L.state dev.new) result }
 {
-    dev.force_log(behind.seg)?;
-    begin_next(dev, behind)
+    dev.force_log(sealed_end.seg)?;
+    begin_next(dev, sealed_end)
 }
 
 // Cuts the segment after the one of the log's end to nothing, forces it, and gives its begin.

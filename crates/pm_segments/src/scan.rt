@@ -10,7 +10,7 @@ ghost use Rattle.pm_frame.specs.Views.{frame_in};
 ghost use Rattle.pm_frame.specs.Frames.{frame_at};
 ghost use Rattle.pm_disk.specs.Files.{ReadsFrom};
 ghost use Rattle.pm_disk.specs.Worlds.{segment_in};
-ghost use Rattle.pm_segments.specs.Scans.{IsAhead, SeesFrame, StaysAt, StepsTo, StepsOver, behind_place, stands_next, turned, Advances};
+ghost use Rattle.pm_segments.specs.Scans.{IsAhead, SeesFrame, StaysAt, StepsTo, StepsOver, bytes_after, frame_ahead, past_seal, Advances, GivesNext};
 
 use pm_disk::{Failed, LogReader};
 use pm_frame::{FRAME_EXTRA, FRAME_MAX, FrameView, HEAD_LEN, SEAL, read_frame};
@@ -105,10 +105,8 @@ impl Scan {
     pub fn next<L: LogReader>(&mut self, dev: &mut L) -> Result<Option<FrameView<'_>>, Failed>
         requires usable { IsUsable (L.state dev.old) }
         requires ahead { L.tells → IsAhead self.old (L.history dev.old).world }
-        ensures* gives { sem 𝓛 (Rests the_row self.entry (λ left. IfOk result (λ found.
-            Advances self.entry.now left (frame_in found) × (left.next.off ≤ last_end)
-            × (L.tells → (frame_in found ≡ stands_next self.entry.now (L.history dev.old).world)
-            × IsAhead left (L.history dev.new).world)))) }
+        ensures* gives { sem 𝓛 (Rests the_row self.entry (λ left. IfOk result (λ found. GivesNext L.tells
+            self.entry.now left (L.history dev.old).world (L.history dev.new).world (frame_in found)))) }
         ensures does { L.tells → Does (L.history dev.old) (L.history dev.new) result (L.history dev.old).world }
         ensures cause { HasCause (L.state dev.old) (L.state dev.new) result }
     {
@@ -123,7 +121,7 @@ impl Scan {
         ensures advances { OnOk result (Advances self.old self.new self.new.found) }
         ensures bound { OnOk result (self.new.next.off ≤ last_end) }
         ensures found { L.tells → OnOk result
-            (self.new.found ≡ stands_next self.old (L.history dev.old).world) }
+            (self.new.found ≡ frame_ahead self.old (L.history dev.old).world) }
         ensures ahead { L.tells → OnOk result (IsAhead self.new (L.history dev.new).world) }
         ensures does { L.tells → Does (L.history dev.old) (L.history dev.new) result (L.history dev.old).world }
         ensures cause { HasCause (L.state dev.old) (L.state dev.new) result }
@@ -144,14 +142,14 @@ impl Scan {
         ensures advances { OnOk result (Advances self.old self.new self.new.found) }
         ensures bound { OnOk result (self.new.next.off ≤ last_end) }
         ensures found { L.tells → OnOk result
-            (self.new.found ≡ frame_at self.old.next (behind_place self.old.next (L.history dev.old).world)) }
+            (self.new.found ≡ frame_at self.old.next (bytes_after self.old.next (L.history dev.old).world)) }
         ensures ahead { L.tells → OnOk result (IsAhead self.new (L.history dev.new).world) }
         ensures does { L.tells → Does (L.history dev.old) (L.history dev.new) result (L.history dev.old).world }
         ensures cause { HasCause (L.state dev.old) (L.state dev.new) result }
     {
         self.fill(dev)?;
         self.step();
-        self.turn();
+        self.pass_seal();
         Ok(())
     }
 
@@ -170,8 +168,8 @@ impl Scan {
     }
 
     // Goes on to the next segment, where a SEAL was found.
-    fn turn(&mut self)
-        ensures turned { self.new ≡ turned self.old }
+    fn pass_seal(&mut self)
+        ensures passed { self.new ≡ past_seal self.old }
         ensures bound { self.new.next.off ≤ last_end }
     {
         if !self.has_found || self.kind != SEAL {
@@ -248,7 +246,7 @@ impl Scan {
         self.at = 0;
         self.end = kept;
         let from = self.next.off as u64 + kept as u64;
-        let count = read_behind(dev, &mut self.buffer, kept, self.next.seg, from)?;
+        let count = read_after(dev, &mut self.buffer, kept, self.next.seg, from)?;
         self.end += count;
         self.is_whole = self.end < self.buffer.len();
         Ok(())
@@ -268,7 +266,7 @@ fn move_to_front(buffer: &mut Vec<u8>, at: usize, end: usize) -> usize
 }
 
 // Reads a segment from an offset on into the buffer after its first `kept` bytes.
-fn read_behind<L: LogReader>(
+fn read_after<L: LogReader>(
     dev: &mut L,
     buffer: &mut Vec<u8>,
     kept: usize,

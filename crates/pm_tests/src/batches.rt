@@ -1,6 +1,9 @@
 //! Batches of lines: what is appended, forced and printed together, and what is left where that stops halfway.
 
+ghost use Rattle.std.specs.Prelude.{◌<◌};
+
 use crate::runs::{Run, lasting_len, log_left, look_at_refused, run_over, run_refusing, run_until};
+use crate::scripts::run_in_pieces;
 use pm_disk_mem::{MemDisk, Pick};
 use std::process::Abort;
 use std::test::Fail;
@@ -9,11 +12,11 @@ use std::test::Fail;
 const THREE: &[u8] = b"put 0 a 1\nscan 3\nput 0 b 2\n";
 
 /// The number of the call that forces the last batch of `THREE`.
-const LAST_FORCE: u64 = 13;
+const LAST_FORCE: u64 = 12;
 
 // The folder is bound; the log is read, cut and forced, and the RESTART written; then the whole script is read. The put is
-// written, forced and answered, and the scan forced and answered; the script's end is read; the last put goes as the first.
-// At last the log is forced once more.
+// written, forced and answered, the scan forced and answered, and the last put written, forced and answered; then the script's
+// end is read. At last the log is forced once more.
 #[test]
 fn a_batch_is_lasting_before_it_is_answered(rt: HostRuntime) -> Result<(), Fail> {
     // (refused call, lines answered, order, said, lasting bytes of the log)
@@ -25,10 +28,10 @@ fn a_batch_is_lasting_before_it_is_answered(rt: HostRuntime) -> Result<(), Fail>
         (8, 0, &[1], b"", 67),
         (9, 1, &[1], b"ok\n", 67),
         (10, 1, &[1], b"ok\n", 67),
-        (11, 2, &[1], b"ok\nend 0\n", 67),
-        (12, 2, &[1, 3], b"ok\nend 0\n", 67),
+        (11, 2, &[1, 3], b"ok\nend 0\n", 67),
         (LAST_FORCE, 2, &[1, 3], b"ok\nend 0\n", 67),
-        (14, 2, &[1, 3], b"ok\nend 0\n", 97),
+        (13, 2, &[1, 3], b"ok\nend 0\n", 97),
+        (14, 3, &[1, 3], b"ok\nend 0\nok\n", 97),
         (15, 3, &[1, 3], b"ok\nend 0\nok\n", 97),
     ];
     for (refused, lines, order, said, lasting) in cases {
@@ -59,8 +62,9 @@ fn run_puts(rt: &(impl Abort + AllocGlobal), lines: usize, calls: u64) -> Result
     Ok(())
 }
 
-// Beside the write of each put: six calls up to the script's one piece, a force and a print for each batch, the read of the
-// script's end, and the last force.
+// Beside the write of each put: six calls up to the script's first piece, a force and a print for each batch, the read of the
+// script's end, and the last force. 7,168 lines are two pieces, and one read more: a read that gave all that it was asked for
+// ends no batch.
 #[test]
 fn a_batch_has_at_most_1024_lines(rt: HostRuntime) -> Result<(), Fail> {
     for (lines, calls) in [
@@ -68,10 +72,44 @@ fn a_batch_has_at_most_1024_lines(rt: HostRuntime) -> Result<(), Fail> {
         (1_024, 1_034),
         (1_025, 1_037),
         (2_049, 2_063),
+        (7_168, 7_191),
     ] {
         run_puts(&rt, lines, calls)?;
     }
     Ok(())
+}
+
+/// Two puts, of ten bytes each.
+const TWO: &[u8] = b"put 0 a 1\nput 0 b 2\n";
+
+/// Runs `TWO` in pieces of this size, where the call of this number, a read, is refused, and looks at what was answered before.
+fn look_before_read(
+    rt: &(impl Abort + AllocGlobal),
+    piece: usize,
+    refused: u64,
+    order: &[u32],
+    said: &[u8],
+) -> Result<(), Fail>
+    requires { 0 < piece }
+{
+    let run = run_in_pieces(rt, &["run", "d"], TWO, piece, &[refused])?;
+    look_at_refused(rt, &run, refused, order.len() as u64, order, said)
+}
+
+// The first piece is read by the call of number 5, and each put is written, forced and answered by three calls.
+#[test]
+fn a_line_is_answered_before_the_next_read(rt: HostRuntime) -> Result<(), Fail> {
+    look_before_read(&rt, 10, 9, &[1], b"ok\n")?;
+    look_before_read(&rt, 10, 13, &[1, 2], b"ok\nok\n")?;
+    // The second piece has the first line's newline, and the third one the end of the second line.
+    look_before_read(&rt, 7, 6, &[], b"")?;
+    look_before_read(&rt, 7, 10, &[1], b"ok\n")
+}
+
+#[test]
+fn lines_that_are_read_at_once_are_one_batch(rt: HostRuntime) -> Result<(), Fail> {
+    look_before_read(&rt, 20, 10, &[1, 2], b"ok\nok\n")?;
+    look_before_read(&rt, 65_536, 10, &[1, 2], b"ok\nok\n")
 }
 
 /// Looks at how many lines were answered by a run of puts whose call of this number was refused.
@@ -83,7 +121,7 @@ fn look_at_answered(rt: &impl Abort, run: &Run, refused: u64, lines: usize) -> R
 }
 
 #[test]
-fn the_line_behind_1024_waits_for_a_force_of_its_own(rt: HostRuntime) -> Result<(), Fail> {
+fn the_line_after_1024_waits_for_a_force_of_its_own(rt: HostRuntime) -> Result<(), Fail> {
     let script = puts(&rt, 1_025)?;
     // (refused call, lines answered, lasting bytes of the log): both forces and both prints.
     for (refused, lines, lasting) in [

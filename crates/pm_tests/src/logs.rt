@@ -124,7 +124,7 @@ fn append_sevens(
 }
 
 /// Appends a record with so many bytes of payload after a frame of 65,000 bytes, and looks for its frame at this place.
-fn append_behind(
+fn append_after(
     rt: &(impl Abort + AllocGlobal),
     host: &mut MemHost,
     len: usize,
@@ -143,7 +143,7 @@ fn append_behind(
 
 /// Scans from `END` on, and looks for a frame at this place with so many bytes of payload: after a SEAL in the next segment,
 /// and after it none. Answers where the scan ended.
-fn scan_behind(
+fn scan_after(
     rt: &(impl Abort + AllocGlobal),
     host: &mut MemHost,
     len: usize,
@@ -168,10 +168,10 @@ fn look_at_first(rt: &impl Abort, disk: &MemDisk, len: usize, frame: &[u8]) -> R
 
 // A frame has 21 bytes beside its payload, so this one has 515: with a SEAL it ends at 65,536.
 #[test]
-fn a_frame_stands_where_a_seal_still_fits_behind_it(rt: HostRuntime) -> Result<(), Fail> {
+fn a_frame_stands_where_a_seal_still_fits_after_it(rt: HostRuntime) -> Result<(), Fail> {
     let mut host = empty_host(&rt)?;
-    let log = append_behind(&rt, &mut host, 494, END)?;
-    assert_eq!(rt; scan_behind(&rt, &mut host, 494, END)?, log.end());
+    let log = append_after(&rt, &mut host, 494, END)?;
+    assert_eq!(rt; scan_after(&rt, &mut host, 494, END)?, log.end());
     let head = [1, 1, 0, 0, 0, 0, 0, 0, 0, 232, 253, 0, 0, 238, 1, 0, 0];
     let frame = with_sevens(&rt, &head, 494, &[188, 155, 207, 230])?;
     let disk = host.image(rt.alloc(), Pick::Kept)?;
@@ -195,11 +195,11 @@ fn look_at_rolled(
 
 // This one has 516. The SEAL is lasting, and so is the next segment, which is empty: the frame itself is pending.
 #[test]
-fn a_longer_frame_begins_the_next_segment_behind_a_seal(rt: HostRuntime) -> Result<(), Fail> {
+fn a_longer_frame_begins_the_next_segment_after_a_seal(rt: HostRuntime) -> Result<(), Fail> {
     let mut host = empty_host(&rt)?;
-    let log = append_behind(&rt, &mut host, 495, NEXT)?;
+    let log = append_after(&rt, &mut host, 495, NEXT)?;
     assert_eq!(rt; log.appended(), 65_000 + 21 + 516);
-    assert_eq!(rt; scan_behind(&rt, &mut host, 495, NEXT)?, log.end());
+    assert_eq!(rt; scan_after(&rt, &mut host, 495, NEXT)?, log.end());
     let head = [1, 2, 0, 0, 0, 0, 0, 0, 0, 0, 0, 0, 0, 239, 1, 0, 0];
     let frame = with_sevens(&rt, &head, 495, &[4, 176, 227, 59])?;
     look_at_rolled(&rt, &host, Pick::Kept, &frame)?;

@@ -36,7 +36,7 @@ fn refuse(rt: &(impl Abort + AllocGlobal), log: &[u8], said: &[u8]) -> Result<()
 }
 
 /// Runs over a store whose log ends with a frame, and looks that it is refused at this place.
-fn refuse_behind(
+fn refuse_after(
     rt: &(impl Abort + AllocGlobal),
     log: &[u8],
     kind: u8,
@@ -68,7 +68,7 @@ fn a_log_that_does_not_begin_with_a_restart_is_refused(rt: HostRuntime) -> Resul
         ),
     ];
     for (kind, payload) in cases {
-        refuse_behind(&rt, b"", kind, payload, b"fault record 1:0\n")?;
+        refuse_after(&rt, b"", kind, payload, b"fault record 1:0\n")?;
     }
     Ok(())
 }
@@ -98,8 +98,8 @@ fn a_payload_outside_its_grammar_is_refused(rt: HostRuntime) -> Result<(), Fail>
     ];
     let put = log_after(&rt, b"put 0 a 1\n")?;
     for (kind, payload) in cases {
-        refuse_behind(&rt, &FIRST_FRAME, kind, payload, b"fault record 1:37\n")?;
-        refuse_behind(&rt, &put, kind, payload, b"fault record 1:67\n")?;
+        refuse_after(&rt, &FIRST_FRAME, kind, payload, b"fault record 1:37\n")?;
+        refuse_after(&rt, &put, kind, payload, b"fault record 1:67\n")?;
     }
     Ok(())
 }
@@ -118,7 +118,7 @@ fn a_put_that_meets_a_full_partition_is_refused(rt: HostRuntime) -> Result<(), F
     let shape = with_frame(&rt, b"", RESTART, ONE_ROW)?;
     fill_one_row(&rt, &shape)?;
     let put = with_frame(&rt, &shape, LOGICAL, PUT)?;
-    refuse_behind(&rt, &put, LOGICAL, OTHER_PUT, b"fault record 1:67\n")
+    refuse_after(&rt, &put, LOGICAL, OTHER_PUT, b"fault record 1:67\n")
 }
 
 /// Runs over a store whose log has a RESTART and then bytes that are no frame, and looks for a RESTART in their place.

@@ -23,7 +23,7 @@ fn host_of(
 }
 
 /// The top call over an input in pieces of this size, where the calls of these numbers are refused.
-fn run(
+pub fn run_in_pieces(
     rt: &impl AllocGlobal,
     words: &[&str],
     input: &[u8],
@@ -48,7 +48,7 @@ fn answer(
 ) -> Result<(), Fail>
     requires { 0 < piece }
 {
-    let run = run(rt, &["run", "d"], script, piece, &[])?;
+    let run = run_in_pieces(rt, &["run", "d"], script, piece, &[])?;
     assert_eq!(rt; run.report.status, 0, "{script:?}");
     assert_eq!(rt; run.report.lines, lines, "{script:?}");
     assert_eq!(rt; run.host.said(), wanted, "{script:?}");
@@ -59,7 +59,7 @@ fn answer(
 fn a_put_is_answered_and_found(rt: HostRuntime) -> Result<(), Fail> {
     for piece in [1, 65_536] {
         let script = b"put 0 a 1\nget 0 a\n";
-        let run = run(&rt, &["run", "d"], script, piece, &[])?;
+        let run = run_in_pieces(&rt, &["run", "d"], script, piece, &[])?;
         assert_eq!(rt; run.report.status, 0);
         assert_eq!(rt; run.report.lines, 2);
         assert_eq!(rt; run.report.order.as_slice(), [1].as_slice());
@@ -151,7 +151,7 @@ fn measure(
 {
     let mut script = put_of_length(rt, length)?;
     script.extend_from_slice(b"\nget 0 k\n")?;
-    let run = run(rt, &["run", "d"], &script, piece, &[])?;
+    let run = run_in_pieces(rt, &["run", "d"], &script, piece, &[])?;
     assert_eq!(rt; run.report.status, 0, "{length}");
     assert_eq!(rt; run.report.lines, 2, "{length}");
     assert!(rt; run.host.said().starts_with(wanted), "{length}");
@@ -177,7 +177,7 @@ fn lines_are_measured_to_the_byte(rt: HostRuntime) -> Result<(), Fail> {
 
 /// Runs other words, and looks for the fault.
 fn refuse_words(rt: &(impl Abort + AllocGlobal), words: &[&str]) -> Result<(), Fail> {
-    let run = run(rt, words, b"put 0 a 1\n", 100, &[])?;
+    let run = run_in_pieces(rt, words, b"put 0 a 1\n", 100, &[])?;
     assert_eq!(rt; run.report.status, 1, "{words:?}");
     assert_eq!(rt; run.report.lines, 0, "{words:?}");
     assert_eq!(rt; run.host.said(), b"fault usage\n".as_slice(), "{words:?}");
@@ -186,7 +186,7 @@ fn refuse_words(rt: &(impl Abort + AllocGlobal), words: &[&str]) -> Result<(), F
 
 /// Runs other words where the first call is refused, which would say the fault, and looks for nothing said.
 fn refuse_words_unsaid(rt: &(impl Abort + AllocGlobal), words: &[&str]) -> Result<(), Fail> {
-    let run = run(rt, words, b"put 0 a 1\n", 100, &[0])?;
+    let run = run_in_pieces(rt, words, b"put 0 a 1\n", 100, &[0])?;
     assert_eq!(rt; run.report.status, 3, "{words:?}");
     assert!(rt; run.host.said().is_empty(), "{words:?}");
     Ok(())
@@ -210,8 +210,8 @@ fn other_words_are_refused(rt: HostRuntime) -> Result<(), Fail> {
     Ok(())
 }
 
-// The folder is bound; the log is read, cut and forced, and the RESTART written; each line is read, and then the script's
-// end; the two frames are written and forced, and the replies printed; at last the log is forced once more.
+// The folder is bound; the log is read, cut and forced, and the RESTART written. Each line is read, written if it is a put,
+// forced and answered; then the script's end is read; at last the log is forced once more.
 #[test]
 fn after_a_refused_call_none_is_made(rt: HostRuntime) -> Result<(), Fail> {
     let script = b"put 0 a 1\nput 0 b 2\nget 0 a\n";
@@ -223,22 +223,26 @@ fn after_a_refused_call_none_is_made(rt: HostRuntime) -> Result<(), Fail> {
         (3, 0, &[], b""),
         (4, 0, &[], b""),
         (5, 0, &[], b""),
-        (6, 0, &[], b""),
-        (7, 0, &[], b""),
-        (8, 0, &[], b""),
-        (9, 0, &[1], b""),
-        (10, 0, &[1, 2], b""),
-        (11, 0, &[1, 2], b""),
-        (12, 0, &[1, 2], b""),
-        (13, 3, &[1, 2], b"ok\nok\nvalue 1\n"),
+        (6, 0, &[1], b""),
+        (7, 0, &[1], b""),
+        (8, 0, &[1], b""),
+        (9, 1, &[1], b"ok\n"),
+        (10, 1, &[1, 2], b"ok\n"),
+        (11, 1, &[1, 2], b"ok\n"),
+        (12, 1, &[1, 2], b"ok\n"),
+        (13, 2, &[1, 2], b"ok\nok\n"),
+        (14, 2, &[1, 2], b"ok\nok\n"),
+        (15, 2, &[1, 2], b"ok\nok\n"),
+        (16, 3, &[1, 2], b"ok\nok\nvalue 1\n"),
+        (17, 3, &[1, 2], b"ok\nok\nvalue 1\n"),
     ];
     for (refused, lines, order, wanted) in cases {
-        let run = run(&rt, &["run", "d"], script, 10, &[refused])?;
+        let run = run_in_pieces(&rt, &["run", "d"], script, 10, &[refused])?;
         look_at_refused(&rt, &run, refused, lines, order, wanted)?;
     }
-    let whole = run(&rt, &["run", "d"], script, 10, &[14])?;
+    let whole = run_in_pieces(&rt, &["run", "d"], script, 10, &[18])?;
     assert_eq!(rt; whole.report.status, 0);
-    assert_eq!(rt; whole.host.calls(), 14);
+    assert_eq!(rt; whole.host.calls(), 18);
     Ok(())
 }
 
@@ -254,7 +258,7 @@ fn run_to_the_limit(
     status: u8,
     tail: &[u8],
 ) -> Result<(), Fail> {
-    let run = run(rt, &["run", "d"], &empty_lines(rt, lines)?, 65_536, &[])?;
+    let run = run_in_pieces(rt, &["run", "d"], &empty_lines(rt, lines)?, 65_536, &[])?;
     assert_eq!(rt; run.report.status, status);
     assert_eq!(rt; run.report.lines, 4_000_000);
     assert_eq!(rt; run.host.said().len(), lines.saturating_mul(11));

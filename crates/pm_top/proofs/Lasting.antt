@@ -208,9 +208,9 @@ pub refused_keeps : (start : World) (shape : Shape) (pairs : Pairs) (order : Lis
 refused_keeps start shape pairs order w keeps part = subst (CrashHoldsAcknowledged start shape pairs order) (sym part.1) (λ image leaves honest.
     let script = script_of start.input in
     let said = take part.0 (codes "fault usage\n") in
-    let behind : drop (length start.said) (start.said ++ said) ≡ said = drop_at start.said said (length start.said) refl in
+    let after_text : drop (length start.said) (start.said ++ said) ≡ said = drop_at start.said said (length start.said) refl in
     let none : acknowledged start shape pairs (with_said said start) ≡ 0 =
-    ap (λ b. length (accepted shape 1 (take (begun (replies_to shape script pairs) b) script) pairs)) behind
+    ap (λ b. length (accepted shape 1 (take (begun (replies_to shape script pairs) b) script) pairs)) after_text
     ∙ ap length (none_acknowledged shape 1 script pairs part.0 117 (codes "sage\n") none_with_u) in
     record {
       count = 0;

@@ -11,8 +11,8 @@ use Rattle.pm_segments.specs.Grammars.{place, all_frames}
 use Rattle.pm_segments.specs.Logs.{after_frames}
 use Rattle.pm_segments.specs.Written.{EndIs}
 use Rattle.pm_segments.proofs.Laws.{grammar_laws}
-use Rattle.pm_segments.proofs.LogSteps.{plain_behind}
-use Rattle.pm_segments.proofs.Standing.{behind-append, standing_log}
+use Rattle.pm_segments.proofs.LogSteps.{plain_after}
+use Rattle.pm_segments.proofs.HeldLog.{after_frames-append, standing_log}
 use Rattle.pm_engine.specs.Engines.{Running, running, every, frames_of, IsAtRest}
 use Rattle.pm_engine.specs.Held.{IsHeld, Holds}
 use Rattle.pm_engine.specs.Openings.{OpensWith}
@@ -35,9 +35,9 @@ module _ (wanted : Shape) (engine : Running) (world : World) (s : IsAtRest wante
   stands_segment : (after_frames (place 1 0) (frames_of s.written)).seg ≡ engine.log.end.seg
   stands_segment =
       let w = s.written in
-      let there : after_frames (place 1 0) (w.lasting ++ w.pending) ≡ after_frames w.at w.pending = behind-append (place 1 0) w.lasting w.pending ∙ ap (λ (q : Place). after_frames q w.pending) s.stands.standing.leads.to in
+      let there : after_frames (place 1 0) (w.lasting ++ w.pending) ≡ after_frames w.at w.pending = after_frames-append (place 1 0) w.lasting w.pending ∙ ap (λ (q : Place). after_frames q w.pending) s.stands.standing.leads.to in
       let end = subst (λ t. EndIs t engine.log.end w.at w.pending) s.is_open.ready s.stands.ends in
-      ap (λ (q : Place). q.seg) (there ∙ plain_behind w.at.seg w.at.off w.pending s.is_open.plain ∙ sym end)
+      ap (λ (q : Place). q.seg) (there ∙ plain_after w.at.seg w.at.off w.pending s.is_open.plain ∙ sym end)
 
 -- a script that is done leaves its store so
 pub leaves_store : (start world : World) (before later : Run) → before.lines ≡ 0 → later.lines ≤ LINES_MAX → LeavesRun start before.engine.shape before.engine.map before later world → LeavesStore start world (running before.engine)
@@ -53,13 +53,13 @@ leaves_store start world before later none few left =
         held = subst (λ (x : Shape × Pairs). IsHeld SHAPE holds.frames x.0 x.1) (λ i. (left.shape_is i, left.map i)) holds.held;
       };
       lasting = left.lasting;
-      climbs = omega (arith, segment, left.over.climbs, none, few);
+      rises = omega (arith, segment, left.over.rises, none, few);
     }
 
 -- seen from the store that was opened
 pub is_left : (frames : List Frame) (old mid new : World) (engine : Running) (shape : Shape) (pairs : Pairs) → OpensWith shape pairs engine → engine.log.end.seg ≤ (after_frames (place 1 0) frames).seg + 1 → NothingPending old → SameFiles old mid → SameFiles mid new
     → LeavesStore old new engine → IsLeft frames 8388608 new shape (after_all shape (script_of old.input) pairs)
-is_left frames old mid new engine shape pairs opens climbs nothing first second left = record {
+is_left frames old mid new engine shape pairs opens rises nothing first second left = record {
   holds = record {
     frames = left.holds.frames;
     log = left.holds.log;
@@ -71,5 +71,5 @@ is_left frames old mid new engine shape pairs opens climbs nothing first second 
     starts = subst (λ f. f.since ≡ []) (sym (second.starts ∙ first.starts)) nothing.starts;
     ends = subst (λ f. f.since ≡ []) (sym (second.ends ∙ first.ends)) nothing.ends;
   };
-  climbs = omega (arith, left.climbs, climbs);
+  rises = omega (arith, left.rises, rises);
 }

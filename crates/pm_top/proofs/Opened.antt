@@ -1,20 +1,24 @@
 -- What a crash leaves before a store is opened, and meanwhile.
-use Rattle.std.proofs.Common.{inl, ℕ, List, [], Result, refl}
+use Rattle.std.proofs.Common.{◌≡◌, ◌^◌, inl, ℕ, List, [], Result, refl, subst}
 use Rattle.std.specs.Prelude.{codes}
 use Rattle.pm_types.specs.declared.shape.Shape.{Shape}
 use Rattle.pm_disk.specs.Worlds.{World}
 use Rattle.pm_disk.specs.Images.{NothingPending}
 use Rattle.pm_disk.specs.Moments.{History, IsHistory, AllMoments, Does}
 use Rattle.pm_disk.proofs.Chain.{started, does, weaker}
-use Rattle.pm_model.specs.Eval.{Pairs}
+use Rattle.pm_model.specs.Eval.{Pairs, after_all}
 use Rattle.pm_segments.specs.Written.{ChangesLog}
 use Rattle.pm_engine.specs.Held.{Holds, HasNumbers, CrashHoldsPrefix}
 use Rattle.pm_engine.proofs.Opening.{cutting_keeps}
 use Rattle.pm_top.specs.declared.shape.TheConstants.{SHAPE}
 use Rattle.pm_top.specs.Crashes.{CrashHoldsAcknowledged}
-use Rattle.pm_top.specs.Promises.{SaysPart}
+use Rattle.pm_top.specs.declared.status.Status.{Status}
+use Rattle.pm_top.specs.declared.status.Status.TheVariants.{Done}
+use Rattle.pm_top.specs.Promises.{IsDamaged, IsLeft, IsStart, OutcomeIs, RunHolds, SaysPart}
+use Rattle.pm_top.specs.Scripts.{PassesLimit}
+use Rattle.pm_top.specs.Served.{script_of}
 use Rattle.pm_top.specs.Runs.{SameConsole}
-use Rattle.pm_top.proofs.Answering.{both}
+use Rattle.pm_top.proofs.AnsweredLines.{both}
 use Rattle.pm_top.proofs.Lasting.{start_keeps, refused_keeps}
 
 pub opening_moments : (old mid : History) (shape : Shape) (pairs : Pairs) (order : List ℕ) → AllMoments old mid (CrashHoldsPrefix SHAPE shape pairs []) → AllMoments old mid (ChangesLog old.world) → AllMoments old mid (CrashHoldsAcknowledged old.world shape pairs order)
@@ -43,3 +47,12 @@ bound_moments old new result shape pairs order sound keeps call =
     let P : World → Type 0 = CrashHoldsAcknowledged old.world shape pairs order in
     let here = start_keeps old.world shape pairs order old.world refl keeps in
     does old old new result old.world P (started old P sound here) call here here
+
+-- a run of calls that begins once the folder is bound
+pub run_from : (old mid new : History) (status : Status) (lines : ℕ) (order : List ℕ) → mid.world ≡ old.world → RunHolds mid new status lines order → RunHolds old new status lines order
+run_from old mid new status lines order same run = record {
+  outcome = subst (λ (w : World). (shape : Shape) (pairs : Pairs) → Holds SHAPE w shape pairs → OutcomeIs status w new.world shape pairs lines order) same run.outcome;
+  leaves = subst (λ (w : World). status ≡ Done → (shape : Shape) (pairs : Pairs) (start : IsStart w shape pairs) → IsLeft start.holds.frames (2 ^ 23) new.world shape (after_all shape (script_of w.input) pairs)) same run.leaves;
+  damaged = λ is. subst (λ (w : World). IsDamaged w new.world lines order) same (run.damaged is);
+  long = λ is. subst (λ (w : World). PassesLimit w.input) same (run.long is);
+}

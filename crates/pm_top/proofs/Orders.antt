@@ -26,9 +26,9 @@ take_none [] = refl
 take_none (x ∷ xs) = refl
 
 -- the first element after others
-pub slice_get-behind : (xs ys : List Line) (y : Line) → slice_get (xs ++ y ∷ ys) (length xs) ≡ Some y
-slice_get-behind [] ys y = refl
-slice_get-behind (x ∷ xs) ys y = slice_get-behind xs ys y
+pub slice_get-after : (xs ys : List Line) (y : Line) → slice_get (xs ++ y ∷ ys) (length xs) ≡ Some y
+slice_get-after [] ys y = refl
+slice_get-after (x ∷ xs) ys y = slice_get-after xs ys y
 
 -- a line that isn't accepted changes nothing
 unchanged : (shape : Shape) (line : Line) (pairs : Pairs) → is_accepted shape line pairs ≡ false → after shape line pairs ≡ pairs
@@ -67,7 +67,7 @@ after_accepted shape skipped (line ∷ lines) more pairs =
     ∙ after_accepted shape (skipped ++ line ∷ []) lines more (after shape line pairs) in
     let at : length skipped + 1 - 1 ≡ length skipped = omega arith in
     let here : unwrap_or (slice_get script (length skipped + 1 - 1)) Bad ≡ line =
-    ap (λ n. unwrap_or (slice_get script n) Bad) at ∙ ap (λ o. unwrap_or o Bad) (slice_get-behind skipped (lines ++ more) line) in
+    ap (λ n. unwrap_or (slice_get script n) Bad) at ∙ ap (λ o. unwrap_or o Bad) (slice_get-after skipped (lines ++ more) line) in
     after_step shape (is_accepted shape line pairs) (length skipped + 1) line lines script pairs refl here rest
 
 -- each reply's text has a first byte
@@ -118,10 +118,10 @@ begun-texts (reply ∷ done) more rest =
     let some : 0 < length text = omega (arith, ap (λ (t : List ℕ). length t) f.is) in
     let whole : take (length text) text ≡ text = take_all (length text) text (omega arith) in
     let starts = starts_with_first text f.first f.others bytes (texts_of done ++ rest) (length text) f.is some (regrouped ∙ ap (λ t. t ++ (texts_of done ++ rest)) (sym whole)) in
-    let behind : drop (length text) bytes ≡ texts_of done ++ rest = ap (drop (length text)) regrouped ∙ drop_at text (texts_of done ++ rest) (length text) refl in
+    let after_text : drop (length text) bytes ≡ texts_of done ++ rest = ap (drop (length text)) regrouped ∙ drop_at text (texts_of done ++ rest) (length text) refl in
     let more_of : begun (done ++ more) (texts_of done ++ rest) ≡ length done + begun more rest = begun-texts done more rest in
     begun_if true reply (done ++ more) bytes starts
-    ∙ ap (λ b. 1 + begun (done ++ more) b) behind
+    ∙ ap (λ b. 1 + begun (done ++ more) b) after_text
     ∙ (let sum : 1 + begun (done ++ more) (texts_of done ++ rest) ≡ suc (length done) + begun more rest = omega (arith, more_of) in sum)
 
 -- of a reply that was said in part the first byte was said, if any was
@@ -184,14 +184,14 @@ begun_none c none (reply ∷ replies) zero bytes = begun_nothing (reply ∷ repl
 begun_none c none (reply ∷ replies) (suc k) bytes = begun_if false reply replies (take (suc k) (c ∷ bytes)) (none reply (take k bytes))
 
 -- what follows the first word of a fault line
-behind_fault : (k : ℕ) (rest : List ℕ) → (m : ℕ) × (drop 6 (take k (102 ∷ 97 ∷ 117 ∷ 108 ∷ 116 ∷ 32 ∷ rest)) ≡ take m rest)
-behind_fault zero rest = (0, sym (take_none rest))
-behind_fault (suc zero) rest = (0, sym (take_none rest))
-behind_fault (suc (suc zero)) rest = (0, sym (take_none rest))
-behind_fault (suc (suc (suc zero))) rest = (0, sym (take_none rest))
-behind_fault (suc (suc (suc (suc zero)))) rest = (0, sym (take_none rest))
-behind_fault (suc (suc (suc (suc (suc zero))))) rest = (0, sym (take_none rest))
-behind_fault (suc (suc (suc (suc (suc (suc m)))))) rest = (m, refl)
+after_fault : (k : ℕ) (rest : List ℕ) → (m : ℕ) × (drop 6 (take k (102 ∷ 97 ∷ 117 ∷ 108 ∷ 116 ∷ 32 ∷ rest)) ≡ take m rest)
+after_fault zero rest = (0, sym (take_none rest))
+after_fault (suc zero) rest = (0, sym (take_none rest))
+after_fault (suc (suc zero)) rest = (0, sym (take_none rest))
+after_fault (suc (suc (suc zero))) rest = (0, sym (take_none rest))
+after_fault (suc (suc (suc (suc zero)))) rest = (0, sym (take_none rest))
+after_fault (suc (suc (suc (suc (suc zero))))) rest = (0, sym (take_none rest))
+after_fault (suc (suc (suc (suc (suc (suc m)))))) rest = (m, refl)
 
 -- the reply to a line that is accepted isn't `false`
 full_or_done : (b : Bool) → (if b then Full else Done) ≡ Was false → ⊥
@@ -227,11 +227,11 @@ none_acknowledged shape number (line ∷ lines) pairs (suc k) c bytes none =
     elim (begins_with_f reply (take k (97 ∷ 117 ∷ 108 ∷ 116 ∷ 32 ∷ c ∷ bytes))) [
       | inl isnt ↦ ap (λ n. accepted shape number (take n (line ∷ lines)) pairs) (begun_if false reply others tail isnt)
       | inr is ↦
-          let behind = behind_fault (suc k) (c ∷ bytes) in
+          let after_text = after_fault (suc k) (c ∷ bytes) in
           let starts : starts_with nat_eq tail (take 1 (text_of reply)) ≡ true = ap (λ r. starts_with nat_eq tail (take 1 (text_of r))) is in
-          let rest : drop (length (text_of reply)) tail ≡ take behind.0 (c ∷ bytes) = ap (λ r. drop (length (text_of r)) tail) is ∙ behind.1 in
+          let rest : drop (length (text_of reply)) tail ≡ take after_text.0 (c ∷ bytes) = ap (λ r. drop (length (text_of r)) tail) is ∙ after_text.1 in
           let one : begun (reply ∷ others) tail ≡ 1 =
-          begun_if true reply others tail starts ∙ ap (λ b. 1 + begun others b) rest ∙ ap (λ n. 1 + n) (begun_none c none others behind.0 bytes) in
+          begun_if true reply others tail starts ∙ ap (λ b. 1 + begun others b) rest ∙ ap (λ n. 1 + n) (begun_none c none others after_text.0 bytes) in
           ap (λ n. accepted shape number (take n (line ∷ lines)) pairs) one
           ∙ ap (λ ls. accepted shape number (line ∷ ls) pairs) (take_none lines)
           ∙ order_false shape number line [] pairs (false_unaccepted shape line pairs is)

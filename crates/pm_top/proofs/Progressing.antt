@@ -1,5 +1,5 @@
 -- What follows from how far a run has come.
-use Rattle.std.proofs.Common.{◌≡◌, ◌⊎◌, inl, inr, ℕ, ◌+◌, ◌<◌, ◌≤◌, min, List, [], ◌++◌, length, take, drop, refl, ap, sym, ◌∙◌, append_assoc, append-nil, arith, length-append}
+use Rattle.std.proofs.Common.{◌≡◌, ◌⊎◌, inl, inr, ℕ, ◌+◌, ◌-◌, ◌<◌, ◌≤◌, min, List, [], ◌++◌, length, take, drop, refl, ap, sym, ◌∙◌, append_assoc, append-nil, arith, length-append}
 use Rattle.std.proofs.lemmas.List.{length-map, take_at, drop_at, take_all, take_min, take-append-le}
 use Rattle.std.proofs.lemmas.List.Concat.{flat_map-append}
 use Rattle.std.proofs.Math.Seq.{take-append-add}
@@ -13,16 +13,12 @@ use Rattle.pm_model.proofs.Runs.{replies_to-append, after_all-append, length-rep
 use Rattle.pm_script.specs.Lines.{lines_of, after_line}
 use Rattle.pm_script.specs.Texts.{text_of, texts_of}
 use Rattle.pm_top.specs.declared.run.Run.{Run}
-use Rattle.pm_top.specs.Promises.{replies_of, Answers, IsOrder, HasTried, IsDone, IsBroken, IsShort, IsStopped}
+use Rattle.pm_top.specs.Promises.{replies_of, HasAnswered, IsOrder, HasTried, IsDone, HasFailed, HasNoMemory, IsStopped}
 use Rattle.pm_top.specs.Runs.{Progress, SameConsole}
 use Rattle.pm_top.specs.Scripts.{after_lines}
 use Rattle.pm_top.specs.Served.{line_of, script_of}
-use Rattle.pm_top.proofs.Gathering.{after_lines-more}
+use Rattle.pm_top.proofs.TakenLines.{after_lines-more}
 use Rattle.pm_top.proofs.ServedLines.{script_of-first}
-
--- a prefix of the bytes of a list are some of a longer one
-prefix_longer : (n : ℕ) (xs ys : List ℕ) → take n xs ≡ take (min n (length xs)) (xs ++ ys)
-prefix_longer n xs ys = sym (take_min n xs) ∙ sym (take-append-le (min n (length xs)) xs ys (omega arith))
 
 texts-append : (xs ys : List Reply) → texts_of (xs ++ ys) ≡ texts_of xs ++ texts_of ys
 texts-append xs ys = flat_map-append text_of xs ys
@@ -52,13 +48,13 @@ module _ {start now : World} {left : List Line} {shape : Shape} {pairs : Pairs} 
   lines_len : length (lines_of start.input) ≡ run.lines + length left
   lines_len = sym (length-map (lines_of start.input) line_of) ∙ script_len
 
-  pub answers_so_far : (new : World) (tail : List ℕ) → new.said ≡ now.said ++ tail → Answers start new shape pairs run.lines tail
+  pub answers_so_far : (new : World) (tail : List ℕ) → new.said ≡ now.said ++ tail → HasAnswered start new shape pairs run.lines tail
   answers_so_far new tail said = record {
     within = omega (arith, script_len);
     said = said ∙ ap (λ s. s ++ tail) (progress.said ∙ ap (λ r. start.said ++ texts_of r) (sym told));
   }
 
-  pub same_answers : (new : World) → new.said ≡ now.said → Answers start new shape pairs run.lines []
+  pub same_answers : (new : World) → new.said ≡ now.said → HasAnswered start new shape pairs run.lines []
   same_answers new same = answers_so_far new [] (same ∙ sym (append-nil now.said))
 
   -- the lines that are done, and so many of those that are left
@@ -87,11 +83,11 @@ module _ {start now : World} {left : List Line} {shape : Shape} {pairs : Pairs} 
   tried_more n order few within is = record { many = run.lines + n; from = omega arith; to = omega (arith, few); within = omega (arith, within, script_len); order_is = order_more n order is }
 
   -- a call failed where nothing was said since
-  pub broken_still : (new : World) → new.said ≡ now.said → IsBroken start new shape pairs run.lines run.engine.order.items
-  broken_still new same = record { tail = []; answers = same_answers new same; prefix = (0, inl refl); tried = tried_so_far }
+  pub failed_still : (new : World) → new.said ≡ now.said → HasFailed start new shape pairs run.lines run.engine.order.items
+  failed_still new same = record { tail = []; answers = same_answers new same; prefix = (0, inl refl); tried = tried_so_far }
 
-  pub short_still : (new : World) → new.said ≡ now.said → IsShort start new shape pairs run.lines run.engine.order.items
-  short_still new same = record { answers = same_answers new same; tried = tried_so_far }
+  pub memory_still : (new : World) → new.said ≡ now.said → HasNoMemory start new shape pairs run.lines run.engine.order.items
+  memory_still new same = record { answers = same_answers new same; tried = tried_so_far }
 
   -- the script is answered whole
   pub finished : (new : World) → new.said ≡ now.said → left ≡ [] → new.input ≡ [] → length start.input ≤ SCRIPT_BYTES_MAX → run.lines ≤ LINES_MAX → IsDone start new shape pairs run.lines run.engine.order.items
@@ -193,25 +189,29 @@ module _ {start now : World} {shape : Shape} {pairs : Pairs} {run : Run} (lines 
       }
 
   -- the batch was done, and its replies said in part
-  pub broken_saying : (new : World) (n : ℕ) (order : List ℕ) → length lines ≤ BATCH_LINES_MAX → new.said ≡ now.said ++ take n texts → order ≡ run.engine.order.items ++ accepted run.engine.shape (run.lines + 1) lines run.engine.map
-      → IsBroken start new shape pairs run.lines order
-  broken_saying new n order few said_is order_is =
-      let own = texts_of (replies_to shape lines run.engine.map) in
-      let others = texts_of (replies_to shape left (after_all shape lines run.engine.map)) in
-      let next : texts_of (drop run.lines (replies_of shape start.input pairs)) ≡ own ++ others =
-      ap texts_of (untold progress ∙ replies_to-append shape lines left run.engine.map) ∙ texts-append (replies_to shape lines run.engine.map) (replies_to shape left (after_all shape lines run.engine.map)) in
+  pub failed_saying : (new : World) (n : ℕ) (order : List ℕ) → length lines ≤ BATCH_LINES_MAX → new.said ≡ now.said ++ take n texts → order ≡ run.engine.order.items ++ accepted run.engine.shape (run.lines + 1) lines run.engine.map
+      → HasFailed start new shape pairs run.lines order
+  unfolding tried_some tried_more
+  failed_saying new n order few said_is order_is =
+      let own = replies_to shape lines run.engine.map in
+      let others = replies_to shape left (after_all shape lines run.engine.map) in
+      let count : run.lines + length lines - run.lines ≡ length lines = omega arith in
+      let next : texts_of (take (run.lines + length lines - run.lines) (drop run.lines (replies_of shape start.input pairs))) ≡ texts_of own =
+      ap (λ k. texts_of (take k (drop run.lines (replies_of shape start.input pairs)))) count
+      ∙ ap (λ rs. texts_of (take (length lines) rs)) (untold progress ∙ replies_to-append shape lines left run.engine.map)
+      ∙ ap texts_of (take_at own others (length lines) (length-replies_to shape lines run.engine.map)) in
       record {
         tail = take n texts;
         answers = answers_so_far progress new (take n texts) said_is;
-        prefix = (min n (length own), inl (ap (take n) texts_are ∙ prefix_longer n own others ∙ ap (take (min n (length own))) (sym next)));
         tried = tried_some (length lines) order few (omega arith) (order_is ∙ ap (λ ls. run.engine.order.items ++ accepted run.engine.shape (run.lines + 1) ls run.engine.map) (sym (take_all (length lines) lines (omega arith))));
+        prefix = (n, inl (ap (take n) (texts_are ∙ sym next)));
       }
 
   -- a fault came before anything was said
-  pub broken_unsaid : (new : World) (n : ℕ) (order : List ℕ) → length lines ≤ BATCH_LINES_MAX → n ≤ length lines → new.said ≡ now.said → order ≡ run.engine.order.items ++ accepted run.engine.shape (run.lines + 1) (take n lines) run.engine.map
-      → IsBroken start new shape pairs run.lines order
-  broken_unsaid new n order few within same is = record { tail = []; answers = same_answers progress new same; prefix = (0, inl refl); tried = tried_some n order few within is }
+  pub failed_unsaid : (new : World) (n : ℕ) (order : List ℕ) → length lines ≤ BATCH_LINES_MAX → n ≤ length lines → new.said ≡ now.said → order ≡ run.engine.order.items ++ accepted run.engine.shape (run.lines + 1) (take n lines) run.engine.map
+      → HasFailed start new shape pairs run.lines order
+  failed_unsaid new n order few within same is = record { tail = []; answers = same_answers progress new same; prefix = (0, inl refl); tried = tried_some n order few within is }
 
-  pub short_unsaid : (new : World) (n : ℕ) (order : List ℕ) → length lines ≤ BATCH_LINES_MAX → n ≤ length lines → new.said ≡ now.said → order ≡ run.engine.order.items ++ accepted run.engine.shape (run.lines + 1) (take n lines) run.engine.map
-      → IsShort start new shape pairs run.lines order
-  short_unsaid new n order few within same is = record { answers = same_answers progress new same; tried = tried_some n order few within is }
+  pub memory_unsaid : (new : World) (n : ℕ) (order : List ℕ) → length lines ≤ BATCH_LINES_MAX → n ≤ length lines → new.said ≡ now.said → order ≡ run.engine.order.items ++ accepted run.engine.shape (run.lines + 1) (take n lines) run.engine.map
+      → HasNoMemory start new shape pairs run.lines order
+  memory_unsaid new n order few within same is = record { answers = same_answers progress new same; tried = tried_some n order few within is }

@@ -1,4 +1,4 @@
--- How a run over a script goes on turn after turn, and how it ends.
+-- How a run over a script goes on batch after batch, and how it ends.
 use Rattle.std.proofs.Common.{◌≡◌, inl, inr, ℕ, ◌+◌, ◌≤◌, ◌^◌, List, [], ◌∷◌, ◌++◌, length, refl, ap, sym, ◌∙◌, subst, arith, append-nil, length-append}
 use Rattle.pm_types.specs.declared.limits.TheConstants.{SCRIPT_BYTES_MAX, LINES_MAX}
 use Rattle.pm_types.specs.declared.shape.Shape.{Shape}
@@ -11,38 +11,38 @@ use Rattle.pm_script.specs.Reading.{Unread}
 use Rattle.pm_segments.specs.Written.{ChangesLog}
 use Rattle.pm_engine.specs.Held.{CrashHoldsPrefix}
 use Rattle.pm_engine.specs.Engines.{Running, running, IsAtRestWithin, HasSegments}
-use Rattle.pm_top.specs.declared.batch.Behind.{Behind}
-use Rattle.pm_top.specs.declared.batch.Behind.TheVariants as behind
+use Rattle.pm_top.specs.declared.batch.Continuation.{Continuation}
+use Rattle.pm_top.specs.declared.batch.Continuation.TheVariants as then_comes
 use Rattle.pm_top.specs.declared.run.Run.{Run}
 use Rattle.pm_top.specs.declared.shape.TheConstants.{SHAPE}
 use Rattle.pm_top.specs.Crashes.{CrashHoldsAcknowledged}
 use Rattle.pm_top.specs.Promises.{IsStopped}
-use Rattle.pm_top.specs.Runs.{Progress, StandsOver, TurnsTo, LeavesRun}
-use Rattle.pm_top.specs.Scripts.{after_lines, GoesOnAs}
+use Rattle.pm_top.specs.Runs.{Progress, IsAtRestAfter, BatchIsAnswered, LeavesRun}
+use Rattle.pm_top.specs.Scripts.{after_lines, ContinuationIs}
 use Rattle.pm_top.specs.Served.{script_of}
-use Rattle.pm_top.proofs.Answering.{both}
-use Rattle.pm_top.proofs.Gathering.{after_lines-add}
+use Rattle.pm_top.proofs.AnsweredLines.{both}
+use Rattle.pm_top.proofs.TakenLines.{after_lines-add}
 use Rattle.pm_top.proofs.Lasting.{keeps_rest}
 use Rattle.pm_top.proofs.Progressing.{stopped}
 
--- ---- what a turn leaves to be read
+-- ---- what a batch leaves to be read
 
-module _ (goes_on_as : Behind) {old new : Unread} {rest now_rest : List ℕ} {world now : World} {before later : Run} (turns : TurnsTo goes_on_as old new rest now_rest world now before later) (input : List ℕ) where
-  count_there : before.lines ≡ old.lines → later.lines ≡ old.lines + length turns.lines
-  count_there counted = omega (arith, turns.count, counted)
+module _ (continuation : Continuation) {old new : Unread} {rest now_rest : List ℕ} {world now : World} {before later : Run} (answered : BatchIsAnswered continuation old new rest now_rest world now before later) (input : List ℕ) where
+  count_there : before.lines ≡ old.lines → later.lines ≡ old.lines + length answered.lines
+  count_there counted = omega (arith, answered.count, counted)
 
-  left_place : before.lines ≡ old.lines → rest ≡ after_lines old.lines input → turns.left ≡ after_lines later.lines input
+  left_place : before.lines ≡ old.lines → rest ≡ after_lines old.lines input → answered.left ≡ after_lines later.lines input
   left_place counted place =
-      turns.gathers.place ∙ ap (after_lines (length turns.lines)) place ∙ sym (after_lines-add old.lines (length turns.lines) input)
+      answered.taken.place ∙ ap (after_lines (length answered.lines)) place ∙ sym (after_lines-add old.lines (length answered.lines) input)
       ∙ ap (λ n. after_lines n input) (sym (count_there counted))
 
-  left_bytes : old.bytes + length rest ≡ length input → turns.at.bytes + length turns.left ≡ length input
-  left_bytes bytes = omega (arith, turns.gathers.bytes, bytes)
+  left_bytes : old.bytes + length rest ≡ length input → answered.at.bytes + length answered.left ≡ length input
+  left_bytes bytes = omega (arith, answered.taken.bytes, bytes)
 
   -- more lines are left
-  module _ (is : goes_on_as ≡ behind.More) where
-    more_is : (turns.at ≡ new) × (turns.left ≡ now_rest)
-    more_is = subst (λ b. GoesOnAs b turns.at new turns.left now_rest) is turns.goes_on
+  module _ (is : continuation ≡ then_comes.More) where
+    more_is : (answered.at ≡ new) × (answered.left ≡ now_rest)
+    more_is = subst (λ b. ContinuationIs b answered.at new answered.left now_rest) is answered.continues
 
     pub more_place : before.lines ≡ old.lines → later.lines ≡ new.lines → rest ≡ after_lines old.lines input → now_rest ≡ after_lines new.lines input
     more_place counted lines place = sym more_is.1 ∙ left_place counted place ∙ ap (λ n. after_lines n input) lines
@@ -51,35 +51,35 @@ module _ (goes_on_as : Behind) {old new : Unread} {rest now_rest : List ℕ} {wo
     more_bytes bytes = omega (arith, left_bytes bytes, ap (λ (u : Unread). u.bytes) more_is.0, ap (λ (l : List ℕ). length l) more_is.1)
 
     pub more_limit : old.bytes ≤ SCRIPT_BYTES_MAX → new.bytes ≤ SCRIPT_BYTES_MAX
-    more_limit few = omega (arith, turns.gathers.few_bytes few, ap (λ (u : Unread). u.bytes) more_is.0)
+    more_limit few = omega (arith, answered.taken.few_bytes few, ap (λ (u : Unread). u.bytes) more_is.0)
 
     pub more_progress : (start : World) (shape : Shape) (pairs : Pairs) → Progress start world (script_of rest) shape pairs before → Progress start now (script_of now_rest) shape pairs later
-    more_progress start shape pairs progress = subst (λ r. Progress start now (script_of r) shape pairs later) more_is.1 (turns.progress start shape pairs progress)
+    more_progress start shape pairs progress = subst (λ r. Progress start now (script_of r) shape pairs later) more_is.1 (answered.progress start shape pairs progress)
 
   -- nothing is left
-  module _ (is : goes_on_as ≡ behind.End) where
-    end_is : (turns.left ≡ []) × (now_rest ≡ [])
-    end_is = subst (λ b. GoesOnAs b turns.at new turns.left now_rest) is turns.goes_on
+  module _ (is : continuation ≡ then_comes.End) where
+    end_is : (answered.left ≡ []) × (now_rest ≡ [])
+    end_is = subst (λ b. ContinuationIs b answered.at new answered.left now_rest) is answered.continues
 
     pub end_none : now_rest ≡ []
     end_none = end_is.1
 
     pub end_progress : (start : World) (shape : Shape) (pairs : Pairs) → Progress start world (script_of rest) shape pairs before → Progress start now [] shape pairs later
-    end_progress start shape pairs progress = subst (λ r. Progress start now (script_of r) shape pairs later) end_is.0 (turns.progress start shape pairs progress)
+    end_progress start shape pairs progress = subst (λ r. Progress start now (script_of r) shape pairs later) end_is.0 (answered.progress start shape pairs progress)
 
     pub end_limit : old.bytes ≤ SCRIPT_BYTES_MAX → old.bytes + length rest ≡ length input → length input ≤ SCRIPT_BYTES_MAX
-    end_limit few bytes = omega (arith, turns.gathers.few_bytes few, left_bytes bytes, ap (λ (l : List ℕ). length l) end_is.0)
+    end_limit few bytes = omega (arith, answered.taken.few_bytes few, left_bytes bytes, ap (λ (l : List ℕ). length l) end_is.0)
 
   -- a line is left that isn't ended within the limits
-  pub over_stopped : goes_on_as ≡ behind.Over → before.lines ≡ old.lines → rest ≡ after_lines old.lines input → old.bytes + length rest ≡ length input → old.bytes ≤ SCRIPT_BYTES_MAX → later.lines ≤ LINES_MAX
+  pub over_stopped : continuation ≡ then_comes.Over → before.lines ≡ old.lines → rest ≡ after_lines old.lines input → old.bytes + length rest ≡ length input → old.bytes ≤ SCRIPT_BYTES_MAX → later.lines ≤ LINES_MAX
       → (start : World) (shape : Shape) (pairs : Pairs) → start.input ≡ input → Progress start world (script_of rest) shape pairs before → IsStopped start now shape pairs later.lines later.engine.order.items []
   over_stopped is counted place bytes few lines start shape pairs same progress =
-      let over = subst (λ b. GoesOnAs b turns.at new turns.left now_rest) is turns.goes_on in
+      let over = subst (λ b. ContinuationIs b answered.at new answered.left now_rest) is answered.continues in
       let long : length start.input ≡ length input = ap (λ (l : List ℕ). length l) same in
-      stopped (turns.progress start shape pairs progress) now turns.left refl refl (left_place counted place ∙ ap (after_lines later.lines) (sym same)) over.some lines
-      (omega (arith, left_bytes bytes, turns.gathers.few_bytes few, long))
+      stopped (answered.progress start shape pairs progress) now answered.left refl refl (left_place counted place ∙ ap (after_lines later.lines) (sym same)) over.some lines
+      (omega (arith, left_bytes bytes, answered.taken.few_bytes few, long))
       (elim over.over [
-        | inl full ↦ inl (omega (arith, full, turns.gathers.count, count_there counted))
+        | inl full ↦ inl (omega (arith, full, answered.taken.count, count_there counted))
         | inr past ↦ inr (omega (arith, past, left_bytes bytes, long))
       ])
 
@@ -99,10 +99,10 @@ closed progress later new lines same said = record {
 }
 
 -- what is left when the script is done
-pub leaves : {start now : World} {shape : Shape} {pairs : Pairs} (before run later : Run) (mid new : World) → Progress start now [] shape pairs later → StandsOver before run mid → later.lines ≡ run.lines → IsAtRestWithin SHAPE 0 (running run.engine) (running later.engine) new
+pub leaves : {start now : World} {shape : Shape} {pairs : Pairs} (before run later : Run) (mid new : World) → Progress start now [] shape pairs later → IsAtRestAfter before run mid → later.lines ≡ run.lines → IsAtRestWithin SHAPE 0 (running run.engine) (running later.engine) new
     → LeavesRun start shape pairs before later new
 leaves {start = start} {shape = shape} {pairs = pairs} before run later mid new progress over lines on = record {
-  over = record { stands = on.stands; climbs = omega (arith, over.climbs, on.climbs, lines) };
+  over = record { stands = on.stands; rises = omega (arith, over.rises, on.rises, lines) };
   lasting = on.lasting;
   shape_is = progress.shape_is;
   map = progress.map ∙ ap (λ ls. after_all shape ls pairs) (sym (progress.script ∙ append-nil progress.done));
@@ -116,13 +116,13 @@ closing_moments mid new {start = start} {shape = shape} {pairs = pairs} {run = r
     weaker mid new (λ w. Q w × ChangesLog mid.world w) (CrashHoldsAcknowledged start shape pairs run.engine.order.items)
     (λ w is. keeps_rest progress w is.1.said is.0) (both mid new Q (ChangesLog mid.world) keeps only)
 
--- one turn after others
-pub over_then : (before mid later : Run) (world now : World) → StandsOver before mid world → StandsOver mid later now → StandsOver before later now
-over_then before mid later world now first second = record { stands = second.stands; climbs = omega (arith, first.climbs, second.climbs) }
+-- one batch after others
+pub over_then : (before mid later : Run) (world now : World) → IsAtRestAfter before mid world → IsAtRestAfter mid later now → IsAtRestAfter before later now
+over_then before mid later world now first second = record { stands = second.stands; rises = omega (arith, first.rises, second.rises) }
 
--- there are segments for a turn
-pub room_left : (before now : Run) (world : World) → before.lines ≡ 0 → now.lines ≤ LINES_MAX → HasSegments (running before.engine) (2 ^ 24) → StandsOver before now world → HasSegments (running now.engine) 2048
-room_left before now world none few room over = omega (arith, none, few, room, over.climbs)
+-- there are segments for a batch
+pub room_left : (before now : Run) (world : World) → before.lines ≡ 0 → now.lines ≤ LINES_MAX → HasSegments (running before.engine) (2 ^ 24) → IsAtRestAfter before now world → HasSegments (running now.engine) 2048
+room_left before now world none few room over = omega (arith, none, few, room, over.rises)
 
 -- what stands after, where there is nothing
 pub append_right : (xs ys : List ℕ) → xs ++ ys ≡ [] → ys ≡ []

@@ -1,3 +1,4 @@
+pub mod Causes
 pub mod Crashes
 pub mod Promises
 pub mod Runs

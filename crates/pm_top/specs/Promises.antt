@@ -1,23 +1,26 @@
 -- What a run promises.
-use Rattle.std.specs.Prelude.{◌≡◌, ◌⊎◌, ℕ, ◌+◌, ◌≤◌, List, [], ◌++◌, take, drop, length, codes, decimal}
+use Rattle.std.specs.Prelude.{◌≡◌, ◌⊎◌, ℕ, ◌+◌, ◌-◌, ◌≤◌, ◌^◌, List, [], ◌++◌, take, drop, length, codes, decimal}
 use Rattle.pm_types.specs.declared.limits.TheConstants.{BATCH_LINES_MAX}
 use Rattle.pm_types.specs.declared.place.Place.{Place}
 use Rattle.pm_types.specs.declared.shape.Shape.{Shape}
 use Rattle.pm_disk.specs.Images.{NothingPending}
+use Rattle.pm_disk.specs.Moments.{History, AllMoments}
+use Rattle.pm_disk.specs.States.{DeviceState, Rose}
 use Rattle.pm_disk.specs.Worlds.{World, with_said}
 use Rattle.pm_frame.specs.Frames.{Frame}
 use Rattle.pm_model.specs.declared.reply.Reply.{Reply}
-use Rattle.pm_model.specs.Eval.{Pairs, replies_to, accepted}
+use Rattle.pm_model.specs.Eval.{Pairs, replies_to, after_all, accepted}
 use Rattle.pm_script.specs.Texts.{texts_of}
 use Rattle.pm_segments.specs.Grammars.{place}
 use Rattle.pm_segments.specs.Logs.{after_frames}
-use Rattle.pm_engine.specs.Held.{Holds}
+use Rattle.pm_engine.specs.Held.{Holds, HasNumbers}
 use Rattle.pm_engine.specs.Openings.{IsBadRecord}
 use Rattle.pm_top.specs.declared.run.Stop.{Stop}
 use Rattle.pm_top.specs.declared.run.Stop.TheVariants as stop
 use Rattle.pm_top.specs.declared.shape.TheConstants.{SHAPE}
 use Rattle.pm_top.specs.declared.status.Status.{Status}
 use Rattle.pm_top.specs.declared.status.Status.TheVariants.{Done, Usage, Failed, Memory, Damaged, Long}
+use Rattle.pm_top.specs.Crashes.{CrashHoldsAcknowledged}
 use Rattle.pm_top.specs.Scripts.{IsWithinLimits, PassesLimit, AreWithin}
 use Rattle.pm_top.specs.Served.{script_of}
 
@@ -30,7 +33,7 @@ abbrev pub SaysPart : List ℕ → World → World → Type 0
 SaysPart text old new = (n : ℕ) × (new ≡ with_said (take n text) old)
 
 -- the replies to the first lines were said, and this after them
-pub record Answers (old new : World) (shape : Shape) (pairs : Pairs) (lines : ℕ) (tail : List ℕ) : Type 0 where
+pub record HasAnswered (old new : World) (shape : Shape) (pairs : Pairs) (lines : ℕ) (tail : List ℕ) : Type 0 where
   pub within : lines ≤ length (script_of old.input)
   pub said : new.said ≡ old.said ++ texts_of (take lines (replies_of shape old.input pairs)) ++ tail
 
@@ -48,54 +51,61 @@ pub record HasTried (shape : Shape) (input : List ℕ) (pairs : Pairs) (lines : 
 
 -- the script was answered whole
 pub record IsDone (old new : World) (shape : Shape) (pairs : Pairs) (lines : ℕ) (order : List ℕ) : Type 0 where
-  pub answers : Answers old new shape pairs lines []
+  pub answers : HasAnswered old new shape pairs lines []
   pub order_is : IsOrder shape old.input pairs lines order
   pub all : lines ≡ length (script_of old.input)
   pub read : new.input ≡ []
   pub limits : IsWithinLimits old.input
 
--- a prefix of the bytes of the next replies or of a fault line
+-- a prefix of the bytes of these replies or of a fault line
 abbrev pub IsTail : List Reply → List ℕ → Type 0
 IsTail next tail = (n : ℕ) × ((tail ≡ take n (texts_of next)) ⊎ (tail ≡ take n (codes "fault long\n")))
 
--- a call failed after the replies to the first lines
-pub record IsBroken (old new : World) (shape : Shape) (pairs : Pairs) (lines : ℕ) (order : List ℕ) : Type 0 where
+-- A call failed after the replies to the first lines. What was said after them belongs to the replies to the lines of the next
+-- batch, and to none that wasn't done.
+pub record HasFailed (old new : World) (shape : Shape) (pairs : Pairs) (lines : ℕ) (order : List ℕ) : Type 0 where
   pub tail : List ℕ
-  pub answers : Answers old new shape pairs lines tail
-  pub prefix : IsTail (drop lines (replies_of shape old.input pairs)) tail
+  pub answers : HasAnswered old new shape pairs lines tail
   pub tried : HasTried shape old.input pairs lines order
+  pub prefix : IsTail (take (tried.many - lines) (drop lines (replies_of shape old.input pairs))) tail
 
 -- memory ran out after the replies to the first lines
-pub record IsShort (old new : World) (shape : Shape) (pairs : Pairs) (lines : ℕ) (order : List ℕ) : Type 0 where
-  pub answers : Answers old new shape pairs lines []
+pub record HasNoMemory (old new : World) (shape : Shape) (pairs : Pairs) (lines : ℕ) (order : List ℕ) : Type 0 where
+  pub answers : HasAnswered old new shape pairs lines []
   pub tried : HasTried shape old.input pairs lines order
 
 -- all lines that are ended within both limits were answered, and this was said after their replies
 pub record IsStopped (old new : World) (shape : Shape) (pairs : Pairs) (lines : ℕ) (order : List ℕ) (tail : List ℕ) : Type 0 where
-  pub answers : Answers old new shape pairs lines tail
+  pub answers : HasAnswered old new shape pairs lines tail
   pub order_is : IsOrder shape old.input pairs lines order
   pub passes : PassesLimit old.input
   pub within : AreWithin old.input lines
 
 -- what each status says of a `run` over a sound store
-abbrev pub Ends : Status → World → World → Shape → Pairs → ℕ → List ℕ → Type 0
-Ends Done old new shape pairs lines order = IsDone old new shape pairs lines order
-Ends Usage old new shape pairs lines order = ⊥
-Ends Failed old new shape pairs lines order = IsBroken old new shape pairs lines order
-Ends Memory old new shape pairs lines order = IsShort old new shape pairs lines order
-Ends Damaged old new shape pairs lines order = ⊥
-Ends Long old new shape pairs lines order = IsStopped old new shape pairs lines order (codes "fault long\n")
+abbrev pub OutcomeIs : Status → World → World → Shape → Pairs → ℕ → List ℕ → Type 0
+OutcomeIs Done old new shape pairs lines order = IsDone old new shape pairs lines order
+OutcomeIs Usage old new shape pairs lines order = ⊥
+OutcomeIs Failed old new shape pairs lines order = HasFailed old new shape pairs lines order
+OutcomeIs Memory old new shape pairs lines order = HasNoMemory old new shape pairs lines order
+OutcomeIs Damaged old new shape pairs lines order = ⊥
+OutcomeIs Long old new shape pairs lines order = IsStopped old new shape pairs lines order (codes "fault long\n")
 
 -- what is said of it before a limit is told
-abbrev pub Stops : Stop → World → World → Shape → Pairs → ℕ → List ℕ → Type 0
-Stops stop.Done old new shape pairs lines order = IsDone old new shape pairs lines order
-Stops stop.Limit old new shape pairs lines order = IsStopped old new shape pairs lines order []
+abbrev pub StopIs : Stop → World → World → Shape → Pairs → ℕ → List ℕ → Type 0
+StopIs stop.Done old new shape pairs lines order = IsDone old new shape pairs lines order
+StopIs stop.Limit old new shape pairs lines order = IsStopped old new shape pairs lines order []
 
 -- The store is sound and holds this map, and nothing is pending. Its log has so many segments more at most.
 pub record IsLeft (frames : List Frame) (more : ℕ) (new : World) (shape : Shape) (pairs : Pairs) : Type 0 where
   pub holds : Holds SHAPE new shape pairs
   pub quiet : NothingPending new
-  pub climbs : (after_frames (place 1 0) holds.frames).seg ≤ (after_frames (place 1 0) frames).seg + more
+  pub rises : (after_frames (place 1 0) holds.frames).seg ≤ (after_frames (place 1 0) frames).seg + more
+
+-- A run may begin: the store is sound and holds this map, its log has numbers for more segments, and nothing is pending.
+pub record IsStart (world : World) (shape : Shape) (pairs : Pairs) : Type 0 where
+  pub holds : Holds SHAPE world shape pairs
+  pub numbers : HasNumbers holds.frames
+  pub quiet : NothingPending world
 
 -- the line that names a record that is bad
 abbrev pub fault_record : Place → List ℕ
@@ -116,11 +126,38 @@ pub record IsRefused (old new : World) (lines : ℕ) (order : List ℕ) : Type 0
   pub none : lines ≡ 0
   pub order_is : order ≡ []
 
+-- nothing was done but that the words were refused, which was printed in part at most
+pub record IsRefusedInPart (old new : World) (lines : ℕ) (order : List ℕ) : Type 0 where
+  pub part : SaysPart (codes "fault usage\n") old new
+  pub none : lines ≡ 0
+  pub order_is : order ≡ []
+
 -- what each status says where the words aren't a command
-abbrev pub EndsRefused : Status → World → World → ℕ → List ℕ → Type 0
-EndsRefused Done old new lines order = ⊥
-EndsRefused Usage old new lines order = IsRefused old new lines order
-EndsRefused Failed old new lines order = SaysPart (codes "fault usage\n") old new
-EndsRefused Memory old new lines order = ⊥
-EndsRefused Damaged old new lines order = ⊥
-EndsRefused Long old new lines order = ⊥
+abbrev pub RefusalIs : Status → World → World → ℕ → List ℕ → Type 0
+RefusalIs Done old new lines order = ⊥
+RefusalIs Usage old new lines order = IsRefused old new lines order
+RefusalIs Failed old new lines order = IsRefusedInPart old new lines order
+RefusalIs Memory old new lines order = ⊥
+RefusalIs Damaged old new lines order = ⊥
+RefusalIs Long old new lines order = ⊥
+
+-- What a run promises, by its status.
+pub record RunHolds (old new : History) (status : Status) (lines : ℕ) (order : List ℕ) : Type 0 where
+  -- over a sound store: which lines are answered, and with what
+  pub outcome : (shape : Shape) (pairs : Pairs) → Holds SHAPE old.world shape pairs → OutcomeIs status old.world new.world shape pairs lines order
+  -- a script that is done leaves a sound store for the next run
+  pub leaves : status ≡ Done → (shape : Shape) (pairs : Pairs) (start : IsStart old.world shape pairs)
+      → IsLeft start.holds.frames (2 ^ 23) new.world shape (after_all shape (script_of old.world.input) pairs)
+  -- a store with a bad record is named so, and left as it is
+  pub damaged : status ≡ Damaged → IsDamaged old.world new.world lines order
+  pub long : status ≡ Long → PassesLimit old.world.input
+
+-- at each moment a crash leaves a sound store, which holds what was acknowledged
+abbrev pub HoldsAtEachMoment : History → History → List ℕ → Type 0
+HoldsAtEachMoment old new order =
+    (shape : Shape) (pairs : Pairs) → IsStart old.world shape pairs → AllMoments old new (CrashHoldsAcknowledged old.world shape pairs order)
+
+-- Where no call fails, a script over a sound store is answered whole, or the limit that it passes is reported, unless memory runs out.
+pub record Completes (status : Status) (old : World) (before now : DeviceState) : Type 0 where
+  pub within : (shape : Shape) (pairs : Pairs) → Holds SHAPE old shape pairs → IsWithinLimits old.input → (Rose before now → ⊥) → (status ≡ Done) ⊎ (status ≡ Memory)
+  pub passes : (shape : Shape) (pairs : Pairs) → Holds SHAPE old shape pairs → PassesLimit old.input → (Rose before now → ⊥) → (status ≡ Long) ⊎ (status ≡ Memory)

@@ -1,20 +1,26 @@
 -- How far a run has come.
-use Rattle.std.specs.Prelude.{◌≡◌, ◌+◌, ◌≤◌, ℕ, List, [], ◌++◌, length}
+use Rattle.std.specs.Prelude.{◌≡◌, ◌+◌, ◌≤◌, ◌<◌, ◌^◌, ℕ, List, [], ◌++◌, length, Result, OnOk, IsErrOf}
 use Rattle.pm_types.specs.declared.limits.TheConstants.{LINES_MAX}
+use Rattle.pm_types.specs.declared.fault.StoreFault.{StoreFault}
+use Rattle.pm_types.specs.declared.fault.StoreFault.TheVariants.{Failed, Memory}
 use Rattle.pm_types.specs.declared.shape.Shape.{Shape}
+use Rattle.pm_disk.specs.Moments.{History, AllMoments}
 use Rattle.pm_disk.specs.Worlds.{World}
 use Rattle.pm_model.specs.declared.line.Line.{Line}
 use Rattle.pm_model.specs.Eval.{Pairs, replies_to, after_all, accepted}
-use Rattle.pm_script.specs.Reading.{Unread}
+use Rattle.pm_script.specs.Reading.{Unread, KnowsEnd}
 use Rattle.pm_script.specs.Texts.{texts_of}
+use Rattle.pm_segments.specs.Ends.{LogEnd, EndsThere}
 use Rattle.pm_segments.specs.Grammars.{place}
 use Rattle.pm_segments.specs.Logs.{after_frames}
-use Rattle.pm_engine.specs.Engines.{Running, running, IsAtRest}
+use Rattle.pm_engine.specs.Engines.{Running, running, IsAtRest, HasSegments}
 use Rattle.pm_engine.specs.Held.{Holds}
-use Rattle.pm_top.specs.declared.batch.Behind.{Behind}
+use Rattle.pm_top.specs.declared.batch.Continuation.{Continuation}
+use Rattle.pm_top.specs.declared.batch.Continuation.TheVariants as then_comes
 use Rattle.pm_top.specs.declared.run.Run.{Run}
 use Rattle.pm_top.specs.declared.shape.TheConstants.{SHAPE}
-use Rattle.pm_top.specs.Scripts.{Gathers, GoesOnAs}
+use Rattle.pm_top.specs.Promises.{HasFailed, HasNoMemory}
+use Rattle.pm_top.specs.Scripts.{LinesAreTaken, ContinuationIs}
 use Rattle.pm_top.specs.Served.{script_of}
 
 -- nothing was said and no input taken since the start
@@ -22,11 +28,23 @@ pub record SameConsole (start now : World) : Type 0 where
   pub said : now.said ≡ start.said
   pub input : now.input ≡ start.input
 
--- nothing but the log, what was said and what is left of the input is other than it was
+-- no file but the log is other than it was
 pub record SameFiles (old new : World) : Type 0 where
   pub pages : new.pages ≡ old.pages
   pub starts : new.starts ≡ old.starts
   pub ends : new.ends ≡ old.ends
+  pub config : new.config ≡ old.config
+
+-- no file but the log is other than it was, and no input was taken
+pub record OnlyAnswers (old new : World) : Type 0 where
+  pub files : SameFiles old new
+  pub input : new.input ≡ old.input
+
+-- A run goes on with a store of the same shape, and its order has what it had.
+pub record KeepsRun (before now : Run) : Type 0 where
+  pub shape : now.engine.shape ≡ before.engine.shape
+  pub more : List ℕ
+  pub order : now.engine.order.items ≡ before.engine.order.items ++ more
 
 -- How far a run has come from a start with this map: the lines that are done, and what follows from them. These lines are left.
 pub record Progress (start now : World) (left : List Line) (shape : Shape) (pairs : Pairs) (run : Run) : Type 0 where
@@ -38,29 +56,57 @@ pub record Progress (start now : World) (left : List Line) (shape : Shape) (pair
   pub map : run.engine.map ≡ after_all shape done pairs
   pub order : run.engine.order.items ≡ accepted shape 1 done pairs
 
+-- A fault came after the replies to the lines that are counted: a call failed, or memory ran out.
+pub record FaultIs {T : Type 0} (start now : World) (shape : Shape) (pairs : Pairs) (run : Run) (result : Result T StoreFault) : Type 0 where
+  pub failed : IsErrOf result Failed → HasFailed start now shape pairs run.lines run.engine.order.items
+  pub memory : IsErrOf result Memory → HasNoMemory start now shape pairs run.lines run.engine.order.items
+
+-- Lines were answered, and these are left; or a fault came.
+pub record LinesAreAnswered {T : Type 0} (start now : World) (left : List Line) (shape : Shape) (pairs : Pairs) (run : Run) (result : Result T StoreFault) : Type 0 where
+  pub done : OnOk result (Progress start now left shape pairs run)
+  pub fault : FaultIs start now shape pairs run result
+
+-- What the lines of a batch count for: a script that goes on has some, and not too many.
+pub record CountsBatch (continuation : Continuation) (input : Unread) (before now : Run) : Type 0 where
+  pub few : now.lines ≤ LINES_MAX
+  pub same : continuation ≡ then_comes.More → now.lines ≡ input.lines
+  pub some : continuation ≡ then_comes.More → before.lines < now.lines
+
+-- At no moment was another file than the log changed. Where no fault came, the log ends there, and what is known of the input's
+-- end holds.
+pub record IsOpenAfter {T : Type 0} (old new : History) (log : LogEnd) (input : Unread) (result : Result T StoreFault) : Type 0 where
+  pub files : AllMoments old new (SameFiles old.world)
+  pub end : OnOk result (EndsThere log new.world)
+  pub input_end : OnOk result (KnowsEnd input new.world)
+
 -- The engine of a run stands, its log in the same segment as an earlier one's or in the next so many.
-pub record StandsSince (before now : Run) (count : ℕ) (world : World) : Type 0 where
+pub record IsAtRestSince (before now : Run) (count : ℕ) (world : World) : Type 0 where
   pub stands : IsAtRest SHAPE (running now.engine) world
-  pub climbs : now.engine.log.end.seg ≤ before.engine.log.end.seg + count
+  pub rises : now.engine.log.end.seg ≤ before.engine.log.end.seg + count
+
+-- A run over a whole script may begin: the engine stands, and there are numbers for as many segments as it may need.
+pub record CanRun (engine : Running) (world : World) : Type 0 where
+  pub stands : IsAtRest SHAPE engine world
+  pub segments : HasSegments engine (2 ^ 24)
 
 -- How a run went on by some lines of its script, which goes on so after them.
-pub record TurnsTo (goes_on_as : Behind) (old new : Unread) (rest now_rest : List ℕ) (world now : World) (before later : Run) : Type 0 where
+pub record BatchIsAnswered (continuation : Continuation) (old new : Unread) (rest now_rest : List ℕ) (world now : World) (before later : Run) : Type 0 where
   pub lines : List Line
   pub at : Unread
   pub left : List ℕ
-  pub gathers : Gathers old at rest left lines
+  pub taken : LinesAreTaken old at rest left lines
   pub count : later.lines ≡ before.lines + length lines
-  pub goes_on : GoesOnAs goes_on_as at new left now_rest
+  pub continues : ContinuationIs continuation at new left now_rest
   pub progress : (start : World) (shape : Shape) (pairs : Pairs) → Progress start world (script_of rest) shape pairs before → Progress start now (script_of left) shape pairs later
 
 -- the engine of a run stands, its log by at most as many segments further as lines were done
-pub record StandsOver (before later : Run) (world : World) : Type 0 where
+pub record IsAtRestAfter (before later : Run) (world : World) : Type 0 where
   pub stands : IsAtRest SHAPE (running later.engine) world
-  pub climbs : later.engine.log.end.seg + before.lines ≤ before.engine.log.end.seg + later.lines
+  pub rises : later.engine.log.end.seg + before.lines ≤ before.engine.log.end.seg + later.lines
 
 -- The script is done: the engine has the map that its lines leave, and nothing of its log is pending.
 pub record LeavesRun (start : World) (shape : Shape) (pairs : Pairs) (before later : Run) (world : World) : Type 0 where
-  pub over : StandsOver before later world
+  pub over : IsAtRestAfter before later world
   pub lasting : (seg : ℕ) → (world.log seg).since ≡ []
   pub shape_is : later.engine.shape ≡ shape
   pub map : later.engine.map ≡ after_all shape (script_of start.input) pairs
@@ -70,4 +116,4 @@ pub record LeavesRun (start : World) (shape : Shape) (pairs : Pairs) (before lat
 pub record LeavesStore (start world : World) (engine : Running) : Type 0 where
   pub holds : Holds SHAPE world engine.shape (after_all engine.shape (script_of start.input) engine.pairs)
   pub lasting : (seg : ℕ) → (world.log seg).since ≡ []
-  pub climbs : (after_frames (place 1 0) holds.frames).seg ≤ engine.log.end.seg + LINES_MAX
+  pub rises : (after_frames (place 1 0) holds.frames).seg ≤ engine.log.end.seg + LINES_MAX

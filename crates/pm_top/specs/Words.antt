@@ -1,5 +1,5 @@
 -- The words of a command line.
-use Rattle.std.specs.Prelude.{ℕ, ◌∷◌, [], List, Bool, ◌&&◌, false, not, nat_lt, length, codes}
+use Rattle.std.specs.Prelude.{ℕ, ◌∷◌, [], List, Bool, ◌&&◌, false, not, nat_lt, length, codes, slice_get, unwrap_or}
 use Rattle.std.specs.List.{starts_with}
 use Rattle.std.specs.Bool.{nat_eq}
 use Rattle.std.specs.Str.{bytes_eq}
@@ -8,3 +8,7 @@ use Rattle.std.specs.Str.{bytes_eq}
 abbrev pub is_command : List (List ℕ) → Bool
 is_command (name ∷ folder ∷ []) = bytes_eq name (codes "run") && nat_lt 0 (length folder) && not (starts_with nat_eq folder (codes "-"))
 is_command words = false
+
+-- the folder that the words of a command name: the second word
+abbrev pub folder_in : List (List ℕ) → List ℕ
+folder_in words = unwrap_or (slice_get words 1) []

@@ -1,31 +1,25 @@
 //! The top call.
 
-ghost use Rattle.std.specs.Prelude.{◌≡◌, ◌≢◌, ◌≤◌, ◌⊎◌, ◌^◌, [], map, false, IsTrue, string_bytes};
-ghost use Rattle.pm_disk.specs.States.{IsUsable, Rose};
-ghost use Rattle.pm_types.specs.declared.shape.Shape.{Shape};
+ghost use Rattle.std.specs.Prelude.{◌≡◌, [], map, false, IsTrue, string_bytes};
 ghost use Rattle.pm_types.specs.Shapes.{IsShape};
-ghost use Rattle.pm_disk.specs.Images.{NothingPending};
 ghost use Rattle.pm_disk.specs.Moments.{AllMoments};
+ghost use Rattle.pm_disk.specs.States.{IsUsable};
 ghost use Rattle.pm_disk.specs.Worlds.{World};
-ghost use Rattle.pm_model.specs.Eval.{Pairs, after_all};
 ghost use Rattle.pm_segments.specs.Ends.{EndsThere};
-ghost use Rattle.pm_engine.specs.Engines.{running, IsAtRest, HasSegments};
-ghost use Rattle.pm_engine.specs.Held.{Holds, HasNumbers};
-ghost use Rattle.pm_top.specs.declared.shape.TheConstants.{SHAPE};
+ghost use Rattle.pm_engine.specs.Engines.{running};
+ghost use Rattle.pm_top.specs.Causes.{BindsFolder, HasRunCause, HasScriptCause, HasStatusCause};
+ghost use Rattle.pm_top.specs.Promises.{Completes, HoldsAtEachMoment, OutcomeIs, RefusalIs, RunHolds};
+ghost use Rattle.pm_top.specs.Runs.{CanRun, SameConsole, SameFiles, LeavesStore};
 ghost use Rattle.pm_top.specs.Crashes.{CrashHoldsAcknowledged};
-ghost use Rattle.pm_top.specs.Promises.{Ends, EndsRefused, IsDamaged, IsLeft};
-ghost use Rattle.pm_top.specs.Runs.{SameConsole, SameFiles, LeavesStore};
-ghost use Rattle.pm_top.specs.Scripts.{IsWithinLimits, PassesLimit};
-ghost use Rattle.pm_top.specs.Served.{script_of};
 ghost use Rattle.pm_top.specs.Statuses.{status_of, code_of};
 ghost use Rattle.pm_top.specs.Words.{is_command};
 
+use crate::fault_lines::{print_limit_fault, print_record_fault, print_usage_fault};
 use crate::report::Report;
 use crate::run::{Run, Stop};
 use crate::shape::SHAPE;
 use crate::status::Status;
-use crate::telling::{tell_limit, tell_record, tell_usage};
-use crate::words::is_run;
+use crate::words::folder_of;
 use pm_disk::Host;
 use pm_engine::Engine;
 use pm_types::StoreFault;
@@ -34,57 +28,41 @@ use std::alloc::Global;
 /// Does what the words of a command line ask for.
 ///
 /// The words are those after the program's name: `run` and a folder, which isn't empty and doesn't begin with `-`. The folder
-/// is made where it isn't there. Then the script on the host's input is answered, batch by batch, over the map that the
-/// folder's log holds. The records of a batch are in the log, and forced, before any of its replies is printed. A store whose
-/// log has a bad record is refused: the record is named, and nothing is changed.
+/// is bound, and made where it isn't there. Then the script on the host's input is answered, batch by batch, over the map that
+/// the folder's log holds. The records of a batch are in the log, and forced, before any of its replies is printed. A store
+/// whose log has a bad record is refused: the record is named, and nothing is changed.
 /// After the statuses 3 and 4 nothing more is printed.
 pub fn top<Q: AllocGlobal, H: Host>(rt: &Q, words: &[String], host: &mut H) -> Report
+    requires whole { (H.state host.old).access.is_lent ≡ false }
     ensures known { result.status ≡ code_of (status_of result.status) }
 
-    // Which lines are answered, and with what.
-    ensures replies { H.tells → IsTrue (is_command (map string_bytes words.now)) →
-        (shape : Shape) (pairs : Pairs) → Holds SHAPE (H.history host.old).world shape pairs →
-        Ends (status_of result.status) (H.history host.old).world (H.history host.new).world
-        shape pairs result.lines result.order.items }
+    // Which lines are answered, with what, and what is left; or that the words were refused.
+    ensures run { H.tells → IsTrue (is_command (map string_bytes words.now)) →
+        RunHolds (H.history host.old) (H.history host.new)
+        (status_of result.status) result.lines result.order.items }
     ensures refusal { H.tells → is_command (map string_bytes words.now) ≡ false →
-        EndsRefused (status_of result.status) (H.history host.old).world
-        (H.history host.new).world result.lines result.order.items }
-    ensures damaged { H.tells → result.status ≡ 5 → IsDamaged (H.history host.old).world
+        RefusalIs (status_of result.status) (H.history host.old).world
         (H.history host.new).world result.lines result.order.items }
 
     // Whatever a crash at any moment leaves is sound, and holds each line that was acknowledged, and no line that the order
     // lacks.
-    ensures crash { H.tells → (shape : Shape) (pairs : Pairs) →
-        (holds : Holds SHAPE (H.history host.old).world shape pairs) → HasNumbers holds.frames →
-        NothingPending (H.history host.old).world →
-        AllMoments (H.history host.old) (H.history host.new)
-        (CrashHoldsAcknowledged (H.history host.old).world shape pairs result.order.items) }
+    ensures crash { H.tells →
+        HoldsAtEachMoment (H.history host.old) (H.history host.new) result.order.items }
 
-    // A script that is done leaves a sound store for the next call.
-    ensures leaves { H.tells → result.status ≡ 0 → (shape : Shape) (pairs : Pairs) →
-        (holds : Holds SHAPE (H.history host.old).world shape pairs) → HasNumbers holds.frames →
-        NothingPending (H.history host.old).world →
-        IsLeft holds.frames (2 ^ 23) (H.history host.new).world shape
-        (after_all shape (script_of (H.history host.old).world.input) pairs) }
+    // At no moment is another file than the log changed.
+    ensures files { H.tells → AllMoments (H.history host.old) (H.history host.new) (SameFiles
+        (H.history host.old).world) }
 
-    // When each status comes: 1 and 6 exactly where the words or the script ask for it, 3 only after a failed call.
-    ensures usage { result.status ≡ 1 → is_command (map string_bytes words.now) ≡ false }
-    ensures refused { is_command (map string_bytes words.now) ≡ false →
-        (result.status ≡ 1) ⊎ (result.status ≡ 3) }
-    ensures failed { result.status ≡ 3 → Rose (H.state host.old) (H.state host.new) }
-    ensures long { H.tells → result.status ≡ 6 → PassesLimit (H.history host.old).world.input }
-    ensures passes { H.tells → IsTrue (is_command (map string_bytes words.now)) →
-        (shape : Shape) (pairs : Pairs) → Holds SHAPE (H.history host.old).world shape pairs →
-        PassesLimit (H.history host.old).world.input →
-        (Rose (H.state host.old) (H.state host.new) → ⊥) →
-        (result.status ≡ 6) ⊎ (result.status ≡ 4) }
+    // Which folder is bound.
+    ensures folder { BindsFolder (map string_bytes words.now) (status_of result.status)
+        (H.state host.old) (H.state host.new) }
 
-    // Where nothing fails and the script is within its limits, it is answered whole, or memory runs out.
+    // When each status comes.
+    ensures cause { HasStatusCause (map string_bytes words.now) (status_of result.status)
+        (H.state host.old) (H.state host.new) }
     ensures complete { H.tells → IsTrue (is_command (map string_bytes words.now)) →
-        (shape : Shape) (pairs : Pairs) → Holds SHAPE (H.history host.old).world shape pairs →
-        IsWithinLimits (H.history host.old).world.input →
-        (Rose (H.state host.old) (H.state host.new) → ⊥) →
-        (result.status ≡ 0) ⊎ (result.status ≡ 4) }
+        Completes (status_of result.status) (H.history host.old).world
+        (H.state host.old) (H.state host.new) }
 {
     let outcome = command(rt.alloc(), words, host);
     Report {
@@ -119,36 +97,25 @@ impl Outcome {
 
 // Does what the words ask for, or says that they aren't a command.
 fn command<H: Host>(alloc: Global, words: &[String], host: &mut H) -> Outcome
-    ensures replies { H.tells → IsTrue (is_command (map string_bytes words.now)) →
-        (shape : Shape) (pairs : Pairs) → Holds SHAPE (H.history host.old).world shape pairs →
-        Ends result.status (H.history host.old).world (H.history host.new).world
-        shape pairs result.lines result.order.items }
+    requires whole { (H.state host.old).access.is_lent ≡ false }
+    ensures run { H.tells → IsTrue (is_command (map string_bytes words.now)) →
+        RunHolds (H.history host.old) (H.history host.new) result.status result.lines result.order.items }
     ensures refusal { H.tells → is_command (map string_bytes words.now) ≡ false →
-        EndsRefused result.status (H.history host.old).world
+        RefusalIs result.status (H.history host.old).world
         (H.history host.new).world result.lines result.order.items }
-    ensures damaged { H.tells → result.status ≡ Status.Damaged → IsDamaged (H.history host.old).world
-        (H.history host.new).world result.lines result.order.items }
-    ensures crash { H.tells → (shape : Shape) (pairs : Pairs) →
-        (holds : Holds SHAPE (H.history host.old).world shape pairs) → HasNumbers holds.frames →
-        NothingPending (H.history host.old).world →
-        AllMoments (H.history host.old) (H.history host.new)
-        (CrashHoldsAcknowledged (H.history host.old).world shape pairs result.order.items) }
-    ensures leaves { H.tells → result.status ≡ Status.Done → (shape : Shape) (pairs : Pairs) →
-        (holds : Holds SHAPE (H.history host.old).world shape pairs) → HasNumbers holds.frames →
-        NothingPending (H.history host.old).world →
-        IsLeft holds.frames (2 ^ 23) (H.history host.new).world shape
-        (after_all shape (script_of (H.history host.old).world.input) pairs) }
-    ensures usage { result.status ≡ Status.Usage → is_command (map string_bytes words.now) ≡ false }
-    ensures refused { is_command (map string_bytes words.now) ≡ false →
-        (result.status ≡ Status.Usage) ⊎ (result.status ≡ Status.Failed) }
-    ensures failed { result.status ≡ Status.Failed → Rose (H.state host.old) (H.state host.new) }
-    ensures long { H.tells → result.status ≡ Status.Long →
-        PassesLimit (H.history host.old).world.input }
+    ensures crash { H.tells →
+        HoldsAtEachMoment (H.history host.old) (H.history host.new) result.order.items }
+    ensures files { H.tells → AllMoments (H.history host.old) (H.history host.new) (SameFiles
+        (H.history host.old).world) }
+    ensures folder { BindsFolder (map string_bytes words.now) result.status
+        (H.state host.old) (H.state host.new) }
+    ensures cause { HasStatusCause (map string_bytes words.now) result.status
+        (H.state host.old) (H.state host.new) }
 {
-    if !is_run(words) {
-        return Outcome::without(alloc, tell_usage(host));
-    }
-    match host.bind(words[1].as_str()) {
+    let Some(folder) = folder_of(words) else {
+        return Outcome::without(alloc, print_usage_fault(host));
+    };
+    match host.bind(folder) {
         Ok(()) => run(alloc, host),
         Err(_) => Outcome::without(alloc, Status::Failed),
     }
@@ -157,66 +124,50 @@ fn command<H: Host>(alloc: Global, words: &[String], host: &mut H) -> Outcome
 // Opens the store and answers the script of the input, or names the record that is bad.
 fn run<H: Host>(alloc: Global, host: &mut H) -> Outcome
     requires usable { IsUsable (H.state host.old) }
-    ensures ends { H.tells → (shape : Shape) (pairs : Pairs) →
-        Holds SHAPE (H.history host.old).world shape pairs →
-        Ends result.status (H.history host.old).world (H.history host.new).world
-        shape pairs result.lines result.order.items }
-    ensures damaged { H.tells → result.status ≡ Status.Damaged → IsDamaged (H.history host.old).world
-        (H.history host.new).world result.lines result.order.items }
-    ensures moments { H.tells → (shape : Shape) (pairs : Pairs) →
-        (holds : Holds SHAPE (H.history host.old).world shape pairs) → HasNumbers holds.frames →
-        NothingPending (H.history host.old).world →
-        AllMoments (H.history host.old) (H.history host.new)
-        (CrashHoldsAcknowledged (H.history host.old).world shape pairs result.order.items) }
-    ensures leaves { H.tells → result.status ≡ Status.Done → (shape : Shape) (pairs : Pairs) →
-        (holds : Holds SHAPE (H.history host.old).world shape pairs) → HasNumbers holds.frames →
-        NothingPending (H.history host.old).world →
-        IsLeft holds.frames (2 ^ 23) (H.history host.new).world shape
-        (after_all shape (script_of (H.history host.old).world.input) pairs) }
-    ensures known { result.status ≢ Status.Usage }
-    ensures failed { result.status ≡ Status.Failed → Rose (H.state host.old) (H.state host.new) }
-    ensures long { H.tells → result.status ≡ Status.Long →
-        PassesLimit (H.history host.old).world.input }
-    ensures later { H.state host.old ≤ H.state host.new }
+    ensures run { H.tells →
+        RunHolds (H.history host.old) (H.history host.new) result.status result.lines result.order.items }
+    ensures crash { H.tells →
+        HoldsAtEachMoment (H.history host.old) (H.history host.new) result.order.items }
+    ensures files { H.tells → AllMoments (H.history host.old) (H.history host.new) (SameFiles
+        (H.history host.old).world) }
+    ensures cause { HasRunCause result.status (H.state host.old) (H.state host.new) }
 {
     match Engine::open_store(alloc, host, SHAPE) {
         Ok(engine) => answer_script(alloc, host, engine),
         Err(StoreFault::Failed) => Outcome::without(alloc, Status::Failed),
         Err(StoreFault::Memory) => Outcome::without(alloc, Status::Memory),
-        Err(StoreFault::BadRecord(at)) => Outcome::without(alloc, tell_record(alloc, host, at)),
+        Err(StoreFault::BadRecord(at)) => {
+            Outcome::without(alloc, print_record_fault(alloc, host, at))
+        }
         Err(StoreFault::BadPage(_)) => unreachable!(),
     }
 }
 
-// Answers the script of the input over an open store, and tells a limit.
+// Answers the script of the input over an open store, and says where it passes a limit.
 fn answer_script<H: Host>(alloc: Global, host: &mut H, engine: Engine) -> Outcome
     requires usable { IsUsable (H.state host.old) }
     requires shape { IsShape engine.shape }
     requires order { engine.order.items ≡ [] }
     requires end { H.tells → EndsThere engine.log (H.history host.old).world }
-    ensures same { H.tells → SameFiles (H.history host.old).world (H.history host.new).world }
-    ensures ends { H.tells → (start : World) → SameConsole start (H.history host.old).world →
-        Ends result.status start (H.history host.new).world engine.shape engine.map
+    ensures files { H.tells → AllMoments (H.history host.old) (H.history host.new) (SameFiles
+        (H.history host.old).world) }
+    ensures outcome { H.tells → (start : World) → SameConsole start (H.history host.old).world →
+        OutcomeIs result.status start (H.history host.new).world engine.shape engine.map
         result.lines result.order.items }
     ensures moments { H.tells → (start : World) → SameConsole start (H.history host.old).world →
-        IsAtRest SHAPE (running engine) (H.history host.old).world →
-        HasSegments (running engine) (2 ^ 24) →
+        CanRun (running engine) (H.history host.old).world →
         AllMoments (H.history host.old) (H.history host.new)
         (CrashHoldsAcknowledged start engine.shape engine.map result.order.items) }
     ensures leaves { H.tells → result.status ≡ Status.Done → (start : World) →
         SameConsole start (H.history host.old).world →
-        IsAtRest SHAPE (running engine) (H.history host.old).world →
-        HasSegments (running engine) (2 ^ 24) →
+        CanRun (running engine) (H.history host.old).world →
         LeavesStore start (H.history host.new).world (running engine) }
-    ensures sound { result.status ≢ Status.Damaged }
-    ensures known { result.status ≢ Status.Usage }
-    ensures failed { result.status ≡ Status.Failed → Rose (H.state host.old) (H.state host.new) }
-    ensures later { H.state host.old ≤ H.state host.new }
+    ensures cause { HasScriptCause result.status (H.state host.old) (H.state host.new) }
 {
     let mut run = Run::new(alloc, engine);
     let status = match run.serve(alloc, host) {
         Ok(Stop::Done) => Status::Done,
-        Ok(Stop::Limit) => tell_limit(host),
+        Ok(Stop::Limit) => print_limit_fault(host),
         Err(StoreFault::Failed) => Status::Failed,
         Err(StoreFault::Memory) => Status::Memory,
         Err(StoreFault::BadPage(_) | StoreFault::BadRecord(_)) => unreachable!(),

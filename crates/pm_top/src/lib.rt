@@ -3,12 +3,12 @@
 
 mod batch;
 mod call;
+mod fault_lines;
 mod report;
 mod run;
 mod script;
 mod shape;
 mod status;
-mod telling;
 mod words;
 
 pub use call::top;

@@ -11,18 +11,18 @@ ghost use Rattle.pm_disk.specs.Worlds.{World};
 ghost use Rattle.pm_model.specs.declared.line.Line.{Line};
 ghost use Rattle.pm_model.specs.Batches.{HasCache};
 ghost use Rattle.pm_model.specs.Eval.{Pairs};
-ghost use Rattle.pm_script.specs.Reading.{rest_of};
+ghost use Rattle.pm_script.specs.Reading.{rest_of, KnowsEnd};
 ghost use Rattle.pm_script.specs.Texts.{texts_of};
 ghost use Rattle.pm_segments.specs.Ends.{EndsThere};
 ghost use Rattle.pm_engine.specs.Batches.{HasPlainFault};
 ghost use Rattle.pm_engine.specs.Engines.{running, IsAtRest, HasSegments};
 ghost use Rattle.pm_top.specs.declared.shape.TheConstants.{SHAPE};
 ghost use Rattle.pm_top.specs.Crashes.{CrashHoldsAcknowledged};
-ghost use Rattle.pm_top.specs.Promises.{IsBroken, IsShort, Stops};
-ghost use Rattle.pm_top.specs.Runs.{Progress, SameConsole, SameFiles, StandsSince, StandsOver, TurnsTo, LeavesRun};
+ghost use Rattle.pm_top.specs.Promises.{HasFailed, HasNoMemory, StopIs};
+ghost use Rattle.pm_top.specs.Runs.{CanRun, Progress, SameConsole, SameFiles, OnlyAnswers, KeepsRun, CountsBatch, IsOpenAfter, LinesAreAnswered, FaultIs, IsAtRestSince, IsAtRestAfter, BatchIsAnswered, LeavesRun};
 ghost use Rattle.pm_top.specs.Served.{script_of};
 
-use crate::batch::{Behind, gather};
+use crate::batch::{Continuation, next_batch};
 use pm_disk::Host;
 use pm_engine::Engine;
 use pm_model::{Line, Reply};
@@ -70,81 +70,73 @@ impl Run {
         requires lines { self.old.lines ≡ 0 }
         requires order { self.old.engine.order.items ≡ [] }
         requires end { H.tells → EndsThere self.old.engine.log (H.history host.old).world }
-        ensures same { H.tells → SameFiles (H.history host.old).world (H.history host.new).world }
+        ensures files { H.tells → AllMoments (H.history host.old) (H.history host.new) (SameFiles
+            (H.history host.old).world) }
 
         // What was answered.
-        ensures stops { H.tells → (start : World) → SameConsole start (H.history host.old).world →
-            IfOk result (λ stop. Stops stop start (H.history host.new).world
+        ensures stop { H.tells → (start : World) → SameConsole start (H.history host.old).world →
+            IfOk result (λ stop. StopIs stop start (H.history host.new).world
             self.old.engine.shape self.old.engine.map self.new.lines self.new.engine.order.items) }
-        ensures broken { H.tells → IsErrOf result StoreFault.Failed → (start : World) →
-            SameConsole start (H.history host.old).world → IsBroken start (H.history host.new).world
-            self.old.engine.shape self.old.engine.map self.new.lines self.new.engine.order.items }
-        ensures short { H.tells → IsErrOf result StoreFault.Memory → (start : World) →
-            SameConsole start (H.history host.old).world → IsShort start (H.history host.new).world
-            self.old.engine.shape self.old.engine.map self.new.lines self.new.engine.order.items }
+        ensures fault { H.tells → (start : World) → SameConsole start (H.history host.old).world →
+            FaultIs start (H.history host.new).world self.old.engine.shape self.old.engine.map
+            self.new result }
 
         // What a crash leaves, meanwhile and from then on.
         ensures moments { H.tells → (start : World) → SameConsole start (H.history host.old).world →
-            IsAtRest SHAPE (running self.old.engine) (H.history host.old).world →
-            HasSegments (running self.old.engine) (2 ^ 24) →
+            CanRun (running self.old.engine) (H.history host.old).world →
             AllMoments (H.history host.old) (H.history host.new) (CrashHoldsAcknowledged start
             self.old.engine.shape self.old.engine.map self.new.engine.order.items) }
         ensures leaves { H.tells → (start : World) → SameConsole start (H.history host.old).world →
-            IsAtRest SHAPE (running self.old.engine) (H.history host.old).world →
-            HasSegments (running self.old.engine) (2 ^ 24) →
+            CanRun (running self.old.engine) (H.history host.old).world →
             IfOk result (λ stop. stop ≡ Stop.Done → LeavesRun start
             self.old.engine.shape self.old.engine.map self.old self.new (H.history host.new).world) }
         ensures cause { HasPlainFault (H.state host.old) (H.state host.new) result }
     {
         let mut input = Lines::new(alloc)?;
         'batches: loop {
-            match self.turn(alloc, host, &mut input)? {
-                Behind::More => {}
-                Behind::End => {
+            match self.answer_batch(alloc, host, &mut input)? {
+                Continuation::More => {}
+                Continuation::End => {
                     self.engine.close(host)?;
                     return Ok(Stop::Done);
                 }
-                Behind::Over => return Ok(Stop::Limit),
+                Continuation::Over => return Ok(Stop::Limit),
             }
         }
     }
 
-    // Gathers the next lines of the script, does them, and tells how the script goes on.
-    fn turn<H: Host>(
+    // Does the next batch of the script, and says how the script goes on after it.
+    fn answer_batch<H: Host>(
         &mut self,
         alloc: Global,
         host: &mut H,
         input: &mut Lines,
-    ) -> Result<Behind, StoreFault>
+    ) -> Result<Continuation, StoreFault>
         requires usable { IsUsable (H.state host.old) }
         requires shape { IsShape self.old.engine.shape }
         requires counted { self.old.lines ≡ input.old.lines }
         requires few { self.old.lines ≤ most_lines }
         requires end { H.tells → EndsThere self.old.engine.log (H.history host.old).world }
-        ensures shape { self.new.engine.shape ≡ self.old.engine.shape }
-        ensures end { H.tells → OnOk result (EndsThere self.new.engine.log (H.history host.new).world) }
-        ensures few { OnOk result (self.new.lines ≤ most_lines) }
-        ensures more { IfOk result (λ behind. behind ≡ Behind.More →
-            (self.new.lines ≡ input.new.lines) × (self.old.lines < self.new.lines)) }
-        ensures same { H.tells → SameFiles (H.history host.old).world (H.history host.new).world }
+        requires input_end { H.tells → KnowsEnd input.old (H.history host.old).world }
+        ensures keeps { KeepsRun self.old self.new }
+        ensures counted { IfOk result (λ continuation. CountsBatch continuation input.new self.old self.new) }
+        ensures open { H.tells → IsOpenAfter (H.history host.old) (H.history host.new)
+            self.new.engine.log input.new result }
 
         // What was answered.
-        ensures turns { H.tells → IfOk result (λ behind. TurnsTo behind input.old input.new
-            (rest_of input.old (H.history host.old).world) (rest_of input.new (H.history host.new).world)
+        ensures answered { H.tells → IfOk result (λ continuation. BatchIsAnswered continuation
+            input.old input.new (rest_of input.old (H.history host.old).world)
+            (rest_of input.new (H.history host.new).world)
             (H.history host.old).world (H.history host.new).world self.old self.new) }
-        ensures broken { H.tells → IsErrOf result StoreFault.Failed →
-            (start : World) (shape : Shape) (pairs : Pairs) → Progress start (H.history host.old).world
+        ensures fault { H.tells → (start : World) (shape : Shape) (pairs : Pairs) →
+            Progress start (H.history host.old).world
             (script_of (rest_of input.old (H.history host.old).world)) shape pairs self.old →
-            IsBroken start (H.history host.new).world shape pairs self.new.lines self.new.engine.order.items }
-        ensures short { H.tells → IsErrOf result StoreFault.Memory →
-            (start : World) (shape : Shape) (pairs : Pairs) → Progress start (H.history host.old).world
-            (script_of (rest_of input.old (H.history host.old).world)) shape pairs self.old →
-            IsShort start (H.history host.new).world shape pairs self.new.lines self.new.engine.order.items }
+            FaultIs start (H.history host.new).world shape pairs self.new result }
 
         // What a crash leaves.
         ensures stands { H.tells → IsAtRest SHAPE (running self.old.engine) (H.history host.old).world →
             HasSegments (running self.old.engine) 2048 →
-            OnOk result (StandsOver self.old self.new (H.history host.new).world) }
+            OnOk result (IsAtRestAfter self.old self.new (H.history host.new).world) }
         ensures moments { H.tells → (start : World) (shape : Shape) (pairs : Pairs) →
             Progress start (H.history host.old).world
             (script_of (rest_of input.old (H.history host.old).world)) shape pairs self.old →
@@ -152,18 +144,16 @@ impl Run {
             HasSegments (running self.old.engine) 2048 →
             AllMoments (H.history host.old) (H.history host.new)
             (CrashHoldsAcknowledged start shape pairs self.new.engine.order.items) }
-        ensures extends { (more : List ℕ) ×
-            (self.new.engine.order.items ≡ self.old.engine.order.items ++ more) }
         ensures cause { HasPlainFault (H.state host.old) (H.state host.new) result }
     {
-        let batch = gather(alloc, host, input)?;
-        self.answer(alloc, host, &batch.lines)?;
-        self.answer(alloc, host, &batch.alone)?;
-        Ok(batch.behind)
+        let batch = next_batch(alloc, host, input)?;
+        self.answer_lines(alloc, host, &batch.lines)?;
+        self.answer_lines(alloc, host, &batch.alone)?;
+        Ok(batch.continuation)
     }
 
     // Does these lines as one batch, and prints their replies once the log is forced.
-    fn answer<H: Host>(
+    fn answer_lines<H: Host>(
         &mut self,
         alloc: Global,
         host: &mut H,
@@ -175,31 +165,21 @@ impl Run {
         requires few { length lines.now ≤ most_batch }
         requires numbers { self.old.lines + length lines.now ≤ most_lines }
         requires end { H.tells → EndsThere self.old.engine.log (H.history host.old).world }
-        ensures shape { self.new.engine.shape ≡ self.old.engine.shape }
-        ensures end { H.tells → OnOk result (EndsThere self.new.engine.log (H.history host.new).world) }
+        ensures keeps { KeepsRun self.old self.new }
         ensures lines { OnOk result (self.new.lines ≡ self.old.lines + length lines.now) }
-        ensures extends { (more : List ℕ) ×
-            (self.new.engine.order.items ≡ self.old.engine.order.items ++ more) }
-        ensures same { H.tells → SameFiles (H.history host.old).world (H.history host.new).world
-            × ((H.history host.new).world.input ≡ (H.history host.old).world.input) }
+        ensures end { H.tells → OnOk result (EndsThere self.new.engine.log (H.history host.new).world) }
+        ensures only_answers { H.tells → AllMoments (H.history host.old) (H.history host.new) (OnlyAnswers
+            (H.history host.old).world) }
 
         // What was answered.
-        ensures goes_on { H.tells → (start : World) (left : List Line) (shape : Shape) (pairs : Pairs) →
+        ensures answered { H.tells → (start : World) (left : List Line) (shape : Shape) (pairs : Pairs) →
             Progress start (H.history host.old).world (lines.now ++ left) shape pairs self.old →
-            OnOk result (Progress start (H.history host.new).world left shape pairs self.new) }
-        ensures broken { H.tells → IsErrOf result StoreFault.Failed →
-            (start : World) (left : List Line) (shape : Shape) (pairs : Pairs) →
-            Progress start (H.history host.old).world (lines.now ++ left) shape pairs self.old →
-            IsBroken start (H.history host.new).world shape pairs self.new.lines self.new.engine.order.items }
-        ensures short { H.tells → IsErrOf result StoreFault.Memory →
-            (start : World) (left : List Line) (shape : Shape) (pairs : Pairs) →
-            Progress start (H.history host.old).world (lines.now ++ left) shape pairs self.old →
-            IsShort start (H.history host.new).world shape pairs self.new.lines self.new.engine.order.items }
+            LinesAreAnswered start (H.history host.new).world left shape pairs self.new result }
 
         // What a crash leaves.
         ensures stands { H.tells → IsAtRest SHAPE (running self.old.engine) (H.history host.old).world →
             HasSegments (running self.old.engine) (length lines.now) → OnOk result
-            (StandsSince self.old self.new (length lines.now) (H.history host.new).world) }
+            (IsAtRestSince self.old self.new (length lines.now) (H.history host.new).world) }
         ensures moments { H.tells → (start : World) (left : List Line) (shape : Shape) (pairs : Pairs) →
             Progress start (H.history host.old).world (lines.now ++ left) shape pairs self.old →
             IsAtRest SHAPE (running self.old.engine) (H.history host.old).world →

@@ -1,12 +1,12 @@
 //! The lines of a script, as they are served.
 
 ghost use Rattle.pm_disk.specs.States.{IsUsable};
-ghost use Rattle.std.specs.Prelude.{◌≡◌, IfOk};
+ghost use Rattle.std.specs.Prelude.{◌≡◌, IfOk, OnOk};
 ghost use Rattle.pm_disk.specs.Moments.{AllMoments};
-ghost use Rattle.pm_script.specs.Reading.{rest_of, OnlyTakes};
+ghost use Rattle.pm_script.specs.Reading.{rest_of, KnowsEnd, OnlyTakes};
 ghost use Rattle.pm_engine.specs.Batches.{HasPlainFault};
 ghost use Rattle.pm_top.specs.Served.{served};
-ghost use Rattle.pm_top.specs.Scripts.{Reads, Counts, HasCacheNext};
+ghost use Rattle.pm_top.specs.Scripts.{GivesNextLine, CountsNextLine, NextLineHasCache};
 
 use pm_disk::Host;
 use pm_model::{Cmd, Line};
@@ -16,7 +16,7 @@ use std::alloc::Global;
 
 /// How a script goes on.
 #[derive(Drop)]
-pub enum Next {
+pub enum NextLine {
     /// With a line.
     Line(Line),
     /// It ends.
@@ -30,22 +30,24 @@ pub fn next_line<H: Host>(
     alloc: Global,
     host: &mut H,
     input: &mut Lines,
-) -> Result<Next, StoreFault>
+) -> Result<NextLine, StoreFault>
     requires usable { IsUsable (H.state host.old) }
-    ensures reads { H.tells → IfOk result (Reads input.old input.new
+    requires input_end { H.tells → KnowsEnd input.old (H.history host.old).world }
+    ensures reads { H.tells → IfOk result (GivesNextLine input.old input.new
         (rest_of input.old (H.history host.old).world) (rest_of input.new
         (H.history host.new).world)) }
-    ensures counts { IfOk result (Counts input.old input.new) }
-    ensures numbered { IfOk result HasCacheNext }
+    ensures input_end { H.tells → OnOk result (KnowsEnd input.new (H.history host.new).world) }
+    ensures counts { IfOk result (CountsNextLine input.old input.new) }
+    ensures numbered { IfOk result NextLineHasCache }
     ensures takes { H.tells → AllMoments (H.history host.old) (H.history host.new) (OnlyTakes
         (H.history host.old).world) }
     ensures cause { HasPlainFault (H.state host.old) (H.state host.new) result }
 {
     match input.next(host)? {
-        Item::Text(bytes) => Ok(Next::Line(served(read_line(alloc, bytes)?))),
-        Item::Long => Ok(Next::Line(Line::Long)),
-        Item::End => Ok(Next::End),
-        Item::Over => Ok(Next::Over),
+        Item::Text(bytes) => Ok(NextLine::Line(served(read_line(alloc, bytes)?))),
+        Item::Long => Ok(NextLine::Line(Line::Long)),
+        Item::End => Ok(NextLine::End),
+        Item::Over => Ok(NextLine::Over),
     }
 }
 

@@ -1,7 +1,6 @@
 //! The shape of a store.
 
-use pm_types::SEGMENT_BYTES_MAX;
-use pm_types::Shape;
+use pm_types::{SEGMENT_BYTES_MAX, Shape};
 
 /// The shape of each store: no file tells another one yet.
 pub const SHAPE: Shape = Shape {

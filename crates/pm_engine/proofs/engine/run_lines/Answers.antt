@@ -1,11 +1,11 @@
-use Rattle.std.proofs.Common.{rules, ◌≡◌, ◌∙◌, ◌+◌, ◌++◌, take, sym, ap, subst, arith, append-nil}
+use Rattle.std.proofs.Common.{rules, ◌≡◌, ◌∙◌, ◌+◌, ◌++◌, take, refl, sym, ap, subst, arith, append-nil}
 use Rattle.std.proofs.lemmas.List.{take_all}
 use Rattle.pm_model.specs.Eval.{replies_to}
 use Rattle.pm_disk.proofs.Chain.{at_last}
-use Rattle.pm_segments.specs.Written.{ChangesLog}
+use Rattle.pm_records.specs.LogFiles.{ChangesLog}
 use Rattle.pm_engine.specs.Engines.{running, HasDone}
 use Rattle.pm_engine.proofs.Trying.{log_still}
-use Rattle.pm_engine.proofs.Batching.{Comes, comes_first, comes_next, tries_some, tries_line, log_joined, told_more, none_taken}
+use Rattle.pm_engine.proofs.Batching.{HasRun, has_run_none, has_run_more, tries_some, tries_line, log_joined, told_more, take_none}
 use Rattle.pm_engine.proofs.engine.run_lines.Goals as goal
 
 pub each-init : goal.each-init
@@ -13,14 +13,14 @@ each-init g c =
     let old = g.H.Device.history c.args.host.now in
     let lines = c.args.lines.now in
     let start = running c.args.engine.now in
-    let first = comes_first g.H.Device.tells old start c.args.first lines (g.H.Device.sound c.args.host.now) (λ t. log_still old (g.H.Device.sound c.args.host.now t)) in
+    let first = has_run_none g.H.Device.tells old start c.args.first lines (g.H.Device.sound c.args.host.now) (λ t. log_still old (g.H.Device.sound c.args.host.now t)) in
     record {
       shape = first.shape;
-      told = sym (append-nil c.args.replies.now.items) ∙ ap (λ ls. c.args.replies.now.items ++ replies_to start.shape ls start.pairs) (sym (none_taken lines));
+      told = sym (append-nil c.args.replies.now.items) ∙ ap (λ ls. c.args.replies.now.items ++ replies_to start.shape ls start.pairs) (sym (take_none lines));
       map = first.map;
       order = first.order;
       number = search rules;
-      later = omega arith;
+      state = record { later = omega arith; access = refl; usable = λ usable. usable };
       end = c.requires.end;
       goes = first.goes;
       log_only = first.log_only;
@@ -34,10 +34,10 @@ each-preserved g c =
     let lines = c.args.lines.now in
     let start = running c.args.engine.now in
     let v = c.each.invariant in
-    let so_far : Comes g.H.Device.tells old start c.args.first lines c.each.line-index mid (running c.each.engine) =
+    let so_far : HasRun g.H.Device.tells old start c.args.first lines c.each.line-index mid (running c.each.engine) =
     record { shape = v.shape; map = v.map; order = v.order; goes = v.goes; log_only = v.log_only } in
-    let next : Comes g.H.Device.tells old start c.args.first lines (c.each.line-index + 1) new (running c.run_line.new.self) =
-    comes_next g.H.Device.tells old start c.args.first lines c.each.line-index mid new (running c.each.engine) (running c.run_line.new.self) c.each.number c.line-item.result so_far c.line-item.is (omega arith) v.number
+    let next : HasRun g.H.Device.tells old start c.args.first lines (c.each.line-index + 1) new (running c.run_line.new.self) =
+    has_run_more g.H.Device.tells old start c.args.first lines c.each.line-index mid new (running c.each.engine) (running c.run_line.new.self) c.each.number c.line-item.result so_far c.line-item.is (omega arith) v.number
     c.run_line.result c.run_line.ensures.tries c.in_ok-reply.reply c.in_ok-reply.was c.run_line.ensures.shape c.in_ok-reply.ensures.map c.run_line.ensures.goes c.run_line.ensures.log_only
     (λ t. at_last old mid (ChangesLog old.world) (g.H.Device.sound c.each.host t) (v.log_only t)) in
     record {
@@ -47,7 +47,11 @@ each-preserved g c =
       map = next.map;
       order = next.order;
       number = omega (arith, v.number);
-      later = omega (arith, v.later, c.run_line.ensures.cause.later);
+      state = record {
+        later = omega (arith, v.state.later, c.run_line.ensures.cause.later);
+        access = c.run_line.ensures.cause.access ∙ v.state.access;
+        usable = λ usable. c.run_line.ensures.cause.usable (v.state.usable usable);
+      };
       end = λ t. c.in_ok-reply.ensures.end t;
       goes = next.goes;
       log_only = next.log_only;
@@ -58,7 +62,7 @@ returns-in_err-reply-clause-tries g c =
     let old = g.H.Device.history c.args.host.now in
     let mid = g.H.Device.history c.each.host in
     let v = c.each.invariant in
-    let so_far : Comes g.H.Device.tells old (running c.args.engine.now) c.args.first c.args.lines.now c.each.line-index mid (running c.each.engine) =
+    let so_far : HasRun g.H.Device.tells old (running c.args.engine.now) c.args.first c.args.lines.now c.each.line-index mid (running c.each.engine) =
     record { shape = v.shape; map = v.map; order = v.order; goes = v.goes; log_only = v.log_only } in
     tries_line g.H.Device.tells old (running c.args.engine.now) c.args.first c.args.lines.now c.each.line-index mid (g.H.Device.history c.run_line.new.host) (running c.each.engine) (running c.run_line.new.self)
     c.each.number c.line-item.result so_far c.line-item.is (omega arith) v.number c.run_line.result c.run_line.ensures.tries c.from_residual.result (search rules)
@@ -78,10 +82,10 @@ returns-in_err-push-clause-tries g c =
     let lines = c.args.lines.now in
     let start = running c.args.engine.now in
     let v = c.each.invariant in
-    let so_far : Comes g.H.Device.tells old start c.args.first lines c.each.line-index mid (running c.each.engine) =
+    let so_far : HasRun g.H.Device.tells old start c.args.first lines c.each.line-index mid (running c.each.engine) =
     record { shape = v.shape; map = v.map; order = v.order; goes = v.goes; log_only = v.log_only } in
-    let next : Comes g.H.Device.tells old start c.args.first lines (c.each.line-index + 1) new (running c.run_line.new.self) =
-    comes_next g.H.Device.tells old start c.args.first lines c.each.line-index mid new (running c.each.engine) (running c.run_line.new.self) c.each.number c.line-item.result so_far c.line-item.is (omega arith) v.number
+    let next : HasRun g.H.Device.tells old start c.args.first lines (c.each.line-index + 1) new (running c.run_line.new.self) =
+    has_run_more g.H.Device.tells old start c.args.first lines c.each.line-index mid new (running c.each.engine) (running c.run_line.new.self) c.each.number c.line-item.result so_far c.line-item.is (omega arith) v.number
     c.run_line.result c.run_line.ensures.tries c.in_ok-reply.reply c.in_ok-reply.was c.run_line.ensures.shape c.in_ok-reply.ensures.map c.run_line.ensures.goes c.run_line.ensures.log_only
     (λ t. at_last old mid (ChangesLog old.world) (g.H.Device.sound c.each.host t) (v.log_only t)) in
     tries_some g.H.Device.tells old start c.args.first lines (c.each.line-index + 1) new (running c.run_line.new.self) c.from_residual-in_err-push.result next (omega arith) (search rules)
@@ -97,7 +101,7 @@ pub returns-clause-tries : goal.returns-clause-tries
 returns-clause-tries g c =
     let old = g.H.Device.history c.args.host.now in
     let v = c.each.invariant in
-    let so_far : Comes g.H.Device.tells old (running c.args.engine.now) c.args.first c.args.lines.now c.each.line-index (g.H.Device.history c.each.host) (running c.each.engine) =
+    let so_far : HasRun g.H.Device.tells old (running c.args.engine.now) c.args.first c.args.lines.now c.each.line-index (g.H.Device.history c.each.host) (running c.each.engine) =
     record { shape = v.shape; map = v.map; order = v.order; goes = v.goes; log_only = v.log_only } in
     tries_some g.H.Device.tells old (running c.args.engine.now) c.args.first c.args.lines.now c.each.line-index (g.H.Device.history c.each.host) (running c.each.engine) _ so_far (omega arith) (omega arith)
 

@@ -1,10 +1,10 @@
-use Rattle.pm_disk.specs.States.{IsLaterState}
 use Rattle.std.proofs.Common.{◌≡◌, ◌+◌, ◌≤◌, ◌++◌, length, take}
 use Rattle.pm_types.specs.declared.shape.Shape.{Shape}
 use Rattle.pm_disk.specs.Moments.{AllMoments}
+use Rattle.pm_disk.specs.States.{IsLaterState}
 use Rattle.pm_model.specs.Eval.{replies_to, after_all, accepted}
+use Rattle.pm_records.specs.LogFiles.{ChangesLog}
 use Rattle.pm_segments.specs.Ends.{EndsThere}
-use Rattle.pm_segments.specs.Written.{ChangesLog}
 use Rattle.pm_engine.specs.Held.{CrashHoldsPrefix}
 use Rattle.pm_engine.specs.Engines.{running, IsAtRest, HasDoneWithin, HasSegments}
 use Rattle.pm_engine.proofs.engine.run_lines.Given as goal

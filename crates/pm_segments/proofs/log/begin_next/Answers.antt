@@ -1,8 +1,8 @@
 use Rattle.std.proofs.Common.{[], ◌∷◌, ◌∙◌, ap}
 use Rattle.pm_disk.specs.Files.{Cut}
 use Rattle.pm_disk.specs.Worlds.{log_changed, log_forced}
-use Rattle.pm_segments.specs.Steps.{Force, NextSegment, next_segment, next_begin}
-use Rattle.pm_segments.proofs.Tracing.{moments_one, moments_first, moments_joined, world_joined, broke_off}
+use Rattle.pm_records.specs.LogSteps.{Force, NextSegment, next_segment, next_begin}
+use Rattle.pm_records.proofs.Tracing.{moments_one, moments_first, moments_joined, world_joined, broke_off}
 use Rattle.pm_segments.proofs.Emptied.{emptied}
 use Rattle.pm_segments.proofs.log.begin_next.Goals as goal
 

@@ -1,53 +1,54 @@
 use Rattle.std.proofs.Common.{◌≡◌, inl, inr, ℕ, ◌≤◌, ◌^◌, List, [], Err, ap, sym, ◌∙◌, subst, arith}
+use Rattle.std.specs.Prelude.{codes}
 use Rattle.std.proofs.lemmas.List.{length-map}
 use Rattle.pm_types.specs.declared.limits.TheConstants.{LINES_MAX}
 use Rattle.pm_disk.specs.Moments.{AllMoments}
 use Rattle.pm_disk.specs.Worlds.{World}
 use Rattle.pm_script.specs.Lines.{lines_of}
 use Rattle.pm_engine.specs.declared.engine.Engine.{Engine}
-use Rattle.pm_engine.specs.Engines.{running, IsAtRest, HasSegments}
-use Rattle.pm_top.specs.declared.shape.TheConstants.{SHAPE}
+use Rattle.pm_engine.specs.Engines.{running}
 use Rattle.pm_top.specs.declared.status.Status.{Status}
 use Rattle.pm_top.specs.Crashes.{CrashHoldsAcknowledged}
-use Rattle.pm_top.specs.Promises.{Ends, Stops, IsDone, IsStopped}
-use Rattle.pm_top.specs.Runs.{LeavesStore}
+use Rattle.pm_top.specs.Promises.{OutcomeIs, StopIs, IsDone, IsStopped}
+use Rattle.pm_top.specs.Runs.{CanRun, LeavesStore, SameFiles}
 use Rattle.pm_top.specs.Served.{line_of}
 use Rattle.pm_top.specs.Statuses.{code_of}
+use Rattle.pm_top.proofs.KeptFiles.{say_calls, then_calls}
 use Rattle.pm_top.proofs.Leaving.{leaves_store}
-use Rattle.pm_top.proofs.Told.{ends_long, told_moments}
+use Rattle.pm_top.proofs.PrintedLimit.{ends_long, limit_moments}
 use Rattle.pm_top.proofs.call.answer_script.Goals.{in-Ok-Done, in-Ok-Limit, in-Err-Failed, in-Err-Memory}
 use Rattle.pm_top.proofs.call.answer_script.Goals as goal
 
-pub returns-clause-ends : goal.returns-clause-ends
-returns-clause-ends g c t start same =
+pub returns-clause-outcome : goal.returns-clause-outcome
+returns-clause-outcome g c t start same =
     let engine = c.new-run.result.engine in
     let lines = c.serve.new.self.lines in
     let order = c.serve.new.self.engine.order.items in
     let mid = (g.H.Device.history c.serve.new.host).world in
     let new = (g.H.Device.history c.match-serve.host).world in
-    let ended : Ends c.match-serve.status start new engine.shape engine.map lines order = elim c.match-serve.branch [
+    let ended : OutcomeIs c.match-serve.status start new engine.shape engine.map lines order = elim c.match-serve.branch [
       | in-Ok-Done w ↦
-          let done : IsDone start mid engine.shape engine.map lines order = subst (λ s. Stops s start mid engine.shape engine.map lines order) w.in-Ok-Done.field-0-is (w.in-Ok-Done.ensures.stops t start same) in
-          subst (λ s. Ends s start new engine.shape engine.map lines order) (sym w.status-is)
+          let done : IsDone start mid engine.shape engine.map lines order = subst (λ s. StopIs s start mid engine.shape engine.map lines order) w.in-Ok-Done.field-0-is (w.in-Ok-Done.ensures.stop t start same) in
+          subst (λ s. OutcomeIs s start new engine.shape engine.map lines order) (sym w.status-is)
           (subst (λ h. IsDone start (g.H.Device.history h).world engine.shape engine.map lines order) (sym w.host-is) done)
       | in-Ok-Limit w ↦
-          let stopped : IsStopped start mid engine.shape engine.map lines order [] = subst (λ s. Stops s start mid engine.shape engine.map lines order) w.in-Ok-Limit.field-0-is (w.in-Ok-Limit.ensures.stops t start same) in
-          let told = w.tell_limit-status in
-          subst (λ s. Ends s start new engine.shape engine.map lines order) (sym w.status-is)
-          (subst (λ h. Ends told.result start (g.H.Device.history h).world engine.shape engine.map lines order) (sym w.host-is)
+          let stopped : IsStopped start mid engine.shape engine.map lines order [] = subst (λ s. StopIs s start mid engine.shape engine.map lines order) w.in-Ok-Limit.field-0-is (w.in-Ok-Limit.ensures.stop t start same) in
+          let told = w.print_limit_fault-status in
+          subst (λ s. OutcomeIs s start new engine.shape engine.map lines order) (sym w.status-is)
+          (subst (λ h. OutcomeIs told.result start (g.H.Device.history h).world engine.shape engine.map lines order) (sym w.host-is)
           (ends_long told.result start mid (g.H.Device.history told.new.host).world engine.shape engine.map lines order stopped (told.ensures.long t) (told.ensures.part t) told.ensures.cases))
       | in-Err-Failed w ↦
-          subst (λ s. Ends s start new engine.shape engine.map lines order) (sym w.status-is)
-          (subst (λ h. Ends Status.Failed start (g.H.Device.history h).world engine.shape engine.map lines order) (sym w.host-is) (w.in-Err-Failed.ensures.broken t (ap Err w.in-Err-Failed.field-0-is) start same))
+          subst (λ s. OutcomeIs s start new engine.shape engine.map lines order) (sym w.status-is)
+          (subst (λ h. OutcomeIs Status.Failed start (g.H.Device.history h).world engine.shape engine.map lines order) (sym w.host-is) ((w.in-Err-Failed.ensures.fault t start same).failed (ap Err w.in-Err-Failed.field-0-is)))
       | in-Err-Memory w ↦
-          subst (λ s. Ends s start new engine.shape engine.map lines order) (sym w.status-is)
-          (subst (λ h. Ends Status.Memory start (g.H.Device.history h).world engine.shape engine.map lines order) (sym w.host-is) (w.in-Err-Memory.ensures.short t (ap Err w.in-Err-Memory.field-0-is) start same))
+          subst (λ s. OutcomeIs s start new engine.shape engine.map lines order) (sym w.status-is)
+          (subst (λ h. OutcomeIs Status.Memory start (g.H.Device.history h).world engine.shape engine.map lines order) (sym w.host-is) ((w.in-Err-Memory.ensures.fault t start same).memory (ap Err w.in-Err-Memory.field-0-is)))
     ] in
-    subst (λ (e : Engine). Ends c.match-serve.status start new e.shape e.map lines c.into_order.result.items) c.new-run.ensures.engine
-    (subst (λ (o : List ℕ). Ends c.match-serve.status start new engine.shape engine.map lines o) (sym c.into_order.ensures) ended)
+    subst (λ (e : Engine). OutcomeIs c.match-serve.status start new e.shape e.map lines c.into_order.result.items) c.new-run.ensures.engine
+    (subst (λ (o : List ℕ). OutcomeIs c.match-serve.status start new engine.shape engine.map lines o) (sym c.into_order.ensures) ended)
 
 pub returns-clause-moments : goal.returns-clause-moments
-returns-clause-moments g c t start same stands room =
+returns-clause-moments g c t start same can =
     let engine = c.new-run.result.engine in
     let lines = c.serve.new.self.lines in
     let order = c.serve.new.self.engine.order.items in
@@ -55,16 +56,15 @@ returns-clause-moments g c t start same stands room =
     let mid = g.H.Device.history c.serve.new.host in
     let new = g.H.Device.history c.match-serve.host in
     let K : World → Type 0 = CrashHoldsAcknowledged start engine.shape engine.map order in
-    let stands_here : IsAtRest SHAPE (running engine) old.world = subst (λ (e : Engine). IsAtRest SHAPE (running e) old.world) (sym c.new-run.ensures.engine) stands in
-    let room_here : HasSegments (running engine) (2 ^ 24) = subst (λ (e : Engine). HasSegments (running e) (2 ^ 24)) (sym c.new-run.ensures.engine) room in
-    let served : AllMoments old mid K = c.serve.ensures.moments t start same stands_here room_here in
+    let can_here : CanRun (running engine) old.world = subst (λ (e : Engine). CanRun (running e) old.world) (sym c.new-run.ensures.engine) can in
+    let served : AllMoments old mid K = c.serve.ensures.moments t start same can_here in
     let all : AllMoments old new K = elim c.match-serve.branch [
       | in-Ok-Done w ↦ subst (λ h. AllMoments old (g.H.Device.history h) K) (sym w.host-is) served
       | in-Ok-Limit w ↦
-          let stopped : IsStopped start mid.world engine.shape engine.map lines order [] = subst (λ s. Stops s start mid.world engine.shape engine.map lines order) w.in-Ok-Limit.field-0-is (w.in-Ok-Limit.ensures.stops t start same) in
-          let told = w.tell_limit-status in
+          let stopped : IsStopped start mid.world engine.shape engine.map lines order [] = subst (λ s. StopIs s start mid.world engine.shape engine.map lines order) w.in-Ok-Limit.field-0-is (w.in-Ok-Limit.ensures.stop t start same) in
+          let told = w.print_limit_fault-status in
           subst (λ h. AllMoments old (g.H.Device.history h) K) (sym w.host-is)
-          (told_moments old mid (g.H.Device.history told.new.host) start engine.shape engine.map lines order (g.H.Device.sound c.serve.new.host t) stopped served (told.ensures.moments t))
+          (limit_moments old mid (g.H.Device.history told.new.host) start engine.shape engine.map lines order (g.H.Device.sound c.serve.new.host t) stopped served (told.ensures.moments t))
       | in-Err-Failed w ↦ subst (λ h. AllMoments old (g.H.Device.history h) K) (sym w.host-is) served
       | in-Err-Memory w ↦ subst (λ h. AllMoments old (g.H.Device.history h) K) (sym w.host-is) served
     ] in
@@ -72,7 +72,7 @@ returns-clause-moments g c t start same stands room =
     (subst (λ (o : List ℕ). AllMoments old new (CrashHoldsAcknowledged start engine.shape engine.map o)) (sym c.into_order.ensures) all)
 
 pub returns-clause-leaves : goal.returns-clause-leaves
-returns-clause-leaves g c t is start same stands room =
+returns-clause-leaves g c t is start same can =
     let run = c.new-run.result in
     let engine = run.engine in
     let later = c.serve.new.self in
@@ -81,15 +81,14 @@ returns-clause-leaves g c t is start same stands room =
     let old = g.H.Device.history c.args.host.now in
     let mid = (g.H.Device.history c.serve.new.host).world in
     let new = (g.H.Device.history c.match-serve.host).world in
-    let stands_here : IsAtRest SHAPE (running engine) old.world = subst (λ (e : Engine). IsAtRest SHAPE (running e) old.world) (sym c.new-run.ensures.engine) stands in
-    let room_here : HasSegments (running engine) (2 ^ 24) = subst (λ (e : Engine). HasSegments (running e) (2 ^ 24)) (sym c.new-run.ensures.engine) room in
+    let can_here : CanRun (running engine) old.world = subst (λ (e : Engine). CanRun (running e) old.world) (sym c.new-run.ensures.engine) can in
     let left : LeavesStore start new (running engine) = elim c.match-serve.branch [
       | in-Ok-Done w ↦
-          let done : IsDone start mid engine.shape engine.map lines order = subst (λ s. Stops s start mid engine.shape engine.map lines order) w.in-Ok-Done.field-0-is (w.in-Ok-Done.ensures.stops t start same) in
+          let done : IsDone start mid engine.shape engine.map lines order = subst (λ s. StopIs s start mid engine.shape engine.map lines order) w.in-Ok-Done.field-0-is (w.in-Ok-Done.ensures.stop t start same) in
           let few : lines ≤ LINES_MAX = omega (arith, done.all, done.limits.lines, length-map (lines_of start.input) line_of) in
           subst (λ h. LeavesStore start (g.H.Device.history h).world (running engine)) (sym w.host-is)
-          (leaves_store start mid run later c.new-run.ensures.lines few (w.in-Ok-Done.ensures.leaves t start same stands_here room_here w.in-Ok-Done.field-0-is))
-      | in-Ok-Limit w ↦ absurd (elim w.tell_limit-status.ensures.cases [
+          (leaves_store start mid run later c.new-run.ensures.lines few (w.in-Ok-Done.ensures.leaves t start same can_here w.in-Ok-Done.field-0-is))
+      | in-Ok-Limit w ↦ absurd (elim w.print_limit_fault-status.ensures.cases [
         | inl long ↦ (let clash : 0 ≡ 6 = ap code_of (sym is ∙ w.status-is ∙ long) in omega (arith, clash))
         | inr failed ↦ (let clash : 0 ≡ 3 = ap code_of (sym is ∙ w.status-is ∙ failed) in omega (arith, clash))
       ])
@@ -97,3 +96,20 @@ returns-clause-leaves g c t is start same stands room =
       | in-Err-Memory w ↦ absurd (let clash : 0 ≡ 4 = ap code_of (sym is ∙ w.status-is) in omega (arith, clash))
     ] in
     subst (λ (e : Engine). LeavesStore start new (running e)) c.new-run.ensures.engine left
+
+pub returns-clause-files : goal.returns-clause-files
+returns-clause-files g c t =
+    let old = g.H.Device.history c.args.host.now in
+    let mid = g.H.Device.history c.serve.new.host in
+    let K : World → Type 0 = SameFiles old.world in
+    let served : AllMoments old mid K = c.serve.ensures.files t in
+    elim c.match-serve.branch [
+      | in-Ok-Done w ↦ subst (λ h. AllMoments old (g.H.Device.history h) K) (sym w.host-is) served
+      | in-Ok-Limit w ↦
+          let printed = w.print_limit_fault-status in
+          let new = g.H.Device.history printed.new.host in
+          subst (λ h. AllMoments old (g.H.Device.history h) K) (sym w.host-is)
+          (then_calls old mid new (g.H.Device.sound c.serve.new.host t) served (say_calls (codes "fault long\n") mid new (printed.ensures.moments t)))
+      | in-Err-Failed w ↦ subst (λ h. AllMoments old (g.H.Device.history h) K) (sym w.host-is) served
+      | in-Err-Memory w ↦ subst (λ h. AllMoments old (g.H.Device.history h) K) (sym w.host-is) served
+    ]

@@ -1,43 +1,55 @@
 use Rattle.std.proofs.Common.{◌≡◌, subst}
-use Rattle.pm_disk.specs.Images.{NothingPending}
+use Rattle.std.specs.Prelude.{codes}
 use Rattle.pm_disk.specs.Moments.{AllMoments}
 use Rattle.pm_disk.specs.Worlds.{World}
 use Rattle.pm_disk.proofs.Chain.{joined}
 use Rattle.pm_model.specs.Eval.{after_all}
-use Rattle.pm_engine.specs.Held.{Holds, HasNumbers}
-use Rattle.pm_top.specs.declared.shape.TheConstants.{SHAPE}
 use Rattle.pm_top.specs.Crashes.{CrashHoldsAcknowledged}
-use Rattle.pm_top.specs.Promises.{IsLeft}
+use Rattle.pm_top.specs.Promises.{HoldsAtEachMoment, IsDamaged, IsLeft, IsStart, OutcomeIs}
 use Rattle.pm_top.specs.Served.{script_of}
-use Rattle.pm_top.proofs.Opened.{rest_keeps, refused_moments, bound_moments}
+use Rattle.pm_top.proofs.KeptFiles.{bind_call, say_calls, then_calls}
+use Rattle.pm_top.proofs.Opened.{rest_keeps, refused_moments, bound_moments, run_from}
 use Rattle.pm_top.proofs.call.command.Goals as goal
 
-pub returns-then-not-is_run-clause-crash : goal.returns-then-not-is_run-clause-crash
-returns-then-not-is_run-clause-crash g c t shape pairs holds numbers nothing =
+pub returns-in_default-clause-crash : goal.returns-in_default-clause-crash
+returns-in_default-clause-crash g c t shape pairs start =
     let old = g.H.Device.history c.args.host.now in
-    refused_moments old (g.H.Device.history c.tell_usage.new.host) shape pairs c.without.result.order.items (rest_keeps old.world shape pairs holds numbers nothing) (c.tell_usage.ensures.moments t)
+    refused_moments old (g.H.Device.history c.print_usage_fault.new.host) shape pairs c.without.result.order.items (rest_keeps old.world shape pairs start.holds start.numbers start.quiet) (c.print_usage_fault.ensures.moments t)
+
+pub returns-in-Ok-clause-run : goal.returns-in-Ok-clause-run
+returns-in-Ok-clause-run g c t is =
+    let old = g.H.Device.history c.args.host.now in
+    let mid = g.H.Device.history c.bind.new.self in
+    let new = g.H.Device.history c.run.new.host in
+    let same : mid.world ≡ old.world = (c.in-Ok.ensures.does t).ok in
+    run_from old mid new c.run.result.status c.run.result.lines c.run.result.order.items same (c.run.ensures.run t)
 
 pub returns-in-Ok-clause-crash : goal.returns-in-Ok-clause-crash
-returns-in-Ok-clause-crash g c t shape pairs holds numbers nothing =
+returns-in-Ok-clause-crash g c t shape pairs start =
     let old = g.H.Device.history c.args.host.now in
     let mid = g.H.Device.history c.bind.new.self in
     let new = g.H.Device.history c.run.new.host in
+    let same : mid.world ≡ old.world = (c.in-Ok.ensures.does t).ok in
     let order = c.run.result.order.items in
-    let same : mid.world ≡ old.world = (c.in-Ok.ensures.does t).ok in
     joined old mid new (CrashHoldsAcknowledged old.world shape pairs order)
-    (bound_moments old mid c.bind.result shape pairs order (g.H.Device.sound c.args.host.now t) (rest_keeps old.world shape pairs holds numbers nothing) (c.bind.ensures.does t))
-    (subst (λ (w : World). (holds : Holds SHAPE w shape pairs) → HasNumbers holds.frames → NothingPending w → AllMoments mid new (CrashHoldsAcknowledged w shape pairs order)) same (c.run.ensures.moments t shape pairs) holds numbers nothing)
-
-pub returns-in-Ok-clause-leaves : goal.returns-in-Ok-clause-leaves
-returns-in-Ok-clause-leaves g c t is shape pairs holds numbers nothing =
-    let old = g.H.Device.history c.args.host.now in
-    let mid = g.H.Device.history c.bind.new.self in
-    let new = g.H.Device.history c.run.new.host in
-    let same : mid.world ≡ old.world = (c.in-Ok.ensures.does t).ok in
-    subst (λ (w : World). (holds : Holds SHAPE w shape pairs) → HasNumbers holds.frames → NothingPending w → IsLeft holds.frames 8388608 new.world shape (after_all shape (script_of w.input) pairs)) same
-    (c.run.ensures.leaves t is shape pairs) holds numbers nothing
+    (bound_moments old mid c.bind.result shape pairs order (g.H.Device.sound c.args.host.now t) (rest_keeps old.world shape pairs start.holds start.numbers start.quiet) (c.bind.ensures.does t))
+    (subst (λ (w : World). IsStart w shape pairs → AllMoments mid new (CrashHoldsAcknowledged w shape pairs order)) same (c.run.ensures.crash t shape pairs) start)
 
 pub returns-in-Err-clause-crash : goal.returns-in-Err-clause-crash
-returns-in-Err-clause-crash g c t shape pairs holds numbers nothing =
+returns-in-Err-clause-crash g c t shape pairs start =
     let old = g.H.Device.history c.args.host.now in
-    bound_moments old (g.H.Device.history c.bind.new.self) c.bind.result shape pairs c.without-in-Err.result.order.items (g.H.Device.sound c.args.host.now t) (rest_keeps old.world shape pairs holds numbers nothing) (c.bind.ensures.does t)
+    bound_moments old (g.H.Device.history c.bind.new.self) c.bind.result shape pairs c.without-in-Err.result.order.items (g.H.Device.sound c.args.host.now t) (rest_keeps old.world shape pairs start.holds start.numbers start.quiet) (c.bind.ensures.does t)
+
+pub returns-in_default-clause-files : goal.returns-in_default-clause-files
+returns-in_default-clause-files g c t =
+    say_calls (codes "fault usage\n") (g.H.Device.history c.args.host.now) (g.H.Device.history c.print_usage_fault.new.host) (c.print_usage_fault.ensures.moments t)
+
+pub returns-in-Ok-clause-files : goal.returns-in-Ok-clause-files
+returns-in-Ok-clause-files g c t =
+    let old = g.H.Device.history c.args.host.now in
+    let mid = g.H.Device.history c.bind.new.self in
+    then_calls old mid (g.H.Device.history c.run.new.host) (g.H.Device.sound c.bind.new.self t) (bind_call old mid c.bind.result (g.H.Device.sound c.args.host.now t) (c.bind.ensures.does t)) (c.run.ensures.files t)
+
+pub returns-in-Err-clause-files : goal.returns-in-Err-clause-files
+returns-in-Err-clause-files g c t =
+    bind_call (g.H.Device.history c.args.host.now) (g.H.Device.history c.bind.new.self) c.bind.result (g.H.Device.sound c.args.host.now t) (c.bind.ensures.does t)

@@ -1,14 +1,14 @@
-use Rattle.pm_top.proofs.Limits.{whole_or_memory, told_or_memory}
+use Rattle.std.proofs.Common.{sym, subst}
+use Rattle.pm_top.specs.declared.status.Status.{Status}
+use Rattle.pm_top.specs.Promises.{Completes}
+use Rattle.pm_top.proofs.Limits.{completes}
 use Rattle.pm_top.proofs.call.top.Goals as goal
 
 pub returns-clause-complete : goal.returns-clause-complete
-returns-clause-complete g c t is shape pairs holds within sound =
+returns-clause-complete g c t is =
     let outcome = c.command-outcome.result in
-    whole_or_memory outcome.status c.code.result (g.H.Device.history c.args.host.now).world (g.H.Device.history c.command-outcome.new.host).world shape pairs outcome.lines outcome.order.items
-    c.code.ensures.number (c.command-outcome.ensures.replies t is shape pairs holds) within (λ failed. sound (c.command-outcome.ensures.failed failed))
-
-pub returns-clause-passes : goal.returns-clause-passes
-returns-clause-passes g c t is shape pairs holds passes sound =
-    let outcome = c.command-outcome.result in
-    told_or_memory outcome.status c.code.result (g.H.Device.history c.args.host.now).world (g.H.Device.history c.command-outcome.new.host).world shape pairs outcome.lines outcome.order.items
-    c.code.ensures.number (c.command-outcome.ensures.replies t is shape pairs holds) passes (λ failed. sound (c.command-outcome.ensures.failed failed))
+    let old = g.H.Device.history c.args.host.now in
+    let before = g.H.Device.state c.args.host.now in
+    let now = g.H.Device.state c.command-outcome.new.host in
+    subst (λ (s : Status). Completes s old.world before now) (sym c.code.ensures.status)
+    (completes old (g.H.Device.history c.command-outcome.new.host) outcome.status outcome.lines outcome.order.items before now (c.command-outcome.ensures.run t is) c.command-outcome.ensures.cause.failed)

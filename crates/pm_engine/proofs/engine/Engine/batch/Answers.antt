@@ -1,7 +1,7 @@
 use Rattle.std.proofs.Common.{rules, ◌≡◌, length, Ok, sym, subst, arith}
 use Rattle.pm_types.specs.declared.fault.StoreFault.{StoreFault}
 use Rattle.pm_disk.proofs.Chain.{at_last}
-use Rattle.pm_segments.specs.Written.{ChangesLog}
+use Rattle.pm_records.specs.LogFiles.{ChangesLog}
 use Rattle.pm_engine.specs.Batches.{TriesLines}
 use Rattle.pm_engine.specs.Engines.{running}
 use Rattle.pm_engine.proofs.Batching.{ok_holds, log_joined}
@@ -52,7 +52,7 @@ pub returns-clause-stands : goal.returns-clause-stands
 returns-clause-stands g c t wanted stands segments =
     let goes = c.in_ok-run_lines.ensures.goes t wanted stands segments in
     let forced = c.in_ok-force.ensures.stands t wanted c.args.self.now.map c.args.lines.now goes.0 in
-    record { stands = forced.stands; climbs = omega (arith, forced.climbs, goes.1); lasting = forced.lasting }
+    record { stands = forced.stands; rises = omega (arith, forced.rises, goes.1); lasting = forced.lasting }
 
 pub returns-clause-log_only : goal.returns-clause-log_only
 returns-clause-log_only g c t =

@@ -6,19 +6,19 @@ use Rattle.pm_disk.specs.Worlds.{World, segment_in}
 use Rattle.pm_disk.specs.Files.{bytes_of}
 use Rattle.pm_disk.specs.Moments.{AllMoments}
 use Rattle.pm_disk.proofs.Chain.{weaker, joined, at_last}
-use Rattle.pm_segments.specs.Ends.{CutsTail}
-use Rattle.pm_segments.specs.Steps.{DoesSome, steps_of, world_after}
-use Rattle.pm_segments.specs.Written.{ChangesLog}
-use Rattle.pm_segments.proofs.Quiet.{log_same, log_then, cuts_change, some_change}
+use Rattle.pm_records.specs.LogFiles.{ChangesLog}
+use Rattle.pm_records.specs.LogSteps.{cut_steps, DoesPrefix, world_after}
+use Rattle.pm_records.proofs.QuietLog.{log_same, log_then, prefix_changes}
+use Rattle.pm_segments.specs.Appends.{steps_of}
 use Rattle.pm_engine.specs.Held.{CrashHoldsPrefix}
 use Rattle.pm_engine.specs.Openings.{IsSame, ReadsAll, IsBadStore}
-use Rattle.pm_engine.proofs.Opening.{end_within, reads_held, cutting_keeps, cut_all, some_all, stands_all}
+use Rattle.pm_engine.proofs.Opening.{end_within, reads_held, sound_keeps, cut_all, some_all, opened_at_rest}
 use Rattle.pm_engine.proofs.engine.Engine.open_store.Goals as goal
 
 pub returns-in_err-end-clause-bad : goal.returns-in_err-end-clause-bad
 returns-in_err-end-clause-bad g c t at is =
     let its : IsErrOf c.read_log.result (BadRecord at) = search rules in
-    subst (λ s. IsBadStore s at (g.H.Device.history c.args.host.now).world (g.H.Device.history c.read_log.new.host).world) c.new-found.ensures.shape (c.read_log.ensures.bad t at its)
+    subst (λ s. IsBadStore s at (g.H.Device.history c.args.host.now).world (g.H.Device.history c.read_log.new.host).world) c.new-replay.ensures.shape (c.read_log.ensures.bad t at its)
 
 pub returns-in_err-end-clause-moments : goal.returns-in_err-end-clause-moments
 returns-in_err-end-clause-moments g c t shape pairs holds numbered quiet =
@@ -26,15 +26,15 @@ returns-in_err-end-clause-moments g c t shape pairs holds numbered quiet =
     let mid = g.H.Device.history c.read_log.new.host in
     let wanted = c.args.wanted in
     let P = CrashHoldsPrefix wanted shape pairs [] in
-    (weaker old mid (IsSame old.world) (CrashHoldsPrefix wanted shape pairs []) (λ w is. cutting_keeps wanted old.world shape pairs holds numbered quiet w (inl is)) (c.read_log.ensures.same t))
+    (weaker old mid (IsSame old.world) (CrashHoldsPrefix wanted shape pairs []) (λ w is. sound_keeps wanted old.world shape pairs holds numbered quiet w is) (c.read_log.ensures.same t))
 
 pub cut_tail-requires-clause-long : goal.cut_tail-requires-clause-long
 cut_tail-requires-clause-long g c t =
     let old = g.H.Device.history c.args.host.now in
     let mid = g.H.Device.history c.read_log.new.host in
     let same = at_last old mid (IsSame old.world) (g.H.Device.sound c.read_log.new.host t) (c.read_log.ensures.same t) in
-    let reads = subst (λ s. ReadsAll s old.world c.in_ok-end.end c.read_log.new.found) c.new-found.ensures.shape (c.in_ok-end.ensures.reads t) in
-    subst (λ (w : World). c.in_ok-end.end.off ≤ length (bytes_of (segment_in w c.in_ok-end.end.seg))) (sym same) (end_within c.args.wanted old.world c.in_ok-end.end c.read_log.new.found reads)
+    let reads = subst (λ s. ReadsAll s old.world c.in_ok-end.end c.read_log.new.replay) c.new-replay.ensures.shape (c.in_ok-end.ensures.reads t) in
+    subst (λ (w : World). c.in_ok-end.end.off ≤ length (bytes_of (segment_in w c.in_ok-end.end.seg))) (sym same) (end_within c.args.wanted old.world c.in_ok-end.end c.read_log.new.replay reads)
 
 pub returns-in_err-log-clause-moments : goal.returns-in_err-log-clause-moments
 returns-in_err-log-clause-moments g c t shape pairs holds numbered quiet =
@@ -42,12 +42,12 @@ returns-in_err-log-clause-moments g c t shape pairs holds numbered quiet =
     let mid = g.H.Device.history c.read_log.new.host in
     let cut = g.H.Device.history c.cut_tail.new.dev in
     let same = at_last old mid (IsSame old.world) (g.H.Device.sound c.read_log.new.host t) (c.read_log.ensures.same t) in
-    let reads = subst (λ s. ReadsAll s old.world c.in_ok-end.end c.read_log.new.found) c.new-found.ensures.shape (c.in_ok-end.ensures.reads t) in
+    let reads = subst (λ s. ReadsAll s old.world c.in_ok-end.end c.read_log.new.replay) c.new-replay.ensures.shape (c.in_ok-end.ensures.reads t) in
     let wanted = c.args.wanted in
     let P = CrashHoldsPrefix wanted shape pairs [] in
-    let first : AllMoments old mid P = (weaker old mid (IsSame old.world) (CrashHoldsPrefix wanted shape pairs []) (λ w is. cutting_keeps wanted old.world shape pairs holds numbered quiet w (inl is)) (c.read_log.ensures.same t)) in
+    let first : AllMoments old mid P = (weaker old mid (IsSame old.world) (CrashHoldsPrefix wanted shape pairs []) (λ w is. sound_keeps wanted old.world shape pairs holds numbered quiet w is) (c.read_log.ensures.same t)) in
     let second : AllMoments old cut P = joined old mid cut P first
-    (weaker mid cut (CutsTail c.in_ok-end.end mid.world) P (λ w cuts. cut_all wanted old.world shape pairs holds numbered quiet c.in_ok-end.end c.read_log.new.found reads mid.world same w cuts) (c.cut_tail.ensures.moments t)) in
+    (weaker mid cut (DoesPrefix cut_steps c.in_ok-end.end mid.world) P (λ w cuts. cut_all wanted old.world shape pairs holds numbered quiet c.in_ok-end.end c.read_log.new.replay reads mid.world same w cuts) ((c.cut_tail.ensures.steps t).moments)) in
     second
 
 pub returns-in_err-log-clause-log_only : goal.returns-in_err-log-clause-log_only
@@ -58,7 +58,7 @@ returns-in_err-log-clause-log_only g c t =
     let L : World → Type 0 = ChangesLog old.world in
     let first : AllMoments old mid L = weaker old mid (IsSame old.world) L (λ w is. subst (ChangesLog old.world) (sym is) (log_same old.world)) (c.read_log.ensures.same t) in
     let second : AllMoments old cut L = joined old mid cut L first
-    (weaker mid cut (CutsTail c.in_ok-end.end mid.world) L (λ w cuts. log_then old.world mid.world w (at_last old mid L (g.H.Device.sound c.read_log.new.host t) first) (cuts_change c.in_ok-end.end mid.world w cuts)) (c.cut_tail.ensures.moments t)) in
+    (weaker mid cut (DoesPrefix cut_steps c.in_ok-end.end mid.world) L (λ w cuts. log_then old.world mid.world w (at_last old mid L (g.H.Device.sound c.read_log.new.host t) first) (prefix_changes cut_steps c.in_ok-end.end mid.world w cuts)) ((c.cut_tail.ensures.steps t).moments)) in
     second
 
 pub returns-in_err-append-clause-moments : goal.returns-in_err-append-clause-moments
@@ -67,17 +67,17 @@ returns-in_err-append-clause-moments g c t shape pairs holds numbered quiet =
     let mid = g.H.Device.history c.read_log.new.host in
     let cut = g.H.Device.history c.cut_tail.new.dev in
     let same = at_last old mid (IsSame old.world) (g.H.Device.sound c.read_log.new.host t) (c.read_log.ensures.same t) in
-    let reads = subst (λ s. ReadsAll s old.world c.in_ok-end.end c.read_log.new.found) c.new-found.ensures.shape (c.in_ok-end.ensures.reads t) in
+    let reads = subst (λ s. ReadsAll s old.world c.in_ok-end.end c.read_log.new.replay) c.new-replay.ensures.shape (c.in_ok-end.ensures.reads t) in
     let wanted = c.args.wanted in
     let P = CrashHoldsPrefix wanted shape pairs [] in
-    let first : AllMoments old mid P = (weaker old mid (IsSame old.world) (CrashHoldsPrefix wanted shape pairs []) (λ w is. cutting_keeps wanted old.world shape pairs holds numbered quiet w (inl is)) (c.read_log.ensures.same t)) in
+    let first : AllMoments old mid P = (weaker old mid (IsSame old.world) (CrashHoldsPrefix wanted shape pairs []) (λ w is. sound_keeps wanted old.world shape pairs holds numbered quiet w is) (c.read_log.ensures.same t)) in
     let second : AllMoments old cut P = joined old mid cut P first
-    (weaker mid cut (CutsTail c.in_ok-end.end mid.world) P (λ w cuts. cut_all wanted old.world shape pairs holds numbered quiet c.in_ok-end.end c.read_log.new.found reads mid.world same w cuts) (c.cut_tail.ensures.moments t)) in
+    (weaker mid cut (DoesPrefix cut_steps c.in_ok-end.end mid.world) P (λ w cuts. cut_all wanted old.world shape pairs holds numbered quiet c.in_ok-end.end c.read_log.new.replay reads mid.world same w cuts) ((c.cut_tail.ensures.steps t).moments)) in
     let new = g.H.Device.history c.append.new.dev in
     let log = c.in_ok-log.log in
     joined old cut new P second
-    (weaker cut new (DoesSome (steps_of c.append.new.self.tried log (record { kind = RESTART; payload = c.restart_payload.result })) log.end cut.world) P
-    (λ w some. some_all wanted old.world shape pairs holds numbered quiet c.in_ok-end.end c.read_log.new.found reads mid.world same c.in_ok-end.ensures.shape log c.in_ok-log.ensures.log c.restart_payload.result c.restart_payload.ensures.payload cut.world (c.in_ok-log.ensures.world t) c.append.new.self.tried w some)
+    (weaker cut new (DoesPrefix (steps_of c.append.new.self.tried log (record { kind = RESTART; payload = c.restart_payload.result })) log.end cut.world) P
+    (λ w some. some_all wanted old.world shape pairs holds numbered quiet c.in_ok-end.end c.read_log.new.replay reads mid.world same c.in_ok-end.ensures.shape log c.in_ok-log.ensures.log c.restart_payload.result c.restart_payload.ensures.payload cut.world (c.in_ok-log.ensures.steps t).all c.append.new.self.tried w some)
     (c.append.ensures.steps t).moments)
 
 pub returns-in_err-append-clause-log_only : goal.returns-in_err-append-clause-log_only
@@ -88,19 +88,19 @@ returns-in_err-append-clause-log_only g c t =
     let L : World → Type 0 = ChangesLog old.world in
     let first : AllMoments old mid L = weaker old mid (IsSame old.world) L (λ w is. subst (ChangesLog old.world) (sym is) (log_same old.world)) (c.read_log.ensures.same t) in
     let second : AllMoments old cut L = joined old mid cut L first
-    (weaker mid cut (CutsTail c.in_ok-end.end mid.world) L (λ w cuts. log_then old.world mid.world w (at_last old mid L (g.H.Device.sound c.read_log.new.host t) first) (cuts_change c.in_ok-end.end mid.world w cuts)) (c.cut_tail.ensures.moments t)) in
+    (weaker mid cut (DoesPrefix cut_steps c.in_ok-end.end mid.world) L (λ w cuts. log_then old.world mid.world w (at_last old mid L (g.H.Device.sound c.read_log.new.host t) first) (prefix_changes cut_steps c.in_ok-end.end mid.world w cuts)) ((c.cut_tail.ensures.steps t).moments)) in
     let new = g.H.Device.history c.append.new.dev in
     let log = c.in_ok-log.log in
     let steps = steps_of c.append.new.self.tried log (record { kind = RESTART; payload = c.restart_payload.result }) in
     joined old cut new L second
-    (weaker cut new (DoesSome steps log.end cut.world) L (λ w some. log_then old.world cut.world w (at_last old cut L (g.H.Device.sound c.cut_tail.new.dev t) second) (some_change steps log.end cut.world w some)) (c.append.ensures.steps t).moments)
+    (weaker cut new (DoesPrefix steps log.end cut.world) L (λ w some. log_then old.world cut.world w (at_last old cut L (g.H.Device.sound c.cut_tail.new.dev t) second) (prefix_changes steps log.end cut.world w some)) (c.append.ensures.steps t).moments)
 
 pub returns-clause-holds : goal.returns-clause-holds
 returns-clause-holds g c t shape pairs holds =
     let old = g.H.Device.history c.args.host.now in
     let mid = g.H.Device.history c.read_log.new.host in
-    let reads = subst (λ s. ReadsAll s old.world c.in_ok-end.end c.read_log.new.found) c.new-found.ensures.shape (c.in_ok-end.ensures.reads t) in
-    reads_held c.args.wanted old.world shape pairs holds c.in_ok-end.end c.read_log.new.found reads
+    let reads = subst (λ s. ReadsAll s old.world c.in_ok-end.end c.read_log.new.replay) c.new-replay.ensures.shape (c.in_ok-end.ensures.reads t) in
+    reads_held c.args.wanted old.world shape pairs holds c.in_ok-end.end c.read_log.new.replay reads
 
 pub returns-clause-stands : goal.returns-clause-stands
 returns-clause-stands g c t shape pairs holds numbered quiet =
@@ -108,11 +108,11 @@ returns-clause-stands g c t shape pairs holds numbered quiet =
     let mid = g.H.Device.history c.read_log.new.host in
     let cut = g.H.Device.history c.cut_tail.new.dev in
     let same = at_last old mid (IsSame old.world) (g.H.Device.sound c.read_log.new.host t) (c.read_log.ensures.same t) in
-    let reads = subst (λ s. ReadsAll s old.world c.in_ok-end.end c.read_log.new.found) c.new-found.ensures.shape (c.in_ok-end.ensures.reads t) in
+    let reads = subst (λ s. ReadsAll s old.world c.in_ok-end.end c.read_log.new.replay) c.new-replay.ensures.shape (c.in_ok-end.ensures.reads t) in
     let new = g.H.Device.history c.append.new.dev in
     let log = c.in_ok-log.log in
     let tried : c.append.new.self.tried ≡ true = ap (λ l. l.tried) c.in_ok-append.ensures.grown in
-    stands_all c.args.wanted old.world shape pairs holds numbered quiet c.in_ok-end.end c.read_log.new.found reads mid.world same c.in_ok-end.ensures.shape log c.in_ok-log.ensures.log c.restart_payload.result c.restart_payload.ensures.payload cut.world (c.in_ok-log.ensures.world t)
+    opened_at_rest c.args.wanted old.world shape pairs holds numbered quiet c.in_ok-end.end c.read_log.new.replay reads mid.world same c.in_ok-end.ensures.shape log c.in_ok-log.ensures.log c.restart_payload.result c.restart_payload.ensures.payload cut.world (c.in_ok-log.ensures.steps t).all
     _ new.world refl refl c.in_ok-append.ensures.grown
     (subst (λ b. new.world ≡ world_after (steps_of b log (record { kind = RESTART; payload = c.restart_payload.result })) log.end cut.world) tried (c.in_ok-append.ensures.steps t).all)
 
@@ -122,17 +122,17 @@ returns-clause-moments g c t shape pairs holds numbered quiet =
     let mid = g.H.Device.history c.read_log.new.host in
     let cut = g.H.Device.history c.cut_tail.new.dev in
     let same = at_last old mid (IsSame old.world) (g.H.Device.sound c.read_log.new.host t) (c.read_log.ensures.same t) in
-    let reads = subst (λ s. ReadsAll s old.world c.in_ok-end.end c.read_log.new.found) c.new-found.ensures.shape (c.in_ok-end.ensures.reads t) in
+    let reads = subst (λ s. ReadsAll s old.world c.in_ok-end.end c.read_log.new.replay) c.new-replay.ensures.shape (c.in_ok-end.ensures.reads t) in
     let wanted = c.args.wanted in
     let P = CrashHoldsPrefix wanted shape pairs [] in
-    let first : AllMoments old mid P = (weaker old mid (IsSame old.world) (CrashHoldsPrefix wanted shape pairs []) (λ w is. cutting_keeps wanted old.world shape pairs holds numbered quiet w (inl is)) (c.read_log.ensures.same t)) in
+    let first : AllMoments old mid P = (weaker old mid (IsSame old.world) (CrashHoldsPrefix wanted shape pairs []) (λ w is. sound_keeps wanted old.world shape pairs holds numbered quiet w is) (c.read_log.ensures.same t)) in
     let second : AllMoments old cut P = joined old mid cut P first
-    (weaker mid cut (CutsTail c.in_ok-end.end mid.world) P (λ w cuts. cut_all wanted old.world shape pairs holds numbered quiet c.in_ok-end.end c.read_log.new.found reads mid.world same w cuts) (c.cut_tail.ensures.moments t)) in
+    (weaker mid cut (DoesPrefix cut_steps c.in_ok-end.end mid.world) P (λ w cuts. cut_all wanted old.world shape pairs holds numbered quiet c.in_ok-end.end c.read_log.new.replay reads mid.world same w cuts) ((c.cut_tail.ensures.steps t).moments)) in
     let new = g.H.Device.history c.append.new.dev in
     let log = c.in_ok-log.log in
     joined old cut new P second
-    (weaker cut new (DoesSome (steps_of c.append.new.self.tried log (record { kind = RESTART; payload = c.restart_payload.result })) log.end cut.world) P
-    (λ w some. some_all wanted old.world shape pairs holds numbered quiet c.in_ok-end.end c.read_log.new.found reads mid.world same c.in_ok-end.ensures.shape log c.in_ok-log.ensures.log c.restart_payload.result c.restart_payload.ensures.payload cut.world (c.in_ok-log.ensures.world t) c.append.new.self.tried w some)
+    (weaker cut new (DoesPrefix (steps_of c.append.new.self.tried log (record { kind = RESTART; payload = c.restart_payload.result })) log.end cut.world) P
+    (λ w some. some_all wanted old.world shape pairs holds numbered quiet c.in_ok-end.end c.read_log.new.replay reads mid.world same c.in_ok-end.ensures.shape log c.in_ok-log.ensures.log c.restart_payload.result c.restart_payload.ensures.payload cut.world (c.in_ok-log.ensures.steps t).all c.append.new.self.tried w some)
     (c.append.ensures.steps t).moments)
 
 pub returns-clause-log_only : goal.returns-clause-log_only
@@ -143,9 +143,9 @@ returns-clause-log_only g c t =
     let L : World → Type 0 = ChangesLog old.world in
     let first : AllMoments old mid L = weaker old mid (IsSame old.world) L (λ w is. subst (ChangesLog old.world) (sym is) (log_same old.world)) (c.read_log.ensures.same t) in
     let second : AllMoments old cut L = joined old mid cut L first
-    (weaker mid cut (CutsTail c.in_ok-end.end mid.world) L (λ w cuts. log_then old.world mid.world w (at_last old mid L (g.H.Device.sound c.read_log.new.host t) first) (cuts_change c.in_ok-end.end mid.world w cuts)) (c.cut_tail.ensures.moments t)) in
+    (weaker mid cut (DoesPrefix cut_steps c.in_ok-end.end mid.world) L (λ w cuts. log_then old.world mid.world w (at_last old mid L (g.H.Device.sound c.read_log.new.host t) first) (prefix_changes cut_steps c.in_ok-end.end mid.world w cuts)) ((c.cut_tail.ensures.steps t).moments)) in
     let new = g.H.Device.history c.append.new.dev in
     let log = c.in_ok-log.log in
     let steps = steps_of c.append.new.self.tried log (record { kind = RESTART; payload = c.restart_payload.result }) in
     joined old cut new L second
-    (weaker cut new (DoesSome steps log.end cut.world) L (λ w some. log_then old.world cut.world w (at_last old cut L (g.H.Device.sound c.cut_tail.new.dev t) second) (some_change steps log.end cut.world w some)) (c.append.ensures.steps t).moments)
+    (weaker cut new (DoesPrefix steps log.end cut.world) L (λ w some. log_then old.world cut.world w (at_last old cut L (g.H.Device.sound c.cut_tail.new.dev t) second) (prefix_changes steps log.end cut.world w some)) (c.append.ensures.steps t).moments)

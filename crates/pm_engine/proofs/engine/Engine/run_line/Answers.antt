@@ -1,9 +1,10 @@
 use Rattle.std.proofs.Common.{rules, ◌≡◌, ◌∙◌, ◌++◌, ap, sym, subst, refl}
-use Rattle.pm_segments.specs.Steps.{steps_of, world_after}
+use Rattle.pm_records.specs.LogSteps.{world_after}
+use Rattle.pm_segments.specs.Appends.{steps_of}
 use Rattle.pm_engine.specs.Engines.{running}
 use Rattle.pm_engine.specs.Batches.{noted}
 use Rattle.pm_engine.specs.Records.{record_of_line, IsPayloadOf, logical_frame}
-use Rattle.pm_engine.proofs.Going.{logs_line, goes_unlogged, append_goes}
+use Rattle.pm_engine.proofs.DoneLines.{logs_line, done_unlogged, append_done}
 use Rattle.pm_engine.proofs.Trying.{not_true, not_false, nothing_tried, unlogged_tried, append_tried, log_still, log_steps}
 use Rattle.pm_engine.proofs.engine.Engine.run_line.Goals as goal
 
@@ -21,7 +22,7 @@ returns-then-not-answer-clause-tries g c =
 
 pub returns-then-not-answer-clause-goes : goal.returns-then-not-answer-clause-goes
 returns-then-not-answer-clause-goes g c t wanted start done goes segments =
-    goes_unlogged wanted start done (running c.args.self.now) _ c.args.line.now _ goes (sym c.in_ok-answer.ensures.accepted ∙ not_true _ c.if-not-answer.true) refl c.in_ok-answer.ensures.map refl
+    done_unlogged wanted start done (running c.args.self.now) _ c.args.line.now _ goes (sym c.in_ok-answer.ensures.accepted ∙ not_true _ c.if-not-answer.true) refl c.in_ok-answer.ensures.map refl
 
 pub returns-then-not-answer-clause-log_only : goal.returns-then-not-answer-clause-log_only
 returns-then-not-answer-clause-log_only g c t = log_still (g.H.Device.history c.args.host.now) (g.H.Device.sound c.args.host.now t)
@@ -55,7 +56,7 @@ returns-clause-goes g c t wanted start done goes segments =
     let logs = logs_line c.args.self.now.shape c.args.line.now c.args.self.now.map c.deref.result.now accepted (subst (IsPayloadOf (record_of_line c.args.line.now)) (sym c.deref.ensures.value) c.in_ok-answer.ensures.payload) in
     let old = (g.H.Device.history c.args.host.now).world in
     let new = (g.H.Device.history c.append.new.host).world in
-    append_goes wanted start done (running c.args.self.now) c.args.line.now c.deref.result.now old goes logs segments _ refl c.in_ok-answer.ensures.map c.in_ok-append.ensures.grown new
+    append_done wanted start done (running c.args.self.now) c.args.line.now c.deref.result.now old goes logs segments _ refl c.in_ok-answer.ensures.map c.in_ok-append.ensures.grown new
     (subst (λ b. new ≡ world_after (steps_of b c.args.self.now.log (logical_frame c.deref.result.now)) c.args.self.now.log.end old) c.in_ok-append.ensures.tried (c.in_ok-append.ensures.steps t).all)
 
 pub returns-clause-log_only : goal.returns-clause-log_only

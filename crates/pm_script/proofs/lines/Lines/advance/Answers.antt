@@ -1,6 +1,7 @@
-use Rattle.std.proofs.Common.{inr, true, false, arith, length-append, ◌∙◌}
-use Rattle.pm_script.proofs.Taking.{takes_on}
-use Rattle.pm_script.proofs.OnTheWay.{going_filled, going_some, line_taken, ended, over_limit, found_at}
+use Rattle.std.proofs.Common.{inr, true, false, arith, length-append, ◌∙◌, sym}
+use Rattle.pm_script.proofs.LaterStates.{later_state}
+use Rattle.pm_script.proofs.TakenInput.{takes_on}
+use Rattle.pm_script.proofs.WithinLine.{going_filled, going_some, line_taken, ended, over_limit, found_at}
 use Rattle.pm_script.proofs.lines.Lines.advance.Goals as goal
 
 pub returns-in_err-some-clause-takes : goal.returns-in_err-some-clause-takes
@@ -39,7 +40,8 @@ pieces-preserved g c =
       same_lines = takes.lines ∙ c.ready.ensures.line.lines ∙ c.pieces.invariant.same_lines;
       is_open = takes.is_open;
       counted = inr (omega (arith, room.0, takes.lines));
-      later = omega (arith, c.ready.ensures.cause.later, c.pieces.invariant.later);
+      state = later_state _ _ _ c.ready.result c.pieces.invariant.state c.ready.ensures.cause;
+      end = λ t ended. c.in_ok-some.ensures.end t (sym takes.is_ended ∙ ended);
       takes = λ t. takes_on _ _ _ (g.H.Device.sound c.pieces.host t) (c.pieces.invariant.takes t) (c.ready.ensures.takes t);
       going = λ t. going_some _ (going_filled (c.pieces.invariant.going t) c.ready.ensures.line (c.in_ok-some.ensures.rest t)) takes room.0;
     }

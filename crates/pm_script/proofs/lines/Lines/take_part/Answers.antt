@@ -29,6 +29,7 @@ returns-in-Some-clause-taken c =
         line = line_grows buffer from at i (omega (arith, c.self.invariant.begins, going)) ∙ ap (λ n. take (n - from) (drop from buffer) ++ take i w) (sym going) ∙ ap (λ (u : Unread). u.line ++ take i w) c.self.view_is;
         bytes = omega (arith, ap (λ (u : Unread). u.bytes) c.self.view_is, length-take-le i w (omega (arith, small, within)));
         lines = ap (λ (u : Unread). u.lines + 1) c.self.view_is;
+        is_ended = ap (λ (u : Unread). u.is_ended) c.self.view_is;
       },
     )
 
@@ -58,5 +59,6 @@ returns-in-None-clause-taken c =
         bytes = omega (arith, bytes_is, count);
         lines = ap (λ (u : Unread). u.lines) c.self.view_is;
         is_open = eq-eqb _ _ refl;
+        is_ended = ap (λ (u : Unread). u.is_ended) c.self.view_is;
       },
     )

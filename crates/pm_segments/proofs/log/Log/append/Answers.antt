@@ -1,9 +1,10 @@
 use Rattle.std.proofs.Common.{◌≡◌, length, ◌∙◌, ap, subst}
 use Rattle.pm_frame.specs.Frames.{Frame}
+use Rattle.pm_records.specs.LogSteps.{world_after, DoesPrefix}
+use Rattle.pm_segments.specs.Appends.{room_steps, roomy}
 use Rattle.pm_segments.specs.Ends.{LogEnd}
-use Rattle.pm_segments.specs.Steps.{room_steps, roomy, world_after, DoesSome}
-use Rattle.pm_disk.specs.Moments.{AllMoments}
 use Rattle.pm_segments.proofs.Appending.{untried_end, append_does, append_reaches}
+use Rattle.pm_disk.specs.Moments.{AllMoments}
 use Rattle.pm_segments.proofs.log.Log.append.Goals as goal
 
 pub returns-clause-steps : goal.returns-clause-steps
@@ -15,7 +16,7 @@ returns-clause-steps g c t =
     let n = length c.args.payload.now in
     let first = c.in_ok-make_room.ensures.steps t in
     let before = subst (λ (l : LogEnd). mid.world ≡ world_after (room_steps l n) l.end old.world) c.self.view_is first.all in
-    let moments = subst (λ (l : LogEnd). AllMoments old mid (DoesSome (room_steps l n) l.end old.world)) c.self.view_is first.moments in
+    let moments = subst (λ (l : LogEnd). AllMoments old mid (DoesPrefix (room_steps l n) l.end old.world)) c.self.view_is first.moments in
     let there = ap (λ (l : LogEnd). l.end) c.in_ok-make_room.ensures.roomy ∙ untried_end _ n ∙ ap (λ (l : LogEnd). (roomy l n).end) c.self.view_is in
     append_does old mid (g.L.Device.history c.add.new.dev) c.add.result log frame c.make_room.new.self.end before there (c.add.ensures.does t) moments
     (g.L.Device.sound c.make_room.new.dev t) c.add.new.self.tried c.add.ensures.tried

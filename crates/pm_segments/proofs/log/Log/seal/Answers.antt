@@ -1,10 +1,10 @@
 use Rattle.std.proofs.Common.{subst}
 use Rattle.pm_frame.specs.declared.limits.TheConstants.{FRAME_END_MAX}
 use Rattle.std.proofs.Common.{◌≤◌}
+use Rattle.pm_records.proofs.Tracing.{broke_off}
+use Rattle.pm_segments.specs.Appends.{seal_steps}
 use Rattle.pm_segments.specs.Ends.{LogEnd}
-use Rattle.pm_segments.specs.Steps.{seal_steps}
 use Rattle.pm_segments.proofs.Sealing.{fits_seal, moments_sealed, world_sealed}
-use Rattle.pm_segments.proofs.Tracing.{broke_off}
 use Rattle.pm_segments.proofs.log.Log.seal.Goals as goal
 
 pub returns-clause-steps : goal.returns-clause-steps

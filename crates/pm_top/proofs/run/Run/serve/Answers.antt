@@ -13,15 +13,18 @@ use Rattle.pm_top.specs.declared.shape.TheConstants.{SHAPE}
 use Rattle.pm_top.specs.Runs.{Progress}
 use Rattle.pm_top.specs.Scripts.{after_lines}
 use Rattle.pm_top.specs.Served.{script_of}
-use Rattle.pm_top.proofs.Answering.{rest_moments, log_files}
-use Rattle.pm_top.proofs.Progressing.{begins, finished, broken_still, short_still}
+use Rattle.pm_top.proofs.AnsweredLines.{rest_moments}
+use Rattle.pm_top.proofs.KeptFiles.{log_calls, no_calls, then_calls}
+use Rattle.pm_top.proofs.Progressing.{begins, finished, failed_still, memory_still}
 use Rattle.pm_top.proofs.Serving.{more_place, more_bytes, more_limit, more_progress, end_none, end_progress, end_limit, over_stopped, closed, leaves, closing_moments, over_then, room_left, append_right}
-use Rattle.pm_top.proofs.Turning.{files_then, then_moments}
+use Rattle.pm_top.proofs.AnsweredBatch.{then_moments}
+use Rattle.pm_script.proofs.LaterStates.{same_state}
+use Rattle.pm_top.proofs.LaterStates.{plain_later}
 use Rattle.pm_top.proofs.run.Run.serve.Goals as goal
 
 pub returns-in_err-input-clause-moments : goal.returns-in_err-input-clause-moments
-returns-in_err-input-clause-moments g c t start same stands room =
-    rest_moments (g.H.Device.history c.args.host.now) (begins start (g.H.Device.history c.args.host.now).world c.args.self.now same c.requires.lines c.requires.order) (g.H.Device.sound c.args.host.now t) stands
+returns-in_err-input-clause-moments g c t start same can =
+    rest_moments (g.H.Device.history c.args.host.now) (begins start (g.H.Device.history c.args.host.now).world c.args.self.now same c.requires.lines c.requires.order) (g.H.Device.sound c.args.host.now t) can.stands
 
 pub batches-init : goal.batches-init
 batches-init g c =
@@ -30,212 +33,219 @@ batches-init g c =
     record {
       counted = c.requires.lines ∙ sym (ap (λ (u : Unread). u.lines) c.in_ok-input.ensures);
       few = omega (arith, ap (λ (u : Unread). u.lines) c.in_ok-input.ensures);
-      later = omega arith;
+      state = same_state _;
+      input_end = λ t ended. search rules;
       shape = c.requires.shape;
       limit = λ t. omega (arith, ap (λ (u : Unread). u.bytes) c.in_ok-input.ensures);
       end = λ t. c.requires.end t;
-      same = λ t. record { pages = refl; starts = refl; ends = refl };
+      files = λ t. no_calls old (g.H.Device.sound c.args.host.now t);
       bytes = λ t. subst (λ (u : Unread). u.bytes + length (rest_of u old.world) ≡ length old.world.input) (sym c.in_ok-input.ensures) (omega arith);
       place = λ t. subst (λ (u : Unread). rest_of u old.world ≡ after_lines u.lines old.world.input) (sym c.in_ok-input.ensures) refl;
       progress = λ t start same. subst (λ (u : Unread). Progress start old.world (script_of (rest_of u old.world)) first.engine.shape first.engine.map first) (sym c.in_ok-input.ensures)
           (subst (λ (i : List ℕ). Progress start old.world (script_of i) first.engine.shape first.engine.map first) (sym same.input) (begins start old.world first same c.requires.lines c.requires.order));
-      stands = λ t stands room. record { stands = stands; climbs = omega arith };
-      moments = λ t start same stands room. rest_moments old (begins start old.world first same c.requires.lines c.requires.order) (g.H.Device.sound c.args.host.now t) stands;
+      stands = λ t can. record { stands = can.stands; rises = omega arith };
+      moments = λ t start same can. rest_moments old (begins start old.world first same c.requires.lines c.requires.order) (g.H.Device.sound c.args.host.now t) can.stands;
     }
 
-pub returns-in_err-turn-clause-broken : goal.returns-in_err-turn-clause-broken
-returns-in_err-turn-clause-broken g c t is start same =
-    let first = c.args.self.now in
-    let so_far = c.batches.invariant in
-    let its : IsErrOf c.turn.result Failed = search rules in
-    c.turn.ensures.broken t its start first.engine.shape first.engine.map (so_far.progress t start same)
-
-pub returns-in_err-turn-clause-short : goal.returns-in_err-turn-clause-short
-returns-in_err-turn-clause-short g c t is start same =
-    let first = c.args.self.now in
-    let so_far = c.batches.invariant in
-    let its : IsErrOf c.turn.result Memory = search rules in
-    c.turn.ensures.short t its start first.engine.shape first.engine.map (so_far.progress t start same)
-
-pub returns-in_err-turn-clause-moments : goal.returns-in_err-turn-clause-moments
-returns-in_err-turn-clause-moments g c t start same stands room =
+pub returns-in_err-answer_batch-clause-moments : goal.returns-in_err-answer_batch-clause-moments
+returns-in_err-answer_batch-clause-moments g c t start same can =
     let old = g.H.Device.history c.args.host.now in
     let before = g.H.Device.history c.batches.host in
-    let new = g.H.Device.history c.turn.new.host in
+    let new = g.H.Device.history c.answer_batch.new.host in
     let first = c.args.self.now in
     let so_far = c.batches.invariant in
-    let over = so_far.stands t stands room in
-    let segments = room_left first c.batches.self before.world c.requires.lines (omega (arith, so_far.counted, so_far.few)) room over in
-    let turned = then_moments start first.engine.shape first.engine.map old before new c.batches.self.engine.order.items c.turn.ensures.extends.0 c.turn.new.self.engine.order.items c.turn.ensures.extends.1
-    (so_far.moments t start same stands room) (c.turn.ensures.moments t start first.engine.shape first.engine.map (so_far.progress t start same) over.stands segments) in
+    let over = so_far.stands t can in
+    let segments = room_left first c.batches.self before.world c.requires.lines (omega (arith, so_far.counted, so_far.few)) can.segments over in
+    let turned = then_moments start first.engine.shape first.engine.map old before new c.batches.self.engine.order.items c.answer_batch.ensures.keeps.more c.answer_batch.new.self.engine.order.items c.answer_batch.ensures.keeps.order
+    (so_far.moments t start same can) (c.answer_batch.ensures.moments t start first.engine.shape first.engine.map (so_far.progress t start same) over.stands segments) in
     turned
 
 pub returns-in-Over-clause-moments : goal.returns-in-Over-clause-moments
-returns-in-Over-clause-moments g c t start same stands room =
+returns-in-Over-clause-moments g c t start same can =
     let old = g.H.Device.history c.args.host.now in
     let before = g.H.Device.history c.batches.host in
-    let new = g.H.Device.history c.turn.new.host in
+    let new = g.H.Device.history c.answer_batch.new.host in
     let first = c.args.self.now in
     let so_far = c.batches.invariant in
-    let over = so_far.stands t stands room in
-    let segments = room_left first c.batches.self before.world c.requires.lines (omega (arith, so_far.counted, so_far.few)) room over in
-    let turned = then_moments start first.engine.shape first.engine.map old before new c.batches.self.engine.order.items c.turn.ensures.extends.0 c.turn.new.self.engine.order.items c.turn.ensures.extends.1
-    (so_far.moments t start same stands room) (c.turn.ensures.moments t start first.engine.shape first.engine.map (so_far.progress t start same) over.stands segments) in
+    let over = so_far.stands t can in
+    let segments = room_left first c.batches.self before.world c.requires.lines (omega (arith, so_far.counted, so_far.few)) can.segments over in
+    let turned = then_moments start first.engine.shape first.engine.map old before new c.batches.self.engine.order.items c.answer_batch.ensures.keeps.more c.answer_batch.new.self.engine.order.items c.answer_batch.ensures.keeps.order
+    (so_far.moments t start same can) (c.answer_batch.ensures.moments t start first.engine.shape first.engine.map (so_far.progress t start same) over.stands segments) in
     turned
 
-pub returns-in-Over-clause-stops : goal.returns-in-Over-clause-stops
-returns-in-Over-clause-stops g c t start same =
+pub returns-in-Over-clause-stop : goal.returns-in-Over-clause-stop
+returns-in-Over-clause-stop g c t start same =
     let old = g.H.Device.history c.args.host.now in
     let before = g.H.Device.history c.batches.host in
-    let new = g.H.Device.history c.turn.new.host in
+    let new = g.H.Device.history c.answer_batch.new.host in
     let first = c.args.self.now in
     let so_far = c.batches.invariant in
-    over_stopped c.in_ok-turn.field-0 (c.in_ok-turn.ensures.turns t) old.world.input c.in-Over.is so_far.counted (so_far.place t) (so_far.bytes t) (so_far.limit t) c.in_ok-turn.ensures.few
+    over_stopped c.in_ok-answer_batch.field-0 (c.in_ok-answer_batch.ensures.answered t) old.world.input c.in-Over.is so_far.counted (so_far.place t) (so_far.bytes t) (so_far.limit t) c.in_ok-answer_batch.ensures.counted.few
     start first.engine.shape first.engine.map (sym same.input) (so_far.progress t start same)
 
 pub batches-preserved : goal.batches-preserved
 batches-preserved g c =
     let old = g.H.Device.history c.args.host.now in
     let before = g.H.Device.history c.batches.host in
-    let new = g.H.Device.history c.turn.new.host in
+    let new = g.H.Device.history c.answer_batch.new.host in
     let first = c.args.self.now in
     let so_far = c.batches.invariant in
-    let lines = (c.in_ok-turn.ensures.more c.in-More.is).0 in
+    let lines = c.in_ok-answer_batch.ensures.counted.same c.in-More.is in
     record {
       counted = lines;
-      few = omega (arith, lines, c.in_ok-turn.ensures.few);
-      later = omega (arith, so_far.later, c.turn.ensures.cause.later);
-      shape = subst IsShape (sym c.turn.ensures.shape) so_far.shape;
-      limit = λ t. more_limit c.in_ok-turn.field-0 (c.in_ok-turn.ensures.turns t) old.world.input c.in-More.is (so_far.limit t);
-      end = λ t. c.in_ok-turn.ensures.end t;
-      same = λ t. files_then old.world before.world new.world (so_far.same t) (c.turn.ensures.same t);
-      bytes = λ t. more_bytes c.in_ok-turn.field-0 (c.in_ok-turn.ensures.turns t) old.world.input c.in-More.is (so_far.bytes t);
-      place = λ t. more_place c.in_ok-turn.field-0 (c.in_ok-turn.ensures.turns t) old.world.input c.in-More.is so_far.counted lines (so_far.place t);
-      progress = λ t start same. more_progress c.in_ok-turn.field-0 (c.in_ok-turn.ensures.turns t) old.world.input c.in-More.is start first.engine.shape first.engine.map (so_far.progress t start same);
-      stands = λ t stands room.
-          let over = so_far.stands t stands room in
-          let segments = room_left first c.batches.self before.world c.requires.lines (omega (arith, so_far.counted, so_far.few)) room over in
-          over_then first c.batches.self c.turn.new.self before.world new.world over (c.in_ok-turn.ensures.stands t over.stands segments);
-      moments = λ t start same stands room.
-          let over = so_far.stands t stands room in
-          let segments = room_left first c.batches.self before.world c.requires.lines (omega (arith, so_far.counted, so_far.few)) room over in
-          then_moments start first.engine.shape first.engine.map old before new c.batches.self.engine.order.items c.turn.ensures.extends.0 c.turn.new.self.engine.order.items c.turn.ensures.extends.1
-          (so_far.moments t start same stands room) (c.turn.ensures.moments t start first.engine.shape first.engine.map (so_far.progress t start same) over.stands segments);
+      few = omega (arith, lines, c.in_ok-answer_batch.ensures.counted.few);
+      state = plain_later _ _ _ c.answer_batch.result so_far.state c.answer_batch.ensures.cause;
+      input_end = λ t. (c.in_ok-answer_batch.ensures.open t).input_end;
+      shape = subst IsShape (sym c.answer_batch.ensures.keeps.shape) so_far.shape;
+      limit = λ t. more_limit c.in_ok-answer_batch.field-0 (c.in_ok-answer_batch.ensures.answered t) old.world.input c.in-More.is (so_far.limit t);
+      end = λ t. (c.in_ok-answer_batch.ensures.open t).end;
+      files = λ t. then_calls old before new (g.H.Device.sound c.batches.host t) (so_far.files t) (c.answer_batch.ensures.open t).files;
+      bytes = λ t. more_bytes c.in_ok-answer_batch.field-0 (c.in_ok-answer_batch.ensures.answered t) old.world.input c.in-More.is (so_far.bytes t);
+      place = λ t. more_place c.in_ok-answer_batch.field-0 (c.in_ok-answer_batch.ensures.answered t) old.world.input c.in-More.is so_far.counted lines (so_far.place t);
+      progress = λ t start same. more_progress c.in_ok-answer_batch.field-0 (c.in_ok-answer_batch.ensures.answered t) old.world.input c.in-More.is start first.engine.shape first.engine.map (so_far.progress t start same);
+      stands = λ t can.
+          let over = so_far.stands t can in
+          let segments = room_left first c.batches.self before.world c.requires.lines (omega (arith, so_far.counted, so_far.few)) can.segments over in
+          over_then first c.batches.self c.answer_batch.new.self before.world new.world over (c.in_ok-answer_batch.ensures.stands t over.stands segments);
+      moments = λ t start same can.
+          let over = so_far.stands t can in
+          let segments = room_left first c.batches.self before.world c.requires.lines (omega (arith, so_far.counted, so_far.few)) can.segments over in
+          then_moments start first.engine.shape first.engine.map old before new c.batches.self.engine.order.items c.answer_batch.ensures.keeps.more c.answer_batch.new.self.engine.order.items c.answer_batch.ensures.keeps.order
+          (so_far.moments t start same can) (c.answer_batch.ensures.moments t start first.engine.shape first.engine.map (so_far.progress t start same) over.stands segments);
     }
 
-pub returns-in_err-close-in-End-clause-same : goal.returns-in_err-close-in-End-clause-same
-returns-in_err-close-in-End-clause-same g c t =
-    let old = g.H.Device.history c.args.host.now in
-    let before = g.H.Device.history c.batches.host in
-    let new = g.H.Device.history c.turn.new.host in
-    let so_far = c.batches.invariant in
-    let end = g.H.Device.history c.close.new.host in
-    let only = at_last new end (ChangesLog new.world) (g.H.Device.sound c.close.new.host t) (c.close.ensures.log_only t) in
-    files_then old.world new.world end.world (files_then old.world before.world new.world (so_far.same t) (c.turn.ensures.same t)) (log_files new.world end.world only).0
-
-pub returns-in-End-clause-same : goal.returns-in-End-clause-same
-returns-in-End-clause-same g c t =
-    let old = g.H.Device.history c.args.host.now in
-    let before = g.H.Device.history c.batches.host in
-    let new = g.H.Device.history c.turn.new.host in
-    let so_far = c.batches.invariant in
-    let end = g.H.Device.history c.close.new.host in
-    let only = at_last new end (ChangesLog new.world) (g.H.Device.sound c.close.new.host t) (c.close.ensures.log_only t) in
-    files_then old.world new.world end.world (files_then old.world before.world new.world (so_far.same t) (c.turn.ensures.same t)) (log_files new.world end.world only).0
-
-pub returns-in_err-close-in-End-clause-broken : goal.returns-in_err-close-in-End-clause-broken
-returns-in_err-close-in-End-clause-broken g c t is start same =
-    let old = g.H.Device.history c.args.host.now in
-    let before = g.H.Device.history c.batches.host in
-    let new = g.H.Device.history c.turn.new.host in
-    let first = c.args.self.now in
-    let so_far = c.batches.invariant in
-    let end = g.H.Device.history c.close.new.host in
-    let only = at_last new end (ChangesLog new.world) (g.H.Device.sound c.close.new.host t) (c.close.ensures.log_only t) in
-    let later : Run = record c.turn.new.self { engine = c.close.new.self } in
-    let progress = end_progress c.in_ok-turn.field-0 (c.in_ok-turn.ensures.turns t) old.world.input c.in-End.is start first.engine.shape first.engine.map (so_far.progress t start same) in
-    let after = closed progress later end.world refl c.close.ensures.same only.said in
-    broken_still after end.world refl
-
-pub returns-in_err-close-in-End-clause-short : goal.returns-in_err-close-in-End-clause-short
-returns-in_err-close-in-End-clause-short g c t is start same =
-    let old = g.H.Device.history c.args.host.now in
-    let before = g.H.Device.history c.batches.host in
-    let new = g.H.Device.history c.turn.new.host in
-    let first = c.args.self.now in
-    let so_far = c.batches.invariant in
-    let end = g.H.Device.history c.close.new.host in
-    let only = at_last new end (ChangesLog new.world) (g.H.Device.sound c.close.new.host t) (c.close.ensures.log_only t) in
-    let later : Run = record c.turn.new.self { engine = c.close.new.self } in
-    let progress = end_progress c.in_ok-turn.field-0 (c.in_ok-turn.ensures.turns t) old.world.input c.in-End.is start first.engine.shape first.engine.map (so_far.progress t start same) in
-    let after = closed progress later end.world refl c.close.ensures.same only.said in
-    short_still after end.world refl
-
 pub returns-in_err-close-in-End-clause-moments : goal.returns-in_err-close-in-End-clause-moments
-returns-in_err-close-in-End-clause-moments g c t start same stands room =
+returns-in_err-close-in-End-clause-moments g c t start same can =
     let old = g.H.Device.history c.args.host.now in
     let before = g.H.Device.history c.batches.host in
-    let new = g.H.Device.history c.turn.new.host in
+    let new = g.H.Device.history c.answer_batch.new.host in
     let first = c.args.self.now in
     let so_far = c.batches.invariant in
-    let over = so_far.stands t stands room in
-    let segments = room_left first c.batches.self before.world c.requires.lines (omega (arith, so_far.counted, so_far.few)) room over in
-    let turned = then_moments start first.engine.shape first.engine.map old before new c.batches.self.engine.order.items c.turn.ensures.extends.0 c.turn.new.self.engine.order.items c.turn.ensures.extends.1
-    (so_far.moments t start same stands room) (c.turn.ensures.moments t start first.engine.shape first.engine.map (so_far.progress t start same) over.stands segments) in
+    let over = so_far.stands t can in
+    let segments = room_left first c.batches.self before.world c.requires.lines (omega (arith, so_far.counted, so_far.few)) can.segments over in
+    let turned = then_moments start first.engine.shape first.engine.map old before new c.batches.self.engine.order.items c.answer_batch.ensures.keeps.more c.answer_batch.new.self.engine.order.items c.answer_batch.ensures.keeps.order
+    (so_far.moments t start same can) (c.answer_batch.ensures.moments t start first.engine.shape first.engine.map (so_far.progress t start same) over.stands segments) in
     let end = g.H.Device.history c.close.new.host in
-    let later : Run = record c.turn.new.self { engine = c.close.new.self } in
-    let progress = end_progress c.in_ok-turn.field-0 (c.in_ok-turn.ensures.turns t) old.world.input c.in-End.is start first.engine.shape first.engine.map (so_far.progress t start same) in
-    let closing = closing_moments new end progress (c.close.ensures.moments t SHAPE (c.in_ok-turn.ensures.stands t over.stands segments).stands) (c.close.ensures.log_only t) in
-    then_moments start first.engine.shape first.engine.map old new end c.turn.new.self.engine.order.items [] c.close.new.self.order.items (ap (λ (r : Running). r.order) c.close.ensures.same ∙ sym (append-nil c.turn.new.self.engine.order.items)) turned
+    let later : Run = record c.answer_batch.new.self { engine = c.close.new.self } in
+    let progress = end_progress c.in_ok-answer_batch.field-0 (c.in_ok-answer_batch.ensures.answered t) old.world.input c.in-End.is start first.engine.shape first.engine.map (so_far.progress t start same) in
+    let closing = closing_moments new end progress (c.close.ensures.moments t SHAPE (c.in_ok-answer_batch.ensures.stands t over.stands segments).stands) (c.close.ensures.log_only t) in
+    then_moments start first.engine.shape first.engine.map old new end c.answer_batch.new.self.engine.order.items [] c.close.new.self.order.items (ap (λ (r : Running). r.order) c.close.ensures.same ∙ sym (append-nil c.answer_batch.new.self.engine.order.items)) turned
     (subst (λ o. AllMoments new end (CrashHoldsAcknowledged start first.engine.shape first.engine.map o)) (sym (ap (λ (r : Running). r.order) c.close.ensures.same)) closing)
 
 pub returns-in-End-clause-moments : goal.returns-in-End-clause-moments
-returns-in-End-clause-moments g c t start same stands room =
+returns-in-End-clause-moments g c t start same can =
     let old = g.H.Device.history c.args.host.now in
     let before = g.H.Device.history c.batches.host in
-    let new = g.H.Device.history c.turn.new.host in
+    let new = g.H.Device.history c.answer_batch.new.host in
     let first = c.args.self.now in
     let so_far = c.batches.invariant in
-    let over = so_far.stands t stands room in
-    let segments = room_left first c.batches.self before.world c.requires.lines (omega (arith, so_far.counted, so_far.few)) room over in
-    let turned = then_moments start first.engine.shape first.engine.map old before new c.batches.self.engine.order.items c.turn.ensures.extends.0 c.turn.new.self.engine.order.items c.turn.ensures.extends.1
-    (so_far.moments t start same stands room) (c.turn.ensures.moments t start first.engine.shape first.engine.map (so_far.progress t start same) over.stands segments) in
+    let over = so_far.stands t can in
+    let segments = room_left first c.batches.self before.world c.requires.lines (omega (arith, so_far.counted, so_far.few)) can.segments over in
+    let turned = then_moments start first.engine.shape first.engine.map old before new c.batches.self.engine.order.items c.answer_batch.ensures.keeps.more c.answer_batch.new.self.engine.order.items c.answer_batch.ensures.keeps.order
+    (so_far.moments t start same can) (c.answer_batch.ensures.moments t start first.engine.shape first.engine.map (so_far.progress t start same) over.stands segments) in
     let end = g.H.Device.history c.close.new.host in
-    let later : Run = record c.turn.new.self { engine = c.close.new.self } in
-    let progress = end_progress c.in_ok-turn.field-0 (c.in_ok-turn.ensures.turns t) old.world.input c.in-End.is start first.engine.shape first.engine.map (so_far.progress t start same) in
-    let closing = closing_moments new end progress (c.close.ensures.moments t SHAPE (c.in_ok-turn.ensures.stands t over.stands segments).stands) (c.close.ensures.log_only t) in
-    then_moments start first.engine.shape first.engine.map old new end c.turn.new.self.engine.order.items [] c.close.new.self.order.items (ap (λ (r : Running). r.order) c.close.ensures.same ∙ sym (append-nil c.turn.new.self.engine.order.items)) turned
+    let later : Run = record c.answer_batch.new.self { engine = c.close.new.self } in
+    let progress = end_progress c.in_ok-answer_batch.field-0 (c.in_ok-answer_batch.ensures.answered t) old.world.input c.in-End.is start first.engine.shape first.engine.map (so_far.progress t start same) in
+    let closing = closing_moments new end progress (c.close.ensures.moments t SHAPE (c.in_ok-answer_batch.ensures.stands t over.stands segments).stands) (c.close.ensures.log_only t) in
+    then_moments start first.engine.shape first.engine.map old new end c.answer_batch.new.self.engine.order.items [] c.close.new.self.order.items (ap (λ (r : Running). r.order) c.close.ensures.same ∙ sym (append-nil c.answer_batch.new.self.engine.order.items)) turned
     (subst (λ o. AllMoments new end (CrashHoldsAcknowledged start first.engine.shape first.engine.map o)) (sym (ap (λ (r : Running). r.order) c.close.ensures.same)) closing)
 
-pub returns-in-End-clause-stops : goal.returns-in-End-clause-stops
-returns-in-End-clause-stops g c t start same =
+pub returns-in-End-clause-stop : goal.returns-in-End-clause-stop
+returns-in-End-clause-stop g c t start same =
     let old = g.H.Device.history c.args.host.now in
     let before = g.H.Device.history c.batches.host in
-    let new = g.H.Device.history c.turn.new.host in
+    let new = g.H.Device.history c.answer_batch.new.host in
     let first = c.args.self.now in
     let so_far = c.batches.invariant in
     let end = g.H.Device.history c.close.new.host in
     let only = at_last new end (ChangesLog new.world) (g.H.Device.sound c.close.new.host t) (c.close.ensures.log_only t) in
-    let later : Run = record c.turn.new.self { engine = c.close.new.self } in
-    let progress = end_progress c.in_ok-turn.field-0 (c.in_ok-turn.ensures.turns t) old.world.input c.in-End.is start first.engine.shape first.engine.map (so_far.progress t start same) in
+    let later : Run = record c.answer_batch.new.self { engine = c.close.new.self } in
+    let progress = end_progress c.in_ok-answer_batch.field-0 (c.in_ok-answer_batch.ensures.answered t) old.world.input c.in-End.is start first.engine.shape first.engine.map (so_far.progress t start same) in
     let after = closed progress later end.world refl c.close.ensures.same only.said in
-    let none = end_none c.in_ok-turn.field-0 (c.in_ok-turn.ensures.turns t) old.world.input c.in-End.is in
-    finished after end.world refl refl (only.input ∙ append_right c.turn.new.input.pending new.world.input none)
-    (omega (arith, end_limit c.in_ok-turn.field-0 (c.in_ok-turn.ensures.turns t) old.world.input c.in-End.is (so_far.limit t) (so_far.bytes t), ap (λ (l : List ℕ). length l) same.input)) c.in_ok-turn.ensures.few
+    let none = end_none c.in_ok-answer_batch.field-0 (c.in_ok-answer_batch.ensures.answered t) old.world.input c.in-End.is in
+    finished after end.world refl refl (only.input ∙ append_right c.answer_batch.new.input.pending new.world.input none)
+    (omega (arith, end_limit c.in_ok-answer_batch.field-0 (c.in_ok-answer_batch.ensures.answered t) old.world.input c.in-End.is (so_far.limit t) (so_far.bytes t), ap (λ (l : List ℕ). length l) same.input)) c.in_ok-answer_batch.ensures.counted.few
 
 pub returns-in-End-clause-leaves : goal.returns-in-End-clause-leaves
-returns-in-End-clause-leaves g c t start same stands room =
+returns-in-End-clause-leaves g c t start same can =
     let old = g.H.Device.history c.args.host.now in
     let before = g.H.Device.history c.batches.host in
-    let new = g.H.Device.history c.turn.new.host in
+    let new = g.H.Device.history c.answer_batch.new.host in
     let first = c.args.self.now in
     let so_far = c.batches.invariant in
     let end = g.H.Device.history c.close.new.host in
     let only = at_last new end (ChangesLog new.world) (g.H.Device.sound c.close.new.host t) (c.close.ensures.log_only t) in
-    let later : Run = record c.turn.new.self { engine = c.close.new.self } in
-    let progress = end_progress c.in_ok-turn.field-0 (c.in_ok-turn.ensures.turns t) old.world.input c.in-End.is start first.engine.shape first.engine.map (so_far.progress t start same) in
+    let later : Run = record c.answer_batch.new.self { engine = c.close.new.self } in
+    let progress = end_progress c.in_ok-answer_batch.field-0 (c.in_ok-answer_batch.ensures.answered t) old.world.input c.in-End.is start first.engine.shape first.engine.map (so_far.progress t start same) in
     let after = closed progress later end.world refl c.close.ensures.same only.said in
-    let over = so_far.stands t stands room in
-    let segments = room_left first c.batches.self before.world c.requires.lines (omega (arith, so_far.counted, so_far.few)) room over in
-    λ _. leaves first c.turn.new.self later new.world end.world after (over_then first c.batches.self c.turn.new.self before.world new.world over (c.in_ok-turn.ensures.stands t over.stands segments)) refl
-    (c.in_ok-close-in-End.ensures.stands t SHAPE (c.in_ok-turn.ensures.stands t over.stands segments).stands)
+    let over = so_far.stands t can in
+    let segments = room_left first c.batches.self before.world c.requires.lines (omega (arith, so_far.counted, so_far.few)) can.segments over in
+    λ _. leaves first c.answer_batch.new.self later new.world end.world after (over_then first c.batches.self c.answer_batch.new.self before.world new.world over (c.in_ok-answer_batch.ensures.stands t over.stands segments)) refl
+    (c.in_ok-close-in-End.ensures.stands t SHAPE (c.in_ok-answer_batch.ensures.stands t over.stands segments).stands)
+
+pub returns-in_err-close-in-End-clause-fault : goal.returns-in_err-close-in-End-clause-fault
+returns-in_err-close-in-End-clause-fault g c t start same =
+    let old = g.H.Device.history c.args.host.now in
+    let before = g.H.Device.history c.batches.host in
+    let new = g.H.Device.history c.answer_batch.new.host in
+    let first = c.args.self.now in
+    let so_far = c.batches.invariant in
+    let end = g.H.Device.history c.close.new.host in
+    let only = at_last new end (ChangesLog new.world) (g.H.Device.sound c.close.new.host t) (c.close.ensures.log_only t) in
+    let later : Run = record c.answer_batch.new.self { engine = c.close.new.self } in
+    let progress = end_progress c.in_ok-answer_batch.field-0 (c.in_ok-answer_batch.ensures.answered t) old.world.input c.in-End.is start first.engine.shape first.engine.map (so_far.progress t start same) in
+    let after = closed progress later end.world refl c.close.ensures.same only.said in
+    record { failed = λ _. failed_still after end.world refl; memory = λ _. memory_still after end.world refl }
+
+pub returns-in_err-answer_batch-clause-fault : goal.returns-in_err-answer_batch-clause-fault
+returns-in_err-answer_batch-clause-fault g c t start same =
+    let first = c.args.self.now in
+    let fault = c.answer_batch.ensures.fault t start first.engine.shape first.engine.map (c.batches.invariant.progress t start same) in
+    record {
+      failed = λ is. (let its : IsErrOf c.answer_batch.result Failed = search rules in fault.failed its);
+      memory = λ is. (let its : IsErrOf c.answer_batch.result Memory = search rules in fault.memory its);
+    }
+
+pub returns-in-Over-clause-fault : goal.returns-in-Over-clause-fault
+returns-in-Over-clause-fault g c t start same = record { failed = search rules; memory = search rules }
+
+pub returns-in-End-clause-fault : goal.returns-in-End-clause-fault
+returns-in-End-clause-fault g c t start same = record { failed = search rules; memory = search rules }
+
+pub returns-in_err-input-clause-files : goal.returns-in_err-input-clause-files
+returns-in_err-input-clause-files g c t =
+    no_calls (g.H.Device.history c.args.host.now) (g.H.Device.sound c.args.host.now t)
+
+pub returns-in_err-answer_batch-clause-files : goal.returns-in_err-answer_batch-clause-files
+returns-in_err-answer_batch-clause-files g c t =
+    let old = g.H.Device.history c.args.host.now in
+    let before = g.H.Device.history c.batches.host in
+    let new = g.H.Device.history c.answer_batch.new.host in
+    let answered = then_calls old before new (g.H.Device.sound c.batches.host t) (c.batches.invariant.files t) (c.answer_batch.ensures.open t).files in
+    answered
+
+pub returns-in-Over-clause-files : goal.returns-in-Over-clause-files
+returns-in-Over-clause-files g c t =
+    let old = g.H.Device.history c.args.host.now in
+    let before = g.H.Device.history c.batches.host in
+    let new = g.H.Device.history c.answer_batch.new.host in
+    let answered = then_calls old before new (g.H.Device.sound c.batches.host t) (c.batches.invariant.files t) (c.answer_batch.ensures.open t).files in
+    answered
+
+pub returns-in_err-close-in-End-clause-files : goal.returns-in_err-close-in-End-clause-files
+returns-in_err-close-in-End-clause-files g c t =
+    let old = g.H.Device.history c.args.host.now in
+    let before = g.H.Device.history c.batches.host in
+    let new = g.H.Device.history c.answer_batch.new.host in
+    let answered = then_calls old before new (g.H.Device.sound c.batches.host t) (c.batches.invariant.files t) (c.answer_batch.ensures.open t).files in
+    let end = g.H.Device.history c.close.new.host in
+    then_calls old new end (g.H.Device.sound c.answer_batch.new.host t) answered (log_calls new end (c.close.ensures.log_only t))
+
+pub returns-in-End-clause-files : goal.returns-in-End-clause-files
+returns-in-End-clause-files g c t =
+    let old = g.H.Device.history c.args.host.now in
+    let before = g.H.Device.history c.batches.host in
+    let new = g.H.Device.history c.answer_batch.new.host in
+    let answered = then_calls old before new (g.H.Device.sound c.batches.host t) (c.batches.invariant.files t) (c.answer_batch.ensures.open t).files in
+    let end = g.H.Device.history c.close.new.host in
+    then_calls old new end (g.H.Device.sound c.answer_batch.new.host t) answered (log_calls new end (c.close.ensures.log_only t))

@@ -4,12 +4,11 @@ use Rattle.pm_types.specs.declared.limits.TheConstants.{SCRIPT_BYTES_MAX, LINES_
 use Rattle.pm_types.specs.Shapes.{IsShape}
 use Rattle.pm_disk.specs.Moments.{AllMoments}
 use Rattle.pm_disk.specs.Worlds.{World}
-use Rattle.pm_script.specs.Reading.{rest_of}
+use Rattle.pm_script.specs.Reading.{rest_of, KnowsEnd}
 use Rattle.pm_segments.specs.Ends.{EndsThere}
-use Rattle.pm_engine.specs.Engines.{running, IsAtRest, HasSegments}
-use Rattle.pm_top.specs.declared.shape.TheConstants.{SHAPE}
+use Rattle.pm_engine.specs.Engines.{running}
 use Rattle.pm_top.specs.Crashes.{CrashHoldsAcknowledged}
-use Rattle.pm_top.specs.Runs.{Progress, SameConsole, SameFiles, StandsOver}
+use Rattle.pm_top.specs.Runs.{CanRun, Progress, SameConsole, SameFiles, IsAtRestAfter}
 use Rattle.pm_top.specs.Scripts.{after_lines}
 use Rattle.pm_top.specs.Served.{script_of}
 use Rattle.pm_top.proofs.run.Run.serve.Given as goal
@@ -27,16 +26,15 @@ invariant-batches g l =
       state : IsLaterState (state l.fn.host) (state l.host);
       shape : IsShape l.self.engine.shape;
       limit : tells → l.input.bytes ≤ SCRIPT_BYTES_MAX;
+      input_end : tells → KnowsEnd l.input now.world;
       end : tells → EndsThere l.self.engine.log now.world;
-      same : tells → SameFiles old.world now.world;
+      files : tells → AllMoments old now (SameFiles old.world);
       bytes : tells → l.input.bytes + length (rest_of l.input now.world) ≡ length old.world.input;
       place : tells → rest_of l.input now.world ≡ after_lines l.input.lines old.world.input;
       progress : tells → (start : World) → SameConsole start old.world
           → Progress start now.world (script_of (rest_of l.input now.world)) first.engine.shape first.engine.map l.self;
-      stands : tells → IsAtRest SHAPE (running first.engine) old.world → HasSegments (running first.engine) (2 ^ 24)
-          → StandsOver first l.self now.world;
-      moments : tells → (start : World) → SameConsole start old.world → IsAtRest SHAPE (running first.engine) old.world
-          → HasSegments (running first.engine) (2 ^ 24)
+      stands : tells → CanRun (running first.engine) old.world → IsAtRestAfter first l.self now.world;
+      moments : tells → (start : World) → SameConsole start old.world → CanRun (running first.engine) old.world
           → AllMoments old now (CrashHoldsAcknowledged start first.engine.shape first.engine.map l.self.engine.order.items);
     }
 

@@ -1,0 +1,292 @@
+-- Lines that are done: what a crash leaves while a line is appended and while the log is forced.
+use Rattle.std.proofs.Common.{◌≡◌, ◌⊎◌, inl, inr, ℕ, ◌<◌, ◌≤◌, List, [], ◌∷◌, ◌++◌, length, take, Option, Some, None, refl, sym, ◌∙◌, ap, subst, arith, Bool, true, false, append_assoc, append-nil, length-append}
+use Rattle.std.specs.Prelude.{if◌then◌else◌}
+use Rattle.std.specs.FinMap.{empty}
+use Rattle.std.proofs.lemmas.List.{take_all, take-append-le}
+use Rattle.std.proofs.Math.Seq.{take-length}
+use Rattle.pm_types.specs.declared.place.Place.{Place}
+use Rattle.pm_types.specs.declared.shape.Shape.{Shape}
+use Rattle.pm_frame.specs.declared.kinds.TheConstants.{LOGICAL}
+use Rattle.pm_frame.specs.declared.limits.TheConstants.{PAYLOAD_MAX}
+use Rattle.pm_frame.specs.Frames.{Frame}
+use Rattle.pm_records.specs.declared.limits.TheConstants.{PUT, REMOVE}
+use Rattle.pm_records.specs.Records.{Record, Logical, Seal, IsRecord, kind_of, record_of, payload_of}
+use Rattle.pm_records.proofs.RecordOf.{record_of-payload, payload_of-short}
+use Rattle.pm_disk.specs.Worlds.{World, log_forced}
+use Rattle.pm_model.specs.declared.line.Cmd.TheVariants.{Put, Get, Remove, Scan, Checkpoint}
+use Rattle.pm_model.specs.declared.line.Line.{Line}
+use Rattle.pm_model.specs.declared.line.Line.TheVariants.{Good, Bad, Long}
+use Rattle.pm_model.specs.Eval.{Pairs, is_accepted, after, after_all}
+use Rattle.pm_model.proofs.Runs.{after_all-append, after-not_accepted}
+use Rattle.pm_records.specs.LogFiles.{Written, IsWritten, IsRecordFrame, IsQuietBut}
+use Rattle.pm_records.specs.LogSteps.{Force, world_after, DoesPrefix, next_written, written_after, frames_in}
+use Rattle.pm_records.specs.Logs.{record_in, place, seal_frame}
+use Rattle.pm_records.proofs.QuietLog.{forced_quiet}
+use Rattle.pm_records.proofs.Writing.{frames_after, lasting_after}
+use Rattle.pm_segments.specs.Appends.{room_steps, append_steps, steps_of, grown}
+use Rattle.pm_segments.proofs.AppendLaw.{append_written}
+use Rattle.pm_segments.proofs.OpenLog.{open_image, room_frames, append_frames, grown_end, grown_seg, append_open, append_image, force_written, force_open}
+use Rattle.pm_segments.proofs.Quiet.{append_quiet}
+use Rattle.pm_engine.specs.Records.{record_of_line, IsPayloadOf, logical_frame}
+use Rattle.pm_engine.specs.Held.{replayed, then_replayed, all_replayed, IsHeld, CrashHoldsPrefix}
+use Rattle.pm_engine.specs.Engines.{Running, frames_of, HeldAfterPrefix, HasDone, HasDoneWithin, IsAtRest, HasSegments}
+use Rattle.pm_engine.specs.Batches.{tried_line}
+
+-- ---- what frames hold
+
+pub all_replayed-append : (shape : Shape) (xs ys : List Frame) (found : Option Pairs) → all_replayed shape (xs ++ ys) found ≡ all_replayed shape ys (all_replayed shape xs found)
+all_replayed-append shape [] ys found = refl
+all_replayed-append shape (x ∷ xs) ys found = all_replayed-append shape xs ys (then_replayed shape x found)
+
+-- one frame more, after others
+pub held_push : (wanted : Shape) (frames : List Frame) (f : Frame) (shape : Shape) (pairs now : Pairs) → 0 < length frames → IsHeld wanted frames shape pairs → replayed shape (record_in f) pairs ≡ Some now
+    → IsHeld wanted (frames ++ f ∷ []) shape now
+held_push wanted [] f shape pairs now some held does = absurd (omega (arith, some))
+held_push wanted (g ∷ gs) f shape pairs now some held does = record {
+  begins = held.begins;
+  told = held.told;
+  map = all_replayed-append shape (g ∷ gs) (f ∷ []) (Some empty) ∙ ap (then_replayed shape f) held.map ∙ does;
+}
+
+pub seal_record : record_in seal_frame ≡ Some Seal
+unfolding payload_of
+seal_record = record_of-payload Seal tt
+
+-- a SEAL more
+pub held_seal : (wanted : Shape) (frames : List Frame) (shape : Shape) (pairs : Pairs) → 0 < length frames → IsHeld wanted frames shape pairs → IsHeld wanted (frames ++ seal_frame ∷ []) shape pairs
+held_seal wanted frames shape pairs some held = held_push wanted frames seal_frame shape pairs pairs some held (ap (λ r. replayed shape r pairs) seal_record)
+
+-- the frame of a line that is accepted replays the line
+pub record LogsLine (shape : Shape) (line : Line) (pairs : Pairs) (payload : List ℕ) : Type 0 where
+  pub again : replayed shape (record_in (logical_frame payload)) pairs ≡ Some (after shape line pairs)
+  pub short : length payload ≤ PAYLOAD_MAX
+
+record_again : (shape : Shape) (line : Line) (pairs : Pairs) (r : Record) (payload : List ℕ) → kind_of r ≡ LOGICAL → replayed shape (Some r) pairs ≡ Some (after shape line pairs) → IsRecord r → payload ≡ payload_of r
+    → LogsLine shape line pairs payload
+record_again shape line pairs r payload logical does sound made =
+    let read : record_of LOGICAL payload ≡ Some r = ap (record_of LOGICAL) made ∙ ap (λ n. record_of n (payload_of r)) (sym logical) ∙ record_of-payload r sound in
+    record { again = ap (λ found. replayed shape found pairs) read ∙ does; short = omega (arith, ap (λ (l : List ℕ). length l) made, payload_of-short r sound) }
+
+pub logs_line : (shape : Shape) (line : Line) (pairs : Pairs) (payload : List ℕ) → is_accepted shape line pairs ≡ true → IsPayloadOf (record_of_line line) payload → LogsLine shape line pairs payload
+logs_line shape (Good (Put cache key value)) pairs payload is made =
+    let line : Line = Good (Put cache key value) in
+    record_again shape line pairs (Logical PUT cache key value) payload refl (ap (λ (b : Bool). let o : Option Pairs = if b then Some (after shape line pairs) else None in o) is) made.0 made.1
+logs_line shape (Good (Get cache key)) pairs payload is made = absurd cc
+logs_line shape (Good (Remove cache key)) pairs payload is made = record_again shape (Good (Remove cache key)) pairs (Logical REMOVE cache key []) payload refl refl made.0 made.1
+logs_line shape (Good (Scan cache)) pairs payload is made = absurd cc
+logs_line shape (Good Checkpoint) pairs payload is made = absurd cc
+logs_line shape Bad pairs payload is made = absurd cc
+logs_line shape Long pairs payload is made = absurd cc
+
+-- ---- first parts of the log
+
+le_or : (n m : ℕ) → (n ≤ m) ⊎ (m < n)
+le_or n m = grind arith
+
+-- more lines
+some_more : (wanted shape : Shape) (start : Pairs) (done more : List Line) (frames : List Frame) → HeldAfterPrefix wanted shape start done frames → HeldAfterPrefix wanted shape start (done ++ more) frames
+some_more wanted shape start done more frames h = (
+  h.0,
+  omega (arith, h.1, length-append done more),
+  subst (λ ls. IsHeld wanted frames shape (after_all shape ls start)) (sym (take-append-le h.0 done more h.1)) h.2,
+)
+
+-- all lines
+some_all : (wanted shape : Shape) (start : Pairs) (done : List Line) (frames : List Frame) → IsHeld wanted frames shape (after_all shape done start) → HeldAfterPrefix wanted shape start done frames
+some_all wanted shape start done frames held =
+    (length done, omega arith, subst (λ ls. IsHeld wanted frames shape (after_all shape ls start)) (sym (take-length done)) held)
+
+-- one frame more
+pub before_push : (wanted shape : Shape) (start : Pairs) (done more : List Line) (low : ℕ) (frames : List Frame) (f : Frame) → ((n : ℕ) → low ≤ n → HeldAfterPrefix wanted shape start done (take n frames))
+    → IsHeld wanted (frames ++ f ∷ []) shape (after_all shape (done ++ more) start) → (n : ℕ) → low ≤ n → HeldAfterPrefix wanted shape start (done ++ more) (take n (frames ++ f ∷ []))
+before_push wanted shape start done more low frames f before held n le = elim (le_or n (length frames)) [
+  | inl within ↦ subst (HeldAfterPrefix wanted shape start (done ++ more)) (sym (take-append-le n frames (f ∷ []) within)) (some_more wanted shape start done more (take n frames) (before n le))
+  | inr past ↦ subst (HeldAfterPrefix wanted shape start (done ++ more)) (sym (take_all n (frames ++ f ∷ []) (omega (arith, past, length-append frames (f ∷ [])))))
+      (some_all wanted shape start (done ++ more) (frames ++ f ∷ []) held)
+]
+
+-- ---- the engine at rest
+
+-- what it keeps
+pub done_keeps : (wanted : Shape) (start : Pairs) (done : List Line) (engine : Running) (world : World) → HasDone wanted start done engine world → CrashHoldsPrefix wanted engine.shape start done world
+done_keeps wanted start done engine world goes image leaves honest =
+    let s = goes.written in
+    let left = open_image world 1 (place 1 0) engine.log.end s goes.stands image.log leaves.log honest.frames in
+    let h = goes.before left.0 left.1 in
+    (h.0, h.1, record { frames = take left.0 (frames_of s); log = left.2; held = h.2 })
+
+-- more lines keep what fewer keep
+pub keeps_more_lines : (wanted shape : Shape) (start : Pairs) (done more : List Line) (world : World) → CrashHoldsPrefix wanted shape start done world → CrashHoldsPrefix wanted shape start (done ++ more) world
+keeps_more_lines wanted shape start done more world keeps image leaves honest =
+    let h = keeps image leaves honest in (
+      h.0,
+      omega (arith, h.1, length-append done more),
+      record {
+        frames = h.2.frames;
+        log = h.2.log;
+        held = subst (λ ls. IsHeld wanted h.2.frames shape (after_all shape ls start)) (sym (take-append-le h.0 done more h.1)) h.2.held;
+      },
+    )
+
+-- the same with an engine of the same fields
+same_engine : (engine : Running) (shape : Shape) (pairs : Pairs) (now : Running) → now.shape ≡ shape → now.pairs ≡ pairs → now.log ≡ engine.log → record { shape = shape; pairs = pairs; log = engine.log; order = now.order } ≡ now
+same_engine engine shape pairs now shapes maps logs = λ i. record { shape = sym shapes i; pairs = sym maps i; log = sym logs i; order = now.order }
+
+-- a line that isn't accepted changes nothing
+pub done_unlogged : (wanted : Shape) (start : Pairs) (done : List Line) (engine now : Running) (line : Line) (world : World) → HasDone wanted start done engine world → is_accepted engine.shape line engine.pairs ≡ false
+    → now.shape ≡ engine.shape → now.pairs ≡ after engine.shape line engine.pairs → now.log ≡ engine.log → HasDoneWithin wanted start (done ++ line ∷ []) 1 engine now world
+done_unlogged wanted start done engine now line world goes refused shapes maps logs =
+    let same = after-not_accepted engine.shape line engine.pairs refused in
+    let is = same_engine engine engine.shape engine.pairs now shapes (maps ∙ same) logs in
+    let map : engine.pairs ≡ after_all engine.shape (done ++ line ∷ []) start = sym same ∙ ap (after engine.shape line) goes.map ∙ sym (after_all-append engine.shape done (line ∷ []) start) in
+    subst (λ e. HasDoneWithin wanted start (done ++ line ∷ []) 1 engine e world) is (
+      record {
+        written = goes.written;
+        stands = goes.stands;
+        is_open = goes.is_open;
+        held = goes.held;
+        map = map;
+        some = goes.some;
+        before = λ n le. some_more wanted engine.shape start done (line ∷ []) (take n (frames_of goes.written)) (goes.before n le);
+        quiet = goes.quiet;
+      },
+      omega arith,
+    )
+
+-- ---- a line that is accepted
+
+module _ (wanted : Shape) (start : Pairs) (done : List Line) (engine : Running) (line : Line) (payload : List ℕ) (old : World) (goes : HasDone wanted start done engine old)
+    (logs : LogsLine engine.shape line engine.pairs payload) (segments : HasSegments engine 1) where
+  abbrev f : Frame
+  f = logical_frame payload
+
+  abbrev s : Written
+  s = goes.written
+
+  abbrev frames : List Frame
+  frames = frames_of goes.written
+
+  abbrev shape : Shape
+  shape = engine.shape
+
+  is_record : IsRecordFrame f
+  is_record = record { known_from = omega arith; known_to = omega arith; short = logs.short }
+
+  -- what comes before the record
+  abbrev first : List Frame
+  first = frames_in (room_steps engine.log (length payload))
+
+  abbrev HoldsStill : List Frame → Type 0
+  HoldsStill more = IsHeld wanted (frames ++ more) shape engine.pairs × ((n : ℕ) → length s.lasting ≤ n → HeldAfterPrefix wanted shape start done (take n (frames ++ more)))
+
+  sealed : HoldsStill (seal_frame ∷ [])
+  sealed =
+      let held = held_seal wanted frames shape engine.pairs goes.some goes.held in
+      let all : IsHeld wanted (frames ++ seal_frame ∷ []) shape (after_all shape (done ++ []) start) =
+      subst (λ p. IsHeld wanted (frames ++ seal_frame ∷ []) shape p) (goes.map ∙ ap (λ ls. after_all shape ls start) (sym (append-nil done))) held in (
+        held,
+        λ n le. subst (λ ls. HeldAfterPrefix wanted shape start ls (take n (frames ++ seal_frame ∷ []))) (append-nil done)
+            (before_push wanted shape start done [] (length s.lasting) frames seal_frame goes.before all n le),
+      )
+
+  before_record : HoldsStill first
+  before_record = elim (room_frames engine.log f is_record s goes.is_open) [
+    | inl none ↦ subst HoldsStill (sym none) (subst (λ fs. IsHeld wanted fs shape engine.pairs × ((n : ℕ) → length s.lasting ≤ n → HeldAfterPrefix wanted shape start done (take n fs))) (sym (append-nil frames)) (goes.held, goes.before))
+    | inr one ↦ subst HoldsStill (sym one) sealed
+  ]
+
+  -- all of it
+  abbrev whole : List Frame
+  whole = frames_in (append_steps engine.log f)
+
+  regrouped : (frames ++ first) ++ f ∷ [] ≡ frames ++ whole
+  regrouped = append_assoc frames first (f ∷ []) ∙ ap (λ l. frames ++ l) (sym (append_frames engine.log f is_record s goes.is_open))
+
+  prefix_first : 0 < length (frames ++ first)
+  prefix_first = omega (arith, goes.some, length-append frames first)
+
+  after_is : after shape line engine.pairs ≡ after_all shape (done ++ line ∷ []) start
+  after_is = ap (after shape line) goes.map ∙ sym (after_all-append shape done (line ∷ []) start)
+
+  held_record : IsHeld wanted ((frames ++ first) ++ f ∷ []) shape (after shape line engine.pairs)
+  held_record = held_push wanted (frames ++ first) f shape engine.pairs (after shape line engine.pairs) prefix_first before_record.0 logs.again
+
+  before_whole : (n : ℕ) → length s.lasting ≤ n → HeldAfterPrefix wanted shape start (done ++ line ∷ []) (take n (frames ++ whole))
+  before_whole n le = subst (λ fs. HeldAfterPrefix wanted shape start (done ++ line ∷ []) (take n fs)) regrouped
+      (before_push wanted shape start done (line ∷ []) (length s.lasting) (frames ++ first) f before_record.1 (subst (λ p. IsHeld wanted ((frames ++ first) ++ f ∷ []) shape p) after_is held_record) n le)
+
+  before_try : (tried : Bool) (n : ℕ) → length s.lasting ≤ n → HeldAfterPrefix wanted shape start (done ++ tried_line tried line) (take n (frames ++ frames_in (steps_of tried engine.log f)))
+  before_try true n le = before_whole n le
+  before_try false n le = subst (λ ls. HeldAfterPrefix wanted shape start ls (take n (frames ++ first))) (sym (append-nil done)) (before_record.1 n le)
+
+  -- while it is appended
+  pub append_keeps : (tried : Bool) (now : World) → DoesPrefix (steps_of tried engine.log f) engine.log.end old now → CrashHoldsPrefix wanted shape start (done ++ tried_line tried line) now
+  append_keeps tried now some image leaves honest =
+      let left = append_image engine.log f is_record s goes.is_open tried old now 1 (place 1 0) goes.stands some image.log leaves.log honest.frames in
+      let h = before_try tried left.0 left.1 in
+      (h.0, h.1, record { frames = take left.0 (frames ++ frames_in (steps_of tried engine.log f)); log = left.2; held = h.2 })
+
+  -- once it is
+  pub append_done : (now : Running) → now.shape ≡ shape → now.pairs ≡ after shape line engine.pairs → now.log ≡ grown engine.log f → (world : World) → world ≡ world_after (append_steps engine.log f) engine.log.end old
+      → HasDoneWithin wanted start (done ++ line ∷ []) 1 engine now world
+  append_done now shapes maps logs_are world is =
+      let steps = append_steps engine.log f in
+      let t = written_after steps s in
+      let end = grown_end engine.log f is_record s goes.is_open in
+      let frames_are : frames_of t ≡ (frames ++ first) ++ f ∷ [] = frames_after steps s ∙ sym regrouped in
+      let same : record { shape = shape; pairs = after shape line engine.pairs; log = grown engine.log f; order = now.order } ≡ now = λ i. record { shape = sym shapes i; pairs = sym maps i; log = sym logs_are i; order = now.order } in
+      subst (λ w. HasDoneWithin wanted start (done ++ line ∷ []) 1 engine now w) (sym is)
+      (subst (λ e. HasDoneWithin wanted start (done ++ line ∷ []) 1 engine e (world_after steps engine.log.end old)) same (
+        record {
+          written = t;
+          stands = subst (λ p. IsWritten (world_after steps engine.log.end old) 1 (place 1 0) p t) end (append_written engine.log f is_record s goes.is_open old 1 (place 1 0) goes.stands);
+          is_open = append_open engine.log f is_record s goes.is_open (omega (arith, segments));
+          held = subst (λ fs. IsHeld wanted fs shape (after shape line engine.pairs)) (sym frames_are) held_record;
+          map = after_is;
+          some = omega (arith, ap (λ (l : List Frame). length l) frames_are, length-append (frames ++ first) (f ∷ []));
+          before = λ n le. subst (λ fs. HeldAfterPrefix wanted shape start (done ++ line ∷ []) (take n fs)) (sym (frames_after steps s)) (before_whole n (omega (arith, le, lasting_after steps s)));
+          quiet = subst (λ (p : Place). IsQuietBut (world_after steps engine.log.end old) p.seg) end (append_quiet engine.log f old goes.quiet);
+        },
+        grown_seg engine.log f is_record s goes.is_open,
+      ))
+
+-- ---- a force
+
+module _ (wanted : Shape) (start : Pairs) (done : List Line) (engine : Running) (old : World) (goes : HasDone wanted start done engine old) where
+  abbrev forced : World
+  forced = log_forced engine.log.end.seg old
+
+  -- all of the log is lasting then
+  pub force_stands : IsAtRest wanted engine forced
+  force_stands =
+      let s = goes.written in
+      let t = next_written Force s in
+      let all : frames_of t ≡ frames_of s = append-nil (frames_of s) in
+      let held : IsHeld wanted (frames_of t) engine.shape engine.pairs = subst (λ fs. IsHeld wanted fs engine.shape engine.pairs) (sym all) goes.held in
+      record {
+        written = t;
+        stands = force_written engine.log s goes.is_open old 1 (place 1 0) goes.stands;
+        is_open = force_open engine.log s goes.is_open;
+        held = held;
+        map = refl;
+        some = omega (arith, goes.some, ap (λ (l : List Frame). length l) all);
+        before = λ n le. (0, omega arith, subst (λ fs. IsHeld wanted fs engine.shape engine.pairs) (sym (take_all n (frames_of t) (omega (arith, le, ap (λ (l : List Frame). length l) all)))) held);
+        quiet = λ n apart. forced_quiet engine.log.end.seg old goes.quiet n;
+      }
+
+  pub force_quiet : (n : ℕ) → (forced.log n).since ≡ []
+  force_quiet n = forced_quiet engine.log.end.seg old goes.quiet n
+
+  -- and a crash leaves the map of all lines
+  pub forced_keeps : CrashHoldsPrefix wanted engine.shape start done forced
+  forced_keeps image leaves honest =
+      let h = done_keeps wanted engine.pairs [] engine forced force_stands image leaves honest in
+      let none : after_all engine.shape (take h.0 []) engine.pairs ≡ engine.pairs = ap (λ ls. after_all engine.shape ls engine.pairs) (take_all h.0 [] (omega arith)) in (
+        length done,
+        omega arith,
+        record {
+          frames = h.2.frames;
+          log = h.2.log;
+          held = subst (λ p. IsHeld wanted h.2.frames engine.shape p) (none ∙ goes.map ∙ ap (λ ls. after_all engine.shape ls start) (sym (take-length done))) h.2.held;
+        },
+      )

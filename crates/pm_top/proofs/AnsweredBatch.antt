@@ -1,0 +1,51 @@
+-- One batch of a run: the next lines are taken off the script, and done.
+use Rattle.std.proofs.Common.{◌≡◌, ℕ, ◌+◌, ◌≤◌, List, [], ◌++◌, refl, ap, sym, ◌∙◌, subst, arith, append_assoc}
+use Rattle.pm_types.specs.declared.shape.Shape.{Shape}
+use Rattle.pm_disk.specs.Worlds.{World}
+use Rattle.pm_disk.specs.Moments.{History, AllMoments}
+use Rattle.pm_disk.proofs.Chain.{weaker, joined}
+use Rattle.pm_model.specs.declared.line.Line.{Line}
+use Rattle.pm_model.specs.Eval.{Pairs}
+use Rattle.pm_script.specs.Reading.{OnlyTakes}
+use Rattle.pm_engine.specs.Engines.{running, IsAtRest}
+use Rattle.pm_engine.proofs.DoneLines.{done_keeps}
+use Rattle.pm_top.specs.declared.run.Run.{Run}
+use Rattle.pm_top.specs.declared.shape.TheConstants.{SHAPE}
+use Rattle.pm_top.specs.Crashes.{CrashHoldsAcknowledged}
+use Rattle.pm_top.specs.Runs.{Progress, KeepsRun, IsAtRestSince, IsAtRestAfter}
+use Rattle.pm_top.proofs.Lasting.{keeps_rest, keeps_taken, order_longer}
+
+-- ---- what taking input leaves
+
+pub taken_said : (old new : World) → OnlyTakes old new → new.said ≡ old.said
+taken_said old new takes = ap (λ (w : World). w.said) takes.1
+
+pub keeps_both : (before mid later : Run) → KeepsRun before mid → KeepsRun mid later → KeepsRun before later
+keeps_both before mid later first second = record {
+  shape = second.shape ∙ first.shape;
+  more = first.more ++ second.more;
+  order = second.order ∙ ap (λ o. o ++ second.more) first.order ∙ append_assoc before.engine.order.items first.more second.more;
+}
+
+module _ {start : World} {left : List Line} {shape : Shape} {pairs : Pairs} {run : Run} where
+  -- while input is taken
+  pub taken_moments : (old mid : History) → Progress start old.world left shape pairs run → IsAtRest SHAPE (running run.engine) old.world → AllMoments old mid (OnlyTakes old.world) → AllMoments old mid (CrashHoldsAcknowledged start shape pairs run.engine.order.items)
+  taken_moments old mid progress stands takes =
+      weaker old mid (OnlyTakes old.world) (CrashHoldsAcknowledged start shape pairs run.engine.order.items)
+      (λ w is. keeps_rest progress w (taken_said old.world w is) (keeps_taken run.engine.shape run.engine.map [] old.world w is (done_keeps SHAPE run.engine.map [] (running run.engine) old.world stands))) takes
+
+-- a longer order
+pub longer_moments : (start : World) (shape : Shape) (pairs : Pairs) (old new : History) (order more later : List ℕ) → later ≡ order ++ more → AllMoments old new (CrashHoldsAcknowledged start shape pairs order) → AllMoments old new (CrashHoldsAcknowledged start shape pairs later)
+longer_moments start shape pairs old new order more later is all =
+    weaker old new (CrashHoldsAcknowledged start shape pairs order) (CrashHoldsAcknowledged start shape pairs later)
+    (λ w keeps. subst (λ o. CrashHoldsAcknowledged start shape pairs o w) (sym is) (order_longer start shape pairs order more w keeps)) all
+
+-- one run of calls after another, the order longer after it
+pub then_moments : (start : World) (shape : Shape) (pairs : Pairs) (old mid new : History) (order more later : List ℕ) → later ≡ order ++ more → AllMoments old mid (CrashHoldsAcknowledged start shape pairs order) → AllMoments mid new (CrashHoldsAcknowledged start shape pairs later)
+    → AllMoments old new (CrashHoldsAcknowledged start shape pairs later)
+then_moments start shape pairs old mid new order more later is first second =
+    joined old mid new (CrashHoldsAcknowledged start shape pairs later) (longer_moments start shape pairs old mid order more later is first) second
+
+-- a run goes on
+pub stands_then : (before mid later : Run) (m n : ℕ) (world : World) → mid.lines ≡ before.lines + m → later.lines ≡ mid.lines + n → mid.engine.log.end.seg ≤ before.engine.log.end.seg + m → IsAtRestSince mid later n world → IsAtRestAfter before later world
+stands_then before mid later m n world first second rises stands = record { stands = stands.stands; rises = omega (arith, first, second, rises, stands.rises) }

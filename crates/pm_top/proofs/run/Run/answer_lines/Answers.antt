@@ -1,0 +1,248 @@
+use Rattle.std.proofs.Common.{rules, ◌≡◌, ◌++◌, ◌+◌, List, ℕ, [], length, take, refl, sym, ap, ◌∙◌, subst, append-nil}
+use Rattle.std.proofs.lemmas.Bool.{eqb-true}
+use Rattle.std.proofs.lemmas.List.{nil_from_length}
+use Rattle.pm_disk.specs.Worlds.{World}
+use Rattle.pm_disk.proofs.Chain.{at_last}
+use Rattle.pm_model.specs.Eval.{replies_to, accepted}
+use Rattle.pm_script.specs.Texts.{texts_of}
+use Rattle.pm_segments.specs.Written.{ChangesLog}
+use Rattle.pm_engine.specs.Engines.{running, IsAtRest}
+use Rattle.pm_engine.proofs.Batching.{ok_holds}
+use Rattle.pm_top.specs.declared.shape.TheConstants.{SHAPE}
+use Rattle.pm_top.specs.Runs.{Progress}
+use Rattle.pm_top.proofs.AnsweredLines.{said_stands, rest_moments, failed_batch, memory_batch, batch_moments, all_tried, saying_moments}
+use Rattle.pm_top.proofs.KeptFiles.{no_answers, log_answers, said_answers}
+use Rattle.pm_top.proofs.Progressing.{failed_still, memory_still, failed_saying, progress_more}
+use Rattle.pm_top.proofs.run.Run.answer_lines.Goals as goal
+
+pub returns-then-is_empty-clause-keeps : goal.returns-then-is_empty-clause-keeps
+returns-then-is_empty-clause-keeps g c =
+    record { shape = refl; more = []; order = sym (append-nil c.args.self.now.engine.order.items) }
+
+pub returns-then-is_empty-clause-answered : goal.returns-then-is_empty-clause-answered
+returns-then-is_empty-clause-answered g c t start left shape pairs progress =
+    let world = (g.H.Device.history c.args.host.now).world in
+    let none : c.args.lines.now ≡ [] = nil_from_length c.args.lines.now (eqb-true _ _ (sym c.is_empty.ensures ∙ c.if-is_empty.true)) in
+    record {
+      done = subst (λ ls. Progress start world (ls ++ left) shape pairs c.args.self.now) none progress;
+      fault = record { failed = λ _. failed_still progress world refl; memory = λ _. memory_still progress world refl };
+    }
+
+pub returns-then-is_empty-clause-moments : goal.returns-then-is_empty-clause-moments
+returns-then-is_empty-clause-moments g c t start left shape pairs progress stands segments =
+    rest_moments (g.H.Device.history c.args.host.now) progress (g.H.Device.sound c.args.host.now t) stands
+
+pub returns-in_err-replies-clause-keeps : goal.returns-in_err-replies-clause-keeps
+returns-in_err-replies-clause-keeps g c =
+    record { shape = refl; more = []; order = sym (append-nil c.args.self.now.engine.order.items) }
+
+pub returns-in_err-replies-clause-answered : goal.returns-in_err-replies-clause-answered
+returns-in_err-replies-clause-answered g c t start left shape pairs progress =
+    let world = (g.H.Device.history c.args.host.now).world in
+    record {
+      done = search rules;
+      fault = record { failed = λ _. failed_still progress world refl; memory = λ _. memory_still progress world refl };
+    }
+
+pub returns-in_err-replies-clause-moments : goal.returns-in_err-replies-clause-moments
+returns-in_err-replies-clause-moments g c t start left shape pairs progress stands segments =
+    rest_moments (g.H.Device.history c.args.host.now) progress (g.H.Device.sound c.args.host.now t) stands
+
+pub returns-in_err-batch-clause-keeps : goal.returns-in_err-batch-clause-keeps
+returns-in_err-batch-clause-keeps g c =
+    let run = c.args.self.now in
+    let tries = c.batch.ensures.tries in
+    record { shape = c.batch.ensures.shape; more = accepted run.engine.shape (run.lines + 1) (take tries.count c.args.lines.now) run.engine.map; order = tries.order }
+
+pub returns-in_err-batch-clause-answered : goal.returns-in_err-batch-clause-answered
+returns-in_err-batch-clause-answered g c t start left shape pairs progress =
+    let old = g.H.Device.history c.args.host.now in
+    let mid = g.H.Device.history c.batch.new.host in
+    let run = c.args.self.now in
+    let later = running c.batch.new.self in
+    let lines = c.args.lines.now in
+    let tries = c.batch.ensures.tries in
+    let only = at_last old mid (ChangesLog old.world) (g.H.Device.sound c.batch.new.host t) (c.batch.ensures.log_only t) in
+    record {
+      done = search rules;
+      fault = record {
+        failed = λ _. failed_batch g.H.Device.tells old mid run later lines c.batch.result tries left progress c.requires.few only.said;
+        memory = λ _. memory_batch g.H.Device.tells old mid run later lines c.batch.result tries left progress c.requires.few only.said;
+      };
+    }
+
+pub returns-in_err-batch-clause-moments : goal.returns-in_err-batch-clause-moments
+returns-in_err-batch-clause-moments g c t start left shape pairs progress stands segments =
+    let old = g.H.Device.history c.args.host.now in
+    let mid = g.H.Device.history c.batch.new.host in
+    let run = c.args.self.now in
+    let later = running c.batch.new.self in
+    let lines = c.args.lines.now in
+    let tries = c.batch.ensures.tries in
+    let only = at_last old mid (ChangesLog old.world) (g.H.Device.sound c.batch.new.host t) (c.batch.ensures.log_only t) in
+    batch_moments g.H.Device.tells old mid run later lines c.batch.result tries left progress t (c.batch.ensures.log_only t) stands segments
+
+pub returns-in_err-write_replies-clause-keeps : goal.returns-in_err-write_replies-clause-keeps
+returns-in_err-write_replies-clause-keeps g c =
+    let run = c.args.self.now in
+    let tries = c.batch.ensures.tries in
+    record { shape = c.batch.ensures.shape; more = accepted run.engine.shape (run.lines + 1) (take tries.count c.args.lines.now) run.engine.map; order = tries.order }
+
+pub returns-in_err-write_replies-clause-answered : goal.returns-in_err-write_replies-clause-answered
+returns-in_err-write_replies-clause-answered g c t start left shape pairs progress =
+    let old = g.H.Device.history c.args.host.now in
+    let mid = g.H.Device.history c.batch.new.host in
+    let run = c.args.self.now in
+    let later = running c.batch.new.self in
+    let lines = c.args.lines.now in
+    let tries = c.batch.ensures.tries in
+    let only = at_last old mid (ChangesLog old.world) (g.H.Device.sound c.batch.new.host t) (c.batch.ensures.log_only t) in
+    record {
+      done = search rules;
+      fault = record {
+        failed = λ _. failed_batch g.H.Device.tells old mid run later lines c.batch.result tries left progress c.requires.few only.said;
+        memory = λ _. memory_batch g.H.Device.tells old mid run later lines c.batch.result tries left progress c.requires.few only.said;
+      };
+    }
+
+pub returns-in_err-write_replies-clause-moments : goal.returns-in_err-write_replies-clause-moments
+returns-in_err-write_replies-clause-moments g c t start left shape pairs progress stands segments =
+    let old = g.H.Device.history c.args.host.now in
+    let mid = g.H.Device.history c.batch.new.host in
+    let run = c.args.self.now in
+    let later = running c.batch.new.self in
+    let lines = c.args.lines.now in
+    let tries = c.batch.ensures.tries in
+    let only = at_last old mid (ChangesLog old.world) (g.H.Device.sound c.batch.new.host t) (c.batch.ensures.log_only t) in
+    batch_moments g.H.Device.tells old mid run later lines c.batch.result tries left progress t (c.batch.ensures.log_only t) stands segments
+
+pub returns-in_err-print-clause-keeps : goal.returns-in_err-print-clause-keeps
+returns-in_err-print-clause-keeps g c =
+    let run = c.args.self.now in
+    let tries = c.batch.ensures.tries in
+    record { shape = c.batch.ensures.shape; more = accepted run.engine.shape (run.lines + 1) (take tries.count c.args.lines.now) run.engine.map; order = tries.order }
+
+pub returns-in_err-print-clause-answered : goal.returns-in_err-print-clause-answered
+returns-in_err-print-clause-answered g c t start left shape pairs progress =
+    let old = g.H.Device.history c.args.host.now in
+    let mid = g.H.Device.history c.batch.new.host in
+    let run = c.args.self.now in
+    let later = running c.batch.new.self in
+    let lines = c.args.lines.now in
+    let tries = c.batch.ensures.tries in
+    let only = at_last old mid (ChangesLog old.world) (g.H.Device.sound c.batch.new.host t) (c.batch.ensures.log_only t) in
+    let empty : c.in_ok-replies.replies.items ≡ [] = search rules in
+    let replies : c.batch.new.replies.items ≡ replies_to run.engine.shape lines run.engine.map = c.in_ok-batch.ensures.replies ∙ ap (λ rs. rs ++ replies_to run.engine.shape lines run.engine.map) empty in
+    let new = g.H.Device.history c.print.new.self in
+    let all = ok_holds c.batch.result _ (tries.count ≡ length lines) c.in_ok-batch.was tries.all in
+    let text : c.deref-2.result.now ≡ texts_of (replies_to run.engine.shape lines run.engine.map) = c.deref-2.ensures.value ∙ c.in_ok-write_replies.ensures ∙ ap texts_of (c.deref.ensures.value ∙ replies) in
+    let part = (c.print.ensures.says t).part in
+    record {
+      done = search rules;
+      fault = record {
+        failed = λ _. failed_saying lines left progress new.world part.0 later.order c.requires.few
+            (ap (λ (w : World). w.said) part.2 ∙ ap (λ (u : List ℕ). u ++ take part.0 c.deref-2.result.now) only.said ∙ ap (λ x. old.world.said ++ take part.0 x) text)
+            (all_tried g.H.Device.tells old mid run later lines c.batch.result tries left progress all);
+        memory = search rules;
+      };
+    }
+
+pub returns-in_err-print-clause-moments : goal.returns-in_err-print-clause-moments
+returns-in_err-print-clause-moments g c t start left shape pairs progress stands segments =
+    let old = g.H.Device.history c.args.host.now in
+    let mid = g.H.Device.history c.batch.new.host in
+    let run = c.args.self.now in
+    let later = running c.batch.new.self in
+    let lines = c.args.lines.now in
+    let tries = c.batch.ensures.tries in
+    let only = at_last old mid (ChangesLog old.world) (g.H.Device.sound c.batch.new.host t) (c.batch.ensures.log_only t) in
+    let empty : c.in_ok-replies.replies.items ≡ [] = search rules in
+    let replies : c.batch.new.replies.items ≡ replies_to run.engine.shape lines run.engine.map = c.in_ok-batch.ensures.replies ∙ ap (λ rs. rs ++ replies_to run.engine.shape lines run.engine.map) empty in
+    let new = g.H.Device.history c.print.new.self in
+    let all = ok_holds c.batch.result _ (tries.count ≡ length lines) c.in_ok-batch.was tries.all in
+    let text : c.deref-2.result.now ≡ texts_of (replies_to run.engine.shape lines run.engine.map) = c.deref-2.ensures.value ∙ c.in_ok-write_replies.ensures ∙ ap texts_of (c.deref.ensures.value ∙ replies) in
+    saying_moments g.H.Device.tells old mid run later lines c.batch.result tries left progress new c.print.result c.deref-2.result.now all text (c.print.ensures.says t) only.said c.batch.ensures.shape c.in_ok-batch.ensures.map
+    (c.in_ok-batch.ensures.stands t SHAPE stands segments).stands (batch_moments g.H.Device.tells old mid run later lines c.batch.result tries left progress t (c.batch.ensures.log_only t) stands segments)
+
+pub returns-clause-keeps : goal.returns-clause-keeps
+returns-clause-keeps g c =
+    let run = c.args.self.now in
+    let tries = c.batch.ensures.tries in
+    record { shape = c.batch.ensures.shape; more = accepted run.engine.shape (run.lines + 1) (take tries.count c.args.lines.now) run.engine.map; order = tries.order }
+
+pub returns-clause-answered : goal.returns-clause-answered
+returns-clause-answered g c t start left shape pairs progress =
+    let old = g.H.Device.history c.args.host.now in
+    let mid = g.H.Device.history c.batch.new.host in
+    let run = c.args.self.now in
+    let later = running c.batch.new.self in
+    let lines = c.args.lines.now in
+    let tries = c.batch.ensures.tries in
+    let only = at_last old mid (ChangesLog old.world) (g.H.Device.sound c.batch.new.host t) (c.batch.ensures.log_only t) in
+    let empty : c.in_ok-replies.replies.items ≡ [] = search rules in
+    let replies : c.batch.new.replies.items ≡ replies_to run.engine.shape lines run.engine.map = c.in_ok-batch.ensures.replies ∙ ap (λ rs. rs ++ replies_to run.engine.shape lines run.engine.map) empty in
+    let new = g.H.Device.history c.print.new.self in
+    let all = ok_holds c.batch.result _ (tries.count ≡ length lines) c.in_ok-batch.was tries.all in
+    let text : c.deref-2.result.now ≡ texts_of (replies_to run.engine.shape lines run.engine.map) = c.deref-2.ensures.value ∙ c.in_ok-write_replies.ensures ∙ ap texts_of (c.deref.ensures.value ∙ replies) in
+    let done = progress_more lines left progress new.world _
+    (ap (λ (w : World). w.said) (c.in_ok-print.ensures.says t).ok ∙ ap (λ (u : List ℕ). u ++ c.deref-2.result.now) only.said ∙ ap (λ x. old.world.said ++ x) text)
+    refl c.batch.ensures.shape c.in_ok-batch.ensures.map (all_tried g.H.Device.tells old mid run later lines c.batch.result tries left progress all) in
+    record {
+      done = done;
+      fault = record { failed = λ _. failed_still done new.world refl; memory = λ _. memory_still done new.world refl };
+    }
+
+pub returns-clause-moments : goal.returns-clause-moments
+returns-clause-moments g c t start left shape pairs progress stands segments =
+    let old = g.H.Device.history c.args.host.now in
+    let mid = g.H.Device.history c.batch.new.host in
+    let run = c.args.self.now in
+    let later = running c.batch.new.self in
+    let lines = c.args.lines.now in
+    let tries = c.batch.ensures.tries in
+    let only = at_last old mid (ChangesLog old.world) (g.H.Device.sound c.batch.new.host t) (c.batch.ensures.log_only t) in
+    let empty : c.in_ok-replies.replies.items ≡ [] = search rules in
+    let replies : c.batch.new.replies.items ≡ replies_to run.engine.shape lines run.engine.map = c.in_ok-batch.ensures.replies ∙ ap (λ rs. rs ++ replies_to run.engine.shape lines run.engine.map) empty in
+    let new = g.H.Device.history c.print.new.self in
+    let all = ok_holds c.batch.result _ (tries.count ≡ length lines) c.in_ok-batch.was tries.all in
+    let text : c.deref-2.result.now ≡ texts_of (replies_to run.engine.shape lines run.engine.map) = c.deref-2.ensures.value ∙ c.in_ok-write_replies.ensures ∙ ap texts_of (c.deref.ensures.value ∙ replies) in
+    saying_moments g.H.Device.tells old mid run later lines c.batch.result tries left progress new c.print.result c.deref-2.result.now all text (c.print.ensures.says t) only.said c.batch.ensures.shape c.in_ok-batch.ensures.map
+    (c.in_ok-batch.ensures.stands t SHAPE stands segments).stands (batch_moments g.H.Device.tells old mid run later lines c.batch.result tries left progress t (c.batch.ensures.log_only t) stands segments)
+
+pub returns-clause-stands : goal.returns-clause-stands
+returns-clause-stands g c t stands segments =
+    let mid = g.H.Device.history c.batch.new.host in
+    let later = running c.batch.new.self in
+    let done = c.in_ok-batch.ensures.stands t SHAPE stands segments in
+    record {
+      stands = subst (IsAtRest SHAPE later) (sym (c.in_ok-print.ensures.says t).ok) (said_stands SHAPE later mid.world c.deref-2.result.now done.stands);
+      rises = done.rises;
+    }
+
+pub returns-then-is_empty-clause-only_answers : goal.returns-then-is_empty-clause-only_answers
+returns-then-is_empty-clause-only_answers g c t =
+    no_answers (g.H.Device.history c.args.host.now) (g.H.Device.sound c.args.host.now t)
+
+pub returns-in_err-replies-clause-only_answers : goal.returns-in_err-replies-clause-only_answers
+returns-in_err-replies-clause-only_answers g c t =
+    no_answers (g.H.Device.history c.args.host.now) (g.H.Device.sound c.args.host.now t)
+
+pub returns-in_err-batch-clause-only_answers : goal.returns-in_err-batch-clause-only_answers
+returns-in_err-batch-clause-only_answers g c t =
+    log_answers (g.H.Device.history c.args.host.now) (g.H.Device.history c.batch.new.host) (c.batch.ensures.log_only t)
+
+pub returns-in_err-write_replies-clause-only_answers : goal.returns-in_err-write_replies-clause-only_answers
+returns-in_err-write_replies-clause-only_answers g c t =
+    log_answers (g.H.Device.history c.args.host.now) (g.H.Device.history c.batch.new.host) (c.batch.ensures.log_only t)
+
+pub returns-in_err-print-clause-only_answers : goal.returns-in_err-print-clause-only_answers
+returns-in_err-print-clause-only_answers g c t =
+    let old = g.H.Device.history c.args.host.now in
+    let mid = g.H.Device.history c.batch.new.host in
+    said_answers old mid (g.H.Device.history c.print.new.self) c.print.result c.deref-2.result.now (g.H.Device.sound c.batch.new.host t) (log_answers old mid (c.batch.ensures.log_only t)) (c.print.ensures.says t)
+
+pub returns-clause-only_answers : goal.returns-clause-only_answers
+returns-clause-only_answers g c t =
+    let old = g.H.Device.history c.args.host.now in
+    let mid = g.H.Device.history c.batch.new.host in
+    said_answers old mid (g.H.Device.history c.print.new.self) c.print.result c.deref-2.result.now (g.H.Device.sound c.batch.new.host t) (log_answers old mid (c.batch.ensures.log_only t)) (c.print.ensures.says t)
