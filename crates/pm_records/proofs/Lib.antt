@@ -4,6 +4,7 @@ pub mod FileSteps
 pub mod FrameGrammar
 pub mod GrammarLaws
 pub mod GrammarTests
+pub mod Growing
 pub mod HeldLog
 pub mod LogicalBytes
 pub mod OpeningLaw

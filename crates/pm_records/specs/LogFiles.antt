@@ -1,5 +1,5 @@
 -- What the files of a log's segments are: what of the log is lasting, what was written after that, and where its writer stands.
-use Rattle.std.specs.Prelude.{◌≡◌, ◌≢◌, ◌<◌, ◌≤◌, ◌+◌, ℕ, List, [], ◌∷◌, length, Some, None, true, false}
+use Rattle.std.specs.Prelude.{◌≡◌, ◌≢◌, ◌<◌, ◌≤◌, ◌+◌, ℕ, List, [], ◌∷◌, ◌++◌, length, Some, None, true, false}
 use Rattle.pm_types.specs.declared.place.Place.{Place}
 use Rattle.pm_frame.specs.declared.kinds.TheConstants.{LOGICAL, SEAL}
 use Rattle.pm_frame.specs.declared.limits.TheConstants.{PAYLOAD_MAX}
@@ -7,7 +7,7 @@ use Rattle.pm_frame.specs.Frames.{Frame, frame_len}
 use Rattle.pm_disk.specs.Files.{File, bytes_of, content, at_change}
 use Rattle.pm_disk.specs.Images.{Below}
 use Rattle.pm_disk.specs.Worlds.{World}
-use Rattle.pm_records.specs.Logs.{Grammar, all_frames, place, is_seal, is_last, is_over, after_frames, frames_len, HasFrames, SegmentHasFrames}
+use Rattle.pm_records.specs.Logs.{Grammar, all_frames, place, is_seal, is_last, is_over, after_frames, frames_len, without_seals, HasFrames, SegmentHasFrames, IsLogFrom}
 
 -- what the segments' files hold now
 abbrev pub contents : (ℕ → File) → ℕ → List ℕ
@@ -99,6 +99,14 @@ pub record IsRecordFrame (frame : Frame) : Type 0 where
   pub known_from : LOGICAL ≤ frame.kind
   pub known_to : frame.kind < SEAL
   pub short : length frame.payload ≤ PAYLOAD_MAX
+
+-- The log has all the frames that it had, and after them these, besides SEALs.
+pub record LogGrowsBy (old new : World) (more : List Frame) : Type 0 where
+  pub before : List Frame
+  pub was : IsLogFrom all_frames (contents old.log) (place 1 0) before
+  pub added : List Frame
+  pub now_is : IsLogFrom all_frames (contents new.log) (place 1 0) (before ++ added)
+  pub added_are : without_seals added ≡ more
 
 -- no segment but this one has a change that isn't forced
 abbrev pub IsQuietBut : World → ℕ → Type 0

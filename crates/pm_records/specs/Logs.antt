@@ -7,7 +7,7 @@ use Rattle.std.specs.Prelude.{◌≡◌, ◌<◌, ◌+◌, ◌-◌, ◌^◌, ℕ
 use Rattle.pm_types.specs.declared.place.Place.{Place}
 use Rattle.pm_frame.specs.declared.kinds.TheConstants.{SEAL}
 use Rattle.pm_frame.specs.Frames.{Frame, frame_len, frame_bytes, frame_at, is_frame}
-use Rattle.pm_records.specs.Records.{Record, record_of}
+use Rattle.pm_records.specs.Records.{Record, kind_of, payload_of, record_of}
 
 -- a place in the log
 abbrev pub place : ℕ → ℕ → Place
@@ -16,6 +16,10 @@ place seg off = record { seg = seg; off = off }
 -- the record of a frame, none where its payload is in no grammar
 abbrev pub record_in : Frame → Option Record
 record_in frame = record_of frame.kind frame.payload
+
+-- the frame of a record
+abbrev pub record_frame : Record → Frame
+record_frame found = record { kind = kind_of found; payload = payload_of found }
 
 -- the frame that leads to the next segment
 abbrev pub seal_frame : Frame
@@ -35,6 +39,11 @@ abbrev pub is_sealed : List Frame → Bool
 is_sealed [] = false
 is_sealed (frame ∷ []) = is_seal frame
 is_sealed (frame ∷ next ∷ frames) = is_sealed (next ∷ frames)
+
+-- these frames, but for the SEALs
+abbrev pub without_seals : List Frame → List Frame
+without_seals [] = []
+without_seals (frame ∷ frames) = if is_seal frame then without_seals frames else frame ∷ without_seals frames
 
 -- how many bytes these frames have
 abbrev pub frames_len : List Frame → ℕ

@@ -12,19 +12,13 @@ use Rattle.pm_engine.proofs.DoneLines.{done_keeps}
 use Rattle.pm_top.specs.declared.run.Run.{Run}
 use Rattle.pm_top.specs.declared.shape.TheConstants.{SHAPE}
 use Rattle.pm_top.specs.Crashes.{CrashHoldsAcknowledged}
-use Rattle.pm_top.specs.Runs.{Progress, SameFiles, KeepsRun, IsAtRestSince, IsAtRestAfter}
+use Rattle.pm_top.specs.Runs.{Progress, KeepsRun, IsAtRestSince, IsAtRestAfter}
 use Rattle.pm_top.proofs.Lasting.{keeps_rest, keeps_taken, order_longer}
 
 -- ---- what taking input leaves
 
 pub taken_said : (old new : World) → OnlyTakes old new → new.said ≡ old.said
 taken_said old new takes = ap (λ (w : World). w.said) takes.1
-
-pub taken_files : (old new : World) → OnlyTakes old new → SameFiles old new
-taken_files old new takes = subst (SameFiles old) (sym takes.1) record { pages = refl; starts = refl; ends = refl }
-
-pub files_then : (old mid new : World) → SameFiles old mid → SameFiles mid new → SameFiles old new
-files_then old mid new first second = record { pages = second.pages ∙ first.pages; starts = second.starts ∙ first.starts; ends = second.ends ∙ first.ends }
 
 pub keeps_both : (before mid later : Run) → KeepsRun before mid → KeepsRun mid later → KeepsRun before later
 keeps_both before mid later first second = record {

@@ -19,7 +19,7 @@ use Rattle.pm_top.specs.declared.run.Run.{Run}
 use Rattle.pm_top.specs.declared.shape.TheConstants.{SHAPE}
 use Rattle.pm_top.specs.Crashes.{CrashHoldsAcknowledged}
 use Rattle.pm_top.specs.Promises.{HasFailed, HasNoMemory}
-use Rattle.pm_top.specs.Runs.{Progress, SameFiles}
+use Rattle.pm_top.specs.Runs.{Progress}
 use Rattle.pm_top.proofs.Lasting.{keeps_rest, keeps_doing, keeps_saying, keeps_said}
 use Rattle.pm_top.proofs.Progressing.{failed_unsaid, memory_unsaid}
 
@@ -59,13 +59,6 @@ taken_stands wanted engine old new takes s = subst (IsAtRest wanted engine) (sym
   before = s.before;
   quiet = s.quiet;
 }
-
--- the log changes, and no other file
-pub log_files : (old new : World) → ChangesLog old new → SameFiles old new × (new.input ≡ old.input)
-log_files old new only = (record { pages = only.pages; starts = only.starts; ends = only.ends }, only.input)
-
-pub said_files : (old mid new : World) (bytes : List ℕ) → ChangesLog old mid → new ≡ with_said bytes mid → SameFiles old new × (new.input ≡ old.input)
-said_files old mid new bytes only is = subst (λ w. SameFiles old w × (w.input ≡ old.input)) (sym is) (record { pages = only.pages; starts = only.starts; ends = only.ends }, only.input)
 
 -- before anything is done
 pub rest_moments : (old : History) {start : World} {left : List Line} {shape : Shape} {pairs : Pairs} {run : Run} (progress : Progress start old.world left shape pairs run) → IsHistory old → IsAtRest SHAPE (running run.engine) old.world

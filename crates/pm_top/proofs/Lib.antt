@@ -1,5 +1,6 @@
 pub mod AnsweredBatch
 pub mod AnsweredLines
+pub mod KeptFiles
 pub mod Lasting
 pub mod LaterStates
 pub mod Leaving

@@ -1,5 +1,5 @@
 -- What follows from how far a run has come.
-use Rattle.std.proofs.Common.{◌≡◌, ◌⊎◌, inl, inr, ℕ, ◌+◌, ◌<◌, ◌≤◌, min, List, [], ◌++◌, length, take, drop, refl, ap, sym, ◌∙◌, append_assoc, append-nil, arith, length-append}
+use Rattle.std.proofs.Common.{◌≡◌, ◌⊎◌, inl, inr, ℕ, ◌+◌, ◌-◌, ◌<◌, ◌≤◌, min, List, [], ◌++◌, length, take, drop, refl, ap, sym, ◌∙◌, append_assoc, append-nil, arith, length-append}
 use Rattle.std.proofs.lemmas.List.{length-map, take_at, drop_at, take_all, take_min, take-append-le}
 use Rattle.std.proofs.lemmas.List.Concat.{flat_map-append}
 use Rattle.std.proofs.Math.Seq.{take-append-add}
@@ -19,10 +19,6 @@ use Rattle.pm_top.specs.Scripts.{after_lines}
 use Rattle.pm_top.specs.Served.{line_of, script_of}
 use Rattle.pm_top.proofs.TakenLines.{after_lines-more}
 use Rattle.pm_top.proofs.ServedLines.{script_of-first}
-
--- a prefix of the bytes of a list are some of a longer one
-prefix_longer : (n : ℕ) (xs ys : List ℕ) → take n xs ≡ take (min n (length xs)) (xs ++ ys)
-prefix_longer n xs ys = sym (take_min n xs) ∙ sym (take-append-le (min n (length xs)) xs ys (omega arith))
 
 texts-append : (xs ys : List Reply) → texts_of (xs ++ ys) ≡ texts_of xs ++ texts_of ys
 texts-append xs ys = flat_map-append text_of xs ys
@@ -195,16 +191,20 @@ module _ {start now : World} {shape : Shape} {pairs : Pairs} {run : Run} (lines 
   -- the batch was done, and its replies said in part
   pub failed_saying : (new : World) (n : ℕ) (order : List ℕ) → length lines ≤ BATCH_LINES_MAX → new.said ≡ now.said ++ take n texts → order ≡ run.engine.order.items ++ accepted run.engine.shape (run.lines + 1) lines run.engine.map
       → HasFailed start new shape pairs run.lines order
+  unfolding tried_some tried_more
   failed_saying new n order few said_is order_is =
-      let own = texts_of (replies_to shape lines run.engine.map) in
-      let others = texts_of (replies_to shape left (after_all shape lines run.engine.map)) in
-      let next : texts_of (drop run.lines (replies_of shape start.input pairs)) ≡ own ++ others =
-      ap texts_of (untold progress ∙ replies_to-append shape lines left run.engine.map) ∙ texts-append (replies_to shape lines run.engine.map) (replies_to shape left (after_all shape lines run.engine.map)) in
+      let own = replies_to shape lines run.engine.map in
+      let others = replies_to shape left (after_all shape lines run.engine.map) in
+      let count : run.lines + length lines - run.lines ≡ length lines = omega arith in
+      let next : texts_of (take (run.lines + length lines - run.lines) (drop run.lines (replies_of shape start.input pairs))) ≡ texts_of own =
+      ap (λ k. texts_of (take k (drop run.lines (replies_of shape start.input pairs)))) count
+      ∙ ap (λ rs. texts_of (take (length lines) rs)) (untold progress ∙ replies_to-append shape lines left run.engine.map)
+      ∙ ap texts_of (take_at own others (length lines) (length-replies_to shape lines run.engine.map)) in
       record {
         tail = take n texts;
         answers = answers_so_far progress new (take n texts) said_is;
-        prefix = (min n (length own), inl (ap (take n) texts_are ∙ prefix_longer n own others ∙ ap (take (min n (length own))) (sym next)));
         tried = tried_some (length lines) order few (omega arith) (order_is ∙ ap (λ ls. run.engine.order.items ++ accepted run.engine.shape (run.lines + 1) ls run.engine.map) (sym (take_all (length lines) lines (omega arith))));
+        prefix = (n, inl (ap (take n) (texts_are ∙ sym next)));
       }
 
   -- a fault came before anything was said

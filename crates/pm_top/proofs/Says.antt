@@ -12,3 +12,6 @@ pub said_moments : {T E : Type 0} (old new : History) (result : Result T E) (tex
 said_moments old new result text sound call =
     let P : World → Type 0 = SaysPart text old.world in
     says old old new result text P (started old P sound (0, ap (λ (bytes : List ℕ). record old.world { said = bytes }) (sym (append-nil old.world.said)))) call (λ k le. (k, refl))
+
+pub unsaid_moments : (old : History) (text : List ℕ) → IsHistory old → AllMoments old old (SaysPart text old.world)
+unsaid_moments old text sound = started old (SaysPart text old.world) sound (0, ap (λ (bytes : List ℕ). record old.world { said = bytes }) (sym (append-nil old.world.said)))

@@ -1,5 +1,5 @@
 -- What a run promises.
-use Rattle.std.specs.Prelude.{◌≡◌, ◌⊎◌, ℕ, ◌+◌, ◌≤◌, ◌^◌, List, [], ◌++◌, take, drop, length, codes, decimal}
+use Rattle.std.specs.Prelude.{◌≡◌, ◌⊎◌, ℕ, ◌+◌, ◌-◌, ◌≤◌, ◌^◌, List, [], ◌++◌, take, drop, length, codes, decimal}
 use Rattle.pm_types.specs.declared.limits.TheConstants.{BATCH_LINES_MAX}
 use Rattle.pm_types.specs.declared.place.Place.{Place}
 use Rattle.pm_types.specs.declared.shape.Shape.{Shape}
@@ -56,16 +56,17 @@ pub record IsDone (old new : World) (shape : Shape) (pairs : Pairs) (lines : ℕ
   pub read : new.input ≡ []
   pub limits : IsWithinLimits old.input
 
--- a prefix of the bytes of the next replies or of a fault line
+-- a prefix of the bytes of these replies or of a fault line
 abbrev pub IsTail : List Reply → List ℕ → Type 0
 IsTail next tail = (n : ℕ) × ((tail ≡ take n (texts_of next)) ⊎ (tail ≡ take n (codes "fault long\n")))
 
--- a call failed after the replies to the first lines
+-- A call failed after the replies to the first lines. What was said after them belongs to the replies to the lines of the next
+-- batch, and to none that wasn't done.
 pub record HasFailed (old new : World) (shape : Shape) (pairs : Pairs) (lines : ℕ) (order : List ℕ) : Type 0 where
   pub tail : List ℕ
   pub answers : HasAnswered old new shape pairs lines tail
-  pub prefix : IsTail (drop lines (replies_of shape old.input pairs)) tail
   pub tried : HasTried shape old.input pairs lines order
+  pub prefix : IsTail (take (tried.many - lines) (drop lines (replies_of shape old.input pairs))) tail
 
 -- memory ran out after the replies to the first lines
 pub record HasNoMemory (old new : World) (shape : Shape) (pairs : Pairs) (lines : ℕ) (order : List ℕ) : Type 0 where
@@ -124,11 +125,17 @@ pub record IsRefused (old new : World) (lines : ℕ) (order : List ℕ) : Type 0
   pub none : lines ≡ 0
   pub order_is : order ≡ []
 
+-- nothing was done but that the words were refused, which was printed in part at most
+pub record IsRefusedInPart (old new : World) (lines : ℕ) (order : List ℕ) : Type 0 where
+  pub part : SaysPart (codes "fault usage\n") old new
+  pub none : lines ≡ 0
+  pub order_is : order ≡ []
+
 -- what each status says where the words aren't a command
 abbrev pub RefusalIs : Status → World → World → ℕ → List ℕ → Type 0
 RefusalIs Done old new lines order = ⊥
 RefusalIs Usage old new lines order = IsRefused old new lines order
-RefusalIs Failed old new lines order = SaysPart (codes "fault usage\n") old new
+RefusalIs Failed old new lines order = IsRefusedInPart old new lines order
 RefusalIs Memory old new lines order = ⊥
 RefusalIs Damaged old new lines order = ⊥
 RefusalIs Long old new lines order = ⊥

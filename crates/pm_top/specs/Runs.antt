@@ -4,6 +4,7 @@ use Rattle.pm_types.specs.declared.limits.TheConstants.{LINES_MAX}
 use Rattle.pm_types.specs.declared.fault.StoreFault.{StoreFault}
 use Rattle.pm_types.specs.declared.fault.StoreFault.TheVariants.{Failed, Memory}
 use Rattle.pm_types.specs.declared.shape.Shape.{Shape}
+use Rattle.pm_disk.specs.Moments.{History, AllMoments}
 use Rattle.pm_disk.specs.Worlds.{World}
 use Rattle.pm_model.specs.declared.line.Line.{Line}
 use Rattle.pm_model.specs.Eval.{Pairs, replies_to, after_all, accepted}
@@ -26,11 +27,17 @@ pub record SameConsole (start now : World) : Type 0 where
   pub said : now.said ≡ start.said
   pub input : now.input ≡ start.input
 
--- nothing but the log, what was said and what is left of the input is other than it was
+-- no file but the log is other than it was
 pub record SameFiles (old new : World) : Type 0 where
   pub pages : new.pages ≡ old.pages
   pub starts : new.starts ≡ old.starts
   pub ends : new.ends ≡ old.ends
+  pub config : new.config ≡ old.config
+
+-- no file but the log is other than it was, and no input was taken
+pub record OnlyAnswers (old new : World) : Type 0 where
+  pub files : SameFiles old new
+  pub input : new.input ≡ old.input
 
 -- A run goes on with a store of the same shape, and its order has what it had.
 pub record KeepsRun (before now : Run) : Type 0 where
@@ -64,11 +71,12 @@ pub record CountsBatch (continuation : Continuation) (input : Unread) (before no
   pub same : continuation ≡ then_comes.More → now.lines ≡ input.lines
   pub some : continuation ≡ then_comes.More → before.lines < now.lines
 
--- No file but the log was changed. Where no fault came, the log ends there, and what is known of the input's end holds.
-pub record IsOpenAfter {T : Type 0} (old new : World) (log : LogEnd) (input : Unread) (result : Result T StoreFault) : Type 0 where
-  pub same : SameFiles old new
-  pub end : OnOk result (EndsThere log new)
-  pub input_end : OnOk result (KnowsEnd input new)
+-- At no moment was another file than the log changed. Where no fault came, the log ends there, and what is known of the input's
+-- end holds.
+pub record IsOpenAfter {T : Type 0} (old new : History) (log : LogEnd) (input : Unread) (result : Result T StoreFault) : Type 0 where
+  pub files : AllMoments old new (SameFiles old.world)
+  pub end : OnOk result (EndsThere log new.world)
+  pub input_end : OnOk result (KnowsEnd input new.world)
 
 -- The engine of a run stands, its log in the same segment as an earlier one's or in the next so many.
 pub record IsAtRestSince (before now : Run) (count : ℕ) (world : World) : Type 0 where

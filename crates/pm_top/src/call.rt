@@ -49,6 +49,10 @@ pub fn top<Q: AllocGlobal, H: Host>(rt: &Q, words: &[String], host: &mut H) -> R
     ensures crash { H.tells →
         HoldsAtEachMoment (H.history host.old) (H.history host.new) result.order.items }
 
+    // At no moment is another file than the log changed.
+    ensures files { H.tells → AllMoments (H.history host.old) (H.history host.new) (SameFiles
+        (H.history host.old).world) }
+
     // Which folder is bound.
     ensures folder { BindsFolder (map string_bytes words.now) (status_of result.status)
         (H.state host.old) (H.state host.new) }
@@ -101,6 +105,8 @@ fn command<H: Host>(alloc: Global, words: &[String], host: &mut H) -> Outcome
         (H.history host.new).world result.lines result.order.items }
     ensures crash { H.tells →
         HoldsAtEachMoment (H.history host.old) (H.history host.new) result.order.items }
+    ensures files { H.tells → AllMoments (H.history host.old) (H.history host.new) (SameFiles
+        (H.history host.old).world) }
     ensures folder { BindsFolder (map string_bytes words.now) result.status
         (H.state host.old) (H.state host.new) }
     ensures cause { HasStatusCause (map string_bytes words.now) result.status
@@ -122,6 +128,8 @@ fn run<H: Host>(alloc: Global, host: &mut H) -> Outcome
         RunHolds (H.history host.old) (H.history host.new) result.status result.lines result.order.items }
     ensures crash { H.tells →
         HoldsAtEachMoment (H.history host.old) (H.history host.new) result.order.items }
+    ensures files { H.tells → AllMoments (H.history host.old) (H.history host.new) (SameFiles
+        (H.history host.old).world) }
     ensures cause { HasRunCause result.status (H.state host.old) (H.state host.new) }
 {
     match Engine::open_store(alloc, host, SHAPE) {
@@ -141,7 +149,8 @@ fn answer_script<H: Host>(alloc: Global, host: &mut H, engine: Engine) -> Outcom
     requires shape { IsShape engine.shape }
     requires order { engine.order.items ≡ [] }
     requires end { H.tells → EndsThere engine.log (H.history host.old).world }
-    ensures same { H.tells → SameFiles (H.history host.old).world (H.history host.new).world }
+    ensures files { H.tells → AllMoments (H.history host.old) (H.history host.new) (SameFiles
+        (H.history host.old).world) }
     ensures outcome { H.tells → (start : World) → SameConsole start (H.history host.old).world →
         OutcomeIs result.status start (H.history host.new).world engine.shape engine.map
         result.lines result.order.items }

@@ -50,6 +50,8 @@ pub fn print_limit_fault<H: Host>(host: &mut H) -> Status
 
 /// Prints the line that names a record that is bad. Where there is no memory for it nothing is printed.
 pub fn print_record_fault<H: Host>(alloc: Global, host: &mut H, at: Place) -> Status
+    ensures moments { H.tells → AllMoments (H.history host.old) (H.history host.new)
+        (SaysPart (fault_record at) (H.history host.old).world) }
     ensures damaged { H.tells → result ≡ Status.Damaged →
         (H.history host.new).world ≡ with_said (fault_record at) (H.history host.old).world }
     ensures cases { (result ≡ Status.Damaged) ⊎ (result ≡ Status.Failed) ⊎ (result ≡ Status.Memory) }

@@ -19,7 +19,7 @@ ghost use Rattle.pm_engine.specs.Engines.{running, IsAtRest, HasSegments};
 ghost use Rattle.pm_top.specs.declared.shape.TheConstants.{SHAPE};
 ghost use Rattle.pm_top.specs.Crashes.{CrashHoldsAcknowledged};
 ghost use Rattle.pm_top.specs.Promises.{HasFailed, HasNoMemory, StopIs};
-ghost use Rattle.pm_top.specs.Runs.{CanRun, Progress, SameConsole, SameFiles, KeepsRun, CountsBatch, IsOpenAfter, LinesAreAnswered, FaultIs, IsAtRestSince, IsAtRestAfter, BatchIsAnswered, LeavesRun};
+ghost use Rattle.pm_top.specs.Runs.{CanRun, Progress, SameConsole, SameFiles, OnlyAnswers, KeepsRun, CountsBatch, IsOpenAfter, LinesAreAnswered, FaultIs, IsAtRestSince, IsAtRestAfter, BatchIsAnswered, LeavesRun};
 ghost use Rattle.pm_top.specs.Served.{script_of};
 
 use crate::batch::{Continuation, next_batch};
@@ -70,7 +70,8 @@ impl Run {
         requires lines { self.old.lines ≡ 0 }
         requires order { self.old.engine.order.items ≡ [] }
         requires end { H.tells → EndsThere self.old.engine.log (H.history host.old).world }
-        ensures same { H.tells → SameFiles (H.history host.old).world (H.history host.new).world }
+        ensures files { H.tells → AllMoments (H.history host.old) (H.history host.new) (SameFiles
+            (H.history host.old).world) }
 
         // What was answered.
         ensures stop { H.tells → (start : World) → SameConsole start (H.history host.old).world →
@@ -119,7 +120,7 @@ impl Run {
         requires input_end { H.tells → KnowsEnd input.old (H.history host.old).world }
         ensures keeps { KeepsRun self.old self.new }
         ensures counted { IfOk result (λ continuation. CountsBatch continuation input.new self.old self.new) }
-        ensures open { H.tells → IsOpenAfter (H.history host.old).world (H.history host.new).world
+        ensures open { H.tells → IsOpenAfter (H.history host.old) (H.history host.new)
             self.new.engine.log input.new result }
 
         // What was answered.
@@ -167,8 +168,8 @@ impl Run {
         ensures keeps { KeepsRun self.old self.new }
         ensures lines { OnOk result (self.new.lines ≡ self.old.lines + length lines.now) }
         ensures end { H.tells → OnOk result (EndsThere self.new.engine.log (H.history host.new).world) }
-        ensures same { H.tells → SameFiles (H.history host.old).world (H.history host.new).world
-            × ((H.history host.new).world.input ≡ (H.history host.old).world.input) }
+        ensures only_answers { H.tells → AllMoments (H.history host.old) (H.history host.new) (OnlyAnswers
+            (H.history host.old).world) }
 
         // What was answered.
         ensures answered { H.tells → (start : World) (left : List Line) (shape : Shape) (pairs : Pairs) →

@@ -1,4 +1,5 @@
 use Rattle.std.proofs.Common.{◌≡◌, inl, inr, ℕ, ◌≤◌, ◌^◌, List, [], Err, ap, sym, ◌∙◌, subst, arith}
+use Rattle.std.specs.Prelude.{codes}
 use Rattle.std.proofs.lemmas.List.{length-map}
 use Rattle.pm_types.specs.declared.limits.TheConstants.{LINES_MAX}
 use Rattle.pm_disk.specs.Moments.{AllMoments}
@@ -9,9 +10,10 @@ use Rattle.pm_engine.specs.Engines.{running}
 use Rattle.pm_top.specs.declared.status.Status.{Status}
 use Rattle.pm_top.specs.Crashes.{CrashHoldsAcknowledged}
 use Rattle.pm_top.specs.Promises.{OutcomeIs, StopIs, IsDone, IsStopped}
-use Rattle.pm_top.specs.Runs.{CanRun, LeavesStore}
+use Rattle.pm_top.specs.Runs.{CanRun, LeavesStore, SameFiles}
 use Rattle.pm_top.specs.Served.{line_of}
 use Rattle.pm_top.specs.Statuses.{code_of}
+use Rattle.pm_top.proofs.KeptFiles.{say_calls, then_calls}
 use Rattle.pm_top.proofs.Leaving.{leaves_store}
 use Rattle.pm_top.proofs.PrintedLimit.{ends_long, limit_moments}
 use Rattle.pm_top.proofs.call.answer_script.Goals.{in-Ok-Done, in-Ok-Limit, in-Err-Failed, in-Err-Memory}
@@ -94,3 +96,20 @@ returns-clause-leaves g c t is start same can =
       | in-Err-Memory w ↦ absurd (let clash : 0 ≡ 4 = ap code_of (sym is ∙ w.status-is) in omega (arith, clash))
     ] in
     subst (λ (e : Engine). LeavesStore start new (running e)) c.new-run.ensures.engine left
+
+pub returns-clause-files : goal.returns-clause-files
+returns-clause-files g c t =
+    let old = g.H.Device.history c.args.host.now in
+    let mid = g.H.Device.history c.serve.new.host in
+    let K : World → Type 0 = SameFiles old.world in
+    let served : AllMoments old mid K = c.serve.ensures.files t in
+    elim c.match-serve.branch [
+      | in-Ok-Done w ↦ subst (λ h. AllMoments old (g.H.Device.history h) K) (sym w.host-is) served
+      | in-Ok-Limit w ↦
+          let printed = w.print_limit_fault-status in
+          let new = g.H.Device.history printed.new.host in
+          subst (λ h. AllMoments old (g.H.Device.history h) K) (sym w.host-is)
+          (then_calls old mid new (g.H.Device.sound c.serve.new.host t) served (say_calls (codes "fault long\n") mid new (printed.ensures.moments t)))
+      | in-Err-Failed w ↦ subst (λ h. AllMoments old (g.H.Device.history h) K) (sym w.host-is) served
+      | in-Err-Memory w ↦ subst (λ h. AllMoments old (g.H.Device.history h) K) (sym w.host-is) served
+    ]

@@ -1,4 +1,5 @@
-use Rattle.std.proofs.Common.{rules, ◌≡◌, subst, sym, ◌∙◌}
+use Rattle.std.proofs.Common.{◌≡◌, subst}
+use Rattle.std.specs.Prelude.{codes}
 use Rattle.pm_disk.specs.Moments.{AllMoments}
 use Rattle.pm_disk.specs.Worlds.{World}
 use Rattle.pm_disk.proofs.Chain.{joined}
@@ -6,6 +7,7 @@ use Rattle.pm_model.specs.Eval.{after_all}
 use Rattle.pm_top.specs.Crashes.{CrashHoldsAcknowledged}
 use Rattle.pm_top.specs.Promises.{HoldsAtEachMoment, IsDamaged, IsLeft, IsStart, OutcomeIs}
 use Rattle.pm_top.specs.Served.{script_of}
+use Rattle.pm_top.proofs.KeptFiles.{bind_call, say_calls, then_calls}
 use Rattle.pm_top.proofs.Opened.{rest_keeps, refused_moments, bound_moments, run_from}
 use Rattle.pm_top.proofs.call.command.Goals as goal
 
@@ -37,3 +39,17 @@ pub returns-in-Err-clause-crash : goal.returns-in-Err-clause-crash
 returns-in-Err-clause-crash g c t shape pairs start =
     let old = g.H.Device.history c.args.host.now in
     bound_moments old (g.H.Device.history c.bind.new.self) c.bind.result shape pairs c.without-in-Err.result.order.items (g.H.Device.sound c.args.host.now t) (rest_keeps old.world shape pairs start.holds start.numbers start.quiet) (c.bind.ensures.does t)
+
+pub returns-in_default-clause-files : goal.returns-in_default-clause-files
+returns-in_default-clause-files g c t =
+    say_calls (codes "fault usage\n") (g.H.Device.history c.args.host.now) (g.H.Device.history c.print_usage_fault.new.host) (c.print_usage_fault.ensures.moments t)
+
+pub returns-in-Ok-clause-files : goal.returns-in-Ok-clause-files
+returns-in-Ok-clause-files g c t =
+    let old = g.H.Device.history c.args.host.now in
+    let mid = g.H.Device.history c.bind.new.self in
+    then_calls old mid (g.H.Device.history c.run.new.host) (g.H.Device.sound c.bind.new.self t) (bind_call old mid c.bind.result (g.H.Device.sound c.args.host.now t) (c.bind.ensures.does t)) (c.run.ensures.files t)
+
+pub returns-in-Err-clause-files : goal.returns-in-Err-clause-files
+returns-in-Err-clause-files g c t =
+    bind_call (g.H.Device.history c.args.host.now) (g.H.Device.history c.bind.new.self) c.bind.result (g.H.Device.sound c.args.host.now t) (c.bind.ensures.does t)

@@ -9,8 +9,8 @@ use Rattle.pm_engine.specs.Engines.{running, HasSegments}
 use Rattle.pm_top.specs.declared.status.Status.TheVariants.{Damaged}
 use Rattle.pm_top.specs.Crashes.{CrashHoldsAcknowledged}
 use Rattle.pm_top.specs.Promises.{OutcomeIs, fault_record}
-use Rattle.pm_top.specs.Runs.{CanRun}
-use Rattle.pm_top.proofs.AnsweredLines.{log_files}
+use Rattle.pm_top.specs.Runs.{CanRun, SameFiles}
+use Rattle.pm_top.proofs.KeptFiles.{log_calls, say_calls, then_calls}
 use Rattle.pm_top.proofs.Leaving.{is_left}
 use Rattle.pm_top.proofs.Opened.{opening_moments, same_console}
 use Rattle.pm_top.proofs.call.run.Goals as goal
@@ -30,7 +30,7 @@ returns-in-Ok-clause-run g c t =
       leaves = λ is shape pairs start.
           let stands = c.in-Ok.ensures.stands t shape pairs start.holds start.numbers start.quiet in
           let can : CanRun (running c.in-Ok.engine) mid.world = record { stands = stands.0; segments = omega (arith, stands.1, start.numbers) } in
-          is_left start.holds.frames old.world mid.world new.world (running c.in-Ok.engine) shape pairs (c.in-Ok.ensures.holds t shape pairs start.holds) stands.1 start.quiet (log_files old.world mid.world only).0 (c.answer_script.ensures.same t)
+          is_left start.holds.frames old.world mid.world new.world (running c.in-Ok.engine) shape pairs (c.in-Ok.ensures.holds t shape pairs start.holds) stands.1 start.quiet (at_last old mid (SameFiles old.world) (g.H.Device.sound c.open_store.new.host t) (log_calls old mid (c.open_store.ensures.log_only t))) (at_last mid new (SameFiles mid.world) (g.H.Device.sound c.answer_script.new.host t) (c.answer_script.ensures.files t))
           (c.answer_script.ensures.leaves t is old.world (same_console old.world mid.world only) can);
       damaged = λ is. absurd (c.answer_script.ensures.cause.sound is);
       long = λ is. (let stopped = subst (λ s. OutcomeIs s old.world new.world c.in-Ok.engine.shape c.in-Ok.engine.map outcome.lines outcome.order.items) is (c.answer_script.ensures.outcome t old.world (same_console old.world mid.world only)) in stopped.passes);
@@ -84,3 +84,32 @@ returns-in-Err-BadRecord-clause-run g c t =
       };
       long = search rules;
     }
+
+pub returns-in-Ok-clause-files : goal.returns-in-Ok-clause-files
+returns-in-Ok-clause-files g c t =
+    let old = g.H.Device.history c.args.host.now in
+    let mid = g.H.Device.history c.open_store.new.host in
+    let opened = log_calls old mid (c.open_store.ensures.log_only t) in
+    then_calls old mid (g.H.Device.history c.answer_script.new.host) (g.H.Device.sound c.open_store.new.host t) opened (c.answer_script.ensures.files t)
+
+pub returns-in-Err-Failed-clause-files : goal.returns-in-Err-Failed-clause-files
+returns-in-Err-Failed-clause-files g c t =
+    let old = g.H.Device.history c.args.host.now in
+    let mid = g.H.Device.history c.open_store.new.host in
+    let opened = log_calls old mid (c.open_store.ensures.log_only t) in
+    opened
+
+pub returns-in-Err-Memory-clause-files : goal.returns-in-Err-Memory-clause-files
+returns-in-Err-Memory-clause-files g c t =
+    let old = g.H.Device.history c.args.host.now in
+    let mid = g.H.Device.history c.open_store.new.host in
+    let opened = log_calls old mid (c.open_store.ensures.log_only t) in
+    opened
+
+pub returns-in-Err-BadRecord-clause-files : goal.returns-in-Err-BadRecord-clause-files
+returns-in-Err-BadRecord-clause-files g c t =
+    let old = g.H.Device.history c.args.host.now in
+    let mid = g.H.Device.history c.open_store.new.host in
+    let opened = log_calls old mid (c.open_store.ensures.log_only t) in
+    let new = g.H.Device.history c.print_record_fault.new.host in
+    then_calls old mid new (g.H.Device.sound c.open_store.new.host t) opened (say_calls (fault_record c.in-Err-BadRecord.at) mid new (c.print_record_fault.ensures.moments t))

@@ -6,24 +6,18 @@ use Rattle.pm_model.specs.declared.line.Line.{Line}
 use Rattle.pm_script.specs.Reading.{rest_of, OnlyTakes}
 use Rattle.pm_engine.specs.Engines.{running, HasSegments}
 use Rattle.pm_top.specs.declared.shape.TheConstants.{SHAPE}
-use Rattle.pm_top.specs.Runs.{Progress}
+use Rattle.pm_top.specs.Runs.{Progress, OnlyAnswers}
 use Rattle.pm_top.specs.Scripts.{ContinuationIs}
 use Rattle.pm_top.specs.Served.{script_of}
 use Rattle.pm_top.proofs.AnsweredLines.{taken_stands}
+use Rattle.pm_top.proofs.KeptFiles.{answer_calls, take_calls, then_calls}
 use Rattle.pm_top.proofs.Progressing.{failed_still, memory_still, progress_still}
-use Rattle.pm_top.proofs.AnsweredBatch.{keeps_both, taken_said, taken_files, files_then, taken_moments, then_moments, stands_then}
+use Rattle.pm_top.proofs.AnsweredBatch.{keeps_both, taken_said, taken_moments, then_moments, stands_then}
 use Rattle.pm_top.proofs.run.Run.answer_batch.Goals as goal
 
 pub returns-in_err-batch-clause-keeps : goal.returns-in_err-batch-clause-keeps
 returns-in_err-batch-clause-keeps g c =
     record { shape = refl; more = []; order = sym (append-nil c.args.self.now.engine.order.items) }
-
-pub returns-in_err-batch-clause-open : goal.returns-in_err-batch-clause-open
-returns-in_err-batch-clause-open g c t =
-    let old = g.H.Device.history c.args.host.now in
-    let mid = g.H.Device.history c.next_batch.new.host in
-    let takes = at_last old mid (OnlyTakes old.world) (g.H.Device.sound c.next_batch.new.host t) (c.next_batch.ensures.takes t) in
-    record { same = taken_files old.world mid.world takes; end = search rules; input_end = search rules }
 
 pub returns-in_err-batch-clause-fault : goal.returns-in_err-batch-clause-fault
 returns-in_err-batch-clause-fault g c t start shape pairs progress =
@@ -40,14 +34,6 @@ returns-in_err-batch-clause-moments g c t start shape pairs progress stands segm
 pub returns-in_err-answer_lines-clause-keeps : goal.returns-in_err-answer_lines-clause-keeps
 returns-in_err-answer_lines-clause-keeps g c =
     c.answer_lines.ensures.keeps
-
-pub returns-in_err-answer_lines-clause-open : goal.returns-in_err-answer_lines-clause-open
-returns-in_err-answer_lines-clause-open g c t =
-    let old = g.H.Device.history c.args.host.now in
-    let mid = g.H.Device.history c.next_batch.new.host in
-    let takes = at_last old mid (OnlyTakes old.world) (g.H.Device.sound c.next_batch.new.host t) (c.next_batch.ensures.takes t) in
-    let files = files_then old.world mid.world (g.H.Device.history c.answer_lines.new.host).world (taken_files old.world mid.world takes) (c.answer_lines.ensures.same t).0 in
-    record { same = files; end = search rules; input_end = search rules }
 
 pub returns-in_err-answer_lines-clause-fault : goal.returns-in_err-answer_lines-clause-fault
 returns-in_err-answer_lines-clause-fault g c t start shape pairs progress =
@@ -89,15 +75,6 @@ returns-in_err-answer_lines-clause-moments g c t start shape pairs progress stan
 pub returns-in_err-answer_lines-2-clause-keeps : goal.returns-in_err-answer_lines-2-clause-keeps
 returns-in_err-answer_lines-2-clause-keeps g c =
     keeps_both c.args.self.now c.answer_lines.new.self c.answer_lines-2.new.self c.answer_lines.ensures.keeps c.answer_lines-2.ensures.keeps
-
-pub returns-in_err-answer_lines-2-clause-open : goal.returns-in_err-answer_lines-2-clause-open
-returns-in_err-answer_lines-2-clause-open g c t =
-    let old = g.H.Device.history c.args.host.now in
-    let mid = g.H.Device.history c.next_batch.new.host in
-    let takes = at_last old mid (OnlyTakes old.world) (g.H.Device.sound c.next_batch.new.host t) (c.next_batch.ensures.takes t) in
-    let files = files_then old.world mid.world (g.H.Device.history c.answer_lines.new.host).world (taken_files old.world mid.world takes) (c.answer_lines.ensures.same t).0 in
-    let both = files_then old.world (g.H.Device.history c.answer_lines.new.host).world (g.H.Device.history c.answer_lines-2.new.host).world files (c.answer_lines-2.ensures.same t).0 in
-    record { same = both; end = search rules; input_end = search rules }
 
 pub returns-in_err-answer_lines-2-clause-fault : goal.returns-in_err-answer_lines-2-clause-fault
 returns-in_err-answer_lines-2-clause-fault g c t start shape pairs progress =
@@ -150,20 +127,6 @@ pub returns-clause-keeps : goal.returns-clause-keeps
 returns-clause-keeps g c =
     keeps_both c.args.self.now c.answer_lines.new.self c.answer_lines-2.new.self c.answer_lines.ensures.keeps c.answer_lines-2.ensures.keeps
 
-pub returns-clause-open : goal.returns-clause-open
-returns-clause-open g c t =
-    let old = g.H.Device.history c.args.host.now in
-    let mid = g.H.Device.history c.next_batch.new.host in
-    let takes = at_last old mid (OnlyTakes old.world) (g.H.Device.sound c.next_batch.new.host t) (c.next_batch.ensures.takes t) in
-    let files = files_then old.world mid.world (g.H.Device.history c.answer_lines.new.host).world (taken_files old.world mid.world takes) (c.answer_lines.ensures.same t).0 in
-    let both = files_then old.world (g.H.Device.history c.answer_lines.new.host).world (g.H.Device.history c.answer_lines-2.new.host).world files (c.answer_lines-2.ensures.same t).0 in
-    let input : (g.H.Device.history c.answer_lines-2.new.host).world.input ≡ mid.world.input = (c.answer_lines-2.ensures.same t).1 ∙ (c.answer_lines.ensures.same t).1 in
-    record {
-      same = both;
-      end = c.in_ok-answer_lines-2.ensures.end t;
-      input_end = λ ended. input ∙ c.in_ok-batch.ensures.input_end t ended;
-    }
-
 pub returns-clause-answered : goal.returns-clause-answered
 returns-clause-answered g c t =
     let old = g.H.Device.history c.args.host.now in
@@ -174,7 +137,9 @@ returns-clause-answered g c t =
     let two = ap (λ (l : List Line). length l) c.deref-2.ensures.value in
     let all = length-append batch.lines.items batch.alone.items in
     let its = c.in_ok-batch.ensures.taken t in
-    let input : (g.H.Device.history c.answer_lines-2.new.host).world.input ≡ mid.world.input = (c.answer_lines-2.ensures.same t).1 ∙ (c.answer_lines.ensures.same t).1 in
+    let input : (g.H.Device.history c.answer_lines-2.new.host).world.input ≡ mid.world.input =
+    (at_last (g.H.Device.history c.answer_lines.new.host) (g.H.Device.history c.answer_lines-2.new.host) (OnlyAnswers (g.H.Device.history c.answer_lines.new.host).world) (g.H.Device.sound c.answer_lines-2.new.host t) (c.answer_lines-2.ensures.only_answers t)).input
+    ∙ (at_last mid (g.H.Device.history c.answer_lines.new.host) (OnlyAnswers mid.world) (g.H.Device.sound c.answer_lines.new.host t) (c.answer_lines.ensures.only_answers t)).input in
     record {
       lines = batch.lines.items ++ batch.alone.items;
       at = its.at;
@@ -264,4 +229,45 @@ returns-clause-counted g c =
       few = omega (arith, counts.few (omega (arith, c.requires.counted, c.requires.few)), c.requires.counted, c.in_ok-answer_lines.ensures.lines, c.in_ok-answer_lines-2.ensures.lines, one, two, all);
       same = λ is. omega (arith, counts.lines is, c.requires.counted, c.in_ok-answer_lines.ensures.lines, c.in_ok-answer_lines-2.ensures.lines, one, two, all);
       some = λ is. omega (arith, c.in_ok-batch.ensures.batch.some is, c.in_ok-answer_lines.ensures.lines, c.in_ok-answer_lines-2.ensures.lines, one, two, all);
+    }
+
+pub returns-in_err-batch-clause-open : goal.returns-in_err-batch-clause-open
+returns-in_err-batch-clause-open g c t =
+    let old = g.H.Device.history c.args.host.now in
+    let mid = g.H.Device.history c.next_batch.new.host in
+    record { files = take_calls old mid (c.next_batch.ensures.takes t); end = search rules; input_end = search rules }
+
+pub returns-in_err-answer_lines-clause-open : goal.returns-in_err-answer_lines-clause-open
+returns-in_err-answer_lines-clause-open g c t =
+    let old = g.H.Device.history c.args.host.now in
+    let mid = g.H.Device.history c.next_batch.new.host in
+    let done = g.H.Device.history c.answer_lines.new.host in
+    let first = then_calls old mid done (g.H.Device.sound c.next_batch.new.host t) (take_calls old mid (c.next_batch.ensures.takes t)) (answer_calls mid done (c.answer_lines.ensures.only_answers t)) in
+    record { files = first; end = search rules; input_end = search rules }
+
+pub returns-in_err-answer_lines-2-clause-open : goal.returns-in_err-answer_lines-2-clause-open
+returns-in_err-answer_lines-2-clause-open g c t =
+    let old = g.H.Device.history c.args.host.now in
+    let mid = g.H.Device.history c.next_batch.new.host in
+    let done = g.H.Device.history c.answer_lines.new.host in
+    let first = then_calls old mid done (g.H.Device.sound c.next_batch.new.host t) (take_calls old mid (c.next_batch.ensures.takes t)) (answer_calls mid done (c.answer_lines.ensures.only_answers t)) in
+    let new = g.H.Device.history c.answer_lines-2.new.host in
+    let both = then_calls old done new (g.H.Device.sound c.answer_lines.new.host t) first (answer_calls done new (c.answer_lines-2.ensures.only_answers t)) in
+    record { files = both; end = search rules; input_end = search rules }
+
+pub returns-clause-open : goal.returns-clause-open
+returns-clause-open g c t =
+    let old = g.H.Device.history c.args.host.now in
+    let mid = g.H.Device.history c.next_batch.new.host in
+    let done = g.H.Device.history c.answer_lines.new.host in
+    let first = then_calls old mid done (g.H.Device.sound c.next_batch.new.host t) (take_calls old mid (c.next_batch.ensures.takes t)) (answer_calls mid done (c.answer_lines.ensures.only_answers t)) in
+    let new = g.H.Device.history c.answer_lines-2.new.host in
+    let both = then_calls old done new (g.H.Device.sound c.answer_lines.new.host t) first (answer_calls done new (c.answer_lines-2.ensures.only_answers t)) in
+    let input : (g.H.Device.history c.answer_lines-2.new.host).world.input ≡ mid.world.input =
+    (at_last (g.H.Device.history c.answer_lines.new.host) (g.H.Device.history c.answer_lines-2.new.host) (OnlyAnswers (g.H.Device.history c.answer_lines.new.host).world) (g.H.Device.sound c.answer_lines-2.new.host t) (c.answer_lines-2.ensures.only_answers t)).input
+    ∙ (at_last mid (g.H.Device.history c.answer_lines.new.host) (OnlyAnswers mid.world) (g.H.Device.sound c.answer_lines.new.host t) (c.answer_lines.ensures.only_answers t)).input in
+    record {
+      files = both;
+      end = c.in_ok-answer_lines-2.ensures.end t;
+      input_end = λ ended. input ∙ c.in_ok-batch.ensures.input_end t ended;
     }

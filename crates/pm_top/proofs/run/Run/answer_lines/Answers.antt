@@ -10,7 +10,8 @@ use Rattle.pm_engine.specs.Engines.{running, IsAtRest}
 use Rattle.pm_engine.proofs.Batching.{ok_holds}
 use Rattle.pm_top.specs.declared.shape.TheConstants.{SHAPE}
 use Rattle.pm_top.specs.Runs.{Progress}
-use Rattle.pm_top.proofs.AnsweredLines.{said_stands, log_files, said_files, rest_moments, failed_batch, memory_batch, batch_moments, all_tried, saying_moments}
+use Rattle.pm_top.proofs.AnsweredLines.{said_stands, rest_moments, failed_batch, memory_batch, batch_moments, all_tried, saying_moments}
+use Rattle.pm_top.proofs.KeptFiles.{no_answers, log_answers, said_answers}
 use Rattle.pm_top.proofs.Progressing.{failed_still, memory_still, failed_saying, progress_more}
 use Rattle.pm_top.proofs.run.Run.answer_lines.Goals as goal
 
@@ -53,17 +54,6 @@ returns-in_err-batch-clause-keeps g c =
     let tries = c.batch.ensures.tries in
     record { shape = c.batch.ensures.shape; more = accepted run.engine.shape (run.lines + 1) (take tries.count c.args.lines.now) run.engine.map; order = tries.order }
 
-pub returns-in_err-batch-clause-same : goal.returns-in_err-batch-clause-same
-returns-in_err-batch-clause-same g c t =
-    let old = g.H.Device.history c.args.host.now in
-    let mid = g.H.Device.history c.batch.new.host in
-    let run = c.args.self.now in
-    let later = running c.batch.new.self in
-    let lines = c.args.lines.now in
-    let tries = c.batch.ensures.tries in
-    let only = at_last old mid (ChangesLog old.world) (g.H.Device.sound c.batch.new.host t) (c.batch.ensures.log_only t) in
-    log_files old.world mid.world only
-
 pub returns-in_err-batch-clause-answered : goal.returns-in_err-batch-clause-answered
 returns-in_err-batch-clause-answered g c t start left shape pairs progress =
     let old = g.H.Device.history c.args.host.now in
@@ -98,17 +88,6 @@ returns-in_err-write_replies-clause-keeps g c =
     let tries = c.batch.ensures.tries in
     record { shape = c.batch.ensures.shape; more = accepted run.engine.shape (run.lines + 1) (take tries.count c.args.lines.now) run.engine.map; order = tries.order }
 
-pub returns-in_err-write_replies-clause-same : goal.returns-in_err-write_replies-clause-same
-returns-in_err-write_replies-clause-same g c t =
-    let old = g.H.Device.history c.args.host.now in
-    let mid = g.H.Device.history c.batch.new.host in
-    let run = c.args.self.now in
-    let later = running c.batch.new.self in
-    let lines = c.args.lines.now in
-    let tries = c.batch.ensures.tries in
-    let only = at_last old mid (ChangesLog old.world) (g.H.Device.sound c.batch.new.host t) (c.batch.ensures.log_only t) in
-    log_files old.world mid.world only
-
 pub returns-in_err-write_replies-clause-answered : goal.returns-in_err-write_replies-clause-answered
 returns-in_err-write_replies-clause-answered g c t start left shape pairs progress =
     let old = g.H.Device.history c.args.host.now in
@@ -142,18 +121,6 @@ returns-in_err-print-clause-keeps g c =
     let run = c.args.self.now in
     let tries = c.batch.ensures.tries in
     record { shape = c.batch.ensures.shape; more = accepted run.engine.shape (run.lines + 1) (take tries.count c.args.lines.now) run.engine.map; order = tries.order }
-
-pub returns-in_err-print-clause-same : goal.returns-in_err-print-clause-same
-returns-in_err-print-clause-same g c t =
-    let old = g.H.Device.history c.args.host.now in
-    let mid = g.H.Device.history c.batch.new.host in
-    let run = c.args.self.now in
-    let later = running c.batch.new.self in
-    let lines = c.args.lines.now in
-    let tries = c.batch.ensures.tries in
-    let only = at_last old mid (ChangesLog old.world) (g.H.Device.sound c.batch.new.host t) (c.batch.ensures.log_only t) in
-    let part = (c.print.ensures.says t).part in
-    said_files old.world mid.world (g.H.Device.history c.print.new.self).world _ only part.2
 
 pub returns-in_err-print-clause-answered : goal.returns-in_err-print-clause-answered
 returns-in_err-print-clause-answered g c t start left shape pairs progress =
@@ -203,17 +170,6 @@ returns-clause-keeps g c =
     let tries = c.batch.ensures.tries in
     record { shape = c.batch.ensures.shape; more = accepted run.engine.shape (run.lines + 1) (take tries.count c.args.lines.now) run.engine.map; order = tries.order }
 
-pub returns-clause-same : goal.returns-clause-same
-returns-clause-same g c t =
-    let old = g.H.Device.history c.args.host.now in
-    let mid = g.H.Device.history c.batch.new.host in
-    let run = c.args.self.now in
-    let later = running c.batch.new.self in
-    let lines = c.args.lines.now in
-    let tries = c.batch.ensures.tries in
-    let only = at_last old mid (ChangesLog old.world) (g.H.Device.sound c.batch.new.host t) (c.batch.ensures.log_only t) in
-    said_files old.world mid.world (g.H.Device.history c.print.new.self).world c.deref-2.result.now only (c.in_ok-print.ensures.says t).ok
-
 pub returns-clause-answered : goal.returns-clause-answered
 returns-clause-answered g c t start left shape pairs progress =
     let old = g.H.Device.history c.args.host.now in
@@ -262,3 +218,31 @@ returns-clause-stands g c t stands segments =
       stands = subst (IsAtRest SHAPE later) (sym (c.in_ok-print.ensures.says t).ok) (said_stands SHAPE later mid.world c.deref-2.result.now done.stands);
       rises = done.rises;
     }
+
+pub returns-then-is_empty-clause-only_answers : goal.returns-then-is_empty-clause-only_answers
+returns-then-is_empty-clause-only_answers g c t =
+    no_answers (g.H.Device.history c.args.host.now) (g.H.Device.sound c.args.host.now t)
+
+pub returns-in_err-replies-clause-only_answers : goal.returns-in_err-replies-clause-only_answers
+returns-in_err-replies-clause-only_answers g c t =
+    no_answers (g.H.Device.history c.args.host.now) (g.H.Device.sound c.args.host.now t)
+
+pub returns-in_err-batch-clause-only_answers : goal.returns-in_err-batch-clause-only_answers
+returns-in_err-batch-clause-only_answers g c t =
+    log_answers (g.H.Device.history c.args.host.now) (g.H.Device.history c.batch.new.host) (c.batch.ensures.log_only t)
+
+pub returns-in_err-write_replies-clause-only_answers : goal.returns-in_err-write_replies-clause-only_answers
+returns-in_err-write_replies-clause-only_answers g c t =
+    log_answers (g.H.Device.history c.args.host.now) (g.H.Device.history c.batch.new.host) (c.batch.ensures.log_only t)
+
+pub returns-in_err-print-clause-only_answers : goal.returns-in_err-print-clause-only_answers
+returns-in_err-print-clause-only_answers g c t =
+    let old = g.H.Device.history c.args.host.now in
+    let mid = g.H.Device.history c.batch.new.host in
+    said_answers old mid (g.H.Device.history c.print.new.self) c.print.result c.deref-2.result.now (g.H.Device.sound c.batch.new.host t) (log_answers old mid (c.batch.ensures.log_only t)) (c.print.ensures.says t)
+
+pub returns-clause-only_answers : goal.returns-clause-only_answers
+returns-clause-only_answers g c t =
+    let old = g.H.Device.history c.args.host.now in
+    let mid = g.H.Device.history c.batch.new.host in
+    said_answers old mid (g.H.Device.history c.print.new.self) c.print.result c.deref-2.result.now (g.H.Device.sound c.batch.new.host t) (log_answers old mid (c.batch.ensures.log_only t)) (c.print.ensures.says t)

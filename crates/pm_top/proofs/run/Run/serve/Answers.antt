@@ -13,10 +13,11 @@ use Rattle.pm_top.specs.declared.shape.TheConstants.{SHAPE}
 use Rattle.pm_top.specs.Runs.{Progress}
 use Rattle.pm_top.specs.Scripts.{after_lines}
 use Rattle.pm_top.specs.Served.{script_of}
-use Rattle.pm_top.proofs.AnsweredLines.{rest_moments, log_files}
+use Rattle.pm_top.proofs.AnsweredLines.{rest_moments}
+use Rattle.pm_top.proofs.KeptFiles.{log_calls, no_calls, then_calls}
 use Rattle.pm_top.proofs.Progressing.{begins, finished, failed_still, memory_still}
 use Rattle.pm_top.proofs.Serving.{more_place, more_bytes, more_limit, more_progress, end_none, end_progress, end_limit, over_stopped, closed, leaves, closing_moments, over_then, room_left, append_right}
-use Rattle.pm_top.proofs.AnsweredBatch.{files_then, then_moments}
+use Rattle.pm_top.proofs.AnsweredBatch.{then_moments}
 use Rattle.pm_script.proofs.LaterStates.{same_state}
 use Rattle.pm_top.proofs.LaterStates.{plain_later}
 use Rattle.pm_top.proofs.run.Run.serve.Goals as goal
@@ -37,7 +38,7 @@ batches-init g c =
       shape = c.requires.shape;
       limit = λ t. omega (arith, ap (λ (u : Unread). u.bytes) c.in_ok-input.ensures);
       end = λ t. c.requires.end t;
-      same = λ t. record { pages = refl; starts = refl; ends = refl };
+      files = λ t. no_calls old (g.H.Device.sound c.args.host.now t);
       bytes = λ t. subst (λ (u : Unread). u.bytes + length (rest_of u old.world) ≡ length old.world.input) (sym c.in_ok-input.ensures) (omega arith);
       place = λ t. subst (λ (u : Unread). rest_of u old.world ≡ after_lines u.lines old.world.input) (sym c.in_ok-input.ensures) refl;
       progress = λ t start same. subst (λ (u : Unread). Progress start old.world (script_of (rest_of u old.world)) first.engine.shape first.engine.map first) (sym c.in_ok-input.ensures)
@@ -98,7 +99,7 @@ batches-preserved g c =
       shape = subst IsShape (sym c.answer_batch.ensures.keeps.shape) so_far.shape;
       limit = λ t. more_limit c.in_ok-answer_batch.field-0 (c.in_ok-answer_batch.ensures.answered t) old.world.input c.in-More.is (so_far.limit t);
       end = λ t. (c.in_ok-answer_batch.ensures.open t).end;
-      same = λ t. files_then old.world before.world new.world (so_far.same t) (c.answer_batch.ensures.open t).same;
+      files = λ t. then_calls old before new (g.H.Device.sound c.batches.host t) (so_far.files t) (c.answer_batch.ensures.open t).files;
       bytes = λ t. more_bytes c.in_ok-answer_batch.field-0 (c.in_ok-answer_batch.ensures.answered t) old.world.input c.in-More.is (so_far.bytes t);
       place = λ t. more_place c.in_ok-answer_batch.field-0 (c.in_ok-answer_batch.ensures.answered t) old.world.input c.in-More.is so_far.counted lines (so_far.place t);
       progress = λ t start same. more_progress c.in_ok-answer_batch.field-0 (c.in_ok-answer_batch.ensures.answered t) old.world.input c.in-More.is start first.engine.shape first.engine.map (so_far.progress t start same);
@@ -112,26 +113,6 @@ batches-preserved g c =
           then_moments start first.engine.shape first.engine.map old before new c.batches.self.engine.order.items c.answer_batch.ensures.keeps.more c.answer_batch.new.self.engine.order.items c.answer_batch.ensures.keeps.order
           (so_far.moments t start same can) (c.answer_batch.ensures.moments t start first.engine.shape first.engine.map (so_far.progress t start same) over.stands segments);
     }
-
-pub returns-in_err-close-in-End-clause-same : goal.returns-in_err-close-in-End-clause-same
-returns-in_err-close-in-End-clause-same g c t =
-    let old = g.H.Device.history c.args.host.now in
-    let before = g.H.Device.history c.batches.host in
-    let new = g.H.Device.history c.answer_batch.new.host in
-    let so_far = c.batches.invariant in
-    let end = g.H.Device.history c.close.new.host in
-    let only = at_last new end (ChangesLog new.world) (g.H.Device.sound c.close.new.host t) (c.close.ensures.log_only t) in
-    files_then old.world new.world end.world (files_then old.world before.world new.world (so_far.same t) (c.answer_batch.ensures.open t).same) (log_files new.world end.world only).0
-
-pub returns-in-End-clause-same : goal.returns-in-End-clause-same
-returns-in-End-clause-same g c t =
-    let old = g.H.Device.history c.args.host.now in
-    let before = g.H.Device.history c.batches.host in
-    let new = g.H.Device.history c.answer_batch.new.host in
-    let so_far = c.batches.invariant in
-    let end = g.H.Device.history c.close.new.host in
-    let only = at_last new end (ChangesLog new.world) (g.H.Device.sound c.close.new.host t) (c.close.ensures.log_only t) in
-    files_then old.world new.world end.world (files_then old.world before.world new.world (so_far.same t) (c.answer_batch.ensures.open t).same) (log_files new.world end.world only).0
 
 pub returns-in_err-close-in-End-clause-moments : goal.returns-in_err-close-in-End-clause-moments
 returns-in_err-close-in-End-clause-moments g c t start same can =
@@ -230,3 +211,41 @@ returns-in-Over-clause-fault g c t start same = record { failed = search rules; 
 
 pub returns-in-End-clause-fault : goal.returns-in-End-clause-fault
 returns-in-End-clause-fault g c t start same = record { failed = search rules; memory = search rules }
+
+pub returns-in_err-input-clause-files : goal.returns-in_err-input-clause-files
+returns-in_err-input-clause-files g c t =
+    no_calls (g.H.Device.history c.args.host.now) (g.H.Device.sound c.args.host.now t)
+
+pub returns-in_err-answer_batch-clause-files : goal.returns-in_err-answer_batch-clause-files
+returns-in_err-answer_batch-clause-files g c t =
+    let old = g.H.Device.history c.args.host.now in
+    let before = g.H.Device.history c.batches.host in
+    let new = g.H.Device.history c.answer_batch.new.host in
+    let answered = then_calls old before new (g.H.Device.sound c.batches.host t) (c.batches.invariant.files t) (c.answer_batch.ensures.open t).files in
+    answered
+
+pub returns-in-Over-clause-files : goal.returns-in-Over-clause-files
+returns-in-Over-clause-files g c t =
+    let old = g.H.Device.history c.args.host.now in
+    let before = g.H.Device.history c.batches.host in
+    let new = g.H.Device.history c.answer_batch.new.host in
+    let answered = then_calls old before new (g.H.Device.sound c.batches.host t) (c.batches.invariant.files t) (c.answer_batch.ensures.open t).files in
+    answered
+
+pub returns-in_err-close-in-End-clause-files : goal.returns-in_err-close-in-End-clause-files
+returns-in_err-close-in-End-clause-files g c t =
+    let old = g.H.Device.history c.args.host.now in
+    let before = g.H.Device.history c.batches.host in
+    let new = g.H.Device.history c.answer_batch.new.host in
+    let answered = then_calls old before new (g.H.Device.sound c.batches.host t) (c.batches.invariant.files t) (c.answer_batch.ensures.open t).files in
+    let end = g.H.Device.history c.close.new.host in
+    then_calls old new end (g.H.Device.sound c.answer_batch.new.host t) answered (log_calls new end (c.close.ensures.log_only t))
+
+pub returns-in-End-clause-files : goal.returns-in-End-clause-files
+returns-in-End-clause-files g c t =
+    let old = g.H.Device.history c.args.host.now in
+    let before = g.H.Device.history c.batches.host in
+    let new = g.H.Device.history c.answer_batch.new.host in
+    let answered = then_calls old before new (g.H.Device.sound c.batches.host t) (c.batches.invariant.files t) (c.answer_batch.ensures.open t).files in
+    let end = g.H.Device.history c.close.new.host in
+    then_calls old new end (g.H.Device.sound c.answer_batch.new.host t) answered (log_calls new end (c.close.ensures.log_only t))

@@ -28,7 +28,7 @@ invariant-batches g l =
       limit : tells → l.input.bytes ≤ SCRIPT_BYTES_MAX;
       input_end : tells → KnowsEnd l.input now.world;
       end : tells → EndsThere l.self.engine.log now.world;
-      same : tells → SameFiles old.world now.world;
+      files : tells → AllMoments old now (SameFiles old.world);
       bytes : tells → l.input.bytes + length (rest_of l.input now.world) ≡ length old.world.input;
       place : tells → rest_of l.input now.world ≡ after_lines l.input.lines old.world.input;
       progress : tells → (start : World) → SameConsole start old.world

@@ -1,0 +1,67 @@
+-- Runs of calls that change no file but the log.
+use Rattle.std.proofs.Common.{◌≡◌, ℕ, ◌≤◌, List, length, take, Result, refl, ap, sym, ◌∙◌, subst}
+use Rattle.pm_disk.specs.Worlds.{World, with_said}
+use Rattle.pm_disk.specs.Moments.{History, IsHistory, AllMoments, Does, Says}
+use Rattle.pm_disk.proofs.Chain.{started, does, says, joined, weaker, at_last}
+use Rattle.pm_script.specs.Reading.{OnlyTakes}
+use Rattle.pm_segments.specs.Written.{ChangesLog}
+use Rattle.pm_top.specs.Promises.{SaysPart}
+use Rattle.pm_top.specs.Runs.{SameFiles, OnlyAnswers}
+
+pub files_same : (w : World) → SameFiles w w
+files_same w = record { pages = refl; starts = refl; ends = refl; config = refl }
+
+pub files_then : (old mid new : World) → SameFiles old mid → SameFiles mid new → SameFiles old new
+files_then old mid new first second = record {
+  pages = second.pages ∙ first.pages;
+  starts = second.starts ∙ first.starts;
+  ends = second.ends ∙ first.ends;
+  config = second.config ∙ first.config;
+}
+
+-- ---- one call or a run of calls of another layer
+
+pub no_calls : (h : History) → IsHistory h → AllMoments h h (SameFiles h.world)
+no_calls h sound = started h (SameFiles h.world) sound (files_same h.world)
+
+pub log_calls : (old new : History) → AllMoments old new (ChangesLog old.world) → AllMoments old new (SameFiles old.world)
+log_calls old new only =
+    weaker old new (ChangesLog old.world) (SameFiles old.world) (λ w is. record { pages = is.pages; starts = is.starts; ends = is.ends; config = is.config }) only
+
+pub take_calls : (old new : History) → AllMoments old new (OnlyTakes old.world) → AllMoments old new (SameFiles old.world)
+take_calls old new takes =
+    weaker old new (OnlyTakes old.world) (SameFiles old.world) (λ w is. subst (SameFiles old.world) (sym is.1) (record { pages = refl; starts = refl; ends = refl; config = refl })) takes
+
+pub say_calls : (text : List ℕ) (old new : History) → AllMoments old new (SaysPart text old.world) → AllMoments old new (SameFiles old.world)
+say_calls text old new part =
+    weaker old new (SaysPart text old.world) (SameFiles old.world) (λ w is. subst (SameFiles old.world) (sym is.1) (record { pages = refl; starts = refl; ends = refl; config = refl })) part
+
+pub bind_call : {T E : Type 0} (old new : History) (result : Result T E) → IsHistory old → Does old new result old.world → AllMoments old new (SameFiles old.world)
+bind_call old new result sound call =
+    does old old new result old.world (SameFiles old.world) (no_calls old sound) call (files_same old.world) (files_same old.world)
+
+-- ---- one run of calls after another
+
+pub then_calls : (old mid new : History) → IsHistory mid → AllMoments old mid (SameFiles old.world) → AllMoments mid new (SameFiles mid.world) → AllMoments old new (SameFiles old.world)
+then_calls old mid new sound first second =
+    joined old mid new (SameFiles old.world) first
+    (weaker mid new (SameFiles mid.world) (SameFiles old.world) (λ w is. files_then old.world mid.world w (at_last old mid (SameFiles old.world) sound first) is) second)
+
+-- ---- the calls that answer lines
+
+pub no_answers : (h : History) → IsHistory h → AllMoments h h (OnlyAnswers h.world)
+no_answers h sound = started h (OnlyAnswers h.world) sound (record { files = files_same h.world; input = refl })
+
+pub log_answers : (old new : History) → AllMoments old new (ChangesLog old.world) → AllMoments old new (OnlyAnswers old.world)
+log_answers old new only =
+    weaker old new (ChangesLog old.world) (OnlyAnswers old.world)
+    (λ w is. record { files = record { pages = is.pages; starts = is.starts; ends = is.ends; config = is.config }; input = is.input }) only
+
+pub said_answers : {T E : Type 0} (old mid new : History) (result : Result T E) (text : List ℕ) → IsHistory mid → AllMoments old mid (OnlyAnswers old.world) → Says mid new result text → AllMoments old new (OnlyAnswers old.world)
+said_answers old mid new result text sound so_far call =
+    let here = at_last old mid (OnlyAnswers old.world) sound so_far in
+    says old mid new result text (OnlyAnswers old.world) so_far call
+    (λ k le. record { files = record { pages = here.files.pages; starts = here.files.starts; ends = here.files.ends; config = here.files.config }; input = here.input })
+
+pub answer_calls : (old new : History) → AllMoments old new (OnlyAnswers old.world) → AllMoments old new (SameFiles old.world)
+answer_calls old new only = weaker old new (OnlyAnswers old.world) (SameFiles old.world) (λ w is. is.files) only
