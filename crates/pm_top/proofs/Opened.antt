@@ -7,9 +7,9 @@ use Rattle.pm_disk.specs.Images.{NothingPending}
 use Rattle.pm_disk.specs.Moments.{History, IsHistory, AllMoments, Does}
 use Rattle.pm_disk.proofs.Chain.{started, does, weaker}
 use Rattle.pm_model.specs.Eval.{Pairs, after_all}
-use Rattle.pm_segments.specs.Written.{ChangesLog}
+use Rattle.pm_records.specs.LogFiles.{ChangesLog}
 use Rattle.pm_engine.specs.Held.{Holds, HasNumbers, CrashHoldsPrefix}
-use Rattle.pm_engine.proofs.Opening.{cutting_keeps}
+use Rattle.pm_engine.proofs.Opening.{sound_keeps}
 use Rattle.pm_top.specs.declared.shape.TheConstants.{SHAPE}
 use Rattle.pm_top.specs.Crashes.{CrashHoldsAcknowledged}
 use Rattle.pm_top.specs.declared.status.Status.{Status}
@@ -32,7 +32,7 @@ same_console old mid only = record { said = only.said; input = only.input }
 
 -- a sound store with nothing pending
 pub rest_keeps : (old : World) (shape : Shape) (pairs : Pairs) (holds : Holds SHAPE old shape pairs) → HasNumbers holds.frames → NothingPending old → CrashHoldsPrefix SHAPE shape pairs [] old
-rest_keeps old shape pairs holds numbers nothing = cutting_keeps SHAPE old shape pairs holds numbers nothing old (inl refl)
+rest_keeps old shape pairs holds numbers nothing = sound_keeps SHAPE old shape pairs holds numbers nothing old refl
 
 -- the words are refused
 pub refused_moments : (old new : History) (shape : Shape) (pairs : Pairs) (order : List ℕ) → CrashHoldsPrefix SHAPE shape pairs [] old.world → AllMoments old new (SaysPart (codes "fault usage\n") old.world) → AllMoments old new (CrashHoldsAcknowledged old.world shape pairs order)
