@@ -8,7 +8,7 @@ use Rattle.pm_disk.specs.Files.{bytes_of, changed, missing, gapped}
 use Rattle.pm_disk.specs.Images.{Touches, KeepsRange, Puts}
 use Rattle.pm_disk.specs.Worlds.{slot_at, slot_change}
 use Rattle.pm_disk.specs.declared.mark.TheConstants.{SLOT_LEN}
-use Rattle.pm_disk.proofs.Writes.{length-write, write_before, write_behind, write_there, slice_get-append_left, slice_get-append_right}
+use Rattle.pm_disk.proofs.Writes.{length-write, write_before, write_after, write_there, slice_get-append_left, slice_get-append_right}
 
 -- A write with its gap.
 module _ (file : Option (List ℕ)) (at : ℕ) (gap bytes : List ℕ) (reaches : length gap ≡ missing at file) where
@@ -33,11 +33,11 @@ module _ (file : Option (List ℕ)) (at : ℕ) (gap bytes : List ℕ) (reaches :
 
   pub gapped_apart : (i : ℕ) → i < length old → (i < at) ⊎ (at + length bytes ≤ i) → Touches (gapped file at gap bytes) i → ⊥
   gapped_apart i lt (inl front) touched = omega (arith, lt, front, touched.0)
-  gapped_apart i lt (inr behind) touched = omega (arith, lt, behind, touched.0, touched.1, whole, reaches)
+  gapped_apart i lt (inr past_end) touched = omega (arith, lt, past_end, touched.0, touched.1, whole, reaches)
 
   pub gapped_same : (i : ℕ) → i < length old → (i < at) ⊎ (at + length bytes ≤ i) → slice_get new i ≡ slice_get old i
   gapped_same i lt (inl front) = write_before start (gap ++ bytes) file within i (omega (arith, lt, front))
-  gapped_same i lt (inr behind) = write_behind start (gap ++ bytes) file within i (omega (arith, lt, behind, whole, reaches))
+  gapped_same i lt (inr past_end) = write_after start (gap ++ bytes) file within i (omega (arith, lt, past_end, whole, reaches))
 
   pub gapped_there : (i : ℕ) → i < length bytes → slice_get new (at + i) ≡ slice_get bytes i
   gapped_there i lt =

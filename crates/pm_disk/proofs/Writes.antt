@@ -45,8 +45,8 @@ module _ (at : ℕ) (bytes : List ℕ) (file : Option (List ℕ)) (within : at �
       ∙ slice_get-append_left (take at old) bytes i (omega (arith, lt, long_front))
       ∙ slice_get-take at old i lt
 
-  pub write_behind : (i : ℕ) → at + length bytes ≤ i → slice_get new i ≡ slice_get old i
-  write_behind i le =
+  pub write_after : (i : ℕ) → at + length bytes ≤ i → slice_get new i ≡ slice_get old i
+  write_after i le =
       let front : length (take at old ++ bytes) ≡ at + length bytes = omega (arith, length-append (take at old) bytes, long_front) in
       let e : at + length bytes + (i - length (take at old ++ bytes)) ≡ i = omega (arith, le, front) in
       slice_get-append_right (take at old ++ bytes) (drop (at + length bytes) old) i (omega (arith, le, front))

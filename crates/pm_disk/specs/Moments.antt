@@ -35,7 +35,7 @@ pub record WritesPage {T E : Type 0} (old new : History) (result : Result T E) (
   pub reaches : length gap ≡ missing (page_at page (length bytes)) (pages_in old.world (part_of_id page))
   pub does : Does old new result (pages_changed (part_of_id page) (gapped (pages_in old.world (part_of_id page)) (page_at page (length bytes)) gap bytes) old.world)
 
--- A call that says bytes: all of them at `Ok`, and at an `Err` the first so many.
+-- A call that says bytes: all of them at `Ok`, and at an `Err` a prefix of them.
 pub record Says {T E : Type 0} (old new : History) (result : Result T E) (bytes : List ℕ) : Type 0 where
   pub time : Elapses old new
   pub ok : OnOk result (new.world ≡ with_said bytes old.world)

@@ -106,8 +106,8 @@ impl<R: Files + AllocGlobal + Drop> Folder<R> {
         sync_folder(&self.rt, Path::new(self.name()?), Object::Folder)
     }
 
-    // The folder's name.
-    fn name(&self) -> Result<&str, Failure>
+    /// The folder's name.
+    pub fn name(&self) -> Result<&str, Failure>
         ensures name { IfOk result (λ dir. option_map string_bytes self.now.dir ≡ Some dir.now) }
     {
         match &self.dir {

@@ -120,7 +120,7 @@ impl<R: Files + Input + Drop> Device for FsHost<R> {
 
     ghost state = { state_of };
 
-    ghost sound = { λ _ told. absurd told };
+    ghost sound = { λ _ tells. absurd tells };
 }
 
 /// What is buffered is written first. Where that fails, the call fails, and so does each later one on the

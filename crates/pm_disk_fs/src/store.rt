@@ -53,8 +53,8 @@ impl<R: Files + AllocGlobal + Drop> Store<R> {
         self.writes.begin()?;
         self.open.sync()?;
         self.sync_names(folder)?;
-        self.open.clear();
         self.names_last = false;
+        self.open.clear();
         self.writes.is_poisoned = false;
         Ok(())
     }

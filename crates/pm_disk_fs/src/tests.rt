@@ -1,7 +1,8 @@
 //! The log in a folder of the system's.
 
-use crate::gathered::GATHERED_MAX;
 use crate::host::FsHost;
+use crate::open_files::OPEN_MAX;
+use crate::write_buffer::BUFFER_MAX;
 use pm_disk::{Failed, Host, LogFile, LogReader};
 use std::alloc::{AllocError, Global};
 use std::os::unix::fs::symlink;
@@ -34,22 +35,22 @@ fn cut(host: &mut FsHost<HostRuntime>, seg: u64, len: u64) -> Result<(), Failed>
 }
 
 /// What a host answers to `seg_len`.
-fn len_of(log: &mut impl LogReader, seg: u64) -> Result<Option<u64>, Failed> {
-    log.seg_len(seg)
+fn len_of(host: &mut FsHost<HostRuntime>, seg: u64) -> Result<Option<u64>, Failed> {
+    host.seg_len(seg)
 }
 
 /// What a host answers to `read_log`.
-fn read(log: &mut impl LogReader, seg: u64, at: u64, into: &mut [u8]) -> Result<usize, Failed> {
-    log.read_log(seg, at, into)
+fn read(host: &mut FsHost<HostRuntime>, seg: u64, at: u64, into: &mut [u8]) -> Result<usize, Failed> {
+    host.read_log(seg, at, into)
 }
 
 /// What a host answers to `force_log`.
-fn force(log: &mut impl LogFile, seg: u64) -> Result<(), Failed> {
-    log.force_log(seg)
+fn force(host: &mut FsHost<HostRuntime>, seg: u64) -> Result<(), Failed> {
+    host.force_log(seg)
 }
 
 /// What a host answers to `drop_log`.
-fn remove_segment(host: &mut impl Host, seg: u64) -> Result<(), Failed> {
+fn remove_segment(host: &mut FsHost<HostRuntime>, seg: u64) -> Result<(), Failed> {
     host.drop_log(seg)
 }
 
@@ -88,25 +89,25 @@ fn make_refused_calls(
 /// Looks for this length of a segment.
 fn look_at_len(
     rt: &impl Abort,
-    log: &mut impl LogReader,
+    host: &mut FsHost<HostRuntime>,
     seg: u64,
     wanted: Option<u64>,
 ) -> Result<(), Fail> {
-    assert_eq!(rt; len_of(log, seg), Ok(wanted));
+    assert_eq!(rt; len_of(host, seg), Ok(wanted));
     Ok(())
 }
 
 /// What a host answers to a read of at most so many bytes, and what is then in place of the ten
 /// dots that it read into.
-fn told_read(
+fn answer_to_read(
     alloc: Global,
-    log: &mut impl LogReader,
+    host: &mut FsHost<HostRuntime>,
     seg: u64,
     at: u64,
     room: usize,
 ) -> Result<String, AllocError> {
     let mut into = [b'.'; 10];
-    let count = read(log, seg, at, &mut into[..room.min(10)]);
+    let count = read(host, seg, at, &mut into[..room.min(10)]);
     let text = str::from_utf8(&into).unwrap_or("no text");
     format!(in alloc; "{count:?} {text}")
 }
@@ -114,23 +115,23 @@ fn told_read(
 /// Reads at most so many bytes, and looks for this answer.
 fn look_at_read(
     rt: &(impl Abort + AllocGlobal),
-    log: &mut impl LogReader,
+    host: &mut FsHost<HostRuntime>,
     seg: u64,
     at: u64,
     room: usize,
     wanted: &str,
 ) -> Result<(), Fail> {
-    let told = told_read(rt.alloc(), log, seg, at, room)?;
-    assert_eq!(rt; told.as_str(), wanted);
+    let answer = answer_to_read(rt.alloc(), host, seg, at, room)?;
+    assert_eq!(rt; answer.as_str(), wanted);
     Ok(())
 }
 
 /// Whether the host took the folder as that of the store.
-fn binds(host: &mut impl Host, folder: &str) -> bool {
+fn binds(host: &mut FsHost<HostRuntime>, folder: &str) -> bool {
     host.bind(folder).is_ok()
 }
 
-/// A host whose folder isn't named yet.
+/// A host that is bound to no folder.
 fn new_host(rt: &HostRuntime) -> Result<FsHost<HostRuntime>, Fail> {
     Ok(FsHost::new(rt.clone()?))
 }
@@ -200,12 +201,12 @@ fn make_segments(
 /// Looks for the two segments.
 fn look_at_segments(
     rt: &(impl Abort + AllocGlobal + Files),
-    log: &mut impl LogReader,
+    host: &mut FsHost<HostRuntime>,
 ) -> Result<(), Fail> {
-    look_at_len(rt, log, 1, Some(8))?;
-    look_at_read(rt, log, 1, 2, 10, "Ok(6) cdEFGH....")?;
-    look_at_read(rt, log, 2, 0, 3, "Ok(3) sec.......")?;
-    look_at_read(rt, log, 2, 6, 10, "Ok(0) ..........")?;
+    look_at_len(rt, host, 1, Some(8))?;
+    look_at_read(rt, host, 1, 2, 10, "Ok(6) cdEFGH....")?;
+    look_at_read(rt, host, 2, 0, 3, "Ok(3) sec.......")?;
+    look_at_read(rt, host, 2, 6, 10, "Ok(0) ..........")?;
     look_at_file(rt, "stores/one/wal-0000000000000002.seg", b"second")
 }
 
@@ -220,9 +221,9 @@ fn segments_are_read_back_by_another_host(rt: HostRuntime) -> Result<(), Fail> {
     remove_folder(&rt, "stores")
 }
 
-/// What a segment's file holds in the folder `gathered`, or "none".
+/// What a segment's file holds in the folder `buffered`, or "none".
 fn held(rt: &(impl AllocGlobal + Files), seg: u64) -> Result<String, Fail> {
-    let path = format!(in rt.alloc(); "gathered/wal-{seg:016x}.seg")?;
+    let path = format!(in rt.alloc(); "buffered/wal-{seg:016x}.seg")?;
     match fs::read_to_string(rt, &path) {
         Ok(text) => Ok(text),
         Err(_) => Ok(String::from_str(rt.alloc(), "none")?),
@@ -241,7 +242,7 @@ fn look_at_held(
 }
 
 /// Calls, each with a segment and what its file holds then.
-const GATHERING: [(Call, u64, &str); 19] = [
+const BUFFERING: [(Call, u64, &str); 19] = [
     (Call::Write(1, 0, "ab"), 1, "none"),
     (Call::Write(1, 2, "cd"), 1, "none"),
     (Call::Read(1), 1, "abcd"),
@@ -265,16 +266,16 @@ const GATHERING: [(Call, u64, &str); 19] = [
 ];
 
 #[test]
-fn what_is_gathered_is_written_before_another_call_on_the_log(rt: HostRuntime) -> Result<(), Fail> {
-    let mut host = host_in(&rt, "gathered")?;
-    for (step, (call, seg, wanted)) in GATHERING.iter().enumerate() {
+fn what_is_buffered_is_written_before_another_call_on_the_log(rt: HostRuntime) -> Result<(), Fail> {
+    let mut host = host_in(&rt, "buffered")?;
+    for (step, (call, seg, wanted)) in BUFFERING.iter().enumerate() {
         assert!(rt; does(&mut host, *call), "{step}");
         look_at_held(&rt, *seg, wanted, step)?;
     }
     // Another folder.
     assert!(rt; binds(&mut host, "elsewhere"));
-    look_at_held(&rt, 1, "last", GATHERING.len())?;
-    remove_folder(&rt, "gathered")?;
+    look_at_held(&rt, 1, "last", BUFFERING.len())?;
+    remove_folder(&rt, "buffered")?;
     remove_folder(&rt, "elsewhere")
 }
 
@@ -306,9 +307,9 @@ fn look_at_written(
 }
 
 #[test]
-fn what_is_too_much_to_gather_is_written(rt: HostRuntime) -> Result<(), Fail> {
-    let full = bytes_of(rt.alloc(), b'1', GATHERED_MAX)?;
-    let more = bytes_of(rt.alloc(), b'2', GATHERED_MAX + 1)?;
+fn what_is_too_much_to_buffer_is_written(rt: HostRuntime) -> Result<(), Fail> {
+    let full = bytes_of(rt.alloc(), b'1', BUFFER_MAX)?;
+    let more = bytes_of(rt.alloc(), b'2', BUFFER_MAX + 1)?;
     let mut host = host_in(&rt, "much")?;
     look_at_written(&rt, &mut host, 0, &full, None)?;
     look_at_written(&rt, &mut host, 1_048_576, b"3", Some(1_048_576))?;
@@ -330,7 +331,7 @@ const OF_EACH_KIND: [Call; 7] = [
     Call::Drop(1),
 ];
 
-/// Makes this call where a gathered write can no more be written into the folder `store`, and then
+/// Makes this call where a buffered write can no more be written into the folder `store`, and then
 /// others.
 fn look_at_late(
     rt: &(impl Abort + Files),
@@ -339,10 +340,10 @@ fn look_at_late(
 ) -> Result<(), Fail> {
     make_calls(rt, host, &[Call::Write(1, 0, "lost")])?;
     fs::remove_dir(rt, "store")?;
-    let is_gathered = matches!(late, Call::Write(..));
-    assert_eq!(rt; does(host, late), is_gathered);
+    let is_buffered = matches!(late, Call::Write(..));
+    assert_eq!(rt; does(host, late), is_buffered);
     make_refused_calls(rt, host, &[Call::Len(2)])?;
-    // The folder is back, and what was gathered is not.
+    // The folder is back, and what was buffered is not.
     fs::create_dir(rt, "store")?;
     make_refused_calls(rt, host, &OF_EACH_KIND)?;
     assert!(rt; !binds(host, "store"));
@@ -358,13 +359,74 @@ fn after_a_refused_write_the_log_is_refused(rt: HostRuntime) -> Result<(), Fail>
     Ok(())
 }
 
+/// Why the first call failed of those that did, or "none".
+fn first_failure(alloc: Global, host: &FsHost<HostRuntime>) -> Result<String, AllocError> {
+    match host.first_failure() {
+        Some(failure) => format!(in alloc; "{failure}"),
+        None => String::from_str(alloc, "none"),
+    }
+}
+
+/// Looks for why the first call failed.
+fn look_at_failure(
+    rt: &(impl Abort + AllocGlobal),
+    host: &FsHost<HostRuntime>,
+    wanted: &str,
+) -> Result<(), Fail> {
+    let failure = first_failure(rt.alloc(), host)?;
+    assert_eq!(rt; failure.as_str(), wanted);
+    Ok(())
+}
+
+/// What the system says of a write to a full disk.
+const NO_SPACE: &str =
+    "write of wal-0000000000000001.seg: No space left on device (os error 28)";
+
 #[test]
-fn a_full_disk_is_told_by_the_force(rt: HostRuntime) -> Result<(), Fail> {
+fn a_full_disk_is_reported_by_the_force(rt: HostRuntime) -> Result<(), Fail> {
     let mut host = host_in(&rt, "full")?;
     symlink(&rt, "/dev/full", "full/wal-0000000000000001.seg")?;
     make_calls(&rt, &mut host, &[Call::Write(1, 0, "lost")])?;
-    make_refused_calls(&rt, &mut host, &[Call::Force(1), Call::Force(1)])?;
+    look_at_failure(&rt, &host, "none")?;
+    make_refused_calls(&rt, &mut host, &[Call::Force(1)])?;
+    look_at_failure(&rt, &host, NO_SPACE)?;
+    make_refused_calls(&rt, &mut host, &[Call::Force(1), Call::Len(1)])?;
+    look_at_failure(&rt, &host, NO_SPACE)?;
     remove_folder(&rt, "full")
+}
+
+#[test]
+fn without_a_folder_each_call_on_the_log_fails(rt: HostRuntime) -> Result<(), Fail> {
+    for call in OF_EACH_KIND {
+        let mut host = new_host(&rt)?;
+        make_refused_calls(&rt, &mut host, &[call])?;
+        look_at_failure(&rt, &host, "no folder is bound")?;
+    }
+    Ok(())
+}
+
+/// Writes one byte to each of so many segments, and forces the first of them.
+fn write_many(
+    rt: &impl Abort,
+    host: &mut FsHost<HostRuntime>,
+    count: u64,
+) -> Result<(), Fail> {
+    for number in 0..count {
+        assert!(rt; write(host, number.saturating_add(1), 0, b"x").is_ok());
+    }
+    make_calls(rt, host, &[Call::Force(1)])
+}
+
+#[test]
+fn more_files_are_changed_than_may_be_open(rt: HostRuntime) -> Result<(), Fail> {
+    let mut host = host_in(&rt, "many")?;
+    let count = OPEN_MAX as u64 + 2;
+    write_many(&rt, &mut host, count)?;
+    make_calls(&rt, &mut host, &[Call::Write(1, 1, "y"), Call::Write(2, 1, "z")])?;
+    look_at_read(&rt, &mut host, 1, 0, 4, "Ok(2) xy........")?;
+    look_at_read(&rt, &mut host, 2, 0, 4, "Ok(2) xz........")?;
+    look_at_read(&rt, &mut host, count, 0, 4, "Ok(1) x.........")?;
+    remove_folder(&rt, "many")
 }
 
 #[test]

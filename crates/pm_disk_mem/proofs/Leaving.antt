@@ -6,7 +6,7 @@ use Rattle.std.proofs.lemmas.List.{length-replicate}
 use Rattle.pm_disk.specs.Files.{Change, Write, Cut, Drop, File, after, changed, content, bytes_of, at_change}
 use Rattle.pm_disk.specs.Images.{Touches, Untouched, Leaves}
 use Rattle.pm_disk.proofs.Files.{at_change-last}
-use Rattle.pm_disk.proofs.Writes.{length-write, write_before, write_behind, length-cut, cut_before, slice_get-append_left, slice_get-take}
+use Rattle.pm_disk.proofs.Writes.{length-write, write_before, write_after, length-cut, cut_before, slice_get-append_left, slice_get-take}
 use Rattle.pm_disk_mem.specs.Changes.{CanChange, CanAll}
 use Rattle.pm_disk_mem.specs.Picks.{filled_by, filled, written_by, laid_over, laid_by, laid, left_by}
 use Rattle.pm_disk_mem.specs.declared.pick.Pick.{Pick}
@@ -21,13 +21,13 @@ record Lays (change : Change) (file before after_it : Option (List ℕ)) : Type 
   stays : IsNone after_it → IsNone before
   kept : (i : ℕ) → i < length (bytes_of before) → (Touches change i → ⊥) → slice_get (bytes_of after_it) i ≡ slice_get (bytes_of before) i
 
--- The same of a run of changes.
-record LaysAll (changes : List Change) (file before behind : Option (List ℕ)) : Type 0 where
-  grows : length (bytes_of before) ≤ length (bytes_of behind)
-  bounded : (length (bytes_of behind) ≤ length (bytes_of before)) ⊎ ((k : ℕ) × (k ≤ length changes) × (length (bytes_of behind) ≤ length (bytes_of (after (take k changes) file))))
-  there : IsSome behind → IsSome before ⊎ ((k : ℕ) × (k ≤ length changes) × IsSome (after (take k changes) file))
-  stays : IsNone behind → IsNone before
-  kept : (i : ℕ) → i < length (bytes_of before) → Untouched changes i → slice_get (bytes_of behind) i ≡ slice_get (bytes_of before) i
+-- The same of changes one after the other.
+record LaysAll (changes : List Change) (file before after_all : Option (List ℕ)) : Type 0 where
+  grows : length (bytes_of before) ≤ length (bytes_of after_all)
+  bounded : (length (bytes_of after_all) ≤ length (bytes_of before)) ⊎ ((k : ℕ) × (k ≤ length changes) × (length (bytes_of after_all) ≤ length (bytes_of (after (take k changes) file))))
+  there : IsSome after_all → IsSome before ⊎ ((k : ℕ) × (k ≤ length changes) × IsSome (after (take k changes) file))
+  stays : IsNone after_all → IsNone before
+  kept : (i : ℕ) → i < length (bytes_of before) → Untouched changes i → slice_get (bytes_of after_all) i ≡ slice_get (bytes_of before) i
 
 lays_none : (file before : Option (List ℕ)) → LaysAll [] file before before
 lays_none file before = record {
@@ -38,8 +38,8 @@ lays_none file before = record {
   kept = λ i lt un. refl;
 }
 
-lays_more : (change : Change) (changes : List Change) (file before mid behind : Option (List ℕ)) → Lays change file before mid → LaysAll changes (changed change file) mid behind → LaysAll (change ∷ changes) file before behind
-lays_more change changes file before mid behind first all = record {
+lays_more : (change : Change) (changes : List Change) (file before mid after_all : Option (List ℕ)) → Lays change file before mid → LaysAll changes (changed change file) mid after_all → LaysAll (change ∷ changes) file before after_all
+lays_more change changes file before mid after_all first all = record {
   grows = omega (arith, first.grows, all.grows);
   bounded = elim all.bounded [
     | inl short ↦ elim first.bounded [
@@ -102,9 +102,9 @@ lays_write at bytes part file before can within fewer =
       stays = λ no. absurd (false≢true (sym no));
       kept = λ i lt apart. elim (cases_lt i at) [
         | inl front ↦ write_before at part before within i front
-        | inr behind ↦ elim (cases_lt i (at + length bytes)) [
-          | inl touched ↦ absurd (apart (behind, touched))
-          | inr past ↦ write_behind at part before within i (omega (arith, past, fewer))
+        | inr after_all ↦ elim (cases_lt i (at + length bytes)) [
+          | inl touched ↦ absurd (apart (after_all, touched))
+          | inr past ↦ write_after at part before within i (omega (arith, past, fewer))
         ]
       ];
     }
@@ -183,9 +183,9 @@ change_keeps (Write at bytes) file i can apart lt =
     let long = length-write at bytes file can in
     elim (cases_lt i at) [
       | inl front ↦ (omega (arith, front, can), write_before at bytes file can i front)
-      | inr behind ↦ elim (cases_lt i (at + length bytes)) [
-        | inl touched ↦ absurd (apart (behind, touched))
-        | inr past ↦ (omega (arith, past, lt, long), write_behind at bytes file can i past)
+      | inr after_all ↦ elim (cases_lt i (at + length bytes)) [
+        | inl touched ↦ absurd (apart (after_all, touched))
+        | inr past ↦ (omega (arith, past, lt, long), write_after at bytes file can i past)
       ]
     ]
 change_keeps (Cut len) file i can apart lt =

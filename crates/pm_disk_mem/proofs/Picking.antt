@@ -41,28 +41,28 @@ pub could_more : (left new_left : List (ℕ × Track)) (seg : ℕ) (track : Trac
 could_more left new_left seg track is can each = subst (λ (l : List (ℕ × Track)). CouldEach l) (sym is) (can, each)
 
 -- all keys are after this one
-abbrev Behind : {Y : Type 0} → ℕ → List (ℕ × Y) → Type 0
-Behind first entries = AllByRecursion (λ k. nat_cmp first k ≡ Less) (keys_of entries)
+abbrev AllAbove : {Y : Type 0} → ℕ → List (ℕ × Y) → Type 0
+AllAbove first entries = AllByRecursion (λ k. nat_cmp first k ≡ Less) (keys_of entries)
 
-behind_entry : (first seg : ℕ) (left : Option (List ℕ)) (rest : List (ℕ × List ℕ)) → nat_cmp first seg ≡ Less → Behind first rest → Behind first (entry_of seg left ++ rest)
-behind_entry first seg None rest less behind = behind
-behind_entry first seg (Some bytes) rest less behind = (less, behind)
+above_entry : (first seg : ℕ) (left : Option (List ℕ)) (rest : List (ℕ × List ℕ)) → nat_cmp first seg ≡ Less → AllAbove first rest → AllAbove first (entry_of seg left ++ rest)
+above_entry first seg None rest less above = above
+above_entry first seg (Some bytes) rest less above = (less, above)
 
-behind_picked : (first : ℕ) (pick : Pick) (entries : List (ℕ × Track)) → Behind first entries → Behind first (picked pick entries)
-behind_picked first pick [] behind = tt
-behind_picked first pick (entry ∷ entries) behind =
-    behind_entry first entry.0 (left_by pick entry.1.file) (picked (pick_after pick entry.1.file) entries) behind.0 (behind_picked first (pick_after pick entry.1.file) entries behind.1)
+above_picked : (first : ℕ) (pick : Pick) (entries : List (ℕ × Track)) → AllAbove first entries → AllAbove first (picked pick entries)
+above_picked first pick [] above = tt
+above_picked first pick (entry ∷ entries) above =
+    above_entry first entry.0 (left_by pick entry.1.file) (picked (pick_after pick entry.1.file) entries) above.0 (above_picked first (pick_after pick entry.1.file) entries above.1)
 
-sorted_entry : (seg : ℕ) (left : Option (List ℕ)) (rest : List (ℕ × List ℕ)) → Behind seg rest → IsStrictlySortedBy nat_cmp (keys_of rest) → IsStrictlySortedBy nat_cmp (keys_of (entry_of seg left ++ rest))
+sorted_entry : (seg : ℕ) (left : Option (List ℕ)) (rest : List (ℕ × List ℕ)) → AllAbove seg rest → IsStrictlySortedBy nat_cmp (keys_of rest) → IsStrictlySortedBy nat_cmp (keys_of (entry_of seg left ++ rest))
 unfolding IsStrictlySortedBy
-sorted_entry seg None rest behind sorted = sorted
-sorted_entry seg (Some bytes) rest behind sorted = (behind, sorted)
+sorted_entry seg None rest above sorted = sorted
+sorted_entry seg (Some bytes) rest above sorted = (above, sorted)
 
 pub sorted_picked : (pick : Pick) (entries : List (ℕ × Track)) → IsStrictlySortedBy nat_cmp (keys_of entries) → IsStrictlySortedBy nat_cmp (keys_of (picked pick entries))
 unfolding IsStrictlySortedBy
 sorted_picked pick [] sorted = sorted
 sorted_picked pick (entry ∷ entries) sorted =
-    sorted_entry entry.0 (left_by pick entry.1.file) (picked (pick_after pick entry.1.file) entries) (behind_picked entry.0 (pick_after pick entry.1.file) entries sorted.0)
+    sorted_entry entry.0 (left_by pick entry.1.file) (picked (pick_after pick entry.1.file) entries) (above_picked entry.0 (pick_after pick entry.1.file) entries sorted.0)
     (sorted_picked (pick_after pick entry.1.file) entries sorted.1)
 
 -- One segment more. Those so far are in the store, and those to come are `left`.
@@ -83,10 +83,10 @@ module _ (store : List (ℕ × List ℕ)) (all : List (ℕ × List ℕ)) (pick n
       ap (λ (s : List (ℕ × List ℕ)). s ++ picked next new_left) new_is ∙ put o whole sorted
 
 -- ---- look-ups
-no_look_up : {Y : Type 0} (seg : ℕ) (entries : List (ℕ × Y)) → Behind seg entries → lookup (is_at (nat_cmp seg)) entries ≡ None
-no_look_up seg [] behind = refl
-no_look_up {Y} seg (entry ∷ entries) behind =
-    ap (λ o. if Rattle.std.specs.Ordering.is_eq o then Some entry.1 else lookup (is_at (nat_cmp seg)) entries) behind.0 ∙ no_look_up seg entries behind.1
+no_look_up : {Y : Type 0} (seg : ℕ) (entries : List (ℕ × Y)) → AllAbove seg entries → lookup (is_at (nat_cmp seg)) entries ≡ None
+no_look_up seg [] above = refl
+no_look_up {Y} seg (entry ∷ entries) above =
+    ap (λ o. if Rattle.std.specs.Ordering.is_eq o then Some entry.1 else lookup (is_at (nat_cmp seg)) entries) above.0 ∙ no_look_up seg entries above.1
 
 -- what a look-up finds in front of the other segments
 look_up_entry : (seg k : ℕ) (left : Option (List ℕ)) (rest : List (ℕ × List ℕ)) → is_at (nat_cmp seg) k ≡ true → lookup (is_at (nat_cmp seg)) rest ≡ None → lookup (is_at (nat_cmp seg)) (entry_of k left ++ rest) ≡ left
@@ -110,16 +110,16 @@ is_less m n lt = grind (arith, nat_tests)
 less_lower : (m n k : ℕ) → m ≤ n → nat_cmp n k ≡ Less → nat_cmp m k ≡ Less
 less_lower m n k le less = grind (arith, nat_tests)
 
-behind_lower : {Y : Type 0} (seg first : ℕ) (entries : List (ℕ × Y)) → seg ≤ first → Behind first entries → Behind seg entries
-behind_lower seg first [] le behind = tt
-behind_lower seg first (entry ∷ entries) le behind = (less_lower seg first entry.0 le behind.0, behind_lower seg first entries le behind.1)
+above_lower : {Y : Type 0} (seg first : ℕ) (entries : List (ℕ × Y)) → seg ≤ first → AllAbove first entries → AllAbove seg entries
+above_lower seg first [] le above = tt
+above_lower seg first (entry ∷ entries) le above = (less_lower seg first entry.0 le above.0, above_lower seg first entries le above.1)
 
 -- a segment's file among these
 abbrev file_in : List (ℕ × Track) → ℕ → File
 file_in entries seg = (unwrap_or (lookup (is_at (nat_cmp seg)) entries) (new_track None)).file
 
-file_none : (entries : List (ℕ × Track)) (seg : ℕ) → Behind seg entries → file_in entries seg ≡ absent
-file_none entries seg behind = ap (λ (o : Option Track). (unwrap_or o (new_track None)).file) (no_look_up seg entries behind)
+file_none : (entries : List (ℕ × Track)) (seg : ℕ) → AllAbove seg entries → file_in entries seg ≡ absent
+file_none entries seg above = ap (λ (o : Option Track). (unwrap_or o (new_track None)).file) (no_look_up seg entries above)
 
 -- The first of them and the others.
 module _ (entry : ℕ × Track) (entries : List (ℕ × Track)) where
@@ -145,14 +145,14 @@ left_none (pick.Fill byte) = refl
 left_none (pick.Cut count) = refl
 
 -- of a segment below all of these
-picked_none : (pick other : Pick) (entries : List (ℕ × Track)) (seg : ℕ) → Behind seg entries → lookup (is_at (nat_cmp seg)) (picked pick entries) ≡ left_by other (file_in entries seg)
-picked_none pick other entries seg behind =
-    no_look_up seg (picked pick entries) (behind_picked seg pick entries behind)
+picked_none : (pick other : Pick) (entries : List (ℕ × Track)) (seg : ℕ) → AllAbove seg entries → lookup (is_at (nat_cmp seg)) (picked pick entries) ≡ left_by other (file_in entries seg)
+picked_none pick other entries seg above =
+    no_look_up seg (picked pick entries) (above_picked seg pick entries above)
     ∙ sym (left_none other)
-    ∙ ap (λ (file : File). left_by other file) (sym (file_none entries seg behind))
+    ∙ ap (λ (file : File). left_by other file) (sym (file_none entries seg above))
 
 -- The first of them and the others, which are after it.
-module _ (pick : Pick) (entry : ℕ × Track) (entries : List (ℕ × Track)) (behind : Behind entry.0 entries) where
+module _ (pick : Pick) (entry : ℕ × Track) (entries : List (ℕ × Track)) (above : AllAbove entry.0 entries) where
   abbrev next : Pick
   next = pick_after pick entry.1.file
 
@@ -163,11 +163,11 @@ module _ (pick : Pick) (entry : ℕ × Track) (entries : List (ℕ × Track)) (b
   has = ap (λ (file : File). written file.since) (file_first entry entries)
 
   none : (k : ℕ) → k < suc entry.0 → written (file_in entries k).since ≡ 0
-  none k lt = ap (λ (file : File). written file.since) (file_none entries k (behind_lower k entry.0 entries (omega (arith, lt)) behind))
+  none k lt = ap (λ (file : File). written file.since) (file_none entries k (above_lower k entry.0 entries (omega (arith, lt)) above))
 
   picked_first : lookup (is_at (nat_cmp entry.0)) (picked pick (entry ∷ entries)) ≡ left_by (pick_at pick log entry.0) (log entry.0)
   picked_first =
-      look_up_entry entry.0 entry.0 (left_by pick entry.1.file) (picked next entries) (at_same entry.0) (no_look_up entry.0 (picked next entries) (behind_picked entry.0 next entries behind))
+      look_up_entry entry.0 entry.0 (left_by pick entry.1.file) (picked next entries) (at_same entry.0) (no_look_up entry.0 (picked next entries) (above_picked entry.0 next entries above))
       ∙ ap (λ (p : Pick). left_by p entry.1.file) (sym (pick_first pick log entry.0 (below_it log (file_in entries) entry.0 (written entry.1.file.since) has (file_else entry entries) none)))
       ∙ ap (λ (file : File). left_by (pick_at pick log entry.0) file) (sym (file_first entry entries))
 
@@ -182,15 +182,15 @@ module _ (pick : Pick) (entry : ℕ × Track) (entries : List (ℕ × Track)) (b
 picked_at : (pick : Pick) (entries : List (ℕ × Track)) (seg : ℕ) → IsStrictlySortedBy nat_cmp (keys_of entries) → lookup (is_at (nat_cmp seg)) (picked pick entries) ≡ left_by (pick_at pick (file_in entries) seg) (file_in entries seg)
 picked_at pick [] seg sorted = picked_none pick (pick_at pick (file_in []) seg) [] seg tt
 picked_at pick (entry ∷ entries) seg sorted =
-    let behind = sorted_head nat_cmp entry.0 (keys_of entries) sorted in
+    let above = sorted_head nat_cmp entry.0 (keys_of entries) sorted in
     let next = pick_after pick entry.1.file in
     elim (cases_lt seg entry.0) [
-      | inl lower ↦ picked_none pick (pick_at pick (file_in (entry ∷ entries)) seg) (entry ∷ entries) seg (is_less seg entry.0 lower, behind_lower seg entry.0 entries (omega (arith, lower)) behind)
+      | inl lower ↦ picked_none pick (pick_at pick (file_in (entry ∷ entries)) seg) (entry ∷ entries) seg (is_less seg entry.0 lower, above_lower seg entry.0 entries (omega (arith, lower)) above)
       | inr not_lower ↦ elim (cases_lt entry.0 seg) [
-        | inl past ↦ picked_past pick entry entries behind seg past (picked_at next entries seg (sorted_tail nat_cmp entry.0 (keys_of entries) sorted))
+        | inl past ↦ picked_past pick entry entries above seg past (picked_at next entries seg (sorted_tail nat_cmp entry.0 (keys_of entries) sorted))
         | inr not_past ↦
             let is : entry.0 ≡ seg = omega (arith, not_lower, not_past) in
-            subst (λ k. lookup (is_at (nat_cmp k)) (picked pick (entry ∷ entries)) ≡ left_by (pick_at pick (file_in (entry ∷ entries)) k) (file_in (entry ∷ entries) k)) is (picked_first pick entry entries behind)
+            subst (λ k. lookup (is_at (nat_cmp k)) (picked pick (entry ∷ entries)) ≡ left_by (pick_at pick (file_in (entry ∷ entries)) k) (file_in (entry ∷ entries) k)) is (picked_first pick entry entries above)
       ]
     ]
 

@@ -15,7 +15,7 @@ use Rattle.pm_disk_mem.specs.Disks.{Store, config_from, world_from}
 use Rattle.pm_disk_mem.specs.Held.{Begins}
 use Rattle.pm_disk_mem.specs.Parts.{store_of}
 use Rattle.pm_disk_mem.specs.Tracks.{settled}
-use Rattle.pm_disk_mem.specs.Steps.{replay, told, stepped, start_world, Stands, SameStart}
+use Rattle.pm_disk_mem.specs.Steps.{replay, history_after, stepped, start_world, HoldsWorld, SameStart}
 use Rattle.pm_disk_mem.specs.declared.console.Console.{Console}
 use Rattle.pm_disk_mem.specs.declared.files.Files.{Files}
 use Rattle.pm_disk_mem.specs.declared.parts.DiskParts.{DiskParts}
@@ -100,7 +100,7 @@ pub not_done : {T U E : Type 0} (old new : History) (result : Result T E) (faile
 not_done old new result failed next other does same error = record { time = does.time; ok = on_error failed _ error; either = inl same }
 
 -- one step more
-elapses : (start : World) (steps : List Step) (step : Step) → Elapses (told start steps) (told start (steps ++ step ∷ []))
+elapses : (start : World) (steps : List Step) (step : Step) → Elapses (history_after start steps) (history_after start (steps ++ step ∷ []))
 elapses start steps step = record {
   later = omega (arith, length-append steps (step ∷ []));
   nothing_else = λ t w le was. elim (split was.0 was.2) [
@@ -113,7 +113,7 @@ elapses start steps step = record {
     split : (k : ℕ) → k ≤ length (steps ++ step ∷ []) → (k ≤ length steps) ⊎ (length (steps ++ step ∷ []) ≤ k)
     split k le = grind (arith, length-append steps (step ∷ []))
 
-pub done : {T E : Type 0} (start : World) (steps : List Step) (step : Step) (value : T) → Does {T = T} {E = E} (told start steps) (told start (steps ++ step ∷ [])) (Ok value) (stepped step (replay steps start))
+pub done : {T E : Type 0} (start : World) (steps : List Step) (step : Step) (value : T) → Does {T = T} {E = E} (history_after start steps) (history_after start (steps ++ step ∷ [])) (Ok value) (stepped step (replay steps start))
 done start steps step value = record { time = elapses start steps step; ok = replay-push steps step start; either = inr (replay-push steps step start) }
 
 -- what files and console were at the start makes the first world
@@ -134,29 +134,29 @@ module _ (files new_files : Files) (console new_console : Console) (config : Lis
   abbrev pub before : World
   before = start_world files console config
 
-  abbrev pub behind : World
-  behind = start_world new_files new_console config
+  abbrev pub renewed : World
+  renewed = start_world new_files new_console config
 
-  first : behind ≡ before
+  first : renewed ≡ before
   first = first_same files new_files console new_console config same
 
-  pub stands_still : Stands files console (replay steps before) → ((w : World) → Stands files console w → Stands new_files new_console w) → new_steps ≡ steps → Stands new_files new_console (replay new_steps behind)
-  stands_still stands keeps is = subst (λ (l : List Step). Stands new_files new_console (replay l behind)) (sym is) (subst (λ (w : World). Stands new_files new_console (replay steps w)) (sym first) (keeps (replay steps before) stands))
+  pub stands_still : HoldsWorld files console (replay steps before) → ((w : World) → HoldsWorld files console w → HoldsWorld new_files new_console w) → new_steps ≡ steps → HoldsWorld new_files new_console (replay new_steps renewed)
+  stands_still stands keeps is = subst (λ (l : List Step). HoldsWorld new_files new_console (replay l renewed)) (sym is) (subst (λ (w : World). HoldsWorld new_files new_console (replay steps w)) (sym first) (keeps (replay steps before) stands))
 
-  pub does_nothing : {T E : Type 0} (result : Result T E) (next : World) → IsErr result → new_steps ≡ steps → Does {T = T} {E = E} (told before steps) (told behind new_steps) result next
+  pub does_nothing : {T E : Type 0} (result : Result T E) (next : World) → IsErr result → new_steps ≡ steps → Does {T = T} {E = E} (history_after before steps) (history_after renewed new_steps) result next
   does_nothing {T} {E} result next failed is =
-      subst (λ (l : List Step). Does {T = T} {E = E} (told before steps) (told behind l) result next) (sym is)
-      (subst (λ (w : World). Does {T = T} {E = E} (told before steps) (told w steps) result next) (sym first) (nothing_done (told before steps) result next (on_error result _ failed)))
+      subst (λ (l : List Step). Does {T = T} {E = E} (history_after before steps) (history_after renewed l) result next) (sym is)
+      (subst (λ (w : World). Does {T = T} {E = E} (history_after before steps) (history_after w steps) result next) (sym first) (nothing_done (history_after before steps) result next (on_error result _ failed)))
 
-  pub stands_after : (step : Step) → Stands files console (replay steps before) → ((w : World) → Stands files console w → Stands new_files new_console (stepped step w)) → new_steps ≡ steps ++ step ∷ [] → Stands new_files new_console (replay new_steps behind)
+  pub stands_after : (step : Step) → HoldsWorld files console (replay steps before) → ((w : World) → HoldsWorld files console w → HoldsWorld new_files new_console (stepped step w)) → new_steps ≡ steps ++ step ∷ [] → HoldsWorld new_files new_console (replay new_steps renewed)
   stands_after step stands goes is =
-      subst (λ (l : List Step). Stands new_files new_console (replay l behind)) (sym is)
-      (subst (λ (w : World). Stands new_files new_console (replay (steps ++ step ∷ []) w)) (sym first) (subst (λ (w : World). Stands new_files new_console w) (sym (replay-push steps step before)) (goes (replay steps before) stands)))
+      subst (λ (l : List Step). HoldsWorld new_files new_console (replay l renewed)) (sym is)
+      (subst (λ (w : World). HoldsWorld new_files new_console (replay (steps ++ step ∷ []) w)) (sym first) (subst (λ (w : World). HoldsWorld new_files new_console w) (sym (replay-push steps step before)) (goes (replay steps before) stands)))
 
-  pub does_step : {T E : Type 0} (step : Step) (value : T) → new_steps ≡ steps ++ step ∷ [] → Does {T = T} {E = E} (told before steps) (told behind new_steps) (Ok value) (stepped step (replay steps before))
+  pub does_step : {T E : Type 0} (step : Step) (value : T) → new_steps ≡ steps ++ step ∷ [] → Does {T = T} {E = E} (history_after before steps) (history_after renewed new_steps) (Ok value) (stepped step (replay steps before))
   does_step {T} {E} step value is =
-      subst (λ (l : List Step). Does {T = T} {E = E} (told before steps) (told behind l) (Ok value) (stepped step (replay steps before))) (sym is)
-      (subst (λ (w : World). Does {T = T} {E = E} (told before steps) (told w (steps ++ step ∷ [])) (Ok value) (stepped step (replay steps before))) (sym first) (done before steps step value))
+      subst (λ (l : List Step). Does {T = T} {E = E} (history_after before steps) (history_after renewed l) (Ok value) (stepped step (replay steps before))) (sym is)
+      (subst (λ (w : World). Does {T = T} {E = E} (history_after before steps) (history_after w (steps ++ step ∷ [])) (Ok value) (stepped step (replay steps before))) (sym first) (done before steps step value))
 
-  pub world_same : new_steps ≡ steps → replay new_steps behind ≡ replay steps before
-  world_same is = ap (λ (l : List Step). replay l behind) is ∙ ap (λ (w : World). replay steps w) first
+  pub world_same : new_steps ≡ steps → replay new_steps renewed ≡ replay steps before
+  world_same is = ap (λ (l : List Step). replay l renewed) is ∙ ap (λ (w : World). replay steps w) first

@@ -5,7 +5,7 @@ use Rattle.pm_disk.specs.Worlds.{World}
 use Rattle.pm_disk.specs.Images.{Leaves, LeavesAll}
 use Rattle.pm_disk_mem.specs.Families.{file_at}
 use Rattle.pm_disk_mem.specs.Held.{PartsPicked, PartsLeft}
-use Rattle.pm_disk_mem.specs.Steps.{Stands}
+use Rattle.pm_disk_mem.specs.Steps.{HoldsWorld}
 use Rattle.pm_disk_mem.specs.Disks.{content_at, image_of, config_file}
 use Rattle.pm_disk_mem.specs.Parts.{store_of}
 use Rattle.pm_disk_mem.specs.Picks.{ArePicked, IsPicked, left_by, pick_at, pick_beside}
@@ -23,7 +23,7 @@ beside_at (pick.Fill byte) files n = refl
 beside_at (pick.Cut count) files n = refl
 
 -- What is held is what this world has.
-module _ (files : Files) (console : Console) (world : World) (stands : Stands files console world) where
+module _ (files : Files) (console : Console) (world : World) (stands : HoldsWorld files console world) where
   pub picked_world : (pick : Pick) (parts : DiskParts) (config : Option (List ℕ)) → PartsPicked pick files parts → config ≡ config_file world.config → IsPicked pick world (store_of parts config)
   picked_world pick parts config picked config_is =
       let same : file_at files.log ≡ world.log = λ i. λ seg. stands.log seg i in

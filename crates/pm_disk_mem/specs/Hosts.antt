@@ -1,11 +1,11 @@
--- What a host in memory tells.
+-- What contracts observe of a host in memory.
 use Rattle.std.specs.Prelude.{◌≡◌, ◌+◌, ◌-◌, ◌^◌, ℕ, min, true, false, List, Option, option_map, Result, IsErr, is_err}
 use Rattle.std.specs.String.{string_bytes}
 use Rattle.pm_disk.specs.Worlds.{World}
 use Rattle.pm_disk.specs.Moments.{History}
 use Rattle.pm_disk.specs.States.{DeviceState}
 use Rattle.pm_disk_mem.specs.Plans.{is_due, HasPlan, KeepsPlan, IsFaultCount}
-use Rattle.pm_disk_mem.specs.Steps.{start_world, replay, told}
+use Rattle.pm_disk_mem.specs.Steps.{start_world, replay, history_after}
 use Rattle.pm_disk_mem.specs.declared.host.MemHost.{MemHost}
 use Rattle.pm_disk_mem.specs.declared.step.Step.{Step}
 
@@ -23,7 +23,7 @@ world_of host = replay (steps_of host) (first_world host)
 
 -- the world now and at each moment before
 abbrev pub history_of : MemHost → History
-history_of host = told (first_world host) (steps_of host)
+history_of host = history_after (first_world host) (steps_of host)
 
 -- how many calls were made that can fail
 abbrev pub calls_of : MemHost → ℕ

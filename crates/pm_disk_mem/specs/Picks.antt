@@ -35,13 +35,13 @@ abbrev pub laid_over : ℕ → List ℕ → Option (List ℕ) → Option (List �
 laid_over at [] file = file
 laid_over at (byte ∷ bytes) file = changed (Write at (byte ∷ bytes)) file
 
--- the file with the first so many bytes of those that the change writes
+-- the file with a prefix of this length of the bytes that the change writes
 abbrev pub laid_by : ℕ → Change → Option (List ℕ) → Option (List ℕ)
 laid_by count (Write at bytes) file = laid_over at (take count bytes) file
 laid_by count (Cut len) file = file
 laid_by count Drop file = file
 
--- the file with the first so many bytes of those that these changes write
+-- the file with a prefix of this length of the bytes that these changes write
 abbrev pub laid : ℕ → List Change → Option (List ℕ) → Option (List ℕ)
 laid count [] file = file
 laid count (change ∷ changes) file = laid (count - written_by change) changes (laid_by count change file)

@@ -30,8 +30,8 @@ abbrev pub HasBeen : World → List Step → ℕ → World → Type 0
 HasBeen start steps least world = (k : ℕ) × (least ≤ k) × (k ≤ length steps) × (world ≡ replay (take k steps) start)
 
 -- what a host tells that has done these steps: a moment is a number of steps
-abbrev pub told : World → List Step → History
-told start steps = record { world = replay steps start; clock = length steps; was = HasBeen start steps }
+abbrev pub history_after : World → List Step → History
+history_after start steps = record { world = replay steps start; clock = length steps; was = HasBeen start steps }
 
 -- the world as a host began
 abbrev pub start_world : Files → Console → List ℕ → World
@@ -46,7 +46,7 @@ start_world files console config = record {
 }
 
 -- What is held is what this world has.
-pub record Stands (files : Files) (console : Console) (world : World) : Type 0 where
+pub record HoldsWorld (files : Files) (console : Console) (world : World) : Type 0 where
   pub log : (seg : ℕ) → (track_at files.log seg).file ≡ world.log seg
   pub pages : (part : ℕ) → (track_at files.pages part).file ≡ world.pages part
   pub starts : files.starts.file ≡ world.starts

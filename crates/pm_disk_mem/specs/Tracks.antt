@@ -16,7 +16,7 @@ settled bytes = record { forced = bytes; since = [] }
 abbrev pub new_track : Option (List ℕ) → Track
 new_track start = record { start = start; file = settled start }
 
--- a file that changed so since the start, where the first so many changes are lasting
+-- a file that changed so since the start, where a prefix of this length of the changes is lasting
 abbrev pub track_of : Option (List ℕ) → List Change → ℕ → Track
 track_of start changes lasting = record {
   start = start;

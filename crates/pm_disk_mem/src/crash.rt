@@ -62,7 +62,8 @@ fn fill(
     Ok(())
 }
 
-// Writes the first so many of the bytes that the changes write, and answers how many are left to write.
+// Writes a prefix of this length of the bytes that the changes write, and answers how many are left to
+// write.
 fn lay(
     alloc: Global,
     held: &mut Option<Vec<u8>>,

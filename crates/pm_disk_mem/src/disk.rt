@@ -50,7 +50,7 @@ impl MemDisk {
     /// changes nothing, exactly where the name isn't that of a file of the store.
     ///
     /// The files are `config.json`, `cp.start`, `cp.end`, the log's segments, as
-    /// `wal-0000000000000001.seg`, and those of the partitions 0 to 63, as `part-063.pages`. Want of
+    /// `wal-0000000000000001.seg`, and those of the partitions 0 to 63, as `part-063.pages`. Out of
     /// memory changes nothing either.
     pub fn put_file(&mut self, name: &str, bytes: &[u8]) -> Result<bool, AllocError>
         ensures puts { IfOk result (λ known. Puts known self.old self.new name.now bytes.now) }

@@ -7,7 +7,7 @@ ghost use Rattle.pm_disk.specs.Images.{LeavesAll};
 ghost use Rattle.pm_disk_mem.specs.Disks.{image_of, world_from};
 ghost use Rattle.pm_disk_mem.specs.Held.{file_of, file_changed};
 ghost use Rattle.pm_disk_mem.specs.Picks.{IsPicked};
-ghost use Rattle.pm_disk_mem.specs.Steps.{CanStep, Stands, start_world, replay, stepped, told};
+ghost use Rattle.pm_disk_mem.specs.Steps.{CanStep, HoldsWorld, start_world, replay, stepped, history_after};
 
 use crate::bytes::write_with_gap;
 use crate::config::{as_file, chosen};
@@ -32,7 +32,7 @@ pub struct MemHost {
     pub(crate) failures: Failures,
     // The name of the folder that is bound.
     pub(crate) folder: Option<String>,
-    ghost stands: { Stands files console
+    ghost stands: { HoldsWorld files console
         (replay steps.items (start_world files console config.items)) },
 }
 

@@ -13,8 +13,8 @@ pub enum Pick {
     /// Each byte that isn't lasting is this one, and each file has the greatest length that it had
     /// since its last force.
     Fill(u8),
-    /// The first so many of the bytes that were written to the log and aren't lasting, by segment, and
-    /// in a segment in the order of the writes. Of all other changes none.
+    /// A prefix of this length of the bytes that were written to the log and aren't lasting, by segment,
+    /// and in a segment in the order of the writes. Of all other changes none.
     Cut(u64),
 }
 

@@ -8,7 +8,7 @@ ghost use Rattle.pm_disk_mem.specs.Hosts.{state_of};
 use crate::disk::MemDisk;
 use crate::host::MemHost;
 use crate::pick::Pick;
-use pm_disk::{Failed, Host, LogFile, MarkFile};
+use pm_disk::{Failed, Host, LogFile, LogReader, MarkFile, PageReader, PageWriter};
 use pm_types::PageId;
 use std::alloc::{AllocError, Global};
 use std::process::Abort;

@@ -2,7 +2,7 @@
 
 ghost use Rattle.std.specs.Prelude.{OnOk, OnErr};
 ghost use Rattle.pm_disk.specs.Worlds.{World};
-ghost use Rattle.pm_disk_mem.specs.Steps.{CanStep, Stands, SameStart, stepped};
+ghost use Rattle.pm_disk_mem.specs.Steps.{CanStep, HoldsWorld, SameStart, stepped};
 
 use crate::console::Console;
 use crate::files::Files;
@@ -17,10 +17,10 @@ pub fn make(
     step: &Step,
 ) -> Result<(), AllocError>
     requires { CanStep step.now files.old console.old }
-    ensures made { OnOk result ((w : World) → Stands files.old console.old w
-        → Stands files.new console.new (stepped step.now w)) }
-    ensures unchanged { OnErr result ((w : World) → Stands files.old console.old w
-        → Stands files.new console.new w) }
+    ensures made { OnOk result ((w : World) → HoldsWorld files.old console.old w
+        → HoldsWorld files.new console.new (stepped step.now w)) }
+    ensures unchanged { OnErr result ((w : World) → HoldsWorld files.old console.old w
+        → HoldsWorld files.new console.new w) }
     ensures start { SameStart files.old console.old files.new console.new }
 {
     match step {

@@ -1,5 +1,7 @@
 //! The calls of a host as values, and what a host answers to each, as text.
 
+ghost use Rattle.pm_disk.specs.States.{IsUsable};
+
 use pm_disk::{Failed, Host, LogFile, MarkFile};
 use pm_types::PageId;
 use std::alloc::{AllocError, Global};
@@ -43,25 +45,31 @@ impl Call {
 }
 
 /// Writes the bytes at a segment's end.
-fn append_log<L: LogFile>(log: &mut L, seg: u64, bytes: &[u8]) -> Result<(), Failed> {
+fn append_log<L: LogFile>(log: &mut L, seg: u64, bytes: &[u8]) -> Result<(), Failed>
+    requires { IsUsable (L.state log.old) }
+    ensures { IsUsable (L.state log.new) }
+{
     let len = log.seg_len(seg)?.unwrap_or(0);
     log.write_log(seg, len, bytes)
 }
 
 /// Cuts a segment to half its length.
-fn halve_log<L: LogFile>(log: &mut L, seg: u64) -> Result<(), Failed> {
+fn halve_log<L: LogFile>(log: &mut L, seg: u64) -> Result<(), Failed>
+    requires { IsUsable (L.state log.old) }
+    ensures { IsUsable (L.state log.new) }
+{
     let len = log.seg_len(seg)?.unwrap_or(0);
     log.cut_log(seg, len / 2)
 }
 
 /// A count of bytes that were read, and those.
-fn told(alloc: Global, count: Result<usize, Failed>, into: &[u8]) -> Result<String, AllocError> {
+fn answer_bytes(alloc: Global, count: Result<usize, Failed>, into: &[u8]) -> Result<String, AllocError> {
     let read = &into[..count.unwrap_or(0).min(into.len())];
     format!(in alloc; "{count:?} {read:?}")
 }
 
 /// Whether a slot was there, and how many of its bytes are as its first one.
-fn told_slot(
+fn slot_text(
     alloc: Global,
     whole: Result<bool, Failed>,
     slot: &[u8; 64],
@@ -72,58 +80,79 @@ fn told_slot(
 }
 
 /// What a host answers to `seg_len`.
-fn told_len<L: LogFile>(alloc: Global, log: &mut L, seg: u64) -> Result<String, AllocError> {
+fn answer_len<L: LogFile>(alloc: Global, log: &mut L, seg: u64) -> Result<String, AllocError>
+    requires { IsUsable (L.state log.old) }
+    ensures { IsUsable (L.state log.new) }
+{
     let len = log.seg_len(seg);
     format!(in alloc; "{len:?}")
 }
 
 /// What a host answers to `read_log`, and what it read.
-fn told_log<L: LogFile>(
+fn answer_log<L: LogFile>(
     alloc: Global,
     log: &mut L,
     seg: u64,
     at: u64,
-) -> Result<String, AllocError> {
+) -> Result<String, AllocError>
+    requires { IsUsable (L.state log.old) }
+    ensures { IsUsable (L.state log.new) }
+{
     let mut into = [1; 8];
     let count = log.read_log(seg, at, &mut into);
-    told(alloc, count, &into)
+    answer_bytes(alloc, count, &into)
 }
 
 /// What a host answers to `read_page`, and what it read.
-fn told_page<H: Host>(alloc: Global, host: &mut H, page: PageId) -> Result<String, AllocError> {
+fn answer_page<H: Host>(alloc: Global, host: &mut H, page: PageId) -> Result<String, AllocError>
+    requires { IsUsable (H.state host.old) }
+    ensures { IsUsable (H.state host.new) }
+{
     let mut into = [1; PAGE];
     let whole = host.read_page(page, &mut into);
     format!(in alloc; "{whole:?} {into:?}")
 }
 
 /// What a host answers to `read_mark`, and what it read.
-fn told_mark<H: Host>(
+fn answer_mark<H: Host>(
     alloc: Global,
     host: &mut H,
     file: MarkFile,
     slot: u8,
-) -> Result<String, AllocError> {
+) -> Result<String, AllocError>
+    requires { IsUsable (H.state host.old) }
+    ensures { IsUsable (H.state host.new) }
+{
     let mut into = [1; 64];
     let whole = host.read_mark(file, slot.min(1), &mut into);
-    told_slot(alloc, whole, &into)
+    slot_text(alloc, whole, &into)
 }
 
 /// What a host answers to `read_config`, and what it read.
-fn told_config<H: Host>(alloc: Global, host: &mut H) -> Result<String, AllocError> {
+fn answer_config<H: Host>(alloc: Global, host: &mut H) -> Result<String, AllocError>
+    requires { IsUsable (H.state host.old) }
+    ensures { IsUsable (H.state host.new) }
+{
     let mut into = [1; 8];
     let count = host.read_config(&mut into);
-    told(alloc, count, &into)
+    answer_bytes(alloc, count, &into)
 }
 
 /// What a host answers to `read`, and what it read.
-fn told_input<H: Host>(alloc: Global, host: &mut H) -> Result<String, AllocError> {
+fn answer_input<H: Host>(alloc: Global, host: &mut H) -> Result<String, AllocError>
+    requires { IsUsable (H.state host.old) }
+    ensures { IsUsable (H.state host.new) }
+{
     let mut into = [1; 8];
     let count = host.read(&mut into);
-    told(alloc, count, &into)
+    answer_bytes(alloc, count, &into)
 }
 
 /// What a host answers to a call that changes or forces the log.
-fn change_log<L: LogFile>(log: &mut L, call: &Call) -> Result<(), Failed> {
+fn change_log<L: LogFile>(log: &mut L, call: &Call) -> Result<(), Failed>
+    requires { IsUsable (L.state log.old) }
+    ensures { IsUsable (L.state log.new) }
+{
     match call {
         Call::WriteLog(seg, bytes) => log.write_log(*seg, 0, bytes),
         Call::AppendLog(seg, bytes) => append_log(log, *seg, bytes),
@@ -133,10 +162,21 @@ fn change_log<L: LogFile>(log: &mut L, call: &Call) -> Result<(), Failed> {
     }
 }
 
+/// What a host answers to `bind` that is bound to a folder already.
+fn rebind<H: Host>(host: &mut H, dir: &str) -> Result<(), Failed>
+    requires { IsUsable (H.state host.old) }
+    ensures { IsUsable (H.state host.new) }
+{
+    host.bind(dir)
+}
+
 /// What a host answers to a call that reads nothing.
-fn change<H: Host>(host: &mut H, call: &Call) -> Result<(), Failed> {
+fn change<H: Host>(host: &mut H, call: &Call) -> Result<(), Failed>
+    requires { IsUsable (H.state host.old) }
+    ensures { IsUsable (H.state host.new) }
+{
     match call {
-        Call::Bind(dir) => host.bind(dir),
+        Call::Bind(dir) => rebind(host, dir),
         Call::DropLog(seg) => host.drop_log(*seg),
         Call::WritePage(part, index, byte) => {
             host.write_page(PageId::new(*part, *index), &[*byte; PAGE])
@@ -154,20 +194,26 @@ fn change<H: Host>(host: &mut H, call: &Call) -> Result<(), Failed> {
 }
 
 /// What a host answers to a call that reads nothing, as text.
-fn told_change<H: Host>(alloc: Global, host: &mut H, call: &Call) -> Result<String, AllocError> {
+fn answer_change<H: Host>(alloc: Global, host: &mut H, call: &Call) -> Result<String, AllocError>
+    requires { IsUsable (H.state host.old) }
+    ensures { IsUsable (H.state host.new) }
+{
     let done = change(host, call);
     format!(in alloc; "{done:?}")
 }
 
 /// What a host answers to a call, and what it read, as text.
-pub fn answer<H: Host>(alloc: Global, host: &mut H, call: &Call) -> Result<String, AllocError> {
+pub fn answer<H: Host>(alloc: Global, host: &mut H, call: &Call) -> Result<String, AllocError>
+    requires { IsUsable (H.state host.old) }
+    ensures { IsUsable (H.state host.new) }
+{
     match call {
-        Call::SegLen(seg) => told_len(alloc, host, *seg),
-        Call::ReadLog(seg, at) => told_log(alloc, host, *seg, *at),
-        Call::ReadPage(part, index) => told_page(alloc, host, PageId::new(*part, *index)),
-        Call::ReadMark(file, number) => told_mark(alloc, host, *file, *number),
-        Call::ReadConfig => told_config(alloc, host),
-        Call::Read => told_input(alloc, host),
-        _ => told_change(alloc, host, call),
+        Call::SegLen(seg) => answer_len(alloc, host, *seg),
+        Call::ReadLog(seg, at) => answer_log(alloc, host, *seg, *at),
+        Call::ReadPage(part, index) => answer_page(alloc, host, PageId::new(*part, *index)),
+        Call::ReadMark(file, number) => answer_mark(alloc, host, *file, *number),
+        Call::ReadConfig => answer_config(alloc, host),
+        Call::Read => answer_input(alloc, host),
+        _ => answer_change(alloc, host, call),
     }
 }

@@ -6,16 +6,14 @@ use std::fs::{Metadata, OpenOptions};
 use std::io::{self, BufRead, ErrorKind, Lines, Write};
 use std::rt::Files;
 
-/// What there is to read.
-pub const INPUT: &[u8] = b"get 0 a\nput";
-
 /// The file that has what was printed.
 pub const SAID: &str = "said";
 
-/// The files of a runtime, beside a console whose input is `INPUT` and whose output is the file `SAID`.
+/// The files of a runtime, beside a console with this input, whose output is the file `SAID`.
 #[derive(Clone, Drop)]
 pub struct FileConsole<R> {
     pub rt: R,
+    pub input: &'static [u8],
 }
 
 fn unsupported() -> io::Error {
@@ -34,7 +32,7 @@ impl<R> Input for FileConsole<R> {
     }
 
     fn reader(&self) -> &'static [u8] {
-        INPUT
+        self.input
     }
 }
 

@@ -1,8 +1,15 @@
 //! The host over files and the host in memory, call by call.
 
+ghost use Rattle.std.specs.Prelude.{◌≡◌, false, OnOk};
+ghost use Rattle.pm_disk.specs.States.{IsUsable};
+ghost use Rattle.pm_disk_mem.specs.Hosts.{state_of};
+
 use crate::calls::{Call, answer};
-use crate::consoles::{FileConsole, INPUT, SAID};
-use pm_disk::{Host, MarkFile};
+use crate::consoles::{FileConsole, SAID};
+use crate::noted::NotedHost;
+use crate::recorded::{Recorded, TRACE};
+use crate::traces::count_forces;
+use pm_disk::{Failed, Host, MarkFile};
 use pm_disk_fs::FsHost;
 use pm_disk_mem::{MemDisk, MemHost, Pick};
 use std::alloc::{AllocError, Global};
@@ -177,13 +184,18 @@ fn unlike(
 }
 
 /// Makes a call on both. Answers what both say to it, where one of them doesn't answer as wanted.
-fn unlike_answers(
+fn unlike_answers<M: Host, F: Host>(
     alloc: Global,
-    memory: &mut impl Host,
-    files: &mut impl Host,
+    memory: &mut M,
+    files: &mut F,
     call: &Call,
     wanted: &str,
-) -> Result<Option<String>, AllocError> {
+) -> Result<Option<String>, AllocError>
+    requires memory { IsUsable (M.state memory.old) }
+    requires files { IsUsable (F.state files.old) }
+    ensures memory { IsUsable (M.state memory.new) }
+    ensures files { IsUsable (F.state files.new) }
+{
     let by_memory = answer(alloc, memory, call)?;
     let by_files = answer(alloc, files, call)?;
     unlike(alloc, by_memory.as_str(), by_files.as_str(), wanted)
@@ -191,7 +203,7 @@ fn unlike_answers(
 
 /// The first file that isn't alike after this call. None is looked at after a log write, which may be made with the next
 /// other call on the log.
-fn differing_behind(
+fn differing_after(
     rt: &(impl AllocGlobal + Files),
     memory: &MemHost,
     call: &Call,
@@ -203,29 +215,39 @@ fn differing_behind(
 }
 
 /// Makes a call on both, and looks at each answer and at the files after it. Answers what isn't as wanted.
-fn step(
+fn step<F: Host>(
     rt: &(impl AllocGlobal + Files),
     memory: &mut MemHost,
-    files: &mut impl Host,
+    files: &mut F,
     call: &Call,
     wanted: &str,
-) -> Result<Option<String>, Fail> {
+) -> Result<Option<String>, Fail>
+    requires memory { IsUsable (state_of memory.old) }
+    requires files { IsUsable (F.state files.old) }
+    ensures memory { IsUsable (state_of memory.new) }
+    ensures files { IsUsable (F.state files.new) }
+{
     if let Some(answers) = unlike_answers(rt.alloc(), memory, files, call, wanted)? {
         return Ok(Some(answers));
     }
-    match differing_behind(rt, memory, call)? {
+    match differing_after(rt, memory, call)? {
         Some(name) => Ok(Some(String::from_str(rt.alloc(), name)?)),
         None => Ok(None),
     }
 }
 
 /// Makes the calls on both up to the first one where something isn't as wanted. Answers its number and what that is.
-fn compare(
+fn compare<F: Host>(
     rt: &(impl AllocGlobal + Files),
     memory: &mut MemHost,
-    files: &mut impl Host,
+    files: &mut F,
     calls: &[(Call, &str)],
-) -> Result<Option<String>, Fail> {
+) -> Result<Option<String>, Fail>
+    requires memory { IsUsable (state_of memory.old) }
+    requires files { IsUsable (F.state files.old) }
+    ensures memory { IsUsable (state_of memory.new) }
+    ensures files { IsUsable (F.state files.new) }
+{
     for (number, (call, wanted)) in calls.iter().enumerate() {
         if let Some(unwanted) = step(rt, memory, files, call, wanted)? {
             return Ok(Some(format!(in rt.alloc(); "{number}: {unwanted}")?));
@@ -263,25 +285,41 @@ fn fill_folder(rt: &(impl AllocGlobal + Files)) -> Result<(), Fail> {
     Ok(())
 }
 
-/// Names the folder to a host.
-fn bind(rt: &impl Abort, host: &mut impl Host) -> Result<(), Fail> {
-    assert_eq!(rt; host.bind(FOLDER), Ok(()));
+/// Binds a host to the folder.
+fn bind<H: Host>(host: &mut H) -> Result<(), Failed>
+    requires { (H.state host.old).access.is_lent ≡ false }
+    ensures { OnOk result (IsUsable (H.state host.new)) }
+{
+    host.bind(FOLDER)
+}
+
+/// Makes all the calls on both.
+fn make_calls<F: Host>(
+    rt: &(impl Abort + AllocGlobal + Files),
+    memory: &mut MemHost,
+    files: &mut F,
+) -> Result<(), Fail>
+    requires memory { IsUsable (state_of memory.old) }
+    requires files { IsUsable (F.state files.old) }
+{
+    assert_eq!(rt; compare(rt, memory, files, &ON_CONSOLE)?, None);
+    assert_eq!(rt; compare(rt, memory, files, &ON_LOG)?, None);
+    assert_eq!(rt; compare(rt, memory, files, &ON_PAGES)?, None);
     Ok(())
 }
 
-/// Names the folder to both, fills it, and makes all the calls.
-fn make_calls(
+/// Binds both to the folder, fills it, and makes all the calls.
+fn bind_and_call<F: Host>(
     rt: &(impl Abort + AllocGlobal + Files),
     memory: &mut MemHost,
-    files: &mut impl Host,
-) -> Result<(), Fail> {
-    bind(rt, memory)?;
-    bind(rt, files)?;
+    files: &mut F,
+) -> Result<(), Fail>
+    requires { (F.state files.old).access.is_lent ≡ false }
+{
+    bind(memory)?;
+    bind(files)?;
     fill_folder(rt)?;
-    for calls in [ON_CONSOLE.as_slice(), &ON_LOG, &ON_PAGES] {
-        assert_eq!(rt; compare(rt, memory, files, calls)?, None);
-    }
-    Ok(())
+    make_calls(rt, memory, files)
 }
 
 /// Looks at what both have in the end: all was forced, and the same was said.
@@ -292,17 +330,43 @@ fn look_at_the_end(rt: &(impl Abort + AllocGlobal + Files), memory: &MemHost) ->
     Ok(())
 }
 
-/// Removes the folder and what was said.
+/// Looks at the trace: each force that was answered `Ok` had made its file lasting, and the names. Each
+/// file that is changed was forced.
+fn look_at_forces(rt: &(impl Abort + AllocGlobal + Files)) -> Result<(), Fail> {
+    let trace = fs::read_to_string(rt, TRACE)?;
+    for name in NAMES {
+        let path = path_of(rt.alloc(), name)?;
+        let forces = count_forces(&trace, FOLDER, &path);
+        assert!(rt; forces.is_some(), "{name}");
+        assert_eq!(rt; forces == Some(0), name == "config.json", "{name}");
+    }
+    Ok(())
+}
+
+/// Removes the folder, what was said, and the trace.
 fn remove_files(rt: &(impl AllocGlobal + Files)) -> Result<(), Fail> {
     fs::remove_dir_all(rt, FOLDER)?;
+    fs::remove_file(rt, TRACE)?;
     Ok(fs::remove_file(rt, SAID)?)
 }
+
+/// What there is to read.
+const INPUT: &[u8] = b"get 0 a\nput";
 
 #[test]
 fn files_and_memory_answer_the_same(rt: HostRuntime) -> Result<(), Fail> {
     let mut memory = in_memory(&rt)?;
-    let mut files = FsHost::new(FileConsole { rt: rt.clone()? });
-    make_calls(&rt, &mut memory, &mut files)?;
+    let console = FileConsole {
+        rt: rt.clone()?,
+        input: INPUT,
+    };
+    let mut files = NotedHost {
+        host: FsHost::new(Recorded { rt: console }),
+        rt: rt.clone()?,
+        folder: FOLDER,
+    };
+    bind_and_call(&rt, &mut memory, &mut files)?;
     look_at_the_end(&rt, &memory)?;
+    look_at_forces(&rt)?;
     remove_files(&rt)
 }

@@ -10,11 +10,17 @@ mod consoles;
 #[cfg(test)]
 mod crashes;
 #[cfg(test)]
+mod forces;
+#[cfg(test)]
 mod hosts;
 #[cfg(test)]
 mod logs;
 #[cfg(test)]
+mod noted;
+#[cfg(test)]
 mod pieces;
+#[cfg(test)]
+mod recorded;
 #[cfg(test)]
 mod refusals;
 #[cfg(test)]
@@ -23,3 +29,5 @@ mod runs;
 mod scripts;
 #[cfg(test)]
 mod stores;
+#[cfg(test)]
+mod traces;

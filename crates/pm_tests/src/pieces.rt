@@ -1,6 +1,6 @@
 //! A host in memory that gives its input in pieces.
 
-ghost use Rattle.std.specs.Prelude.{◌<◌};
+ghost use Rattle.std.specs.Prelude.{◌<◌, refl};
 
 use pm_disk::{
     Device, Failed, Host, LogFile, LogReader, MarkFile, PageReader, PageWriter, SLOT_LEN,
@@ -17,14 +17,14 @@ pub struct PieceHost {
 }
 
 impl Device for PieceHost {
-    ghost use Rattle.pm_disk_mem.specs.Hosts.{first_world, steps_of, history_of, faults_of};
+    ghost use Rattle.pm_disk_mem.specs.Hosts.{first_world, steps_of, history_of, state_of};
     ghost use Rattle.pm_disk_mem.specs.Sound.{sound};
 
     ghost tells = { Unit {0} };
 
     ghost history = { λ pieces. history_of pieces.host };
 
-    ghost faults = { λ pieces. faults_of pieces.host };
+    ghost state = { λ pieces. state_of pieces.host };
 
     ghost sound = { λ pieces _. sound (first_world pieces.host) (steps_of pieces.host) };
 }
@@ -112,4 +112,6 @@ impl Host for PieceHost {
     fn print(&mut self, bytes: &[u8]) -> Result<(), Failed> {
         self.host.print(bytes)
     }
+
+    ghost all_pages = { λ _. record { reads = λ _. refl; writes = λ _. refl } };
 }

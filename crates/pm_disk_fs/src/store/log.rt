@@ -72,6 +72,7 @@ impl<R: Files + AllocGlobal + Drop> Store<R> {
             → IsAppended self.old.writes.buffer self.new.writes.buffer seg at bytes.now) }
     {
         self.writes.begin()?;
+        let _bound = folder.name()?;
         self.buffer_or_write(folder, seg, at, bytes)?;
         self.writes.is_poisoned = false;
         Ok(())

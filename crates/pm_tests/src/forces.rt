@@ -1,0 +1,67 @@
+//! A run of the top call over real files that write a trace.
+
+ghost use Rattle.std.specs.Prelude.{◌≡◌, false};
+
+use crate::consoles::{FileConsole, SAID};
+use crate::noted::NotedHost;
+use crate::recorded::{Recorded, TRACE};
+use crate::runs::call_with;
+use crate::traces::count_forces;
+use pm_disk::Host;
+use pm_disk_fs::FsHost;
+use std::fs;
+use std::process::Abort;
+use std::rt::Files;
+use std::test::Fail;
+
+/// The folder of the store.
+const FOLDER: &str = "lasts";
+
+/// The file of the log's first segment.
+const SEGMENT: &str = "lasts/wal-0000000000000001.seg";
+
+/// A script, which is answered twice.
+const SCRIPT: &[u8] = b"put 0 a 1\nget 0 a\nremove 0 a\nput 1 b 2\n";
+
+/// Answers the script over a host, and looks at the status.
+fn run<H: Host>(rt: &(impl Abort + AllocGlobal), host: &mut H) -> Result<(), Fail>
+    requires { (H.state host.old).access.is_lent ≡ false }
+{
+    let report = call_with(rt, &["run", FOLDER], host)?;
+    assert_eq!(rt; report.status, 0);
+    Ok(())
+}
+
+/// Answers the script over the folder.
+fn run_recorded(rt: &HostRuntime) -> Result<(), Fail> {
+    let console = FileConsole {
+        rt: rt.clone()?,
+        input: SCRIPT,
+    };
+    let mut host = NotedHost {
+        host: FsHost::new(Recorded { rt: console }),
+        rt: rt.clone()?,
+        folder: FOLDER,
+    };
+    run(rt, &mut host)
+}
+
+/// Looks at the trace: each force had made the segment lasting, and the names.
+fn look_at_forces(rt: &(impl Abort + AllocGlobal + Files)) -> Result<(), Fail> {
+    let trace = fs::read_to_string(rt, TRACE)?;
+    let forces = count_forces(&trace, FOLDER, SEGMENT);
+    assert!(rt; forces.is_some());
+    assert!(rt; forces != Some(0));
+    Ok(())
+}
+
+#[test]
+fn what_a_run_forces_lasts(rt: HostRuntime) -> Result<(), Fail> {
+    run_recorded(&rt)?;
+    look_at_forces(&rt)?;
+    run_recorded(&rt)?;
+    look_at_forces(&rt)?;
+    fs::remove_dir_all(&rt, FOLDER)?;
+    fs::remove_file(&rt, TRACE)?;
+    Ok(fs::remove_file(&rt, SAID)?)
+}

@@ -1,0 +1,196 @@
+//! Real files that write a trace: which were changed and synced, and which names were made and removed.
+
+use std::alloc::{AllocError, Allocator};
+use std::fmt::Display;
+use std::fs::{Metadata, OpenFile, OpenOptions};
+use std::io::{self, Lines, Read, Seek, SeekFrom, Write};
+use std::rt::Files;
+
+/// The file that has the trace: a line for each event, with its path.
+pub const TRACE: &str = "trace";
+
+/// The bytes or the length of a file were changed.
+pub const CHANGED: &str = "changed";
+
+/// A file or a folder was synced.
+pub const SYNCED: &str = "synced";
+
+/// A name was made.
+pub const MADE: &str = "made";
+
+/// A name was removed.
+pub const REMOVED: &str = "removed";
+
+/// A host has answered that a file is forced.
+pub const FORCED: &str = "forced";
+
+/// A line of the trace.
+fn line_of<R: AllocGlobal>(rt: &R, event: &str, path: &str) -> Result<String, AllocError> {
+    format!(in rt.alloc(); "{event} {path}\n")
+}
+
+/// Writes a line into the trace.
+pub fn note<R: Files + AllocGlobal>(rt: &R, event: &str, path: &str) -> io::Result<()> {
+    let line = line_of(rt, event, path)?;
+    let mut trace = OpenOptions::new()
+        .append(true)
+        .create(true)
+        .open(rt, TRACE)?;
+    trace.write_all(line.as_bytes())
+}
+
+/// A runtime whose files write the trace. All else is passed on.
+#[derive(Clone, Drop)]
+pub struct Recorded<R> {
+    pub rt: R,
+}
+
+/// A file that writes the trace.
+#[derive(Drop)]
+pub struct RecordedFile<R: Files + Drop> {
+    rt: R,
+    file: R::File,
+    path: String,
+}
+
+impl<R: Files + AllocGlobal + Drop> Read for RecordedFile<R> {
+    fn read(&mut self, buf: &mut [u8]) -> io::Result<usize> {
+        self.file.read(buf)
+    }
+}
+
+impl<R: Files + AllocGlobal + Drop> Seek for RecordedFile<R> {
+    fn seek(&mut self, to: SeekFrom) -> io::Result<u64> {
+        self.file.seek(to)
+    }
+}
+
+impl<R: Files + AllocGlobal + Drop> Write for RecordedFile<R> {
+    fn write(&mut self, buf: &[u8]) -> io::Result<usize> {
+        note(&self.rt, CHANGED, &self.path)?;
+        self.file.write(buf)
+    }
+
+    fn flush(&mut self) -> io::Result<()> {
+        self.file.flush()
+    }
+}
+
+impl<R: Files + AllocGlobal + Drop> OpenFile for RecordedFile<R> {
+    fn metadata(&self) -> io::Result<Metadata> {
+        self.file.metadata()
+    }
+
+    fn set_len(&self, size: u64) -> io::Result<()> {
+        note(&self.rt, CHANGED, &self.path)?;
+        self.file.set_len(size)
+    }
+
+    fn sync_all(&self) -> io::Result<()> {
+        self.file.sync_all()?;
+        note(&self.rt, SYNCED, &self.path)
+    }
+
+    fn sync_data(&self) -> io::Result<()> {
+        self.file.sync_data()
+    }
+}
+
+impl<R: Alloc> Alloc for Recorded<R> {
+    type A = R::A;
+
+    fn alloc(&self) -> R::A {
+        self.rt.alloc()
+    }
+}
+
+impl<R: Input> Input for Recorded<R> {
+    type Reader = R::Reader;
+
+    fn read_line<A: Allocator + Clone>(&self, buf: &mut String<A>) -> io::Result<usize> {
+        self.rt.read_line(buf)
+    }
+
+    fn lines<A: Allocator>(&self, alloc: A) -> Lines<R::Reader, A> {
+        self.rt.lines(alloc)
+    }
+
+    fn reader(&self) -> R::Reader {
+        self.rt.reader()
+    }
+}
+
+impl<R: Print> Print for Recorded<R> {
+    fn print<D: Display + Drop>(&self, value: D) -> io::Result<()> {
+        self.rt.print(value)
+    }
+
+    fn println<D: Display + Drop>(&self, value: D) -> io::Result<()> {
+        self.rt.println(value)
+    }
+
+    fn write_all(&self, bytes: &[u8]) -> io::Result<()> {
+        self.rt.write_all(bytes)
+    }
+}
+
+impl<R: Files + AllocGlobal + Clone + Drop> Files for Recorded<R> {
+    type File = RecordedFile<R>;
+
+    type Dir = R::Dir;
+
+    /// A file that isn't there before is made.
+    fn open_file(&self, how: &OpenOptions, path: &str) -> io::Result<RecordedFile<R>> {
+        let was_there = self.rt.metadata(path).is_ok();
+        let file = self.rt.open_file(how, path)?;
+        if !was_there {
+            note(&self.rt, MADE, path)?;
+        }
+        Ok(RecordedFile {
+            rt: self.rt.clone()?,
+            file,
+            path: String::from_str(self.rt.alloc(), path)?,
+        })
+    }
+
+    fn open_dir(&self, path: &str) -> io::Result<R::Dir> {
+        self.rt.open_dir(path)
+    }
+
+    fn metadata(&self, path: &str) -> io::Result<Metadata> {
+        self.rt.metadata(path)
+    }
+
+    fn symlink_metadata(&self, path: &str) -> io::Result<Metadata> {
+        self.rt.symlink_metadata(path)
+    }
+
+    fn copy(&self, from: &str, to: &str) -> io::Result<u64> {
+        self.rt.copy(from, to)
+    }
+
+    fn rename(&self, from: &str, to: &str) -> io::Result<()> {
+        self.rt.rename(from, to)?;
+        note(&self.rt, REMOVED, from)?;
+        note(&self.rt, MADE, to)
+    }
+
+    fn remove_file(&self, path: &str) -> io::Result<()> {
+        self.rt.remove_file(path)?;
+        note(&self.rt, REMOVED, path)
+    }
+
+    fn create_dir(&self, path: &str) -> io::Result<()> {
+        self.rt.create_dir(path)?;
+        note(&self.rt, MADE, path)
+    }
+
+    fn remove_dir(&self, path: &str) -> io::Result<()> {
+        self.rt.remove_dir(path)?;
+        note(&self.rt, REMOVED, path)
+    }
+
+    fn remove_dir_all<B: Allocator>(&self, alloc: B, path: &str) -> io::Result<()> {
+        self.rt.remove_dir_all(alloc, path)
+    }
+}
