@@ -7,12 +7,13 @@ use Rattle.pm_disk.specs.Images.{NothingPending}
 use Rattle.pm_disk.specs.Worlds.{World}
 use Rattle.pm_frame.specs.Frames.{Frame}
 use Rattle.pm_model.specs.Eval.{Pairs, after_all}
-use Rattle.pm_records.specs.Logs.{place, all_frames, after_frames}
+use Rattle.pm_records.specs.Logs.{place, all_frames}
+use Rattle.pm_records.specs.Logs.{after_frames}
 use Rattle.pm_records.specs.LogFiles.{EndIs}
 use Rattle.pm_records.proofs.FrameGrammar.{frame_laws}
 use Rattle.pm_records.proofs.FileSteps.{plain_after}
-use Rattle.pm_records.proofs.Runs.{after_frames-append}
 use Rattle.pm_records.proofs.HeldLog.{held_log}
+use Rattle.pm_records.proofs.Runs.{after_frames-append}
 use Rattle.pm_engine.specs.Engines.{Running, running, frames_of, IsAtRest}
 use Rattle.pm_engine.specs.Held.{IsHeld, Holds}
 use Rattle.pm_engine.specs.Openings.{OpensWith}
@@ -27,7 +28,7 @@ module _ (wanted : Shape) (engine : Running) (world : World) (s : IsAtRest wante
   stands_hold : Holds wanted world engine.shape engine.pairs
   stands_hold = record {
     frames = frames_of s.written;
-    log = held_log all_frames frame_laws world.log 1 (place 1 0) s.written.at s.written.lasting s.written.pending s.written.tail s.stands.log;
+    log = held_log all_frames (frame_laws) world.log 1 (place 1 0) s.written.at s.written.lasting s.written.pending s.written.tail s.stands.log;
     held = s.held;
   }
 

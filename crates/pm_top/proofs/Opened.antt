@@ -1,8 +1,8 @@
 -- What a crash leaves before a store is opened, and meanwhile.
-use Rattle.std.proofs.Common.{◌≡◌, ◌^◌, inl, ℕ, List, [], Result, refl, subst}
+use Rattle.std.proofs.Common.{◌≡◌, ◌^◌, ◌⊎◌, inl, inr, ℕ, List, [], Result, refl, subst, sym}
 use Rattle.std.specs.Prelude.{codes}
 use Rattle.pm_types.specs.declared.shape.Shape.{Shape}
-use Rattle.pm_disk.specs.Worlds.{World}
+use Rattle.pm_disk.specs.Worlds.{World, with_said}
 use Rattle.pm_disk.specs.Images.{NothingPending}
 use Rattle.pm_disk.specs.Moments.{History, IsHistory, AllMoments, Does}
 use Rattle.pm_disk.proofs.Chain.{started, does, weaker}
@@ -13,8 +13,8 @@ use Rattle.pm_engine.proofs.Opening.{sound_keeps}
 use Rattle.pm_top.specs.declared.shape.TheConstants.{SHAPE}
 use Rattle.pm_top.specs.Crashes.{CrashHoldsAcknowledged}
 use Rattle.pm_top.specs.declared.status.Status.{Status}
-use Rattle.pm_top.specs.declared.status.Status.TheVariants.{Done}
-use Rattle.pm_top.specs.Promises.{IsDamaged, IsLeft, IsStart, OutcomeIs, RunHolds, SaysPart}
+use Rattle.pm_top.specs.declared.status.Status.TheVariants.{Done, Usage, Failed}
+use Rattle.pm_top.specs.Promises.{IsDamaged, IsLeft, IsStart, OutcomeIs, RefusalIs, RunHolds, SaysPart}
 use Rattle.pm_top.specs.Scripts.{PassesLimit}
 use Rattle.pm_top.specs.Served.{script_of}
 use Rattle.pm_top.specs.Runs.{SameConsole}
@@ -56,3 +56,11 @@ run_from old mid new status lines order same run = record {
   damaged = λ is. subst (λ (w : World). IsDamaged w new.world lines order) same (run.damaged is);
   long = λ is. subst (λ (w : World). PassesLimit w.input) same (run.long is);
 }
+
+-- what is left where the words are refused
+pub refusal : (status : Status) (old new : World) (lines : ℕ) (order : List ℕ) → (status ≡ Usage) ⊎ (status ≡ Failed) → (status ≡ Usage → new ≡ with_said (codes "fault usage\n") old) → SaysPart (codes "fault usage\n") old new → lines ≡ 0 → order ≡ []
+    → RefusalIs status old new lines order
+refusal status old new lines order cases said part none no_order = elim cases [
+  | inl is ↦ subst (λ s. RefusalIs s old new lines order) (sym is) (record { now = said is; none = none; order_is = no_order })
+  | inr is ↦ subst (λ s. RefusalIs s old new lines order) (sym is) (record { part = part; none = none; order_is = no_order })
+]
