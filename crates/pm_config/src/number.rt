@@ -1,6 +1,6 @@
 //! The fields that are whole numbers.
 
-ghost use Rattle.std.specs.Prelude.{◌≡◌, ◌≤◌, IfOk};
+ghost use Rattle.std.specs.Prelude.{◌≡◌, ◌≢◌, ◌≤◌, IfOk, IfErr};
 ghost use Rattle.serde_json.specs.View.{view};
 ghost use Rattle.pm_types.specs.PageSizes.{IsPageSize};
 ghost use Rattle.pm_config.specs.Configs.{whole_of, number_of, page_size_of};
@@ -35,6 +35,7 @@ pub(crate) fn number_in(
     ensures value { result ≡ number_of field least most default (values_in (view object.now)) }
     ensures from { IfOk result (λ n. least ≤ n) }
     ensures to { IfOk result (λ n. n ≤ most) }
+    ensures answered { IfErr result (λ fault. fault ≢ ConfigFault.Memory) }
 {
     match whole_in(object, field, default) {
         Some(n) if least <= n && n <= most => Ok(n),
@@ -46,6 +47,7 @@ pub(crate) fn number_in(
 pub(crate) fn page_size_in(object: &Value) -> Result<u32, ConfigFault>
     ensures value { result ≡ page_size_of (values_in (view object.now)) }
     ensures one_of_five { IfOk result IsPageSize }
+    ensures answered { IfErr result (λ fault. fault ≢ ConfigFault.Memory) }
 {
     match whole_in(object, Field::PageSize, PAGE_SIZE_DEFAULT as u64) {
         Some(n) if n <= u32::MAX as u64 && is_page_size(n as u32) => Ok(n as u32),

@@ -1,6 +1,6 @@
 //! The field that says how page frames are replaced.
 
-ghost use Rattle.std.specs.Prelude.{◌≡◌, true};
+ghost use Rattle.std.specs.Prelude.{◌≡◌, ◌≢◌, true, IfErr};
 ghost use Rattle.serde_json.specs.View.{view};
 ghost use Rattle.pm_config.specs.Configs.{accepted, policy_of};
 ghost use Rattle.pm_config.specs.Names.{kind_of};
@@ -27,8 +27,9 @@ fn kind_of_name(name: &str) -> Option<Kind>
 
 /// How page frames are replaced. Refused by the field's name exactly where it isn't one of the three names.
 pub(crate) fn policy_in(object: &Value) -> Result<Kind, ConfigFault>
-    ensures { result ≡ accepted Field.Policy (λ _. true)
+    ensures value { result ≡ accepted Field.Policy (λ _. true)
         (policy_of (values_in (view object.now) Field.Policy)) }
+    ensures answered { IfErr result (λ fault. fault ≢ ConfigFault.Memory) }
 {
     let Some(value) = object.get(field_name(Field::Policy)) else {
         return Ok(POLICY_DEFAULT);

@@ -1,11 +1,13 @@
 //! The reading of a configuration.
 
-ghost use Rattle.std.specs.Prelude.{◌≡◌, ◌≢◌, ◌<◌, ◌≤◌, length, Err, IfOk};
+ghost use Rattle.std.specs.Prelude.{◌≡◌, ◌≢◌, ◌<◌, ◌≤◌, length, Err, IfOk, IfErr};
+ghost use Rattle.serde_json.specs.Find.{as_object};
 ghost use Rattle.serde_json.specs.View.{view};
 ghost use Rattle.pm_types.specs.Shapes.{IsShape};
+ghost use Rattle.pm_config.specs.declared.limits.TheConstants.{CONFIG_BYTES_MAX};
 ghost use Rattle.pm_config.specs.Configs.{config_of, config_by, shape_of, run_of};
 ghost use Rattle.pm_config.specs.Limits.{IsConfig};
-ghost use Rattle.pm_config.specs.Stored.{values_in};
+ghost use Rattle.pm_config.specs.Stored.{config_stored, values_in};
 
 use crate::config::Config;
 use crate::fault::ConfigFault;
@@ -38,19 +40,29 @@ pub fn read_config_text(alloc: Global, bytes: &[u8]) -> Result<Config, ConfigFau
         → (0 < length bytes.now) × (length bytes.now ≤ CONFIG_BYTES_MAX) }
 {
     let value = read_value(alloc, bytes)?;
+    config_of_value(&value)
+}
+
+/// What a text's value says.
+fn config_of_value(value: &Value) -> Result<Config, ConfigFault>
+    ensures value { result ≡ config_stored (as_object (view value.now)) (view value.now) }
+    ensures within_limits { IfOk result IsConfig }
+    ensures answered { IfErr result (λ fault. fault ≢ ConfigFault.Memory) }
+{
     let Some(object) = value.as_object() else {
         return Err(ConfigFault::Bad(Field::Text));
     };
     if !has_known_names(object) {
         return Err(ConfigFault::Bad(Field::Unknown));
     }
-    config_in(&value)
+    config_in(value)
 }
 
 /// What the fields of the object say.
 fn config_in(object: &Value) -> Result<Config, ConfigFault>
     ensures value { result ≡ config_by (values_in (view object.now)) }
     ensures within_limits { IfOk result IsConfig }
+    ensures answered { IfErr result (λ fault. fault ≢ ConfigFault.Memory) }
 {
     let shape = shape_in(object)?;
     run_in(shape, object)
@@ -60,6 +72,7 @@ fn config_in(object: &Value) -> Result<Config, ConfigFault>
 fn shape_in(object: &Value) -> Result<Shape, ConfigFault>
     ensures value { result ≡ shape_of (values_in (view object.now)) }
     ensures within_limits { IfOk result IsShape }
+    ensures answered { IfErr result (λ fault. fault ≢ ConfigFault.Memory) }
 {
     let page_size = page_size_in(object)?;
     let partitions = number_in(
@@ -97,6 +110,7 @@ fn run_in(shape: Shape, object: &Value) -> Result<Config, ConfigFault>
     requires { IsShape shape }
     ensures value { result ≡ run_of shape (values_in (view object.now)) }
     ensures within_limits { IfOk result IsConfig }
+    ensures answered { IfErr result (λ fault. fault ≢ ConfigFault.Memory) }
 {
     let workers = number_in(
         object,

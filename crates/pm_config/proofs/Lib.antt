@@ -1,0 +1,2 @@
+pub mod LastCounts
+pub mod TextValues
