@@ -168,7 +168,7 @@ config_in-stored None d is = ap (λ s. config_stored s d) (sym is)
 config_in-stored (Some ms) d is =
     let found : Members = stored ms no_members in
     let values : (field : Field) → last_of (name_of field) ms ≡ values_in d field = λ field.
-        sym (get-object (name_of field) d ∙ ap (option_and_then (get_member (name_of field))) is ∙ get_member-stored (name_of field) ms no_members ∙ later_none (last_of (name_of field) ms)) in
+    sym (get-object (name_of field) d ∙ ap (option_and_then (get_member (name_of field))) is ∙ get_member-stored (name_of field) ms no_members ∙ later_none (last_of (name_of field) ms)) in
     let names : has_known_names ms ≡ names_are_known found = sym (stored-names ms no_members ∙ and_last (has_known_names ms)) in
     ap (λ (v : Values). cond (has_known_names ms) (config_by v) (Err (Bad Unknown))) (λ i field. values field i)
     ∙ ap (λ b. cond b (config_by (values_in d)) (Err (Bad Unknown))) names

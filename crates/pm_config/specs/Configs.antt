@@ -85,6 +85,19 @@ config_in None = Err (Bad Text)
 config_in (Some members) =
     if has_known_names members then config_by (λ field. last_of (name_of field) members) else Err (Bad Unknown)
 
+-- what a text without fields says
+abbrev pub default_config : Config
+default_config =
+    record {
+      shape = record { page_size = PAGE_SIZE_DEFAULT; partitions = PARTITIONS_DEFAULT; version = LAST_VERSION; max_rows = MAX_ROWS_DEFAULT; segment_bytes = SEGMENT_BYTES_DEFAULT };
+      workers = WORKERS_DEFAULT;
+      frames = FRAMES_DEFAULT;
+      buffer_pages = BUFFER_PAGES_DEFAULT;
+      checkpoint_bytes = CHECKPOINT_BYTES_DEFAULT;
+      dirty_percent = DIRTY_PERCENT_DEFAULT;
+      policy = POLICY_DEFAULT;
+    }
+
 -- what the bytes of a configuration say
 abbrev pub config_of : List ℕ → Result Config ConfigFault
 config_of bytes = config_in (object_of bytes)

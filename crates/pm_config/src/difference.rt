@@ -1,14 +1,15 @@
 //! How the shape of a store differs from the one that is asked for.
 
-ghost use Rattle.std.specs.Prelude.{◌≡◌};
-ghost use Rattle.pm_config.specs.Differences.{first_difference_of};
+ghost use Rattle.std.specs.Prelude.{◌≡◌, ◌↔◌, None};
+ghost use Rattle.pm_config.specs.Differences.{SameNumbers, first_difference_of};
 
 use pm_types::{Field, Shape};
 
 /// The first field, in the order of the configuration's, by which a store's shape differs from the one
 /// that is asked for. `None` exactly where the four fields are equal. Versions are not compared.
 pub fn first_difference(store: &Shape, wanted: &Shape) -> Option<Field>
-    ensures { result ≡ first_difference_of store.now wanted.now }
+    ensures first { result ≡ first_difference_of store.now wanted.now }
+    ensures none { (result ≡ None) ↔ SameNumbers store.now wanted.now }
 {
     if store.page_size != wanted.page_size {
         Some(Field::PageSize)

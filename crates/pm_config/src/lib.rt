@@ -24,3 +24,5 @@ pub use limits::{
 };
 pub use read::read_config_text;
 
+#[cfg(test)]
+mod tests;

@@ -14,7 +14,7 @@ use pm_types::Field;
 use serde_json::Value;
 
 /// The kind of replacement that has this name.
-fn kind_of_name(name: &str) -> Option<Kind>
+pub(crate) fn kind_of_name(name: &str) -> Option<Kind>
     ensures { result ≡ kind_of name.now }
 {
     match name {

@@ -21,7 +21,6 @@ returns-in-Ok-clause-value c =
     let some : 0 < length c.args.bytes.now = grind (arith, common_steps) in
     read_is_the_value c.args.bytes.now (view c.in-Ok.value) c.if-bytes-gt-CONFIG_BYTES_MAX.false some c.in-Ok.ensures.ok.0 c.in-Ok.ensures.ok.1
 
-
 pub returns-in-Err-clause-refused : goal.returns-in-Err-clause-refused
 returns-in-Err-clause-refused c =
     let some : 0 < length c.args.bytes.now = grind (arith, common_steps) in
