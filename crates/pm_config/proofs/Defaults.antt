@@ -1,7 +1,7 @@
 -- A text without fields says the defaults, and so does an empty one.
-use Rattle.std.proofs.Common.{◌≡◌, List, [], Option, Some, Ok, refl, ap, ◌∙◌}
+use Rattle.std.proofs.Common.{◌≡◌, [], Some, Ok, refl, ap, ◌∙◌}
 use Rattle.pm_config.specs.Configs.{config_in, config_of, default_config}
-use Rattle.pm_config.specs.Objects.{Member, object_of}
+use Rattle.pm_config.specs.Objects.{object_of}
 
 no_fields-default : config_in (Some []) ≡ Ok default_config
 no_fields-default = refl

@@ -1,12 +1,10 @@
 -- Of members with one name the last counts: what an object stores is what the text's order of members says.
-use Rattle.std.proofs.Common.{◌≡◌, ℕ, Bool, true, false, ◌&&◌, List, [], ◌∷◌, Option, Some, None, option_map, option_and_then, is_some, cond, bytes_eq, true≢false, Result, Err, String, Global, string_bytes, Ordering, Less, Equal, Greater, nat_cmp, is_eq, refl, sym, ap, ◌∙◌, subst, length}
+use Rattle.std.proofs.Common.{◌≡◌, ℕ, Bool, true, false, ◌&&◌, List, [], ◌∷◌, Option, Some, None, option_map, option_and_then, is_some, cond, bytes_eq, true≢false, Err, String, Global, string_bytes, Ordering, Less, Equal, Greater, nat_cmp, is_eq, refl, sym, ap, ◌∙◌, subst}
 use Rattle.std.proofs.lemmas.Map.Text.{is_eq-slice_cmp}
 use Rattle.std.proofs.lemmas.Slice.Eq.{bytes_eq-Decides}
-use Rattle.std.proofs.lemmas.Bool.{ltb_from_iff}
 use Rattle.std.specs.Cmp.Lexicographic.{slice_cmp}
 use Rattle.std.specs.Ordering.{match_ordering}
 use Rattle.std.specs.List.{list_all}
-use Rattle.std.specs.Str.{is_utf8}
 use Rattle.json.specs.Json as json
 use Rattle.std.specs.Map.{keys_of}
 use Rattle.serde_json.specs.Data.{Num, Data, null, boolean, number, string, array, object, Items, Members, no_members, member, put}
@@ -17,8 +15,6 @@ use Rattle.serde_json.specs.declared.value.Value.{Value}
 use Rattle.serde_json.proofs.Views.{get_member-put, get_member-put_other}
 use Rattle.pm_types.specs.declared.fault.Field.{Field}
 use Rattle.pm_types.specs.declared.fault.Field.TheVariants.{Text, Unknown}
-use Rattle.pm_config.specs.declared.config.Config.{Config}
-use Rattle.pm_config.specs.declared.fault.ConfigFault.{ConfigFault}
 use Rattle.pm_config.specs.declared.fault.ConfigFault.TheVariants.{Bad}
 use Rattle.pm_config.specs.Names.{name_of, field_of}
 use Rattle.pm_config.specs.Objects.{Member, json_of, members_in, members_of, object_of, later, last_of}

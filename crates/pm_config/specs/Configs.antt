@@ -32,24 +32,24 @@ abbrev pub policy_of : Option Data → Option Kind
 policy_of None = Some POLICY_DEFAULT
 policy_of (Some d) = option_and_then kind_of (as_str d)
 
--- what a field says, where a test accepts it; refused by the field's name
-abbrev pub accepted : {A : Type 0} → Field → (A → Bool) → Option A → Result A ConfigFault
-accepted field test None = Err (Bad field)
-accepted field test (Some x) = if test x then Ok x else Err (Bad field)
+-- what a field says, where it passes a test; else it is refused by the field's name
+abbrev pub tested : {A : Type 0} → Field → (A → Bool) → Option A → Result A ConfigFault
+tested field test None = Err (Bad field)
+tested field test (Some x) = if test x then Ok x else Err (Bad field)
 
 abbrev pub is_within : ℕ → ℕ → ℕ → Bool
 is_within least most n = nat_le least n && nat_le n most
 
 -- a field whose value is a whole number from `least` to `most`
 abbrev pub number_of : Field → ℕ → ℕ → ℕ → Values → Result ℕ ConfigFault
-number_of field least most default values = accepted field (is_within least most) (whole_of default (values field))
+number_of field least most default values = tested field (is_within least most) (whole_of default (values field))
 
 abbrev pub page_size_of : Values → Result ℕ ConfigFault
-page_size_of values = accepted PageSize is_page_size (whole_of PAGE_SIZE_DEFAULT (values PageSize))
+page_size_of values = tested PageSize is_page_size (whole_of PAGE_SIZE_DEFAULT (values PageSize))
 
 -- ---- all fields, in the order of their tests
 
--- the next test, where the one before has accepted
+-- the next test, where the one before was passed
 abbrev pub followed_by : {A B : Type 0} → Result A ConfigFault → (A → Result B ConfigFault) → Result B ConfigFault
 followed_by (Ok x) next = next x
 followed_by (Err fault) next = Err fault
@@ -69,7 +69,7 @@ run_of shape values =
     followed_by (number_of BufferPages (BUFFER_PAGES_PER_WORKER * workers) BUFFER_PAGES_MAX BUFFER_PAGES_DEFAULT values) (λ buffer_pages.
     followed_by (number_of CheckpointBytes CHECKPOINT_BYTES_MIN CHECKPOINT_BYTES_MAX CHECKPOINT_BYTES_DEFAULT values) (λ checkpoint_bytes.
     followed_by (number_of DirtyPercent 1 DIRTY_PERCENT_MAX DIRTY_PERCENT_DEFAULT values) (λ dirty_percent.
-    followed_by (accepted Policy (λ _. true) (policy_of (values Policy))) (λ policy.
+    followed_by (tested Policy (λ _. true) (policy_of (values Policy))) (λ policy.
     Ok (record { shape = shape; workers = workers; frames = frames; buffer_pages = buffer_pages; checkpoint_bytes = checkpoint_bytes; dirty_percent = dirty_percent; policy = policy })))))))
 
 abbrev pub config_by : Values → Result Config ConfigFault

@@ -1,5 +1,5 @@
 -- The names of the fields and of the kinds of replacement, as the text has them.
-use Rattle.std.specs.Prelude.{ℕ, List, Bool, Option, Some, None, codes, is_some, if◌then◌else◌}
+use Rattle.std.specs.Prelude.{ℕ, List, Option, Some, None, codes, if◌then◌else◌}
 use Rattle.std.specs.Str.{bytes_eq}
 use Rattle.pm_types.specs.declared.fault.Field.{Field}
 use Rattle.pm_types.specs.declared.fault.Field.TheVariants.{Text, Unknown, PageSize, Partitions, MaxRows, SegmentBytes, Workers, Frames, BufferPages, CheckpointBytes, DirtyPercent, Policy}

@@ -25,7 +25,7 @@ pub fn field_name(field: Field) -> &'static str
     }
 }
 
-/// The field of a configuration that has this name. `None` exactly where there is no such field.
+/// The field of a configuration that has this name. `None` exactly when there is no such field.
 pub fn field_of_name(name: &str) -> Option<Field>
     ensures { result ≡ field_of name.now }
 {

@@ -13,7 +13,7 @@ use pm_types::{Field, is_page_size};
 use serde_json::Value;
 
 /// The whole number that a field of the object says: its default where the object doesn't have the field.
-/// `None` exactly where the value isn't a whole number below 2^64, written without a fraction or an exponent.
+/// `None` exactly when the value isn't a whole number below 2^64, written without a fraction or an exponent.
 fn whole_in(object: &Value, field: Field, default: u64) -> Option<u64>
     ensures { result ≡ whole_of default (values_in (view object.now) field) }
 {
@@ -23,7 +23,7 @@ fn whole_in(object: &Value, field: Field, default: u64) -> Option<u64>
     }
 }
 
-/// The number that a field says. Refused by the field's name exactly where it isn't a whole number from
+/// The number that a field says. Refused by the field's name exactly when it isn't a whole number from
 /// `least` to `most`.
 pub(crate) fn number_in(
     object: &Value,
@@ -43,7 +43,7 @@ pub(crate) fn number_in(
     }
 }
 
-/// The size of a page, in bytes. Refused by the field's name exactly where it isn't one of the five sizes.
+/// The size of a page, in bytes. Refused by the field's name exactly when it isn't one of the five sizes.
 pub(crate) fn page_size_in(object: &Value) -> Result<u32, ConfigFault>
     ensures value { result ≡ page_size_of (values_in (view object.now)) }
     ensures one_of_five { IfOk result IsPageSize }

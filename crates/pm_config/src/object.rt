@@ -16,7 +16,7 @@ use serde_json::{Error, Map, Value};
 use std::alloc::Global;
 
 /// The value that a configuration's text is. An empty text is the object without fields. `Bad(Text)`
-/// exactly where the text is too long or isn't read as JSON, out of memory aside.
+/// exactly when the text is too long or isn't read as JSON, out of memory aside.
 pub(crate) fn read_value(alloc: Global, bytes: &[u8]) -> Result<Value, ConfigFault>
     ensures value { IfOk result (λ v. value_of bytes.now ≡ Some (view v)) }
     ensures refused { IfErr result (λ fault. fault ≢ ConfigFault.Memory → value_of bytes.now ≡ None) }

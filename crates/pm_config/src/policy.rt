@@ -2,7 +2,7 @@
 
 ghost use Rattle.std.specs.Prelude.{◌≡◌, ◌≢◌, true, IfErr};
 ghost use Rattle.serde_json.specs.View.{view};
-ghost use Rattle.pm_config.specs.Configs.{accepted, policy_of};
+ghost use Rattle.pm_config.specs.Configs.{tested, policy_of};
 ghost use Rattle.pm_config.specs.Names.{kind_of};
 ghost use Rattle.pm_config.specs.Stored.{values_in};
 
@@ -25,9 +25,9 @@ pub(crate) fn kind_of_name(name: &str) -> Option<Kind>
     }
 }
 
-/// How page frames are replaced. Refused by the field's name exactly where it isn't one of the three names.
+/// How page frames are replaced. Refused by the field's name exactly when it isn't one of the three names.
 pub(crate) fn policy_in(object: &Value) -> Result<Kind, ConfigFault>
-    ensures value { result ≡ accepted Field.Policy (λ _. true)
+    ensures value { result ≡ tested Field.Policy (λ _. true)
         (policy_of (values_in (view object.now) Field.Policy)) }
     ensures answered { IfErr result (λ fault. fault ≢ ConfigFault.Memory) }
 {

@@ -81,7 +81,7 @@ fn a_text_has_at_most_65536_bytes(rt: HostRuntime) -> Result<(), Fail> {
     Ok(())
 }
 
-/// An object that isn't known, with arrays in it that nest so deep.
+/// An object with a field that is not known, whose value is this many arrays, one in the other.
 fn nested(alloc: Global, depth: usize) -> Result<String, AllocError> {
     let mut text = String::from_str(alloc, "{\"pages\":")?;
     for _ in 0..depth {

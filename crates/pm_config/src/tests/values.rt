@@ -61,7 +61,7 @@ fn refuses(alloc: Global, field: Field, n: u64) -> Result<bool, AllocError> {
 }
 
 #[test]
-fn each_number_is_taken_within_its_limits_and_refused_past_both(
+fn each_number_is_read_within_its_limits_and_refused_past_both(
     rt: HostRuntime,
 ) -> Result<(), Fail> {
     // With two workers, as no text here says how many there are but its own.

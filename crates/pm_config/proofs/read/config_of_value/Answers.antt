@@ -1,5 +1,5 @@
 -- What the names' test found decides between the fields and `unknown`.
-use Rattle.std.proofs.Common.{◌≡◌, true, false, sym, ◌∙◌, ap}
+use Rattle.std.proofs.Common.{◌≡◌, true, false, sym, ◌∙◌}
 use Rattle.serde_json.specs.View.{view}
 use Rattle.pm_config.proofs.LastCounts.{config_stored-tested}
 use Rattle.pm_config.proofs.read.config_of_value.Goals as goal
