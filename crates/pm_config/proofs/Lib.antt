@@ -1,0 +1,3 @@
+pub mod Defaults
+pub mod LastCounts
+pub mod TextValues

@@ -1,0 +1,5 @@
+//! What no clause says: that calls succeed, and cases from outside.
+
+mod refusals;
+mod schema;
+mod values;
