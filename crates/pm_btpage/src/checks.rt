@@ -95,7 +95,8 @@ fn rise(page: &[u8], number: u16) -> bool
     true
 }
 
-fn is_below(a: &[u8], b: &[u8]) -> bool
+/// Whether one key is below another: byte by byte, a proper prefix first.
+pub fn is_below(a: &[u8], b: &[u8]) -> bool
     ensures { IsTrue result ↔ IsBelow a.now b.now }
 {
     a.cmp(&b).is_lt()

@@ -4,6 +4,7 @@ ghost use Rattle.std.specs.Prelude.{◌≡◌, ◌+◌, ◌-◌, ◌<◌, ◌≤
 ghost use Rattle.pm_types.specs.Pages.{SameOutside, IsNoted};
 ghost use Rattle.pm_types.specs.Spans.{IsInSpan, span_of};
 ghost use Rattle.pm_types.specs.Fields.{bytes_at, Writes};
+ghost use Rattle.pm_types.specs.Keys.{HasKeyLength};
 ghost use Rattle.pm_btpage.specs.IndexPages.{index_of, items_of, item_at, place_of, key_in, word_in, with_items, with_item, with_word, capacity_of, GoesBefore, IsItem, IsIndexPage};
 
 use crate::head::{count, set_count};
@@ -24,7 +25,8 @@ pub fn place(i: u16) -> u16
 pub fn key_at(page: &[u8], i: u16) -> &[u8]
     requires page { IsIndexPage page.now }
     requires item { i < length (items_of page.now) }
-    ensures { result.now ≡ key_in (items_of page.now) i }
+    ensures key { result.now ≡ key_in (items_of page.now) i }
+    ensures length { HasKeyLength result.now }
 {
     stored_key(page, i)
 }
@@ -34,7 +36,8 @@ pub fn stored_key(page: &[u8], i: u16) -> &[u8]
     requires within { place_of i + ITEM_LEN ≤ length page.now }
     requires long { length page.now ≤ PAGE_SIZE_MAX }
     requires sound { IsItem page.now i }
-    ensures { result.now ≡ (item_at page.now i).key }
+    ensures key { result.now ≡ (item_at page.now i).key }
+    ensures length { HasKeyLength result.now }
 {
     let from = place(i) as usize + 1;
     let len = page[from - 1] as usize;

@@ -10,7 +10,7 @@ use Rattle.pm_types.proofs.PageSizeBounds.{page_size_bounds}
 use Rattle.pm_types.proofs.Unchanged.{u64_same, zero_u32}
 use Rattle.pm_meta.specs.declared.slots.MetaSlot.{MetaSlot}
 use Rattle.pm_meta.specs.declared.slots.MetaSlot.TheVariants.{Pages}
-use Rattle.pm_meta.proofs.PlacesApart.{place_bounds, apart}
+use Rattle.pm_meta.proofs.PlacesApart.{place_bounds, index_bounds, apart}
 use Rattle.pm_meta.specs.MetaPages.{field_of, place_of, IsSlot, IsStoredMeta, IsStoredReuse}
 
 -- what it then has, with a number of four bytes
@@ -52,7 +52,7 @@ fresh_stored was now id n max_rows page outside pages some few =
         };
       };
       counts = record { some = omega (arith, pages); pages = omega (arith, pages); rows = omega (arith, rows) };
-      below = λ i lt. let none = zero_field was now id (32 + 4 * i) size' w (omega arith) (omega arith) (inl (omega arith)) in omega (arith, none, pages);
+      below = λ slot is. let here = index_bounds slot is in let none = zero_field was now id (place_of slot) size' w here.0 (omega (arith, here.1)) (inl here.1) in omega (arith, none, pages);
     }
 
 pub fresh_zero : (was now : List ℕ) (id : PageId) (slot : MetaSlot) → IsBlank id 1 was → SameOutside (IsInSpan (span_of 164 4)) was now → IsSlot slot → (slot ≡ Pages → ⊥) → field_of now slot ≡ 0

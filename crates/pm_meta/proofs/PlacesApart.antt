@@ -3,7 +3,7 @@ use Rattle.std.proofs.Common.{◌≡◌, ℕ, ◌+◌, ◌*◌, ◌≤◌, ◌�
 use Rattle.std.proofs.lemmas.Bool.{cases_lt, cases_eq}
 use Rattle.pm_meta.specs.declared.slots.MetaSlot.{MetaSlot}
 use Rattle.pm_meta.specs.declared.slots.MetaSlot.TheVariants.{Root, Bucket, Reuse, Pages, Rows}
-use Rattle.pm_meta.specs.MetaPages.{place_of, IsSlot}
+use Rattle.pm_meta.specs.MetaPages.{place_of, IsSlot, IsPageSlot}
 
 pub place_bounds : (slot : MetaSlot) → IsSlot slot → (32 ≤ place_of slot) × (place_of slot + 4 ≤ 172)
 place_bounds (Root x) is = (omega arith, omega (arith, is))
@@ -11,6 +11,22 @@ place_bounds (Bucket x) is = (omega arith, omega (arith, is))
 place_bounds Reuse is = (omega arith, omega arith)
 place_bounds Pages is = (omega arith, omega arith)
 place_bounds Rows is = (omega arith, omega arith)
+
+-- an index stands before the counts
+pub index_bounds : (slot : MetaSlot) → IsPageSlot slot → (32 ≤ place_of slot) × (place_of slot + 4 ≤ 164)
+index_bounds (Root x) is = (omega arith, omega (arith, is))
+index_bounds (Bucket x) is = (omega arith, omega (arith, is))
+index_bounds Reuse is = (omega arith, omega arith)
+index_bounds Pages is = absurd is
+index_bounds Rows is = absurd is
+
+-- a slot of an index is a slot
+pub is_slot : (slot : MetaSlot) → IsPageSlot slot → IsSlot slot
+is_slot (Root x) is = is
+is_slot (Bucket x) is = is
+is_slot Reuse is = tt
+is_slot Pages is = absurd is
+is_slot Rows is = absurd is
 
 -- no byte is of both
 abbrev pub AreApart : ℕ → ℕ → Type 0

@@ -37,6 +37,14 @@ IsSlot Reuse = Unit {0}
 IsSlot Pages = Unit {0}
 IsSlot Rows = Unit {0}
 
+-- the number in this slot is the index of a page
+abbrev pub IsPageSlot : MetaSlot → Type 0
+IsPageSlot (Root cache) = cache < CACHES
+IsPageSlot (Bucket bucket) = bucket < BUCKETS
+IsPageSlot Reuse = Unit {0}
+IsPageSlot Pages = ⊥
+IsPageSlot Rows = ⊥
+
 -- where the number of a slot stands
 abbrev pub place_of : MetaSlot → ℕ
 place_of (Root cache) = FIELDS_AT + 4 * cache
@@ -63,7 +71,16 @@ pub record HasCounts (max_rows : ℕ) (page : List ℕ) : Type 0 where
 
 -- each root and each head of a chain is below this page count
 abbrev pub AllBelow : ℕ → List ℕ → Type 0
-AllBelow pages page = (i : ℕ) → i < INDEXES → u32_at page (FIELDS_AT + 4 * i) < pages
+AllBelow pages page = (slot : MetaSlot) → IsPageSlot slot → field_of page slot < pages
+
+-- the number may stand in this slot of a meta page: an index is below the page count, no index that is there is at a new
+-- page count or above it, and no count is past its limit
+abbrev pub IsInBounds : ℕ → List ℕ → MetaSlot → ℕ → Type 0
+IsInBounds max_rows page (Root cache) index = index < field_of page Pages
+IsInBounds max_rows page (Bucket bucket) index = index < field_of page Pages
+IsInBounds max_rows page Reuse index = index < field_of page Pages
+IsInBounds max_rows page Pages pages = (1 ≤ pages) × (pages ≤ 2 * max_rows + EXTRA_PAGES) × AllBelow pages page
+IsInBounds max_rows page Rows rows = rows ≤ max_rows
 
 -- a meta page
 pub record IsMetaPage (page : List ℕ) : Type 0 where

@@ -7,7 +7,7 @@ use Rattle.pm_types.specs.Fields.{bytes_at}
 use Rattle.pm_types.proofs.Unchanged.{length-bytes_at}
 use Rattle.pm_btpage.specs.IndexPages.{Item, items_of, key_in, key_len_at, place_of, IsIndexPage, IsRising}
 use Rattle.pm_btpage.proofs.ItemsByIndex.{key_in-items_of, item_bounds}
-use Rattle.pm_pages.specs.declared.listing.TreeItem.{TreeItem}
+use Rattle.pm_pages.specs.declared.well_formed.listing.TreeItem.{TreeItem}
 use Rattle.pm_pages.specs.declared.row.Row.{Row}
 use Rattle.pm_pages.specs.TreeItems.{as_item, as_items}
 use Rattle.pm_pages.specs.Trees.{IsItemOf, ListsRows}

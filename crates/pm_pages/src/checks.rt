@@ -10,7 +10,7 @@ ghost use Rattle.pm_pages.specs.PageLists.{pages_in, AreReadable};
 ghost use Rattle.pm_pages.specs.Passes.{Passes, PassesAsMeta};
 ghost use Rattle.pm_pages.specs.WellFormed.{AllPass};
 
-use crate::listed::page_count;
+use crate::well_formed::listed::page_count;
 use pm_types::{Page, PageId, Shape};
 
 /// Whether these bytes are a page of this name, of a store of this shape: a meta page, a leaf or an inner page with
