@@ -8,6 +8,7 @@ use Rattle.std.proofs.lemmas.List.Elements.{All-append}
 use Rattle.std.proofs.lemmas.List.Concat.{flat_map-append}
 use Rattle.pm_btpage.specs.declared.layout.TheConstants.{LEAF_KIND, INNER_KIND}
 use Rattle.pm_btpage.specs.IndexPages.{Item, items_of, index_of, capacity_of, IsIndexPage}
+use Rattle.pm_pages.proofs.RowsFrom.{range_more}
 use Rattle.pm_pages.specs.Rows.{Partition, page_at, kind_of}
 use Rattle.pm_pages.specs.PageLists.{MayRead}
 use Rattle.pm_pages.specs.Trees.{children_of, child_of, levels_from, leaves_below, nodes_below, items_in, items_below, IsNode, IsWithin, IsTree, IsSomeTree, index_in}
@@ -139,16 +140,12 @@ all_leaves pages zero least at tree = one at tree.kind_is
 all_leaves pages (suc levels) least at tree =
     all_flat (λ i. kind_of (page_at pages i) ≡ LEAF_KIND) (leaves_below pages levels) (children_of (page_at pages at)) (λ k d lt. all_leaves pages levels (capacity_of (length (page_at pages at)) / 2) (get_or (children_of (page_at pages at)) k d) (tree.1 k d lt))
 
--- the numbers from one on are it and those behind it
-range_next : (i n : ℕ) → i < n → range_with_len i (n - i) ≡ i ∷ range_with_len (i + 1) (n - (i + 1))
-range_next i n lt = (let e : n - i ≡ suc (n - (i + 1)) = omega arith in ap (range_with_len i) e)
-
 -- one number's list more
 pub one_list_more : (f : ℕ → List ℕ) (out out' all : List ℕ) (i n : ℕ) → i < n → out ++ flat_map f (range_with_len i (n - i)) ≡ all → out' ≡ out ++ f i → out' ++ flat_map f (range_with_len (i + 1) (n - (i + 1))) ≡ all
 one_list_more f out out' all i n lt before more =
     ap (λ (t : List ℕ). t ++ flat_map f (range_with_len (i + 1) (n - (i + 1)))) more
     ∙ append_assoc out (f i) (flat_map f (range_with_len (i + 1) (n - (i + 1))))
-    ∙ ap (λ (is : List ℕ). out ++ flat_map f is) (sym (range_next i n lt))
+    ∙ ap (λ (is : List ℕ). out ++ flat_map f is) (sym (range_more i n lt))
     ∙ before
 
 -- no number is left

@@ -1,10 +1,11 @@
 pub mod AskedPages
-pub mod Exactly
 pub mod BelowTrees
 pub mod DeltaLaw
+pub mod Exactly
 pub mod PageReads
 pub mod PlainSteps
 pub mod RowsFrom
 pub mod TreeLists
 pub mod Walks
+pub mod WholePages
 pub mod WrittenRanges

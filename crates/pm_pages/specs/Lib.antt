@@ -6,6 +6,7 @@ pub mod PageLists
 pub mod Paged
 pub mod Passes
 pub mod Plain
+pub mod PlainLaws
 pub mod PlainRooms
 pub mod Rows
 pub mod TreeItems

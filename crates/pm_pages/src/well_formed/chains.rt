@@ -10,7 +10,7 @@ ghost use Rattle.pm_pages.specs.Chains.{next_of, before_of, reuse_next_of, bucke
 use crate::well_formed::exact::is_exactly;
 use crate::well_formed::listed::{is_of, number, page, page_count};
 use pm_data::DATA_KIND;
-use pm_meta::{MetaSlot, REUSE_KIND};
+use pm_meta::{BUCKETS, MetaSlot, REUSE_KIND};
 use pm_types::Page;
 use std::alloc::{AllocError, Global};
 
@@ -113,7 +113,8 @@ fn is_in_bucket(page: &[u8], bucket: u8) -> bool
     requires { IsReadable page.now }
     ensures { result ≡ is_in_bucket bucket page.now }
 {
-    is_of(page, DATA_KIND) && pm_data::room(page) as usize * 16 / page.len() == bucket as usize
+    is_of(page, DATA_KIND)
+        && pm_data::room(page) as usize * BUCKETS as usize / page.len() == bucket as usize
 }
 
 // Whether each page of a chain names the one before it, the first one 0.

@@ -9,11 +9,12 @@ ghost use Rattle.pm_pages.specs.Chains.{HasChain};
 ghost use Rattle.pm_pages.specs.WellFormed.{IsWellFormed};
 
 use crate::well_formed::chains::{has_chain, has_reuse_chain, reuse_chain};
-use crate::checks::all_pass;
+use crate::well_formed::passing::all_pass;
 use crate::well_formed::forest::has_forest;
 use crate::well_formed::keys::has_keys_once;
 use crate::well_formed::placed::each_once;
 use crate::well_formed::rows::rows_of;
+use pm_meta::BUCKETS;
 use pm_types::{Page, Shape};
 use std::alloc::{AllocError, Global};
 
@@ -56,7 +57,7 @@ fn has_chains(alloc: Global, pages: &[Page]) -> Result<bool, AllocError>
     ensures { IfOk result (λ has. IsTrue has ↔ ((bucket : ℕ) → bucket < BUCKETS
         → HasChain (pages_in pages.now) bucket)) }
 {
-    'buckets: for bucket in 0..16 {
+    'buckets: for bucket in 0..BUCKETS {
         if !has_chain(alloc, pages, bucket)? {
             return Ok(false);
         }

@@ -11,7 +11,7 @@ ghost use Rattle.pm_pages.specs.Trees.{items_in, IsItemOf, ListsRows, AreLinked}
 
 use crate::well_formed::listed::page;
 use crate::row::Row;
-use pm_btpage::{count, key_at, next, word_at};
+use pm_btpage::{count, is_below, key_at, next, word_at};
 use pm_types::{Key, Page};
 use std::alloc::{AllocError, Global};
 
@@ -62,17 +62,18 @@ fn rise(items: &[TreeItem]) -> bool
     ensures { IsTrue result ↔ IsRising (as_items items.now) }
 {
     'pairs: for i in 1..items.len() {
-        if !is_below(&items[i - 1], &items[i]) {
+        if !precedes(&items[i - 1], &items[i]) {
             return false;
         }
     }
     true
 }
 
-fn is_below(a: &TreeItem, b: &TreeItem) -> bool
+// Whether the key of one item is below that of another.
+fn precedes(a: &TreeItem, b: &TreeItem) -> bool
     ensures { IsTrue result ↔ IsBelow a.now.key b.now.key }
 {
-    a.key.bytes().cmp(&b.key.bytes()).is_lt()
+    is_below(a.key.bytes(), b.key.bytes())
 }
 
 // Whether each row of a cache has its item.
@@ -138,7 +139,7 @@ pub fn are_linked(pages: &[Page], leaves: &[u32]) -> bool
     true
 }
 
-// The leaf behind one in the list, 0 behind the last.
+// The leaf after one in the list, 0 after the last.
 fn following(leaves: &[u32], i: usize) -> u32
     requires { i < length leaves.now }
     ensures { result ≡ slice_index leaves.now (i + 1) }

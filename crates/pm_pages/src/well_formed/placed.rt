@@ -15,7 +15,7 @@ use crate::limits::LEVELS_MAX;
 use crate::well_formed::listed::{is_of, number, page, page_count};
 use crate::well_formed::trees::{child, children};
 use pm_btpage::INNER_KIND;
-use pm_meta::MetaSlot;
+use pm_meta::{BUCKETS, MetaSlot};
 use pm_types::{CACHES, Page};
 use std::alloc::{AllocError, Global};
 
@@ -126,7 +126,7 @@ fn add_chains(alloc: Global, pages: &[Page], placed: &mut Vec<u32>) -> Result<()
         ++ (flat_map (bucket_chain (pages_in pages.now)) (range_with_len 0 BUCKETS)
         ++ reuse_chain (pages_in pages.now))) }
 {
-    'buckets: for bucket in 0..16 {
+    'buckets: for bucket in 0..BUCKETS {
         let chain = bucket_chain(alloc, pages, bucket)?;
         placed.extend_from_slice(&chain)?;
     }

@@ -10,8 +10,7 @@ ghost use Rattle.pm_pages.specs.Rows.{page_at, page_count, row_of, rows_on, rows
 
 use crate::well_formed::listed::{is_of, page, page_count};
 use crate::row::Row;
-use pm_data::{DATA_KIND, SLOTS_MAX};
-use pm_types::fields::get_u16;
+use pm_data::{DATA_KIND, SLOTS_MAX, cache_in, key_in, value_in};
 use pm_types::{Key, Link, Page, PageId, Value};
 use std::alloc::{AllocError, Global};
 
@@ -48,12 +47,10 @@ fn read_row(alloc: Global, link: Link, row: &[u8]) -> Result<Row, AllocError>
     requires { IsRow row.now }
     ensures { IfOk result (λ read. read ≡ row_of link row.now) }
 {
-    let key_end = 4 + row[1] as usize;
-    let value_end = key_end + get_u16(row, 2) as usize;
     Ok(Row {
-        cache: row[0],
-        key: Key::of(alloc, &row[4..key_end])?,
-        value: Value::of(alloc, &row[key_end..value_end])?,
+        cache: cache_in(row),
+        key: Key::of(alloc, key_in(row))?,
+        value: Value::of(alloc, value_in(row))?,
         link,
     })
 }

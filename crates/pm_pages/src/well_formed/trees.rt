@@ -2,12 +2,12 @@
 
 ghost use Rattle.std.specs.Prelude.{◌≡◌, ℕ, ◌+◌, ◌-◌, ◌<◌, ◌≤◌, ◌⊎◌, ◌↔◌, false, List, IsTrue, All, length};
 ghost use Rattle.pm_btpage.specs.declared.layout.TheConstants.{LEAF_KIND, INNER_KIND};
-ghost use Rattle.pm_btpage.specs.IndexPages.{items_of, index_of, key_in, IsBelow, IsIndexPage};
+ghost use Rattle.pm_btpage.specs.IndexPages.{items_of, index_of, IsIndexPage};
 ghost use Rattle.pm_pages.specs.PageLists.{pages_in, MayRead, AreReadable};
 ghost use Rattle.pm_pages.specs.Trees.{child_of, items_below, IsNode, IsKeyWithin, IsWithin, IsTree, IsSomeTree};
 
 use crate::well_formed::listed::{is_of, page};
-use pm_btpage::{INNER_KIND, LEAF_KIND, capacity, count, first, key_at, word_at};
+use pm_btpage::{INNER_KIND, LEAF_KIND, capacity, count, first, is_below, key_at, word_at};
 use pm_types::{Page, PageId};
 
 /// Whether a page is the root of a tree with so many levels of inner pages, and has so many items at least.
@@ -78,12 +78,6 @@ fn is_key_within(inner: &[u8], i: u16, key: &[u8]) -> bool
 {
     (i == 0 || !is_below(key, key_at(inner, i - 1)))
         && (i >= count(inner) || is_below(key, key_at(inner, i)))
-}
-
-fn is_below(a: &[u8], b: &[u8]) -> bool
-    ensures { IsTrue result ↔ IsBelow a.now b.now }
-{
-    a.cmp(&b).is_lt()
 }
 
 // Whether a page is of this kind of a tree's pages and has so many items at least.

@@ -3,12 +3,12 @@ use Rattle.pm_types.specs.Keys.{HasKeyLength}
 use Rattle.pm_btpage.specs.IndexPages.{Item, items_of, key_in, word_in}
 use Rattle.pm_pages.specs.declared.well_formed.listing.TreeItem.{TreeItem}
 use Rattle.pm_pages.specs.TreeItems.{as_item, as_items}
-use Rattle.pm_pages.proofs.TreeLists.{key_has_length, one_item_more}
+use Rattle.pm_pages.proofs.TreeLists.{one_item_more}
 use Rattle.pm_pages.proofs.well_formed.listing.add_items.Goals as goal
 
 pub of-requires : goal.of-requires
 of-requires c =
-    subst HasKeyLength (sym c.key_at.ensures.key) (key_has_length c.args.leaf.now c.items.i c.requires (omega (arith, c.items-test.true, c.count-i-end.ensures)))
+    c.key_at.ensures.length
 
 pub items-preserved : goal.items-preserved
 items-preserved c =

@@ -9,13 +9,13 @@ use Rattle.pm_pages.proofs.TreeLists.{key_in-as_items}
 use Rattle.pm_pages.proofs.well_formed.listing.rise.Goals as goal
 
 -- the keys of two items that were read
-pub returns-then-not-is_below : goal.returns-then-not-is_below
-returns-then-not-is_below c =
+pub returns-then-not-precedes : goal.returns-then-not-precedes
+returns-then-not-precedes c =
     let items = c.args.items.now in
     let i = c.pairs.i in
     let before = key_in-as_items items (i - 1) c.index-items-i.result (omega (arith, c.pairs-test.true)) ∙ ap (λ (t : TreeItem). t.key) (sym c.index-items-i.is) in
     let here = key_in-as_items items i c.index-items-i-in-pairs.result c.pairs-test.true ∙ ap (λ (t : TreeItem). t.key) (sym c.index-items-i-in-pairs.is) in
-    (λ h. absurd (cc h), λ rising. sym c.if-not-is_below.true ∙ c.is_below.ensures.1 (subst (λ (p : List ℕ × List ℕ). IsBelow p.0 p.1) (λ t. (before t, here t)) (rising (i - 1) i (omega (arith, c.pairs.auto)) (omega (arith, c.pairs-test.true, length-map items as_item)))))
+    (λ h. absurd (cc h), λ rising. sym c.if-not-precedes.true ∙ c.precedes.ensures.1 (subst (λ (p : List ℕ × List ℕ). IsBelow p.0 p.1) (λ t. (before t, here t)) (rising (i - 1) i (omega (arith, c.pairs.auto)) (omega (arith, c.pairs-test.true, length-map items as_item)))))
 
 pub pairs-preserved : goal.pairs-preserved
 pairs-preserved c k lt =
@@ -25,7 +25,7 @@ pairs-preserved c k lt =
     let here = key_in-as_items items i c.index-items-i-in-pairs.result c.pairs-test.true ∙ ap (λ (t : TreeItem). t.key) (sym c.index-items-i-in-pairs.is) in
     elim (cases_eq (k + 1) i) [
       | inl same ↦
-          let below : IsBelow (key_in (as_items items) (i - 1)) (key_in (as_items items) i) = subst (λ (p : List ℕ × List ℕ). IsBelow p.0 p.1) (λ t. (sym before t, sym here t)) (c.is_below.ensures.0 c.if-not-is_below.false) in
+          let below : IsBelow (key_in (as_items items) (i - 1)) (key_in (as_items items) i) = subst (λ (p : List ℕ × List ℕ). IsBelow p.0 p.1) (λ t. (sym before t, sym here t)) (c.precedes.ensures.0 c.if-not-precedes.false) in
           let k_is : i - 1 ≡ k = omega (arith, same) in
           subst (λ (p : ℕ × ℕ). IsBelow (key_in (as_items items) p.0) (key_in (as_items items) p.1)) (λ t. (k_is t, sym same t)) below
       | inr away ↦ c.pairs.invariant k (omega (arith, away))
