@@ -2,6 +2,7 @@ pub mod Asked
 pub mod Chains
 pub mod Deltas
 pub mod FileForms
+pub mod Growth
 pub mod PageLists
 pub mod Paged
 pub mod Passes

@@ -4,6 +4,7 @@
 pub mod asked;
 mod checks;
 mod deltas;
+mod growth;
 mod limits;
 mod pages;
 mod plain;
@@ -16,6 +17,7 @@ mod well_formed;
 
 pub use checks::{check, check_at, check_meta};
 pub use deltas::{apply, ranges_len, write_ranges};
+pub use growth::growth_changes_nothing;
 pub use limits::LEVELS_MAX;
 pub use pages::Pages;
 pub use plain::PlainPages;
