@@ -107,3 +107,10 @@ kept_written p i bytes ready lent long = record {
   part = refl;
   ready = λ is. ready_found p.shape.page_size p.pages i (slice_get p.pages.items i) bytes p.rooms.items p.asked.items (vec_capacity p.asked) refl (is.ordered.there i (lent_asked (entry_of p.asked.items i) lent)) long is;
 }
+
+-- a page below the number of pages is there
+pub is_there : (pages : List Page) (i : ℕ) → i < length pages → IsSome (pages_in pages i)
+is_there pages i lt = elim (slice_get_cases pages i).1 [
+  | inl found ↦ subst (λ o. IsSome (option_map (λ (p : Page). p.bytes.items) o)) (sym found.2) refl
+  | inr past ↦ absurd (omega (arith, past.0, lt))
+]
