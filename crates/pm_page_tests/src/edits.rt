@@ -68,7 +68,13 @@ pub fn set_byte<P: Pages>(pages: &mut P, index: u32, at: u16, byte: u8) -> Resul
 }
 
 /// Sets a byte of two pages.
-pub fn set_byte_twice<P: Pages>(pages: &mut P, first: u32, second: u32, at: u16, byte: u8) -> Result<(), PageFault>
+pub fn set_byte_twice<P: Pages>(
+    pages: &mut P,
+    first: u32,
+    second: u32,
+    at: u16,
+    byte: u8,
+) -> Result<(), PageFault>
     requires ready { P.ready pages.old }
     requires room { 2 ≤ (P.seen pages.old).spare }
     requires two { first ≢ second }

@@ -4,8 +4,8 @@ ghost use Rattle.std.specs.Prelude.{◌≡◌, ◌≢◌, ℕ, ◌+◌, ◌<◌,
 ghost use Rattle.pm_types.specs.Spans.{Coverage};
 ghost use Rattle.pm_pages.specs.Paged.{IsTold, IsThere, HasRoomFor, AllReadable, IsLent, HasPageCause};
 
-use pm_pages::Pages;
 use pm_meta::{MetaSlot, set};
+use pm_pages::Pages;
 use pm_types::{PageFault, Patch};
 
 /// Sets the row count. What is known stays readable.

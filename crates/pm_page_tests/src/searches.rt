@@ -7,14 +7,18 @@ ghost use Rattle.pm_pages.specs.PageLists.{IsReadable};
 ghost use Rattle.pm_meta.specs.MetaPages.{IsMetaPage};
 ghost use Rattle.pm_pages.specs.Paged.{AllReadable, HasRoomFor};
 
-use pm_pages::Pages;
 use pm_btpage::{Found, LEAF_KIND, find};
 use pm_meta::{MetaSlot, get};
-use pm_types::head::KIND_AT;
+use pm_pages::Pages;
 use pm_types::PageFault;
+use pm_types::head::KIND_AT;
 
 /// Looks for a key where a cache's tree is a leaf.
-pub fn find_in_leaf<P: Pages>(pages: &mut P, cache: u8, key: &[u8]) -> Result<Option<Found>, PageFault>
+pub fn find_in_leaf<P: Pages>(
+    pages: &mut P,
+    cache: u8,
+    key: &[u8],
+) -> Result<Option<Found>, PageFault>
     requires ready { P.ready pages.old }
     requires room { 2 ≤ (P.seen pages.old).spare }
     requires cache { cache < CACHES }

@@ -1,8 +1,9 @@
 //! Pages that a table names, over a disk that can't be read.
 
-ghost use Rattle.std.specs.Prelude.{◌≡◌, ◌≤◌, ℕ, IfOk, IsErr, OnErr, OnOk};
+ghost use Rattle.std.specs.Prelude.{◌≡◌, ◌≤◌, ℕ};
 ghost use Rattle.pm_types.specs.Counts.{HasRisen};
-ghost use Rattle.pm_pages.specs.Plain.{plain_seen, plain_count, ArePlainReady};
+ghost use Rattle.pm_pages.specs.Paged.{IsTold, IsThere};
+ghost use Rattle.pm_pages.specs.Plain.{plain_seen, ArePlainReady};
 ghost use Rattle.pm_page_tests.specs.Table.{table_seen, IsTableReady};
 
 use pm_pages::{Pages, PlainPages};
@@ -10,6 +11,7 @@ use pm_types::{PageFault, Patch};
 
 /// Pages that are held in memory under their names, without being asked for, and no others: every read of another
 /// page fails. Nothing is known of the content of a page that isn't held.
+#[derive(Drop)]
 pub struct TablePages {
     plain: PlainPages,
     faults: u64,
@@ -23,6 +25,8 @@ impl TablePages {
         ensures pages { (i : ℕ) → (table_seen result).pages i ≡ (plain_seen plain).pages i }
         ensures asked { (i : ℕ) → (table_seen result).asked i ≡ (plain_seen plain).asked i }
         ensures spare { (table_seen result).spare ≡ (plain_seen plain).spare }
+        ensures page_size { (table_seen result).page_size ≡ (plain_seen plain).page_size }
+        ensures held { (i : ℕ) → IsTold ⊥ (table_seen result) i → IsThere (table_seen result) i }
     {
         TablePages { plain, faults: 0 }
     }
