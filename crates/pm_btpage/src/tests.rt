@@ -198,3 +198,27 @@ fn a_page_that_was_divided_is_joined_again(rt: HostRuntime) {
         assert_eq!(rt; check(&right, PageId::new(0, 2)), at < 13);
     }
 }
+
+#[test]
+fn an_insertion_notes_the_items_from_its_own_on(rt: HostRuntime) {
+    let mut page = [0; 4096];
+    let mut before = Patch::none(4096);
+    let mut patch = Patch::none(4096);
+    fresh_leaf(&mut page, PageId::new(2, 5));
+    insert_at(&mut page, 0, b"b", 0x0001_0002_0000_0006, &mut before);
+    insert_at(&mut page, 0, b"a", 0x0001_0002_0000_0007, &mut patch);
+    assert!(rt; !patch.is_whole() && patch.len() == 2);
+    assert_eq!(rt; (patch.range(0), patch.range(1)), ((10, 2), (32, 146)));
+}
+
+#[test]
+fn a_word_that_is_set_notes_its_eight_bytes(rt: HostRuntime) {
+    let mut page = [0; 4096];
+    let mut before = Patch::none(4096);
+    let mut patch = Patch::none(4096);
+    fresh_leaf(&mut page, PageId::new(2, 5));
+    insert_at(&mut page, 0, b"b", 0x0001_0002_0000_0006, &mut before);
+    set_word(&mut page, 0, 0x0101_0002_0000_0006, &mut patch);
+    assert!(rt; !patch.is_whole() && patch.len() == 1);
+    assert_eq!(rt; patch.range(0), (97, 8));
+}
