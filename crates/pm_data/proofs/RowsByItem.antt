@@ -10,7 +10,7 @@ use Rattle.pm_data.specs.declared.slots.Slot.{Slot}
 use Rattle.pm_data.specs.Rows.{IsRow}
 use Rattle.pm_types.specs.Fields.{bytes_at}
 use Rattle.pm_types.proofs.Unchanged.{length-bytes_at}
-use Rattle.pm_data.specs.DataPages.{count_of, low_of, slot_at, is_empty, row_in, rows_of, row_at, row_len, free_item, room_of, room_beside, Fits, HoldsRow, IsSound, AreApart, HasRows, row_bytes}
+use Rattle.pm_data.specs.DataPages.{count_of, low_of, slot_at, is_empty, row_in, rows_of, row_at, row_len, free_item, room_of, room_beside, HasRoomFor, HoldsRow, IsSound, AreApart, HasRows, row_bytes}
 
 pub length-rows_of : (page : List ℕ) → length (rows_of page) ≡ count_of page
 length-rows_of page = length-map-range_with_len (λ item. row_in page (slot_at page item)) 0 (count_of page)
@@ -101,7 +101,7 @@ pub live_by_len : (slot : Slot) → 1 ≤ slot.len → is_empty slot ≡ false
 live_by_len slot some = and_right (slot.start == 0) (slot.len == 0) (ne_eqb slot.len 0 (λ e. omega (arith, e)))
 
 -- where a row fits, there is an item for it, and room for its slot
-pub fits_means : (page : List ℕ) (len : ℕ) → Fits page len → (free_item (rows_of page) < 254) × (32 + 4 * count_of page + 4 + len ≤ low_of page)
+pub fits_means : (page : List ℕ) (len : ℕ) → HasRoomFor page len → (free_item (rows_of page) < 254) × (32 + 4 * count_of page + 4 + len ≤ low_of page)
 fits_means page len fits =
     let room : ℕ = low_of page - 32 - 4 * count_of page in
     let free = free_item (rows_of page) in

@@ -119,8 +119,8 @@ room_beside size rows =
     if nat_lt (free_item rows) SLOTS_MAX then size - sum_by row_len rows - SLOTS_AT - SLOT_LEN * length rows else 0
 
 -- the room takes a row of this length
-abbrev pub Fits : List ℕ → ℕ → Type 0
-Fits page len = len + SLOT_LEN ≤ room_of page
+abbrev pub HasRoomFor : List ℕ → ℕ → Type 0
+HasRoomFor page len = len + SLOT_LEN ≤ room_of page
 
 -- the kind and the bytes that are zero
 pub record HasHead (page : List ℕ) : Type 0 where

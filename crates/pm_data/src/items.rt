@@ -2,7 +2,7 @@
 
 ghost use Rattle.std.specs.Prelude.{◌≡◌, ℕ, ◌+◌, ◌≤◌, ◌↔◌, Some, None, IsTrue, MatchOption, IfSome, nat_lt, length};
 ghost use Rattle.pm_data.specs.Rows.{IsRow};
-ghost use Rattle.pm_data.specs.DataPages.{rows_of, row_at, free_item, room_of, room_beside, Fits, IsDataPage};
+ghost use Rattle.pm_data.specs.DataPages.{rows_of, row_at, free_item, room_of, room_beside, HasRoomFor, IsDataPage};
 
 use crate::layout::{COUNT_AT, LOW_AT, SLOT_LEN, SLOTS_AT, SLOTS_MAX};
 use crate::slots::get_slot;
@@ -64,7 +64,7 @@ pub fn room(page: &[u8]) -> u16
 /// Whether a row of this length fits, in bytes.
 pub fn fits(page: &[u8], len: usize) -> bool
     requires { IsDataPage page.now }
-    ensures { IsTrue result ↔ Fits page.now len }
+    ensures { IsTrue result ↔ HasRoomFor page.now len }
 {
     let room = room(page) as usize;
     room >= SLOT_LEN as usize && len <= room - SLOT_LEN as usize

@@ -6,7 +6,7 @@ use Rattle.pm_meta.specs.declared.slots.MetaSlot.{MetaSlot}
 use Rattle.pm_meta.specs.declared.slots.MetaSlot.TheVariants.{Root, Bucket, Reuse, Pages, Rows}
 use Rattle.pm_meta.specs.MetaPages.{field_of, IsSlot, IsPageSlot, AllBelow, IsInBounds, HasCounts, IsStoredMeta}
 use Rattle.pm_meta.proofs.OneField.{KeepsAllElse}
-use Rattle.pm_meta.proofs.PlacesApart.{is_slot}
+use Rattle.pm_meta.proofs.OffsetsApart.{is_slot}
 
 -- a slot of an index is this one or another
 same_or_not : (a b : MetaSlot) → IsPageSlot a → (a ≡ b) ⊎ (a ≢ b)

@@ -46,22 +46,22 @@ IsPageSlot Pages = ⊥
 IsPageSlot Rows = ⊥
 
 -- where the number of a slot stands
-abbrev pub place_of : MetaSlot → ℕ
-place_of (Root cache) = FIELDS_AT + 4 * cache
-place_of (Bucket bucket) = HEADS_AT + 4 * bucket
-place_of Reuse = REUSE_AT
-place_of Pages = PAGES_AT
-place_of Rows = ROWS_AT
+abbrev pub offset_of : MetaSlot → ℕ
+offset_of (Root cache) = FIELDS_AT + 4 * cache
+offset_of (Bucket bucket) = HEADS_AT + 4 * bucket
+offset_of Reuse = REUSE_AT
+offset_of Pages = PAGES_AT
+offset_of Rows = ROWS_AT
 
 -- the number in a slot
 abbrev pub field_of : List ℕ → MetaSlot → ℕ
-field_of page slot = u32_at page (place_of slot)
+field_of page slot = u32_at page (offset_of slot)
 
 -- the kind, and the bytes that are zero
 pub record HasForm (page : List ℕ) : Type 0 where
   pub kind : slice_index page KIND_AT ≡ META_KIND
   pub before : AreZero page 9 FIELDS_AT
-  pub behind : AreZero page FIELDS_END (length page)
+  pub after : AreZero page FIELDS_END (length page)
 
 -- the page count and the row count are within their limits
 pub record HasCounts (max_rows : ℕ) (page : List ℕ) : Type 0 where
@@ -103,7 +103,7 @@ pub record IsReusePage (page : List ℕ) : Type 0 where
   pub size : IsPageSize (length page)
   pub kind : slice_index page KIND_AT ≡ REUSE_KIND
   pub before : AreZero page 9 NEXT_AT
-  pub behind : AreZero page REUSE_END (length page)
+  pub after : AreZero page REUSE_END (length page)
 
 -- a reuse page as it may stand in its file: under its own name
 pub record IsStoredReuse (id : PageId) (page : List ℕ) : Type 0 where

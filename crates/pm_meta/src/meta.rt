@@ -10,7 +10,7 @@ ghost use Rattle.pm_meta.specs.declared.slots.MetaSlot.TheVariants.{Pages};
 ghost use Rattle.pm_meta.specs.MetaPages.{field_of, IsSlot, IsInBounds, IsMetaPage, IsStoredMeta};
 
 use crate::layout::{META_KIND, PAGES_AT};
-use crate::slots::{MetaSlot, place};
+use crate::slots::{MetaSlot, offset};
 use pm_types::fields::{get_u32, put_u32, set_u32};
 use pm_types::head::put_head;
 use pm_types::{PageId, Patch};
@@ -34,7 +34,7 @@ pub fn get(page: &[u8], slot: MetaSlot) -> u32
     requires slot { IsSlot slot }
     ensures { result ≡ field_of page.now slot }
 {
-    get_u32(page, place(slot))
+    get_u32(page, offset(slot))
 }
 
 /// Sets the number in a slot. Where the page may stand in its file, and the number is in bounds, it still may.
@@ -51,5 +51,5 @@ pub fn set(page: &mut [u8], slot: MetaSlot, value: u32, patch: &mut Patch)
     ensures id { u64_at page.new 0 ≡ u64_at page.old 0 }
     ensures noted { IsNoted patch.old patch.new page.old page.new }
 {
-    set_u32(page, place(slot), value, patch);
+    set_u32(page, offset(slot), value, patch);
 }

@@ -1,6 +1,5 @@
 ghost use Rattle.std.specs.Prelude.{◌≡◌, ℕ, IfOk};
 ghost use Rattle.pm_pages.specs.Paged.{IsTold, IsThere};
-ghost use Rattle.pm_pages.specs.Plain.{plain_seen, plain_count, ArePlain};
 ghost use Rattle.pm_page_tests.specs.Table.{table_seen, IsTableReady};
 
 use crate::*;
@@ -51,6 +50,13 @@ fn a_first_page_that_is_not_there_is_not_bad(rt: HostRuntime) -> Result<(), Fail
     assert!(rt;
         matches!(pages.view(1), Err(PageFault::BadPage(page)) if page == PageId::new(2, 1))
     );
+    Ok(())
+}
+
+#[test]
+fn a_page_after_a_gap_is_not_made(rt: HostRuntime) -> Result<(), Fail> {
+    let mut pages = PlainPages::new(rt.alloc(), &SHAPE, 2)?;
+    pages.ready(rt.alloc())?;
     assert!(rt;
         matches!(pages.fresh(1), Err(PageFault::BadPage(page)) if page == PageId::new(2, 0))
     );
@@ -104,6 +110,7 @@ fn keys() -> [[u8; 2]; 84] {
 
 // The head of a page: its name, its kind and its count.
 fn lay_head(rt: &impl Abort, pages: &mut Pages21, page: usize, kind: u8, count: u8) {
+    assert!(rt; page < 21);
     lay(
         rt,
         pages,

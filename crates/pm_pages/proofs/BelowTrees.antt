@@ -27,14 +27,14 @@ all_below P pages levels (child ∷ children) =
     let own : List Item = items_below pages levels child in
     let rest : List ℕ = flat_map (leaves_below pages levels) children in
     let both : items_in pages (leaves_below pages levels child ++ rest) ≡ own ++ items_in pages rest = flat_map-append (λ i. items_of (page_at pages i)) (leaves_below pages levels child) rest in
-    let behind = all_below P pages levels children in (
-      λ all k lt. each_child (all_parts P own (items_in pages rest) (subst (All P) both all)) behind.0 k lt,
-      λ each. subst (All P) (sym both) (All-append P own (items_in pages rest) (each 0 (omega arith)) (behind.1 (λ k lt. each (suc k) (omega (arith, lt))))),
+    let after = all_below P pages levels children in (
+      λ all k lt. each_child (all_parts P own (items_in pages rest) (subst (All P) both all)) after.0 k lt,
+      λ each. subst (All P) (sym both) (All-append P own (items_in pages rest) (each 0 (omega arith)) (after.1 (λ k lt. each (suc k) (omega (arith, lt))))),
     )
   where
     each_child : All P (items_below pages levels child) × All P (items_in pages (flat_map (leaves_below pages levels) children)) → (All P (items_in pages (flat_map (leaves_below pages levels) children)) → (k : ℕ) → k < length children → All P (items_below pages levels (get_or children k 0))) → (k : ℕ) → k < length {A = ℕ} (child ∷ children) → All P (items_below pages levels (get_or (child ∷ children) k 0))
-    each_child parts behind zero lt = parts.0
-    each_child parts behind (suc k) lt = behind parts.1 k (omega (arith, lt))
+    each_child parts after zero lt = parts.0
+    each_child parts after (suc k) lt = after parts.1 k (omega (arith, lt))
 
 pub length-children : (page : List ℕ) → length (children_of page) ≡ length (items_of page) + 1
 length-children page = omega (arith, length-map (items_of page) (λ (item : Item). index_in item.word))

@@ -1,4 +1,4 @@
-use Rattle.std.proofs.Common.{◌≡◌, ◌+◌, ◌-◌, ◌*◌, true, nat_lt, if◌then◌else◌, sym, ap, ◌∙◌}
+use Rattle.std.proofs.Common.{◌≡◌, ◌-◌, ◌*◌, true, nat_lt, if◌then◌else◌, sym, ap, ◌∙◌}
 use Rattle.pm_data.specs.DataPages.{count_of, low_of, rows_of, free_item}
 use Rattle.pm_data.proofs.RowsByItem.{room_is}
 use Rattle.pm_data.proofs.items.room.Goals as goal

@@ -1,7 +1,7 @@
 use Rattle.pm_types.proofs.Changes.{noted_then}
 use Rattle.pm_data.proofs.RowsByItem.{low_within}
 use Rattle.pm_data.proofs.Insertion.{placed, another_row}
-use Rattle.pm_data.proofs.placing.place.Goals as goal
+use Rattle.pm_data.proofs.placing.put_row.Goals as goal
 
 pub returns : goal.returns
 returns c =

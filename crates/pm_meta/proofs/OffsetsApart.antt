@@ -3,17 +3,17 @@ use Rattle.std.proofs.Common.{◌≡◌, ℕ, ◌+◌, ◌*◌, ◌≤◌, ◌�
 use Rattle.std.proofs.lemmas.Bool.{cases_lt, cases_eq}
 use Rattle.pm_meta.specs.declared.slots.MetaSlot.{MetaSlot}
 use Rattle.pm_meta.specs.declared.slots.MetaSlot.TheVariants.{Root, Bucket, Reuse, Pages, Rows}
-use Rattle.pm_meta.specs.MetaPages.{place_of, IsSlot, IsPageSlot}
+use Rattle.pm_meta.specs.MetaPages.{offset_of, IsSlot, IsPageSlot}
 
-pub place_bounds : (slot : MetaSlot) → IsSlot slot → (32 ≤ place_of slot) × (place_of slot + 4 ≤ 172)
-place_bounds (Root x) is = (omega arith, omega (arith, is))
-place_bounds (Bucket x) is = (omega arith, omega (arith, is))
-place_bounds Reuse is = (omega arith, omega arith)
-place_bounds Pages is = (omega arith, omega arith)
-place_bounds Rows is = (omega arith, omega arith)
+pub offset_bounds : (slot : MetaSlot) → IsSlot slot → (32 ≤ offset_of slot) × (offset_of slot + 4 ≤ 172)
+offset_bounds (Root x) is = (omega arith, omega (arith, is))
+offset_bounds (Bucket x) is = (omega arith, omega (arith, is))
+offset_bounds Reuse is = (omega arith, omega arith)
+offset_bounds Pages is = (omega arith, omega arith)
+offset_bounds Rows is = (omega arith, omega arith)
 
 -- an index stands before the counts
-pub index_bounds : (slot : MetaSlot) → IsPageSlot slot → (32 ≤ place_of slot) × (place_of slot + 4 ≤ 164)
+pub index_bounds : (slot : MetaSlot) → IsPageSlot slot → (32 ≤ offset_of slot) × (offset_of slot + 4 ≤ 164)
 index_bounds (Root x) is = (omega arith, omega (arith, is))
 index_bounds (Bucket x) is = (omega arith, omega (arith, is))
 index_bounds Reuse is = (omega arith, omega arith)
@@ -38,7 +38,7 @@ by_number base x y other = elim (cases_lt x y) [
   | inr ge ↦ elim (cases_eq x y) [ inl same ↦ absurd (other same) | inr differ ↦ inr (omega (arith, differ)) ]
 ]
 
-pub apart : (a b : MetaSlot) → IsSlot a → IsSlot b → (a ≡ b → ⊥) → AreApart (place_of a) (place_of b)
+pub apart : (a b : MetaSlot) → IsSlot a → IsSlot b → (a ≡ b → ⊥) → AreApart (offset_of a) (offset_of b)
 apart (Root x) (Root y) is_a is_b other = by_number 32 x y (λ e. other (ap Root e))
 apart (Root x) (Bucket y) is_a is_b other = inl (omega (arith, is_a, is_b))
 apart (Root x) Reuse is_a is_b other = inl (omega (arith, is_a))
