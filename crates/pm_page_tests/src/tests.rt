@@ -212,6 +212,12 @@ fn lay_rest(rt: &impl Abort, pages: &mut Pages21, keys: &[[u8; 2]; 84]) {
     lay(rt, pages, 19, 16, &[18, 0, 0, 0, 0, 0, 0, 0, 0xd3, 2]);
 }
 
+fn page_of(alloc: Global, bytes: &[u8; 1024]) -> Result<Page, Fail> {
+    Ok(Page {
+        bytes: Vec::from_slice(alloc, bytes)?,
+    })
+}
+
 // The pages, with one byte of one of them otherwise.
 fn partition(rt: &impl Abort, alloc: Global, at: (usize, usize, u8)) -> Result<Vec<Page>, Fail> {
     let mut pages = [[0; 1024]; 21];
@@ -223,10 +229,8 @@ fn partition(rt: &impl Abort, alloc: Global, at: (usize, usize, u8)) -> Result<V
         lay(rt, &mut pages, at.0, at.1, &[at.2]);
     }
     let mut list = Vec::new(alloc);
-    for page in pages {
-        list.push(Page {
-            bytes: Vec::from_slice(alloc, &page)?,
-        })?;
+    'pages: for page in pages.iter() {
+        list.push(page_of(alloc, page)?)?;
     }
     Ok(list)
 }
