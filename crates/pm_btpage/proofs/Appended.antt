@@ -1,4 +1,4 @@
--- Items of one page behind those of another.
+-- Items of one page after those of another.
 use Rattle.std.proofs.Common.{◌≡◌, ℕ, ◌+◌, ◌-◌, ◌*◌, ◌<◌, ◌≤◌, ◌⊎◌, List, ◌++◌, length, drop, get_or, refl, sym, ap, subst, ◌∙◌, inl, inr, arith}
 use Rattle.std.proofs.lemmas.Bool.{cases_lt}
 use Rattle.std.proofs.lemmas.List.{length-append, length-drop, get_or_append_left, get_or-append_right, get_or-drop}
@@ -9,7 +9,7 @@ use Rattle.pm_types.specs.Fields.{bytes_at}
 use Rattle.pm_types.proofs.Changes.{outside_then}
 use Rattle.pm_types.proofs.PageSizeBounds.{page_size_bounds}
 use Rattle.pm_types.proofs.Unchanged.{get_or-bytes_at, u64_same}
-use Rattle.pm_btpage.specs.IndexPages.{Item, item_at, items_of, count_of, place_of, AllBelow, IsBelow, IsItem, IsRising, IsIndexPage}
+use Rattle.pm_btpage.specs.IndexPages.{Item, item_at, items_of, count_of, offset_of, AllBelow, IsBelow, IsItem, IsRising, IsIndexPage}
 use Rattle.pm_btpage.proofs.Changed.{item_same}
 use Rattle.pm_btpage.proofs.Inserted.{HasNewItems, head_kept}
 use Rattle.pm_btpage.proofs.ItemLists.{no_item}
@@ -38,15 +38,15 @@ rising-drop items at le rising a b less lt =
     (λ t. (sym (get_or-drop at items a no_item) t, sym (get_or-drop at items b no_item) t))
     (rising (at + a) (at + b) (omega (arith, less)) (omega (arith, lt, len, le)))
 
-pub appended : (p0 from p1 p2 : List ℕ) (at n end : ℕ) → IsIndexPage p0 → IsIndexPage from → length from ≡ length p0 → count_of p0 ≡ n → count_of from ≡ end → at ≤ end → place_of (n + (end - at)) ≤ length p0 → AllBelow (items_of p0) (drop at (items_of from)) →
-    SameOutside (IsInSpan (span_of (place_of n) (73 * (end - at)))) p0 p1 → bytes_at p1 (place_of n) (73 * (end - at)) ≡ bytes_at from (place_of at) (73 * (end - at)) →
+pub appended : (p0 from p1 p2 : List ℕ) (at n end : ℕ) → IsIndexPage p0 → IsIndexPage from → length from ≡ length p0 → count_of p0 ≡ n → count_of from ≡ end → at ≤ end → offset_of (n + (end - at)) ≤ length p0 → AllBelow (items_of p0) (drop at (items_of from)) →
+    SameOutside (IsInSpan (span_of (offset_of n) (73 * (end - at)))) p0 p1 → bytes_at p1 (offset_of n) (73 * (end - at)) ≡ bytes_at from (offset_of at) (73 * (end - at)) →
     SameOutside (IsInSpan (span_of 10 2)) p1 p2 → count_of p2 ≡ n + (end - at) → HasNewItems p0 p2 (items_of p0 ++ drop at (items_of from))
 appended p0 from p1 p2 at n end page page' sizes count ends le fits order o1 bytes o2 count_is =
     let m = end - at in
     let count' : count_of from ≡ at + m = omega (arith, ends, le) in
-    let W : ℕ → Type 0 = λ k. ((10 ≤ k) × (k < 12)) ⊎ ((place_of n ≤ k) × (k < place_of (n + m))) in
+    let W : ℕ → Type 0 = λ k. ((10 ≤ k) × (k < 12)) ⊎ ((offset_of n ≤ k) × (k < offset_of (n + m))) in
     let long = (page_size_bounds (length p0) page.size).0 in
-    let outside = outside_then (IsInSpan (span_of (place_of n) (73 * (end - at)))) (IsInSpan (span_of 10 2)) W p0 p1 p2 o1 o2 (λ k h. inr (h.0, omega (arith, h.1))) (λ k h. inl h) in
+    let outside = outside_then (IsInSpan (span_of (offset_of n) (73 * (end - at)))) (IsInSpan (span_of 10 2)) W p0 p1 p2 o1 o2 (λ k h. inr (h.0, omega (arith, h.1))) (λ k h. inl h) in
     let only : (k : ℕ) → k < 32 → W k → (10 ≤ k) × (k < 12) = λ k lt h. elim h [ inl in_count ↦ in_count | inr in_items ↦ absurd (omega (arith, lt, in_items.0)) ] in
     let old = items_of p0 in
     let more = drop at (items_of from) in
@@ -55,13 +55,13 @@ appended p0 from p1 p2 at n end page page' sizes count ends le fits order o1 byt
     let more_len : length more ≡ m = omega (arith, length-drop at (items_of from), length-items_of from, count') in
     let new_len : length new ≡ n + m = omega (arith, length-append old more, old_len, more_len) in
     let below : (j : ℕ) → j < n → SameItem p0 p2 j j = λ j lt. item_same W p0 p2 j outside (omega (arith, lt, fits)) (λ k ge less h. elim h [ inl in_count ↦ omega (arith, ge, in_count.1) | inr in_items ↦ omega (arith, less, lt, in_items.0) ]) (page.items.each j (omega (arith, lt, count))) in
-    let byte : (j k : ℕ) → j < m → k < 73 → get_or p2 (place_of (n + j) + k) 0 ≡ get_or from (place_of (at + j) + k) 0 = λ j k lt less.
+    let byte : (j k : ℕ) → j < m → k < 73 → get_or p2 (offset_of (n + j) + k) 0 ≡ get_or from (offset_of (at + j) + k) 0 = λ j k lt less.
     let q = 73 * j + k in
-    let at_new : place_of (n + j) + k ≡ place_of n + q = omega arith in
-    let at_old : place_of at + q ≡ place_of (at + j) + k = omega arith in
+    let at_new : offset_of (n + j) + k ≡ offset_of n + q = omega arith in
+    let at_old : offset_of at + q ≡ offset_of (at + j) + k = omega arith in
     let inside : q < 73 * m = omega (arith, lt, less) in
-    o2.bytes (place_of (n + j) + k) (λ h. omega (arith, h.1)) ∙ ap (λ r. get_or p1 r 0) at_new ∙ sym (get_or-bytes_at p1 (place_of n) (73 * (end - at)) q inside)
-    ∙ ap (λ (t : List ℕ). get_or t q 0) bytes ∙ get_or-bytes_at from (place_of at) (73 * (end - at)) q inside ∙ ap (λ r. get_or from r 0) at_old in
+    o2.bytes (offset_of (n + j) + k) (λ h. omega (arith, h.1)) ∙ ap (λ r. get_or p1 r 0) at_new ∙ sym (get_or-bytes_at p1 (offset_of n) (73 * (end - at)) q inside)
+    ∙ ap (λ (t : List ℕ). get_or t q 0) bytes ∙ get_or-bytes_at from (offset_of at) (73 * (end - at)) q inside ∙ ap (λ r. get_or from r 0) at_old in
     let above : (j : ℕ) → j < m → SameItem from p2 (at + j) (n + j) = λ j lt. item_moved from p2 (at + j) (n + j) (outside.size ∙ sym sizes) (omega (arith, lt, count', page'.items.within)) (omega (arith, lt, fits, sizes)) (λ k less. byte j k lt less) (page'.items.each (at + j) (omega (arith, lt, count'))) in
     let each : (j : ℕ) → j < n + m → (get_or new j no_item ≡ item_at p2 j) × IsItem p2 j = λ j lt. elim (cases_lt j n) [
       | inl low ↦ (get_or_append_left old more no_item j (omega (arith, low, old_len)) ∙ get_or-items_of p0 j no_item (omega (arith, low, count)) ∙ sym (below j low).item, (below j low).sound)
@@ -79,7 +79,7 @@ appended p0 from p1 p2 at n end page page' sizes count ends le fits order o1 byt
           within = omega (arith, count_is, outside.size, fits);
           each = λ j lt. (each j (omega (arith, lt, count_is))).1;
           rising = subst IsRising (sym same_items) (rising-append old more page.items.rising (rising-drop (items_of from) at (omega (arith, length-items_of from, count')) page'.items.rising) order);
-          behind = λ k ge lt. outside.bytes k (λ h. elim h [ inl in_count ↦ omega (arith, ge, count_is, in_count.1) | inr in_items ↦ omega (arith, ge, count_is, in_items.1) ]) ∙ page.items.behind k (omega (arith, ge, count_is, count)) (omega (arith, lt, outside.size));
+          after = λ k ge lt. outside.bytes k (λ h. elim h [ inl in_count ↦ omega (arith, ge, count_is, in_count.1) | inr in_items ↦ omega (arith, ge, count_is, in_items.1) ]) ∙ page.items.after k (omega (arith, ge, count_is, count)) (omega (arith, lt, outside.size));
         };
       };
       id = u64_same W p0 p2 0 outside (omega (arith, long)) (λ k ge lt h. omega (arith, lt, (only k (omega (arith, lt)) h).0));

@@ -1,16 +1,16 @@
--- A change of the head's link, or of bytes behind the head, leaves all else of an index page.
+-- A change of the head's link, or of bytes after the head, leaves all else of an index page.
 use Rattle.std.proofs.Common.{◌≡◌, ℕ, ◌+◌, ◌^◌, ◌<◌, ◌≤◌, List, [], length, get_or, sym, subst, ◌∙◌, inl, inr, arith}
 use Rattle.pm_types.specs.PageSizes.{IsPageSize}
 use Rattle.pm_types.specs.Pages.{SameOutside}
 use Rattle.pm_types.specs.Fields.{u64_at}
 use Rattle.pm_types.proofs.PageSizeBounds.{page_size_bounds}
 use Rattle.pm_types.proofs.Unchanged.{u16_same, u64_same, zeros_same}
-use Rattle.pm_btpage.specs.IndexPages.{Item, items_of, count_of, place_of, IsItem, IsRising, IsIndexPage}
+use Rattle.pm_btpage.specs.IndexPages.{Item, items_of, count_of, offset_of, IsItem, IsRising, IsIndexPage}
 use Rattle.pm_btpage.proofs.ItemsByIndex.{length-items_of, get_or-items_of, items_by_index, SameItem, item_moved}
 
 -- an item that no change covered
-pub item_same : (P : ℕ → Type 0) (was now : List ℕ) (i : ℕ) → SameOutside P was now → place_of i + 73 ≤ length was → ((k : ℕ) → place_of i ≤ k → k < place_of i + 73 → P k → ⊥) → IsItem was i → SameItem was now i i
-item_same P was now i outside fits away sound = item_moved was now i i outside.size fits fits (λ k lt. outside.bytes (place_of i + k) (away (place_of i + k) (omega arith) (omega arith))) sound
+pub item_same : (P : ℕ → Type 0) (was now : List ℕ) (i : ℕ) → SameOutside P was now → offset_of i + 73 ≤ length was → ((k : ℕ) → offset_of i ≤ k → k < offset_of i + 73 → P k → ⊥) → IsItem was i → SameItem was now i i
+item_same P was now i outside fits away sound = item_moved was now i i outside.size fits fits (λ k lt. outside.bytes (offset_of i + k) (away (offset_of i + k) (omega arith) (omega arith))) sound
 
 pub record KeepsAllElse (was now : List ℕ) : Type 0 where
   pub well_made : IsIndexPage now
@@ -35,13 +35,13 @@ link_only was now outside short page =
           zero_9 = outside.bytes 9 (λ h. omega (arith, h.0)) ∙ page.head.zero_9;
           zero_12 = zeros_same P was now 12 16 outside (λ k ge lt h. omega (arith, h.0)) page.head.zero_12;
           next = λ leaf. short (sym kind_same ∙ leaf);
-          behind_link = zeros_same P was now 24 32 outside (λ k ge lt h. omega (arith, h.1)) page.head.behind_link;
+          after_link = zeros_same P was now 24 32 outside (λ k ge lt h. omega (arith, h.1)) page.head.after_link;
         };
         items = record {
           within = omega (arith, count, page.items.within, outside.size);
           each = λ i lt. (each i (omega (arith, count))).sound;
           rising = subst IsRising (sym same_items) page.items.rising;
-          behind = λ k ge lt. zeros_same P was now (place_of (count_of was)) (length was) outside (λ j low high h. omega (arith, h.1)) page.items.behind k (omega (arith, count, ge)) (omega (arith, outside.size, lt));
+          after = λ k ge lt. zeros_same P was now (offset_of (count_of was)) (length was) outside (λ j low high h. omega (arith, h.1)) page.items.after k (omega (arith, count, ge)) (omega (arith, outside.size, lt));
         };
       };
       id = u64_same P was now 0 outside (omega (arith, long)) (λ k ge lt h. omega (arith, h.0));

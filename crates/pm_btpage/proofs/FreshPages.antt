@@ -1,10 +1,10 @@
 -- A page of zeros, into which a name and a kind were written, and perhaps a link.
-use Rattle.std.proofs.Common.{◌≡◌, ℕ, ◌+◌, ◌^◌, ◌<◌, ◌≤◌, ◌⊎◌, List, [], ◌∷◌, length, get_or, replicate, sym, ap, subst, ◌∙◌, inl, inr, arith}
+use Rattle.std.proofs.Common.{◌≡◌, ℕ, ◌^◌, ◌<◌, ◌≤◌, ◌⊎◌, List, [], length, get_or, sym, subst, ◌∙◌, inl, inr, arith}
 use Rattle.pm_types.specs.PageSizes.{IsPageSize}
 use Rattle.pm_types.specs.Spans.{IsInSpan, span_of}
 use Rattle.pm_types.specs.Pages.{SameOutside}
 use Rattle.pm_types.specs.declared.page_id.PageId.{PageId}
-use Rattle.pm_types.specs.Fields.{bytes_at, u64_at, AreZero}
+use Rattle.pm_types.specs.Fields.{u64_at}
 use Rattle.pm_types.specs.Heads.{IsBlank}
 use Rattle.pm_types.proofs.PageSizeBounds.{page_size_bounds}
 use Rattle.pm_types.proofs.Unchanged.{u64_same, zero_u16, zero_u64}
@@ -52,13 +52,13 @@ fresh_page now id kind w kinds short =
           zero_9 = w.zeros 9 (omega arith) (omega (arith, long)) (inl (omega arith));
           zero_12 = λ k ge lt. w.zeros k (omega arith) (omega (arith, long)) (inl lt);
           next = λ leaf. short (sym w.kind_is ∙ leaf);
-          behind_link = λ k ge lt. w.zeros k (omega arith) (omega (arith, long)) (inr ge);
+          after_link = λ k ge lt. w.zeros k (omega arith) (omega (arith, long)) (inr ge);
         };
         items = record {
           within = omega (arith, count, long);
           each = λ i lt. absurd (omega (arith, count));
           rising = λ i j less lt. absurd (omega (arith, count, length-items_of now));
-          behind = λ k ge lt. w.zeros k (omega arith) lt (inr (omega arith));
+          after = λ k ge lt. w.zeros k (omega arith) lt (inr (omega arith));
         };
       };
       none = items_by_index now [] (record { key = []; word = 0 }) (sym count) (λ i lt. absurd (omega (arith, count)));

@@ -8,7 +8,7 @@ use Rattle.pm_types.specs.Fields.{bytes_at, u64_at}
 use Rattle.pm_types.proofs.Changes.{outside_then}
 use Rattle.pm_types.proofs.PageSizeBounds.{page_size_bounds}
 use Rattle.pm_types.proofs.Unchanged.{get_or-bytes_at, u64_same, zeros_same}
-use Rattle.pm_btpage.specs.IndexPages.{Item, index_of, item_at, items_of, count_of, place_of, with_item, with_items, GoesBefore, HasHead, IsItem, IsRising, IsIndexPage}
+use Rattle.pm_btpage.specs.IndexPages.{Item, index_of, item_at, items_of, count_of, offset_of, with_item, with_items, IsBetween, HasHead, IsItem, IsRising, IsIndexPage}
 use Rattle.pm_btpage.proofs.Changed.{item_same}
 use Rattle.pm_btpage.proofs.ItemLists.{no_item, length-with_item, with_item-below, with_item-here, with_item-above, rising-with_item}
 use Rattle.pm_btpage.proofs.ItemsByIndex.{length-items_of, get_or-items_of, items_by_index, SameItem, item_moved}
@@ -25,7 +25,7 @@ pub record HasNewItems (was now : List ℕ) (items : List Item) : Type 0 where
 pub says_items : (was now : List ℕ) (items : List Item) → HasNewItems was now items → index_of now ≡ with_items (index_of was) items
 says_items was now items new = λ j. record { id = record { 0 = new.id j }; leaf = ap (λ n. n == 2) new.kind j; link = new.link j; items = new.items_are j }
 
--- a change of the count, or behind the head, keeps the head
+-- a change of the count, or after the head, keeps the head
 pub head_kept : (P : ℕ → Type 0) (was now : List ℕ) → SameOutside P was now → 32 ≤ length was → ((k : ℕ) → k < 32 → P k → (10 ≤ k) × (k < 12)) → HasHead was → HasHead now
 head_kept P was now outside long only head =
     let kind_same : get_or now 8 0 ≡ get_or was 8 0 = outside.bytes 8 (λ h. omega (arith, (only 8 (omega arith) h).0)) in
@@ -35,14 +35,14 @@ head_kept P was now outside long only head =
       zero_9 = outside.bytes 9 (λ h. omega (arith, (only 9 (omega arith) h).0)) ∙ head.zero_9;
       zero_12 = zeros_same P was now 12 16 outside (λ k ge lt h. omega (arith, ge, (only k (omega arith) h).1)) head.zero_12;
       next = λ leaf. omega (arith, link, head.next (sym kind_same ∙ leaf));
-      behind_link = zeros_same P was now 24 32 outside (λ k ge lt h. omega (arith, ge, (only k (omega arith) h).1)) head.behind_link;
+      after_link = zeros_same P was now 24 32 outside (λ k ge lt h. omega (arith, ge, (only k (omega arith) h).1)) head.after_link;
     }
 
 -- what was written, in this order
 pub record Steps (p0 p1 p2 p3 : List ℕ) (i n : ℕ) (item : Item) : Type 0 where
-  pub after_move : SameOutside (IsInSpan (span_of (place_of i + 73) (73 * (n - i)))) p0 p1
-  pub moved : bytes_at p1 (place_of i + 73) (73 * (n - i)) ≡ bytes_at p0 (place_of i) (73 * (n - i))
-  pub after_item : SameOutside (IsInSpan (span_of (place_of i) 73)) p1 p2
+  pub after_move : SameOutside (IsInSpan (span_of (offset_of i + 73) (73 * (n - i)))) p0 p1
+  pub moved : bytes_at p1 (offset_of i + 73) (73 * (n - i)) ≡ bytes_at p0 (offset_of i) (73 * (n - i))
+  pub after_item : SameOutside (IsInSpan (span_of (offset_of i) 73)) p1 p2
   pub item_is : item_at p2 i ≡ item
   pub sound : IsItem p2 i
   pub after_count : SameOutside (IsInSpan (span_of 10 2)) p2 p3
@@ -50,27 +50,27 @@ pub record Steps (p0 p1 p2 p3 : List ℕ) (i n : ℕ) (item : Item) : Type 0 whe
 
 -- the count, and what is from item i on
 abbrev IsWritten : ℕ → ℕ → ℕ → Type 0
-IsWritten i n k = ((10 ≤ k) × (k < 12)) ⊎ ((place_of i ≤ k) × (k < place_of (n + 1)))
+IsWritten i n k = ((10 ≤ k) × (k < 12)) ⊎ ((offset_of i ≤ k) × (k < offset_of (n + 1)))
 
 -- where nothing but the count and the items was written
 outside_all : (p0 p1 p2 p3 : List ℕ) (i n : ℕ) (item : Item) → i ≤ n → Steps p0 p1 p2 p3 i n item → SameOutside (IsWritten i n) p0 p3
 outside_all p0 p1 p2 p3 i n item le s =
     let W = IsWritten i n in
-    let first = outside_then (IsInSpan (span_of (place_of i + 73) (73 * (n - i)))) (IsInSpan (span_of (place_of i) 73)) W p0 p1 p2 s.after_move s.after_item (λ k h. inr (omega (arith, h.0), omega (arith, h.1))) (λ k h. inr (h.0, omega (arith, h.1))) in
+    let first = outside_then (IsInSpan (span_of (offset_of i + 73) (73 * (n - i)))) (IsInSpan (span_of (offset_of i) 73)) W p0 p1 p2 s.after_move s.after_item (λ k h. inr (omega (arith, h.0), omega (arith, h.1))) (λ k h. inr (h.0, omega (arith, h.1))) in
     outside_then W (IsInSpan (span_of 10 2)) W p0 p2 p3 first s.after_count (λ k h. h) (λ k h. inl h)
 
 -- the bytes of the items that moved
-moved_byte : (p0 p1 p2 p3 : List ℕ) (i n j k : ℕ) (item : Item) → Steps p0 p1 p2 p3 i n item → i ≤ j → j < n → k < 73 → get_or p3 (place_of (j + 1) + k) 0 ≡ get_or p0 (place_of j + k) 0
+moved_byte : (p0 p1 p2 p3 : List ℕ) (i n j k : ℕ) (item : Item) → Steps p0 p1 p2 p3 i n item → i ≤ j → j < n → k < 73 → get_or p3 (offset_of (j + 1) + k) 0 ≡ get_or p0 (offset_of j + k) 0
 moved_byte p0 p1 p2 p3 i n j k item s ge lt less =
     let m = 73 * (j - i) + k in
-    let at_new : place_of (j + 1) + k ≡ place_of i + 73 + m = omega arith in
-    let at_old : place_of i + m ≡ place_of j + k = omega arith in
+    let at_new : offset_of (j + 1) + k ≡ offset_of i + 73 + m = omega arith in
+    let at_old : offset_of i + m ≡ offset_of j + k = omega arith in
     let inside : m < 73 * (n - i) = omega arith in
-    s.after_count.bytes (place_of (j + 1) + k) (λ h. omega (arith, h.1)) ∙ s.after_item.bytes (place_of (j + 1) + k) (λ h. omega (arith, h.1))
-    ∙ ap (λ q. get_or p1 q 0) at_new ∙ sym (get_or-bytes_at p1 (place_of i + 73) (73 * (n - i)) m inside)
-    ∙ ap (λ (t : List ℕ). get_or t m 0) s.moved ∙ get_or-bytes_at p0 (place_of i) (73 * (n - i)) m inside ∙ ap (λ q. get_or p0 q 0) at_old
+    s.after_count.bytes (offset_of (j + 1) + k) (λ h. omega (arith, h.1)) ∙ s.after_item.bytes (offset_of (j + 1) + k) (λ h. omega (arith, h.1))
+    ∙ ap (λ q. get_or p1 q 0) at_new ∙ sym (get_or-bytes_at p1 (offset_of i + 73) (73 * (n - i)) m inside)
+    ∙ ap (λ (t : List ℕ). get_or t m 0) s.moved ∙ get_or-bytes_at p0 (offset_of i) (73 * (n - i)) m inside ∙ ap (λ q. get_or p0 q 0) at_old
 
-pub inserted : (p0 p1 p2 p3 : List ℕ) (i n : ℕ) (item : Item) → IsIndexPage p0 → count_of p0 ≡ n → place_of (n + 1) ≤ length p0 → GoesBefore (items_of p0) item.key i → Steps p0 p1 p2 p3 i n item → HasNewItems p0 p3 (with_item (items_of p0) i item)
+pub inserted : (p0 p1 p2 p3 : List ℕ) (i n : ℕ) (item : Item) → IsIndexPage p0 → count_of p0 ≡ n → offset_of (n + 1) ≤ length p0 → IsBetween (items_of p0) item.key i → Steps p0 p1 p2 p3 i n item → HasNewItems p0 p3 (with_item (items_of p0) i item)
 inserted p0 p1 p2 p3 i n item page count fits goes s =
     let W = IsWritten i n in
     let long = (page_size_bounds (length p0) page.size).0 in
@@ -105,9 +105,9 @@ inserted p0 p1 p2 p3 i n item page count fits goes s =
           within = omega (arith, s.count_is, outside.size, fits);
           each = λ j lt. (each j (omega (arith, s.count_is))).1;
           rising = subst IsRising (sym same_items) (rising-with_item old i item page.items.rising goes);
-          behind = λ k ge lt.
-              let past : place_of (n + 1) ≤ k = omega (arith, s.count_is) in
-              outside.bytes k (λ h. elim h [ inl in_count ↦ omega (arith, in_count.1) | inr in_items ↦ omega (arith, in_items.1) ]) ∙ page.items.behind k (omega (arith, count)) (omega (arith, outside.size, lt));
+          after = λ k ge lt.
+              let past : offset_of (n + 1) ≤ k = omega (arith, s.count_is) in
+              outside.bytes k (λ h. elim h [ inl in_count ↦ omega (arith, in_count.1) | inr in_items ↦ omega (arith, in_items.1) ]) ∙ page.items.after k (omega (arith, count)) (omega (arith, outside.size, lt));
         };
       };
       id = u64_same W p0 p3 0 outside (omega (arith, long)) (λ k ge lt h. omega (arith, (only k (omega arith) h).0));

@@ -2,7 +2,7 @@
 use Rattle.std.proofs.Common.{◌≡◌, ℕ, suc, ◌+◌, ◌-◌, ◌<◌, ◌≤◌, List, [], ◌∷◌, length, take, drop, get_or, sym, ap, subst, ◌∙◌, inl, inr, arith}
 use Rattle.std.proofs.lemmas.Bool.{cases_lt, cases_eq}
 use Rattle.std.proofs.lemmas.List.{length-take-le, length-append, length-drop, get_or_append_left, get_or-append_right, get_or-take, get_or-drop, get_or_at}
-use Rattle.pm_btpage.specs.IndexPages.{Item, IsBelow, IsRising, with_item, GoesBefore}
+use Rattle.pm_btpage.specs.IndexPages.{Item, IsBelow, IsRising, with_item, IsBetween}
 
 -- no item
 abbrev pub no_item : Item
@@ -26,7 +26,7 @@ with_item-above items i k item le ge =
     ∙ ap (λ n. get_or (item ∷ drop i items) n no_item) step ∙ get_or-drop i items (k - i) no_item ∙ ap (λ n. get_or items n no_item) back
 
 -- the keys still rise with one that goes before i
-pub rising-with_item : (items : List Item) (i : ℕ) (item : Item) → IsRising items → GoesBefore items item.key i → IsRising (with_item items i item)
+pub rising-with_item : (items : List Item) (i : ℕ) (item : Item) → IsRising items → IsBetween items item.key i → IsRising (with_item items i item)
 rising-with_item items i item rising goes a b less lt =
     let le = goes.in_range in
     let len = length-with_item items i item le in

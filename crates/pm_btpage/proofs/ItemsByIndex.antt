@@ -5,7 +5,7 @@ use Rattle.std.proofs.lemmas.List.FromFn.{length-map-range_with_len, get_or-map-
 use Rattle.pm_types.specs.Fields.{bytes_at, u64_at}
 use Rattle.pm_types.proofs.PageSizeBounds.{page_size_bounds}
 use Rattle.pm_types.proofs.Unchanged.{bytes_agree}
-use Rattle.pm_btpage.specs.IndexPages.{Item, item_at, items_of, count_of, place_of, key_in, key_len_at, IsItem, IsIndexPage}
+use Rattle.pm_btpage.specs.IndexPages.{Item, item_at, items_of, count_of, offset_of, key_in, key_len_at, IsItem, IsIndexPage}
 
 pub length-items_of : (page : List ℕ) → length (items_of page) ≡ count_of page
 length-items_of page = length-map-range_with_len (item_at page) 0 (count_of page)
@@ -22,12 +22,12 @@ pub record SameItem (was now : List ℕ) (i j : ℕ) : Type 0 where
   pub sound : IsItem now j
 
 -- an item whose bytes stand in another page as item j
-pub item_moved : (was now : List ℕ) (i j : ℕ) → length now ≡ length was → place_of i + 73 ≤ length was → place_of j + 73 ≤ length was →
-    ((k : ℕ) → k < 73 → get_or now (place_of j + k) 0 ≡ get_or was (place_of i + k) 0) → IsItem was i → SameItem was now i j
+pub item_moved : (was now : List ℕ) (i j : ℕ) → length now ≡ length was → offset_of i + 73 ≤ length was → offset_of j + 73 ≤ length was →
+    ((k : ℕ) → k < 73 → get_or now (offset_of j + k) 0 ≡ get_or was (offset_of i + k) 0) → IsItem was i → SameItem was now i j
 unfolding u64_at
 item_moved was now i j size fits_i fits_j same sound =
-    let a = place_of i in
-    let b = place_of j in
+    let a = offset_of i in
+    let b = offset_of j in
     let n = get_or was a 0 in
     let a0 : a + 0 ≡ a = omega arith in
     let b0 : b ≡ b + 0 = omega arith in
@@ -53,7 +53,7 @@ item_moved was now i j size fits_i fits_j same sound =
 -- where an item of a page stands, and how long its key is
 pub record ItemBounds (page : List ℕ) (i : ℕ) : Type 0 where
   pub counted : i < count_of page
-  pub within : place_of i + 73 ≤ length page
+  pub within : offset_of i + 73 ≤ length page
   pub long : length page ≤ 16384
   pub short : key_len_at page i ≤ 64
 
@@ -63,7 +63,7 @@ item_bounds page i ok lt =
     record { counted = few; within = omega (arith, ok.items.within, few); long = (page_size_bounds (length page) ok.size).1; short = (ok.items.each i few).short }
 
 -- the items are within the page
-pub items_within : (page : List ℕ) → IsIndexPage page → (place_of (length (items_of page)) ≤ length page) × (length page ≤ 16384)
+pub items_within : (page : List ℕ) → IsIndexPage page → (offset_of (length (items_of page)) ≤ length page) × (length page ≤ 16384)
 items_within page ok = (omega (arith, ok.items.within, length-items_of page), (page_size_bounds (length page) ok.size).1)
 
 -- the key of an item, as it stands in the page and as it stands in the list

@@ -8,7 +8,7 @@ use Rattle.pm_types.specs.Pages.{SameOutside}
 use Rattle.pm_types.specs.Fields.{bytes_at, u64_at}
 use Rattle.pm_types.proofs.PageSizeBounds.{page_size_bounds}
 use Rattle.pm_types.proofs.Unchanged.{bytes_same, u16_same, u64_same}
-use Rattle.pm_btpage.specs.IndexPages.{Item, item_at, items_of, count_of, place_of, key_in, with_word, IsBelow, IsItem, IsRising, IsIndexPage}
+use Rattle.pm_btpage.specs.IndexPages.{Item, item_at, items_of, count_of, offset_of, key_in, with_word, IsBelow, IsItem, IsRising, IsIndexPage}
 use Rattle.pm_btpage.proofs.Changed.{item_same}
 use Rattle.pm_btpage.proofs.Inserted.{HasNewItems, head_kept}
 use Rattle.pm_btpage.proofs.ItemLists.{no_item}
@@ -48,9 +48,9 @@ rising-with_word items i word lt rising a b less b_lt =
     subst (λ (z : List ℕ × List ℕ). IsBelow z.0 z.1) {x = (key_in items a, key_in items b)} {y = (key_in (with_word items i word) a, key_in (with_word items i word) b)} (λ t. (sym (key-with_word items i a word lt) t, sym (key-with_word items i b word lt) t))
     (rising a b less (omega (arith, b_lt, length-with_word items i word lt)))
 
-pub word_changed : (was now : List ℕ) (i word : ℕ) → IsIndexPage was → i < length (items_of was) → SameOutside (IsInSpan (span_of (place_of i + 65) 8)) was now → u64_at now (place_of i + 65) ≡ word → HasNewItems was now (with_word (items_of was) i word)
+pub word_changed : (was now : List ℕ) (i word : ℕ) → IsIndexPage was → i < length (items_of was) → SameOutside (IsInSpan (span_of (offset_of i + 65) 8)) was now → u64_at now (offset_of i + 65) ≡ word → HasNewItems was now (with_word (items_of was) i word)
 word_changed was now i word page lt outside word_is =
-    let P = IsInSpan (span_of (place_of i + 65) 8) in
+    let P = IsInSpan (span_of (offset_of i + 65) 8) in
     let long = (page_size_bounds (length was) page.size).0 in
     let len = length-items_of was in
     let few : i < count_of was = omega (arith, lt, len) in
@@ -58,11 +58,11 @@ word_changed was now i word page lt outside word_is =
     let new = with_word old i word in
     let count : count_of now ≡ count_of was = u16_same P was now 10 outside (omega (arith, long)) (λ k ge less h. omega (arith, h.0)) in
     let sound = page.items.each i few in
-    let fits : place_of i + 73 ≤ length was = omega (arith, few, page.items.within) in
-    let key_len : get_or now (place_of i) 0 ≡ get_or was (place_of i) 0 = outside.bytes (place_of i) (λ h. omega (arith, h.0)) in
-    let key_bytes : bytes_at now (place_of i + 1) (get_or now (place_of i) 0) ≡ bytes_at was (place_of i + 1) (get_or was (place_of i) 0) =
-    ap (bytes_at now (place_of i + 1)) key_len ∙ bytes_same P was now (place_of i + 1) (get_or was (place_of i) 0) outside (omega (arith, fits, sound.short)) (λ k ge less h. omega (arith, less, sound.short, h.0)) in
-    let key_is : bytes_at now (place_of i + 1) (get_or now (place_of i) 0) ≡ key_in old i = key_bytes ∙ sym (ap (λ (x : Item). x.key) (get_or-items_of was i no_item few)) in
+    let fits : offset_of i + 73 ≤ length was = omega (arith, few, page.items.within) in
+    let key_len : get_or now (offset_of i) 0 ≡ get_or was (offset_of i) 0 = outside.bytes (offset_of i) (λ h. omega (arith, h.0)) in
+    let key_bytes : bytes_at now (offset_of i + 1) (get_or now (offset_of i) 0) ≡ bytes_at was (offset_of i + 1) (get_or was (offset_of i) 0) =
+    ap (bytes_at now (offset_of i + 1)) key_len ∙ bytes_same P was now (offset_of i + 1) (get_or was (offset_of i) 0) outside (omega (arith, fits, sound.short)) (λ k ge less h. omega (arith, less, sound.short, h.0)) in
+    let key_is : bytes_at now (offset_of i + 1) (get_or now (offset_of i) 0) ≡ key_in old i = key_bytes ∙ sym (ap (λ (x : Item). x.key) (get_or-items_of was i no_item few)) in
     let here : item_at now i ≡ reworded old i word = λ t. record { key = key_is t; word = word_is t } in
     let here_sound : IsItem now i = record {
       some = omega (arith, key_len, sound.some);
@@ -85,7 +85,7 @@ word_changed was now i word page lt outside word_is =
           within = omega (arith, count, outside.size, page.items.within);
           each = λ j j_lt. (each j (omega (arith, count, j_lt))).1;
           rising = subst IsRising (sym same_items) (rising-with_word old i word lt page.items.rising);
-          behind = λ k ge less. outside.bytes k (λ h. omega (arith, ge, count, h.1, few)) ∙ page.items.behind k (omega (arith, count, ge)) (omega (arith, outside.size, less));
+          after = λ k ge less. outside.bytes k (λ h. omega (arith, ge, count, h.1, few)) ∙ page.items.after k (omega (arith, count, ge)) (omega (arith, outside.size, less));
         };
       };
       id = u64_same P was now 0 outside (omega (arith, long)) (λ k ge less h. omega (arith, h.0));

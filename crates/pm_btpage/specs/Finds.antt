@@ -1,6 +1,6 @@
 -- Where a key stands among items.
 use Rattle.std.specs.Prelude.{◌≡◌, ℕ, ◌<◌, List, length}
-use Rattle.pm_btpage.specs.IndexPages.{Item, key_in, GoesBefore}
+use Rattle.pm_btpage.specs.IndexPages.{Item, key_in, IsBetween}
 use Rattle.pm_btpage.specs.declared.search.Found.{Found}
 use Rattle.pm_btpage.specs.declared.search.Found.TheVariants.{At, Before}
 
@@ -11,4 +11,4 @@ pub record IsAt (items : List Item) (key : List ℕ) (i : ℕ) : Type 0 where
 
 abbrev pub FindsIn : List Item → List ℕ → Found → Type 0
 FindsIn items key (At i) = IsAt items key i
-FindsIn items key (Before i) = GoesBefore items key i
+FindsIn items key (Before i) = IsBetween items key i

@@ -9,7 +9,7 @@
 --       16     8  the link: of a leaf the index of the next leaf, below 2^32; of an inner page its first child's name
 --       24     8  zero
 --       32    73  the first item: key length 1, key padded with zeros to 64, word 8
---      105    73  the second item, and so on; behind the last all is zero
+--      105    73  the second item, and so on; after the last all is zero
 --
 -- An item's word is in a leaf the link of the key's row, in an inner page the name of the child with the keys from the
 -- item's key on and below the next item's.
@@ -31,8 +31,8 @@ pub record Item : Type 0 where
   pub word : ℕ
 
 -- where an item stands
-abbrev pub place_of : ℕ → ℕ
-place_of i = ITEMS_AT + ITEM_LEN * i
+abbrev pub offset_of : ℕ → ℕ
+offset_of i = ITEMS_AT + ITEM_LEN * i
 
 -- how many items a page of this size has at most
 abbrev pub capacity_of : ℕ → ℕ
@@ -44,11 +44,11 @@ count_of page = u16_at page COUNT_AT
 
 -- how long an item's key is
 abbrev pub key_len_at : List ℕ → ℕ → ℕ
-key_len_at page i = slice_index page (place_of i)
+key_len_at page i = slice_index page (offset_of i)
 
 -- an item of the page
 abbrev pub item_at : List ℕ → ℕ → Item
-item_at page i = record { key = bytes_at page (place_of i + 1) (key_len_at page i); word = u64_at page (place_of i + WORD_IN_ITEM) }
+item_at page i = record { key = bytes_at page (offset_of i + 1) (key_len_at page i); word = u64_at page (offset_of i + WORD_IN_ITEM) }
 
 -- the items of the page
 abbrev pub items_of : List ℕ → List Item
@@ -108,20 +108,20 @@ pub record HasHead (page : List ℕ) : Type 0 where
   pub zero_9 : slice_index page 9 ≡ 0
   pub zero_12 : AreZero page 12 LINK_AT
   pub next : slice_index page KIND_AT ≡ LEAF_KIND → u64_at page LINK_AT < 2 ^ 32
-  pub behind_link : AreZero page LINK_END ITEMS_AT
+  pub after_link : AreZero page LINK_END ITEMS_AT
 
 -- the item's key has a length that a key may have, and zeros up to its word
 pub record IsItem (page : List ℕ) (i : ℕ) : Type 0 where
   pub some : 1 ≤ key_len_at page i
   pub short : key_len_at page i ≤ KEY_MAX
-  pub padding : AreZero page (place_of i + 1 + key_len_at page i) (place_of i + WORD_IN_ITEM)
+  pub padding : AreZero page (offset_of i + 1 + key_len_at page i) (offset_of i + WORD_IN_ITEM)
 
--- the items are within the page, their keys rise, and all behind them is zero
+-- the items are within the page, their keys rise, and all after them is zero
 pub record HasItems (page : List ℕ) : Type 0 where
-  pub within : place_of (count_of page) ≤ length page
+  pub within : offset_of (count_of page) ≤ length page
   pub each : (i : ℕ) → i < count_of page → IsItem page i
   pub rising : IsRising (items_of page)
-  pub behind : AreZero page (place_of (count_of page)) (length page)
+  pub after : AreZero page (offset_of (count_of page)) (length page)
 
 -- an index page, with items or without
 pub record IsIndexPage (page : List ℕ) : Type 0 where
@@ -129,7 +129,7 @@ pub record IsIndexPage (page : List ℕ) : Type 0 where
   pub head : HasHead page
   pub items : HasItems page
 
--- the items with another before item i, or behind the last
+-- the items with another before item i, or after the last
 abbrev pub with_item : List Item → ℕ → Item → List Item
 with_item items i item = take i items ++ item ∷ drop i items
 
@@ -142,7 +142,7 @@ abbrev pub with_word : List Item → ℕ → ℕ → List Item
 with_word items i word = take i items ++ (record { key = key_in items i; word = word }) ∷ drop (i + 1) items
 
 -- the key stands between those before place i and those from it on
-pub record GoesBefore (items : List Item) (key : List ℕ) (i : ℕ) : Type 0 where
+pub record IsBetween (items : List Item) (key : List ℕ) (i : ℕ) : Type 0 where
   pub in_range : i ≤ length items
   pub below : (j : ℕ) → j < i → IsBelow (key_in items j) key
   pub above : (j : ℕ) → i ≤ j → j < length items → IsBelow key (key_in items j)

@@ -2,11 +2,11 @@
 
 ghost use Rattle.std.specs.Prelude.{◌≡◌, ℕ, ◌+◌, ◌*◌, ◌<◌, ◌≤◌, ◌↔◌, IsTrue, length};
 ghost use Rattle.pm_types.specs.PageSizes.{IsPageSize};
-ghost use Rattle.pm_btpage.specs.IndexPages.{index_of, items_of, word_in, count_of, place_of, HasHead, HasItems, IsBelow, IsItem, IsRising, IsIndexPage};
+ghost use Rattle.pm_btpage.specs.IndexPages.{index_of, items_of, word_in, count_of, offset_of, HasHead, HasItems, IsBelow, IsItem, IsRising, IsIndexPage};
 ghost use Rattle.pm_btpage.specs.Stored.{IsPageOf, IsWord, NamesPagesOf, IsStoredIndex};
 
 use crate::head::{capacity, count, first, is_leaf};
-use crate::items::{place, stored_key, word_at};
+use crate::items::{offset, stored_key, word_at};
 use crate::layout::{
     COUNT_AT, INNER_KIND, ITEM_LEN, ITEMS_AT, LEAF_KIND, LINK_AT, LINK_END, WORD_IN_ITEM,
 };
@@ -52,12 +52,12 @@ fn has_items(page: &[u8]) -> bool
     number <= capacity(page.len() as u32)
         && each_is_item(page, number)
         && rise(page, number)
-        && are_zero(page, place(number), page.len() as u16)
+        && are_zero(page, offset(number), page.len() as u16)
 }
 
-// Whether each of the first `number` items has a key, and zeros behind it.
+// Whether each of the first `number` items has a key, and zeros after it.
 fn each_is_item(page: &[u8], number: u16) -> bool
-    requires within { place_of number ≤ length page.now }
+    requires within { offset_of number ≤ length page.now }
     requires long { length page.now ≤ PAGE_SIZE_MAX }
     ensures { IsTrue result ↔ ((i : ℕ) → i < number → IsItem page.now i) }
 {
@@ -70,11 +70,11 @@ fn each_is_item(page: &[u8], number: u16) -> bool
 }
 
 fn is_item(page: &[u8], i: u16) -> bool
-    requires within { place_of i + ITEM_LEN ≤ length page.now }
+    requires within { offset_of i + ITEM_LEN ≤ length page.now }
     requires long { length page.now ≤ PAGE_SIZE_MAX }
     ensures { IsTrue result ↔ IsItem page.now i }
 {
-    let at = place(i);
+    let at = offset(i);
     let len = page[at as usize];
     1 <= len && len as usize <= KEY_MAX && are_zero(page, at + 1 + len as u16, at + WORD_IN_ITEM)
 }
@@ -82,7 +82,7 @@ fn is_item(page: &[u8], i: u16) -> bool
 // Whether the keys of the items rise.
 fn rise(page: &[u8], number: u16) -> bool
     requires count { number ≡ count_of page.now }
-    requires within { place_of number ≤ length page.now }
+    requires within { offset_of number ≤ length page.now }
     requires long { length page.now ≤ PAGE_SIZE_MAX }
     requires each { (i : ℕ) → i < number → IsItem page.now i }
     ensures { IsTrue result ↔ IsRising (items_of page.now) }
@@ -95,7 +95,8 @@ fn rise(page: &[u8], number: u16) -> bool
     true
 }
 
-fn is_below(a: &[u8], b: &[u8]) -> bool
+/// Whether one key is below another: byte by byte, a proper prefix first.
+pub fn is_below(a: &[u8], b: &[u8]) -> bool
     ensures { IsTrue result ↔ IsBelow a.now b.now }
 {
     a.cmp(&b).is_lt()

@@ -69,7 +69,7 @@ pub fn is_leaf(page: &[u8]) -> bool
     page[KIND_AT as usize] == LEAF_KIND
 }
 
-/// The index of the leaf behind this one, 0 where there is none.
+/// The index of the leaf after this one, 0 where there is none.
 pub fn next(page: &[u8]) -> u32
     requires page { IsIndexPage page.now }
     requires leaf { (index_of page.now).leaf ≡ true }
@@ -78,7 +78,7 @@ pub fn next(page: &[u8]) -> u32
     get_u64(page, LINK_AT) as u32
 }
 
-/// Sets the index of the leaf behind this one.
+/// Sets the index of the leaf after this one.
 pub fn set_next(page: &mut [u8], next: u32, patch: &mut Patch)
     requires page { IsIndexPage page.old }
     requires leaf { (index_of page.old).leaf ≡ true }

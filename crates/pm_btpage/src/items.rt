@@ -4,7 +4,8 @@ ghost use Rattle.std.specs.Prelude.{◌≡◌, ◌+◌, ◌-◌, ◌<◌, ◌≤
 ghost use Rattle.pm_types.specs.Pages.{SameOutside, IsNoted};
 ghost use Rattle.pm_types.specs.Spans.{IsInSpan, span_of};
 ghost use Rattle.pm_types.specs.Fields.{bytes_at, Writes};
-ghost use Rattle.pm_btpage.specs.IndexPages.{index_of, items_of, item_at, place_of, key_in, word_in, with_items, with_item, with_word, capacity_of, GoesBefore, IsItem, IsIndexPage};
+ghost use Rattle.pm_types.specs.Keys.{HasKeyLength};
+ghost use Rattle.pm_btpage.specs.IndexPages.{index_of, items_of, item_at, offset_of, key_in, word_in, with_items, with_item, with_word, capacity_of, IsBetween, IsItem, IsIndexPage};
 
 use crate::head::{count, set_count};
 use crate::layout::{ITEM_LEN, ITEMS_AT, WORD_IN_ITEM};
@@ -13,9 +14,9 @@ use pm_types::fields::{get_u64, put_bytes, put_u64, put_zeros, set_u64};
 use pm_types::{KEY_MAX, PAGE_SIZE_MAX, Patch};
 
 /// Where an item stands, in bytes from the page's start.
-pub fn place(i: u16) -> u16
-    requires { place_of i ≤ PAGE_SIZE_MAX }
-    ensures { result ≡ place_of i }
+pub fn offset(i: u16) -> u16
+    requires { offset_of i ≤ PAGE_SIZE_MAX }
+    ensures { result ≡ offset_of i }
 {
     ITEMS_AT + ITEM_LEN * i
 }
@@ -24,19 +25,21 @@ pub fn place(i: u16) -> u16
 pub fn key_at(page: &[u8], i: u16) -> &[u8]
     requires page { IsIndexPage page.now }
     requires item { i < length (items_of page.now) }
-    ensures { result.now ≡ key_in (items_of page.now) i }
+    ensures key { result.now ≡ key_in (items_of page.now) i }
+    ensures length { HasKeyLength result.now }
 {
     stored_key(page, i)
 }
 
 /// The key of an item whose bytes are sound, whatever the rest of the page is.
 pub fn stored_key(page: &[u8], i: u16) -> &[u8]
-    requires within { place_of i + ITEM_LEN ≤ length page.now }
+    requires within { offset_of i + ITEM_LEN ≤ length page.now }
     requires long { length page.now ≤ PAGE_SIZE_MAX }
     requires sound { IsItem page.now i }
-    ensures { result.now ≡ (item_at page.now i).key }
+    ensures key { result.now ≡ (item_at page.now i).key }
+    ensures length { HasKeyLength result.now }
 {
-    let from = place(i) as usize + 1;
+    let from = offset(i) as usize + 1;
     let len = page[from - 1] as usize;
     &page[from..from + len]
 }
@@ -47,7 +50,7 @@ pub fn word_at(page: &[u8], i: u16) -> u64
     requires item { i < length (items_of page.now) }
     ensures { result ≡ word_in (items_of page.now) i }
 {
-    get_u64(page, place(i) + WORD_IN_ITEM)
+    get_u64(page, offset(i) + WORD_IN_ITEM)
 }
 
 /// Sets the word of an item.
@@ -60,16 +63,16 @@ pub fn set_word(page: &mut [u8], i: u16, word: u64, patch: &mut Patch)
         ≡ with_items (index_of page.old) (with_word (items_of page.old) i word) }
     ensures noted { IsNoted patch.old patch.new page.old page.new }
 {
-    set_u64(page, place(i) + WORD_IN_ITEM, word, patch);
+    set_u64(page, offset(i) + WORD_IN_ITEM, word, patch);
 }
 
-/// Puts an item before item i, or behind the last.
+/// Puts an item before item i, or after the last.
 pub fn insert_at(page: &mut [u8], i: u16, key: &[u8], word: u64, patch: &mut Patch)
     requires page { IsIndexPage page.old }
     requires room { length (items_of page.old) < capacity_of (length page.old) }
     requires some { 1 ≤ length key.now }
     requires short { length key.now ≤ KEY_MAX }
-    requires order { GoesBefore (items_of page.old) key.now i }
+    requires order { IsBetween (items_of page.old) key.now i }
     requires size { patch.old.page_size ≡ length page.old }
     ensures page { IsIndexPage page.new }
     ensures says { index_of page.new ≡ with_items (index_of page.old)
@@ -84,38 +87,38 @@ pub fn insert_at(page: &mut [u8], i: u16, key: &[u8], word: u64, patch: &mut Pat
 
 // Writes an item over the bytes of place i, which the patch notes.
 fn set_item(page: &mut [u8], i: u16, key: &[u8], word: u64, patch: &mut Patch)
-    requires within { place_of i + ITEM_LEN ≤ length page.old }
+    requires within { offset_of i + ITEM_LEN ≤ length page.old }
     requires long { length page.old ≤ PAGE_SIZE_MAX }
     requires some { 1 ≤ length key.now }
     requires short { length key.now ≤ KEY_MAX }
     requires size { patch.old.page_size ≡ length page.old }
     ensures item { item_at page.new i ≡ record { key = key.now; word = word } }
     ensures sound { IsItem page.new i }
-    ensures writes { Writes (span_of (place_of i) ITEM_LEN)
+    ensures writes { Writes (span_of (offset_of i) ITEM_LEN)
         page.old page.new patch.old patch.new }
 {
     put_item(page, i, key, word);
-    patch.add(place(i), ITEM_LEN);
+    patch.add(offset(i), ITEM_LEN);
 }
 
 // Writes an item over the bytes of place i. No patch notes it.
 fn put_item(page: &mut [u8], i: u16, key: &[u8], word: u64)
-    requires within { place_of i + ITEM_LEN ≤ length page.old }
+    requires within { offset_of i + ITEM_LEN ≤ length page.old }
     requires long { length page.old ≤ PAGE_SIZE_MAX }
     requires some { 1 ≤ length key.now }
     requires short { length key.now ≤ KEY_MAX }
     ensures item { item_at page.new i ≡ record { key = key.now; word = word } }
     ensures sound { IsItem page.new i }
-    ensures outside { SameOutside (IsInSpan (span_of (place_of i) ITEM_LEN)) page.old page.new }
+    ensures outside { SameOutside (IsInSpan (span_of (offset_of i) ITEM_LEN)) page.old page.new }
 {
-    let at = place(i);
+    let at = offset(i);
     put_bytes(page, at, &[key.len() as u8]);
     put_bytes(page, at + 1, key);
     pad_key(page, at, key.len() as u16);
     put_u64(page, at + WORD_IN_ITEM, word);
 }
 
-// Writes zeros behind the key of the item that begins at an offset.
+// Writes zeros after the key of the item that begins at an offset.
 fn pad_key(page: &mut [u8], at: u16, len: u16)
     requires within { at + WORD_IN_ITEM ≤ length page.old }
     requires long { length page.old ≤ PAGE_SIZE_MAX }

@@ -1,4 +1,4 @@
-//! Items of one index page put behind those of another.
+//! Items of one index page put after those of another.
 
 ghost use Rattle.std.specs.Prelude.{◌≡◌, ℕ, ◌+◌, ◌-◌, ◌<◌, ◌≤◌, ◌++◌, [], length, drop};
 ghost use Rattle.pm_types.specs.Pages.{IsNoted};
@@ -26,7 +26,7 @@ pub fn tail(left: &[u8], right: &mut [u8], at: u16, patch: &mut Patch)
     append(right, left, at, patch);
 }
 
-/// Puts the items of `right`, whose keys are above those of `left`, behind the items of `left`.
+/// Puts the items of `right`, whose keys are above those of `left`, after the items of `left`.
 pub fn merge(left: &mut [u8], right: &[u8], patch: &mut Patch)
     requires left { IsIndexPage left.old }
     requires right { IsIndexPage right.now }
@@ -72,7 +72,7 @@ pub fn parts_join(
     merge(left, right, left_patch);
 }
 
-// Puts the items of `from` from one on behind those of `into`.
+// Puts the items of `from` from one on after those of `into`.
 fn append(into: &mut [u8], from: &[u8], at: u16, patch: &mut Patch)
     requires into { IsIndexPage into.old }
     requires from { IsIndexPage from.now }

@@ -8,11 +8,11 @@ pub const INNER_KIND: u8 = 3;
 pub const COUNT_AT: u16 = 10;
 /// Where the index of the next leaf stands, or the name of an inner page's first child.
 pub const LINK_AT: u16 = 16;
-/// Where the link ends. What is behind it, up to the items, is zero.
+/// Where the link ends. What follows it, up to the items, is zero.
 pub const LINK_END: u16 = 24;
 /// Where the items begin.
 pub const ITEMS_AT: u16 = 32;
 /// The length of an item, in bytes.
 pub const ITEM_LEN: u16 = 73;
-/// Where an item's word stands in it, behind the length of its key and the padded key.
+/// Where an item's word stands in it, after the length of its key and the padded key.
 pub const WORD_IN_ITEM: u16 = 65;

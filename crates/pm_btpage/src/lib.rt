@@ -12,7 +12,7 @@ mod spans;
 #[cfg(test)]
 mod tests;
 
-pub use checks::check;
+pub use checks::{check, is_below};
 pub use head::{
     capacity, count, first, fresh_inner, fresh_leaf, is_leaf, next, set_first, set_next,
 };

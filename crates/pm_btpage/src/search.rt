@@ -13,7 +13,7 @@ use std::cmp::Ordering;
 pub enum Found {
     /// The item with this number has the key.
     At(u16),
-    /// No item has the key. It belongs before the item with this number, or behind the last.
+    /// No item has the key. It belongs before the item with this number, or after the last.
     Before(u16),
 }
 

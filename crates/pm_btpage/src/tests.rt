@@ -47,7 +47,7 @@ fn a_small_leaf_has_the_bytes_of_the_format(rt: HostRuntime) {
         ),
         (9, 1, false, "a byte that has to be zero"),
         (10, 0, false, "no items"),
-        (10, 1, false, "an item behind the last"),
+        (10, 1, false, "an item after the last"),
         (10, 3, false, "an item without a key"),
         (11, 1, false, "more items than the page has room for"),
         (12, 1, false, "a byte that has to be zero"),
@@ -69,8 +69,8 @@ fn a_small_leaf_has_the_bytes_of_the_format(rt: HostRuntime) {
         (103, 0, false, "a link without its flag"),
         (103, 2, false, "a link with another flag"),
         (104, 253, true, "a link to another row"),
-        (178, 1, false, "a byte behind the items"),
-        (1023, 1, false, "a byte behind the items"),
+        (178, 1, false, "a byte after the items"),
+        (1023, 1, false, "a byte after the items"),
     ];
     'rows: for (at, byte, is_good, what) in rows {
         let mut other = page;
@@ -133,15 +133,15 @@ fn add(page: &mut [u8], key: &[u8], patch: &mut Patch)
 #[test]
 fn keys_that_begin_alike_are_found_apart(rt: HostRuntime) {
     let longest = [97; 64];
-    let mut behind = longest;
-    behind[63] = 98;
+    let mut after = longest;
+    after[63] = 98;
     let mut page = [0; 1024];
     let mut patch = Patch::none(1024);
     fresh_leaf(&mut page, PageId::new(0, 1));
     let keys = [
         b"ab".as_slice(),
         b"a".as_slice(),
-        behind.as_slice(),
+        after.as_slice(),
         [255; 64].as_slice(),
         b"abc".as_slice(),
         longest.as_slice(),
@@ -156,7 +156,7 @@ fn keys_that_begin_alike_are_found_apart(rt: HostRuntime) {
         (b"aa".as_slice(), Found::At(1)),
         (b"aaa".as_slice(), Found::Before(2)),
         (longest.as_slice(), Found::At(2)),
-        (behind.as_slice(), Found::At(3)),
+        (after.as_slice(), Found::At(3)),
         (b"ab".as_slice(), Found::At(4)),
         (b"abb".as_slice(), Found::Before(5)),
         (b"abc".as_slice(), Found::At(5)),
@@ -197,4 +197,28 @@ fn a_page_that_was_divided_is_joined_again(rt: HostRuntime) {
         assert_eq!(rt; count(&right), 13 - at);
         assert_eq!(rt; check(&right, PageId::new(0, 2)), at < 13);
     }
+}
+
+#[test]
+fn an_insertion_notes_the_items_from_its_own_on(rt: HostRuntime) {
+    let mut page = [0; 4096];
+    let mut before = Patch::none(4096);
+    let mut patch = Patch::none(4096);
+    fresh_leaf(&mut page, PageId::new(2, 5));
+    insert_at(&mut page, 0, b"b", 0x0001_0002_0000_0006, &mut before);
+    insert_at(&mut page, 0, b"a", 0x0001_0002_0000_0007, &mut patch);
+    assert!(rt; !patch.is_whole() && patch.len() == 2);
+    assert_eq!(rt; (patch.range(0), patch.range(1)), ((10, 2), (32, 146)));
+}
+
+#[test]
+fn a_word_that_is_set_notes_its_eight_bytes(rt: HostRuntime) {
+    let mut page = [0; 4096];
+    let mut before = Patch::none(4096);
+    let mut patch = Patch::none(4096);
+    fresh_leaf(&mut page, PageId::new(2, 5));
+    insert_at(&mut page, 0, b"b", 0x0001_0002_0000_0006, &mut before);
+    set_word(&mut page, 0, 0x0101_0002_0000_0006, &mut patch);
+    assert!(rt; !patch.is_whole() && patch.len() == 1);
+    assert_eq!(rt; patch.range(0), (97, 8));
 }

@@ -9,7 +9,7 @@ use Rattle.std.proofs.lemmas.List.Edits.{Swapped, swapped_from_swap, length-swap
 use Rattle.std.proofs.lemmas.List.Sorted.{IsPermutation-keeps, IsPermutation-sym, All-permutation, sum_by-IsPermutation}
 use Rattle.pm_data.specs.declared.slots.Slot.{Slot}
 use Rattle.pm_data.specs.DataPages.{low_of, slot_at, is_empty, end_of, AreApart, AllApart, IsSound, row_bytes}
-use Rattle.pm_data.specs.Following.{Follow}
+use Rattle.pm_data.specs.Following.{AreConsecutive}
 use Rattle.pm_data.proofs.RowsByItem.{empty_slot, live_by_len, apart_from_empty, holds_some}
 
 abbrev none : Slot
@@ -33,7 +33,7 @@ Rise at end [] = at ≤ end
 Rise at end (s ∷ ss) = ((is_empty s ≡ true) × Rise at end ss) ⊎ ((is_empty s ≡ false) × (at ≤ s.start) × Rise (end_of s) end ss)
 
 -- rows that follow one another have as many bytes as lie there
-pub follow_sum : (xs : List Slot) (at end : ℕ) → Follow at end xs → at + len_sum xs ≡ end
+pub follow_sum : (xs : List Slot) (at end : ℕ) → AreConsecutive at end xs → at + len_sum xs ≡ end
 follow_sum [] at end h = omega (arith, h)
 follow_sum (s ∷ ss) at end h =
     let sum = sum_by-cons (λ (s : Slot). s.len) s ss in
@@ -42,7 +42,7 @@ follow_sum (s ∷ ss) at end h =
       | inr here ↦ omega (arith, sum, here.1, follow_sum ss (end_of s) end here.2)
     ]
 
-follow_above : (xs : List Slot) (at end k : ℕ) → Follow at end xs → k < length xs → (is_empty (get_or xs k none) ≡ true) ⊎ (at ≤ (get_or xs k none).start)
+follow_above : (xs : List Slot) (at end k : ℕ) → AreConsecutive at end xs → k < length xs → (is_empty (get_or xs k none) ≡ true) ⊎ (at ≤ (get_or xs k none).start)
 follow_above [] at end k h lt = absurd (omega arith)
 follow_above (s ∷ ss) at end zero h lt = elim h [ inl void ↦ inl void.0 | inr here ↦ inr (omega (arith, here.1)) ]
 follow_above (s ∷ ss) at end (suc k) h lt =
@@ -52,7 +52,7 @@ follow_above (s ∷ ss) at end (suc k) h lt =
     ]
 
 -- and each is apart from each later one
-follow_apart : (xs : List Slot) (at end m n : ℕ) → Follow at end xs → m < n → n < length xs → AreApart (get_or xs m none) (get_or xs n none)
+follow_apart : (xs : List Slot) (at end m n : ℕ) → AreConsecutive at end xs → m < n → n < length xs → AreApart (get_or xs m none) (get_or xs n none)
 follow_apart [] at end m n h less lt = absurd (omega arith)
 follow_apart (s ∷ ss) at end m zero h less lt = absurd (omega arith)
 follow_apart (s ∷ ss) at end zero (suc n) h less lt =
@@ -66,7 +66,7 @@ follow_apart (s ∷ ss) at end (suc m) (suc n) h less lt =
 pub flipped : (a b : Slot) → AreApart a b → AreApart b a
 flipped a b apart = elim apart [ inl x ↦ inr x | inr y ↦ inl y ]
 
-pub follow_distinct : (xs : List Slot) (at end : ℕ) → Follow at end xs → AllDistinctApart xs
+pub follow_distinct : (xs : List Slot) (at end : ℕ) → AreConsecutive at end xs → AllDistinctApart xs
 follow_distinct xs at end h m n not lt_m lt_n =
     elim (cases_lt m n) [
       | inl less ↦ follow_apart xs at end m n h less lt_n
@@ -83,7 +83,7 @@ rise_sum (s ∷ ss) at end h =
       | inr here ↦ omega (arith, sum, here.1, rise_sum ss (end_of s) end here.2)
     ]
 
-rise_follow : (xs : List Slot) (at end : ℕ) → Rise at end xs → at + len_sum xs ≡ end → Follow at end xs
+rise_follow : (xs : List Slot) (at end : ℕ) → Rise at end xs → at + len_sum xs ≡ end → AreConsecutive at end xs
 rise_follow [] at end h full = omega (arith, full)
 rise_follow (s ∷ ss) at end h full =
     let sum = sum_by-cons (λ (s : Slot). s.len) s ss in
@@ -112,7 +112,7 @@ rises (s ∷ ss) at end some fits order each apart =
             let later : s.start ≤ t.start = order 0 (suc k) none (omega arith) (omega arith) in
             elim (each (suc k) (omega arith)) [
               | inl empty ↦ absurd (omega (arith, later, here.1, (empty_slot t empty).0))
-              | inr there ↦ inr (there.0, elim (apart 0 (suc k) (omega arith) (omega arith)) [ inl behind ↦ behind | inr before ↦ absurd (omega (arith, before, later, there.0)) ], there.2)
+              | inr there ↦ inr (there.0, elim (apart 0 (suc k) (omega arith) (omega arith)) [ inl after ↦ after | inr before ↦ absurd (omega (arith, before, later, there.0)) ], there.2)
             ])
             apart',
       )
@@ -151,7 +151,7 @@ pub permuted_apart : (xs ys : List Slot) → IsPermutation xs ys → AllDistinct
 permuted_apart xs ys same all = IsPermutation-keeps xs AllDistinctApart all swapped_apart ys same
 
 -- the sorted slots follow one another exactly where the slots are apart and have as many bytes as lie there
-pub filled : (xs ys : List Slot) (at end : ℕ) → 1 ≤ at → at ≤ end → IsPermutation xs ys → IsNonDecreasingBy (λ (s : Slot). s.start) ys → All (IsBetween at end) xs → Follow at end ys ↔ (AllDistinctApart xs × (at + len_sum xs ≡ end))
+pub filled : (xs ys : List Slot) (at end : ℕ) → 1 ≤ at → at ≤ end → IsPermutation xs ys → IsNonDecreasingBy (λ (s : Slot). s.start) ys → All (IsBetween at end) xs → AreConsecutive at end ys ↔ (AllDistinctApart xs × (at + len_sum xs ≡ end))
 filled xs ys at end some fits same order each =
     let back = IsPermutation-sym xs ys same in
     let sum : len_sum ys ≡ len_sum xs = sum_by-IsPermutation (λ (s : Slot). s.len) xs ys same in (
@@ -170,20 +170,20 @@ slots_sum page (suc n) =
     ap (λ m. len_sum (map (slot_at page) (range_with_len 0 m))) one ∙ sum_by-map-range_with_len_more (λ (s : Slot). s.len) (slot_at page) 0 n n (omega arith) ∙ ap (λ b. b + (slot_at page n).len) (slots_sum page n)
 
 -- one slot of those that follow one another
-pub follow_void : (s : Slot) (ss : List Slot) (at end : ℕ) → is_empty s ≡ true → Follow at end (s ∷ ss) ↔ Follow at end ss
+pub follow_void : (s : Slot) (ss : List Slot) (at end : ℕ) → is_empty s ≡ true → AreConsecutive at end (s ∷ ss) ↔ AreConsecutive at end ss
 follow_void s ss at end empty = (λ h. elim h [ inl void ↦ void.1 | inr here ↦ absurd (false≢true (sym here.0 ∙ empty)) ], λ h. inl (empty, h))
 
-pub follow_live : (s : Slot) (ss : List Slot) (at end next : ℕ) → is_empty s ≡ false → s.start ≡ at → next ≡ at + s.len → Follow at end (s ∷ ss) ↔ Follow next end ss
+pub follow_live : (s : Slot) (ss : List Slot) (at end next : ℕ) → is_empty s ≡ false → s.start ≡ at → next ≡ at + s.len → AreConsecutive at end (s ∷ ss) ↔ AreConsecutive next end ss
 follow_live s ss at end next live start next_is =
     let same : end_of s ≡ next = omega (arith, start, next_is) in
-    (λ h. elim h [ inl void ↦ absurd (false≢true (sym live ∙ void.0)) | inr here ↦ subst (λ n. Follow n end ss) same here.2 ], λ h. inr (live, start, subst (λ n. Follow n end ss) (sym same) h))
+    (λ h. elim h [ inl void ↦ absurd (false≢true (sym live ∙ void.0)) | inr here ↦ subst (λ n. AreConsecutive n end ss) same here.2 ], λ h. inr (live, start, subst (λ n. AreConsecutive n end ss) (sym same) h))
 
-pub follow_gap : (s : Slot) (ss : List Slot) (at end : ℕ) → is_empty s ≡ false → (s.start ≡ at → ⊥) → Follow at end (s ∷ ss) → ⊥
+pub follow_gap : (s : Slot) (ss : List Slot) (at end : ℕ) → is_empty s ≡ false → (s.start ≡ at → ⊥) → AreConsecutive at end (s ∷ ss) → ⊥
 follow_gap s ss at end live gap h = elim h [ inl void ↦ absurd (false≢true (sym live ∙ void.0)) | inr here ↦ gap here.1 ]
 
 -- the same of the first n slots of a page, which are sound
 pub page_filled : (page : List ℕ) (n low : ℕ) (ys : List Slot) → low ≡ low_of page → 1 ≤ low → low ≤ length page → ((item : ℕ) → item < n → IsSound page (slot_at page item)) →
-    IsPermutation (map (slot_at page) (range_with_len 0 n)) ys → IsNonDecreasingBy (λ (s : Slot). s.start) ys → Follow low (length page) ys ↔ (AllApart page n × (low_of page + row_bytes page n ≡ length page))
+    IsPermutation (map (slot_at page) (range_with_len 0 n)) ys → IsNonDecreasingBy (λ (s : Slot). s.start) ys → AreConsecutive low (length page) ys ↔ (AllApart page n × (low_of page + row_bytes page n ≡ length page))
 page_filled page n low ys low_is some above each same order =
     let xs = map (slot_at page) (range_with_len 0 n) in
     let len : length xs ≡ n = length-map-range_with_len (slot_at page) 0 n in

@@ -1,17 +1,15 @@
 -- The head of a data page: made anew, and changed in its links alone.
-use Rattle.std.proofs.Common.{◌≡◌, ℕ, ◌+◌, ◌-◌, ◌<◌, ◌≤◌, ◌⊎◌, None, List, [], ◌∷◌, length, get_or, replicate, sym, ap, subst, ◌∙◌, inl, inr, arith, w16, w32}
-use Rattle.std.specs.Int.{from_le_bytes}
-use Rattle.std.proofs.lemmas.Grind.{same_number_lists}
-use Rattle.std.proofs.lemmas.List.{length-replicate, get_or-replicate}
+use Rattle.std.proofs.Common.{◌≡◌, ℕ, ◌+◌, ◌-◌, ◌<◌, ◌≤◌, ◌⊎◌, None, List, [], ◌∷◌, length, get_or, replicate, sym, ap, subst, ◌∙◌, inl, inr, arith}
+use Rattle.std.proofs.lemmas.List.{get_or-replicate}
 use Rattle.pm_types.specs.PageSizes.{IsPageSize}
 use Rattle.pm_types.specs.Spans.{IsInSpan, span_of}
 use Rattle.pm_types.specs.Pages.{SameOutside}
 use Rattle.pm_types.specs.declared.page_id.PageId.{PageId}
 use Rattle.pm_data.specs.declared.slots.Slot.{Slot}
 use Rattle.pm_types.proofs.PageSizeBounds.{page_size_bounds}
-use Rattle.pm_types.specs.Fields.{bytes_at, u16_at, u32_at, u64_at}
+use Rattle.pm_types.specs.Fields.{bytes_at, u64_at}
 use Rattle.pm_data.specs.DataPages.{count_of, low_of, slot_at, is_empty, rows_of, row_in, data_of, empty_page, HoldsRow, AreApart, IsDataPage, row_bytes}
-use Rattle.pm_types.proofs.Unchanged.{get_or-bytes_at, length-bytes_at, bytes_same, u16_same, u32_same, u64_same, zeros_at, zero_u16, zero_u32}
+use Rattle.pm_types.proofs.Unchanged.{get_or-bytes_at, bytes_same, u16_same, u32_same, u64_same, zero_u16, zero_u32}
 use Rattle.pm_data.proofs.SlotsKept.{slot_same}
 use Rattle.pm_data.proofs.RowsByItem.{rows_by_item, length-rows_of, get_or-rows_of, row_bytes_same, holds_same, low_within, row_in_same}
 

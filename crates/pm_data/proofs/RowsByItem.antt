@@ -1,14 +1,16 @@
 -- The rows of a page, item by item.
 use Rattle.std.proofs.Common.{◌≡◌, ℕ, zero, suc, ◌+◌, ◌-◌, ◌*◌, ◌<◌, ◌≤◌, List, length, get_or, Option, None, Some, ◌⊎◌, true, false, not, is_none, is_some, IsSome, ◌==◌, if◌then◌else◌, refl, sym, ap, subst, ◌∙◌, inl, inr, arith}
+use Rattle.std.specs.Prelude.{map, nat_lt}
+use Rattle.std.specs.List.{range_with_len, sum_by}
 use Rattle.std.proofs.lemmas.Bool.{cases_lt, cases_eq, cases_Bool, false≢true, and_parts, and_right, eqb-true, ne_eqb, lt-ltb, le-ltb}
 use Rattle.std.proofs.lemmas.List.{get_or_past}
 use Rattle.std.proofs.lemmas.List.Sums.{position_or_len_is, passes_at_first, prefix_len-le-length}
-use Rattle.std.proofs.lemmas.List.FromFn.{length-map-range_with_len, get_or-map-range_with_len, fill_by_all}
+use Rattle.std.proofs.lemmas.List.FromFn.{length-map-range_with_len, get_or-map-range_with_len, sum_by-map-range_with_len_more, fill_by_all}
 use Rattle.pm_data.specs.declared.slots.Slot.{Slot}
 use Rattle.pm_data.specs.Rows.{IsRow}
 use Rattle.pm_types.specs.Fields.{bytes_at}
 use Rattle.pm_types.proofs.Unchanged.{length-bytes_at}
-use Rattle.pm_data.specs.DataPages.{count_of, low_of, slot_at, is_empty, row_in, rows_of, row_at, free_item, Fits, HoldsRow, AreApart, HasRows, row_bytes}
+use Rattle.pm_data.specs.DataPages.{count_of, low_of, slot_at, is_empty, row_in, rows_of, row_at, row_len, free_item, room_of, room_beside, HasRoomFor, HoldsRow, IsSound, AreApart, HasRows, row_bytes}
 
 pub length-rows_of : (page : List ℕ) → length (rows_of page) ≡ count_of page
 length-rows_of page = length-map-range_with_len (λ item. row_in page (slot_at page item)) 0 (count_of page)
@@ -99,7 +101,7 @@ pub live_by_len : (slot : Slot) → 1 ≤ slot.len → is_empty slot ≡ false
 live_by_len slot some = and_right (slot.start == 0) (slot.len == 0) (ne_eqb slot.len 0 (λ e. omega (arith, e)))
 
 -- where a row fits, there is an item for it, and room for its slot
-pub fits_means : (page : List ℕ) (len : ℕ) → Fits page len → (free_item (rows_of page) < 254) × (32 + 4 * count_of page + 4 + len ≤ low_of page)
+pub fits_means : (page : List ℕ) (len : ℕ) → HasRoomFor page len → (free_item (rows_of page) < 254) × (32 + 4 * count_of page + 4 + len ≤ low_of page)
 fits_means page len fits =
     let room : ℕ = low_of page - 32 - 4 * count_of page in
     let free = free_item (rows_of page) in
@@ -137,3 +139,28 @@ row_bytes_end page (suc n) kept le empty =
 
 pub apart_from_empty : (a b : Slot) → is_empty a ≡ true → AreApart a b × AreApart b a
 apart_from_empty a b empty = let none = empty_slot a empty in (inl (omega (arith, none.0, none.1)), inr (omega (arith, none.0, none.1)))
+
+-- the bytes of a slot's row are as many as the slot says
+row_in_len : (page : List ℕ) (slot : Slot) → IsSound page slot → row_len (row_in page slot) ≡ slot.len
+row_in_len page slot sound = elim sound [
+  | inl empty ↦ ap row_len (row_in_empty page slot empty) ∙ sym (empty_slot slot empty).1
+  | inr holds ↦
+      let live = live_by_len slot (omega (arith, holds_some page slot holds)) in
+      ap row_len (row_in_live page slot live) ∙ length-bytes_at page slot.start slot.len holds.within
+]
+
+rows_len : (page : List ℕ) (n : ℕ) → ((item : ℕ) → item < n → IsSound page (slot_at page item)) → sum_by row_len (map (λ item. row_in page (slot_at page item)) (range_with_len 0 n)) ≡ row_bytes page n
+rows_len page zero each = refl
+rows_len page (suc n) each =
+    let one : suc n ≡ n + 1 = omega arith in
+    ap (λ k. sum_by row_len (map (λ item. row_in page (slot_at page item)) (range_with_len 0 k))) one
+    ∙ sum_by-map-range_with_len_more row_len (λ item. row_in page (slot_at page item)) 0 n n (omega arith)
+    ∙ (λ t. rows_len page n (λ k lt. each k (omega arith)) t + row_in_len page (slot_at page n) (each n (omega arith)) t)
+
+-- the room is what is left beside the rows
+pub room_is : (page : List ℕ) → HasRows page → room_of page ≡ room_beside (length page) (rows_of page)
+room_is page rows =
+    let bytes = rows_len page (count_of page) rows.each in
+    let count = length-rows_of page in
+    let left : low_of page - 32 - 4 * count_of page ≡ length page - sum_by row_len (rows_of page) - 32 - 4 * length (rows_of page) = omega (arith, bytes, count, rows.full) in
+    ap (λ n. if nat_lt (free_item (rows_of page)) 254 then n else 0) left

@@ -7,7 +7,7 @@
 --       10     2  count: how many slots there are, at most 254
 --       12     4  zero
 --       16     4  the index of the page before it in its bucket's chain, 0 where there is none
---       20     4  the index of the page behind it
+--       20     4  the index of the page after it
 --       24     2  low: where the rows begin
 --       26     6  zero
 --       32     4  the slot of item 0: start 2, length 2; both 0 where there is no row
@@ -15,7 +15,7 @@
 --
 -- Rows fill the page from `low` to its end. Between the slots and `low` the bytes are free.
 use Rattle.std.specs.Prelude.{◌≡◌, ◌≢◌, ℕ, zero, suc, ◌+◌, ◌-◌, ◌*◌, ◌<◌, ◌≤◌, ◌⊎◌, ◌&&◌, ◌==◌, Bool, true, false, if◌then◌else◌, nat_lt, Option, None, Some, List, [], ◌∷◌, ◌++◌, length, map, take, drop, slice_index, is_none}
-use Rattle.std.specs.List.{range_with_len, slice_index_or, position_or_len, suffix_len}
+use Rattle.std.specs.List.{range_with_len, slice_index_or, position_or_len, suffix_len, sum_by}
 use Rattle.pm_types.specs.PageSizes.{IsPageSize}
 use Rattle.pm_types.specs.declared.page_id.PageId.{PageId}
 use Rattle.pm_types.specs.declared.head.TheConstants.{KIND_AT}
@@ -87,11 +87,11 @@ empty_page id = record { id = id; prev = 0; next = 0; rows = [] }
 abbrev pub row_at : List (Option (List ℕ)) → ℕ → Option (List ℕ)
 row_at rows item = slice_index_or rows item None
 
--- the lowest item without a row, or the next one behind the last
+-- the lowest item without a row, or the one after the last
 abbrev pub free_item : List (Option (List ℕ)) → ℕ
 free_item rows = position_or_len is_none rows
 
--- the rows with this one, or none, as item, which is at most one behind the last
+-- the rows with this one, or none, as item, which is at most one after the last
 abbrev pub with_row : List (Option (List ℕ)) → ℕ → Option (List ℕ) → List (Option (List ℕ))
 with_row rows item row = take item rows ++ row ∷ drop (item + 1) rows
 
@@ -108,9 +108,19 @@ abbrev pub room_of : List ℕ → ℕ
 room_of page =
     if nat_lt (free_item (rows_of page)) SLOTS_MAX then low_of page - SLOTS_AT - SLOT_LEN * count_of page else 0
 
+-- how many bytes a row has, none where there is no row
+abbrev pub row_len : Option (List ℕ) → ℕ
+row_len None = 0
+row_len (Some row) = length row
+
+-- the room that a page of this size has beside these rows
+abbrev pub room_beside : ℕ → List (Option (List ℕ)) → ℕ
+room_beside size rows =
+    if nat_lt (free_item rows) SLOTS_MAX then size - sum_by row_len rows - SLOTS_AT - SLOT_LEN * length rows else 0
+
 -- the room takes a row of this length
-abbrev pub Fits : List ℕ → ℕ → Type 0
-Fits page len = len + SLOT_LEN ≤ room_of page
+abbrev pub HasRoomFor : List ℕ → ℕ → Type 0
+HasRoomFor page len = len + SLOT_LEN ≤ room_of page
 
 -- the kind and the bytes that are zero
 pub record HasHead (page : List ℕ) : Type 0 where

@@ -3,7 +3,7 @@
 ghost use Rattle.std.specs.Prelude.{◌≡◌, ℕ, ◌+◌, ◌*◌, ◌<◌, ◌≤◌, ◌↔◌, IsTrue, length, map, take};
 ghost use Rattle.std.specs.List.{range_with_len};
 ghost use Rattle.std.specs.List.Sorted.{IsPermutation, IsNonDecreasingBy};
-ghost use Rattle.pm_data.specs.Following.{Follow};
+ghost use Rattle.pm_data.specs.Following.{AreConsecutive};
 ghost use Rattle.pm_types.specs.PageSizes.{IsPageSize};
 ghost use Rattle.pm_data.specs.DataPages.{low_of, slot_at, row_bytes, IsSound, AllApart, HasHead, HasRows, IsStoredPage};
 
@@ -90,7 +90,7 @@ fn are_full(page: &[u8], count: u16, low: u16) -> bool
 {
     let mut slots = all_slots(page, count);
     sort_by_start(&mut slots[..count as usize]);
-    follow(&slots[..count as usize], low, page.len())
+    are_consecutive(&slots[..count as usize], low, page.len())
 }
 
 // The first `count` slots of the page.
@@ -114,8 +114,8 @@ fn sort_by_start(slots: &mut [Slot])
 }
 
 // Whether the rows of these slots follow one another from `low` to `end`.
-fn follow(slots: &[Slot], low: u16, end: usize) -> bool
-    ensures { IsTrue result ↔ Follow low end slots.now }
+fn are_consecutive(slots: &[Slot], low: u16, end: usize) -> bool
+    ensures { IsTrue result ↔ AreConsecutive low end slots.now }
 {
     let mut next = low as usize;
     'each: for slot in slots {

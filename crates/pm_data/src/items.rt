@@ -1,8 +1,8 @@
 //! What a data page says of its items, and how much room it has.
 
-ghost use Rattle.std.specs.Prelude.{◌≡◌, ℕ, ◌+◌, ◌≤◌, ◌↔◌, Some, None, IsTrue, MatchOption, IfSome, nat_lt};
+ghost use Rattle.std.specs.Prelude.{◌≡◌, ℕ, ◌+◌, ◌≤◌, ◌↔◌, Some, None, IsTrue, MatchOption, IfSome, nat_lt, length};
 ghost use Rattle.pm_data.specs.Rows.{IsRow};
-ghost use Rattle.pm_data.specs.DataPages.{rows_of, row_at, free_item, room_of, Fits, IsDataPage};
+ghost use Rattle.pm_data.specs.DataPages.{rows_of, row_at, free_item, room_of, room_beside, HasRoomFor, IsDataPage};
 
 use crate::layout::{COUNT_AT, LOW_AT, SLOT_LEN, SLOTS_AT, SLOTS_MAX};
 use crate::slots::get_slot;
@@ -27,7 +27,7 @@ pub fn row(page: &[u8], item: u8) -> Option<&[u8]>
     Some(&page[from..from + slot.len as usize])
 }
 
-/// The lowest item without a row, or the one behind the last.
+/// The lowest item without a row, or the one after the last.
 pub(crate) fn free_item(page: &[u8]) -> u16
     requires { IsDataPage page.now }
     ensures { result ≡ free_item (rows_of page.now) }
@@ -49,10 +49,11 @@ fn has_item(page: &[u8]) -> bool
     get_u16(page, COUNT_AT) < SLOTS_MAX || free_item(page) < SLOTS_MAX
 }
 
-/// The room for another row with its slot, in bytes.
+/// The room for another row with its slot, in bytes: what is left of the page beside its rows and their slots.
 pub fn room(page: &[u8]) -> u16
     requires { IsDataPage page.now }
-    ensures { result ≡ room_of page.now }
+    ensures room { result ≡ room_of page.now }
+    ensures beside { result ≡ room_beside (length page.now) (rows_of page.now) }
 {
     if !has_item(page) {
         return 0;
@@ -63,7 +64,7 @@ pub fn room(page: &[u8]) -> u16
 /// Whether a row of this length fits, in bytes.
 pub fn fits(page: &[u8], len: usize) -> bool
     requires { IsDataPage page.now }
-    ensures { IsTrue result ↔ Fits page.now len }
+    ensures { IsTrue result ↔ HasRoomFor page.now len }
 {
     let room = room(page) as usize;
     room >= SLOT_LEN as usize && len <= room - SLOT_LEN as usize

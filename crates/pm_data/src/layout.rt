@@ -8,7 +8,7 @@ pub const DATA_KIND: u8 = 4;
 pub const COUNT_AT: u16 = 10;
 /// Where the index of the page before it in the chain stands.
 pub const PREV_AT: u16 = 16;
-/// Where the index of the page behind it in the chain stands.
+/// Where the index of the page after it in the chain stands.
 pub const NEXT_AT: u16 = 20;
 /// Where the start of the rows stands.
 pub const LOW_AT: u16 = 24;

@@ -18,3 +18,4 @@ pub use items::{fits, room, row};
 pub use layout::{DATA_KIND, ROW_HEAD_LEN, SLOTS_MAX};
 pub use placing::insert;
 pub use removal::remove;
+pub use rows::{cache_in, key_in, value_in};

@@ -5,7 +5,7 @@ ghost use Rattle.pm_types.specs.Spans.{span_of};
 ghost use Rattle.pm_types.specs.Pages.{IsNoted};
 ghost use Rattle.pm_types.specs.Fields.{Writes};
 ghost use Rattle.pm_data.specs.Rows.{IsRow};
-ghost use Rattle.pm_data.specs.DataPages.{count_of, low_of, rows_of, free_item, Fits, IsDataPage, AddsRow};
+ghost use Rattle.pm_data.specs.DataPages.{count_of, low_of, rows_of, free_item, HasRoomFor, IsDataPage, AddsRow};
 
 use crate::items::free_item;
 use crate::layout::{COUNT_AT, LOW_AT, SLOT_LEN, SLOTS_AT, SLOTS_MAX};
@@ -18,7 +18,7 @@ pub fn insert(page: &mut [u8], row: &[u8], patch: &mut Patch) -> u8
     requires page { IsDataPage page.old }
     requires size { patch.old.page_size ≡ length page.old }
     requires row { IsRow row.now }
-    requires fits { Fits page.old (length row.now) }
+    requires fits { HasRoomFor page.old (length row.now) }
     ensures item { result ≡ free_item (rows_of page.old) }
     ensures few { result < SLOTS_MAX }
     ensures adds { AddsRow page.old page.new result row.now }
@@ -26,12 +26,12 @@ pub fn insert(page: &mut [u8], row: &[u8], patch: &mut Patch) -> u8
 {
     let item = free_item(page);
     let start = get_u16(page, LOW_AT) - row.len() as u16;
-    place(page, item, start, row, patch);
+    put_row(page, item, start, row, patch);
     item as u8
 }
 
 // Puts a row below the others, as the item that is free.
-fn place(page: &mut [u8], item: u16, start: u16, row: &[u8], patch: &mut Patch)
+fn put_row(page: &mut [u8], item: u16, start: u16, row: &[u8], patch: &mut Patch)
     requires page { IsDataPage page.old }
     requires size { patch.old.page_size ≡ length page.old }
     requires row { IsRow row.now }

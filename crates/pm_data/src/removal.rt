@@ -76,7 +76,7 @@ fn lift(page: &mut [u8], at: u16, gone: Slot)
     put_slot(page, at, Slot { start, len });
 }
 
-// Drops the empty slots behind the last that has a row.
+// Drops the empty slots after the last that has a row.
 fn drop_empty_end(page: &mut [u8], patch: &mut Patch)
     requires count { count_of page.old ≤ SLOTS_MAX }
     requires within { SLOTS_AT + SLOT_LEN * count_of page.old ≤ length page.old }

@@ -1,7 +1,9 @@
 //! The bytes of a row.
 
-ghost use Rattle.std.specs.Prelude.{◌↔◌, IsTrue};
-ghost use Rattle.pm_data.specs.Rows.{IsRow};
+ghost use Rattle.std.specs.Prelude.{◌≡◌, ◌<◌, ◌↔◌, IsTrue};
+ghost use Rattle.pm_types.specs.Keys.{HasKeyLength, HasValueLength};
+ghost use Rattle.pm_types.specs.declared.limits.TheConstants.{CACHES};
+ghost use Rattle.pm_data.specs.Rows.{IsRow, row_cache, row_key, row_value};
 
 use crate::layout::ROW_HEAD_LEN;
 use pm_types::fields::get_u16;
@@ -21,4 +23,33 @@ pub fn is_row(row: &[u8]) -> bool
         && key_len <= KEY_MAX
         && value_len <= VALUE_MAX
         && row.len() == ROW_HEAD_LEN + key_len + value_len
+}
+
+/// The cache of a row, below 16.
+pub fn cache_in(row: &[u8]) -> u8
+    requires { IsRow row.now }
+    ensures cache { result ≡ row_cache row.now }
+    ensures below { result < CACHES }
+{
+    row[0]
+}
+
+/// The key of a row.
+pub fn key_in(row: &[u8]) -> &[u8]
+    requires { IsRow row.now }
+    ensures key { result.now ≡ row_key row.now }
+    ensures length { HasKeyLength result.now }
+{
+    let key_end = ROW_HEAD_LEN + row[1] as usize;
+    &row[ROW_HEAD_LEN..key_end]
+}
+
+/// The value of a row.
+pub fn value_in(row: &[u8]) -> &[u8]
+    requires { IsRow row.now }
+    ensures value { result.now ≡ row_value row.now }
+    ensures length { HasValueLength result.now }
+{
+    let key_end = ROW_HEAD_LEN + row[1] as usize;
+    &row[key_end..key_end + get_u16(row, 2) as usize]
 }

@@ -3,7 +3,7 @@
 ghost use Rattle.std.specs.Prelude.{◌≡◌, length};
 ghost use Rattle.pm_data.specs.DataPages.{data_of, empty_page, IsDataPage};
 
-use crate::rows::is_row;
+use crate::rows::{cache_in, is_row, key_in, value_in};
 use crate::{check, fits, fresh, insert, links, remove, room, row, set_links};
 use pm_types::{PageId, Patch};
 use std::process::Abort;
@@ -138,4 +138,39 @@ fn a_page_with_one_wrong_byte_is_refused(rt: HostRuntime) {
         other[at] = byte;
         assert_eq!(rt; check(&other, id), is_good, "{what}");
     }
+}
+
+#[test]
+fn an_insertion_notes_the_row_and_what_names_it(rt: HostRuntime) {
+    let mut page = [0; 4096];
+    let mut patch = Patch::none(4096);
+    fresh(&mut page, PageId::new(2, 5));
+    put(&rt, &mut page, &FIRST, &mut patch);
+    assert!(rt; !patch.is_whole() && patch.len() == 4);
+    assert_eq!(rt; (patch.range(0), patch.range(1)), ((10, 2), (24, 2)));
+    assert_eq!(rt; (patch.range(2), patch.range(3)), ((32, 4), (4090, 6)));
+}
+
+#[test]
+fn a_removal_notes_the_rows_that_moved_and_their_slots(rt: HostRuntime) {
+    let mut page = [0; 4096];
+    let mut before = Patch::none(4096);
+    let mut patch = Patch::none(4096);
+    fresh(&mut page, PageId::new(2, 5));
+    put(&rt, &mut page, &FIRST, &mut before);
+    put(&rt, &mut page, &SECOND, &mut before);
+    take(&rt, &mut page, 0, &mut patch);
+    assert!(rt; !patch.is_whole() && patch.len() == 3);
+    assert_eq!(rt; (patch.range(0), patch.range(1)), ((24, 2), (32, 8)));
+    assert_eq!(rt; patch.range(2), (4089, 7));
+}
+
+#[test]
+fn a_row_has_a_cache_a_key_and_a_value(rt: HostRuntime) {
+    assert!(rt; is_row(&SECOND));
+    assert_eq!(rt; cache_in(&SECOND), 15);
+    assert_eq!(rt;
+        (key_in(&SECOND), value_in(&SECOND)),
+        (b"ab".as_slice(), b"2".as_slice())
+    );
 }

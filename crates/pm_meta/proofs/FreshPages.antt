@@ -10,8 +10,8 @@ use Rattle.pm_types.proofs.PageSizeBounds.{page_size_bounds}
 use Rattle.pm_types.proofs.Unchanged.{u64_same, zero_u32}
 use Rattle.pm_meta.specs.declared.slots.MetaSlot.{MetaSlot}
 use Rattle.pm_meta.specs.declared.slots.MetaSlot.TheVariants.{Pages}
-use Rattle.pm_meta.proofs.PlacesApart.{place_bounds, apart}
-use Rattle.pm_meta.specs.MetaPages.{field_of, place_of, IsSlot, IsStoredMeta, IsStoredReuse}
+use Rattle.pm_meta.proofs.OffsetsApart.{offset_bounds, index_bounds, apart}
+use Rattle.pm_meta.specs.MetaPages.{field_of, offset_of, IsSlot, IsStoredMeta, IsStoredReuse}
 
 -- what it then has, with a number of four bytes
 record HasWritten (was now : List ℕ) (id : PageId) (kind at : ℕ) : Type 0 where
@@ -48,19 +48,19 @@ fresh_stored was now id n max_rows page outside pages some few =
         form = record {
           kind = w.kind_is;
           before = λ k ge lt. w.zeros k ge (omega (arith, (page_size_bounds (length was) size').0)) (inl (omega arith));
-          behind = λ k ge lt. w.zeros k (omega arith) (omega (arith, w.size)) (inr (omega arith));
+          after = λ k ge lt. w.zeros k (omega arith) (omega (arith, w.size)) (inr (omega arith));
         };
       };
       counts = record { some = omega (arith, pages); pages = omega (arith, pages); rows = omega (arith, rows) };
-      below = λ i lt. let none = zero_field was now id (32 + 4 * i) size' w (omega arith) (omega arith) (inl (omega arith)) in omega (arith, none, pages);
+      below = λ slot is. let here = index_bounds slot is in let none = zero_field was now id (offset_of slot) size' w here.0 (omega (arith, here.1)) (inl here.1) in omega (arith, none, pages);
     }
 
 pub fresh_zero : (was now : List ℕ) (id : PageId) (slot : MetaSlot) → IsBlank id 1 was → SameOutside (IsInSpan (span_of 164 4)) was now → IsSlot slot → (slot ≡ Pages → ⊥) → field_of now slot ≡ 0
 fresh_zero was now id slot page outside is other =
     let size' = page.size in
     let w = written was now id 1 164 size' (omega arith) page outside in
-    let here = place_bounds slot is in
-    zero_field was now id (place_of slot) size' w here.0 here.1 (elim (apart slot Pages is tt other) [ inl below ↦ inl below | inr above ↦ inr above ])
+    let here = offset_bounds slot is in
+    zero_field was now id (offset_of slot) size' w here.0 here.1 (elim (apart slot Pages is tt other) [ inl below ↦ inl below | inr above ↦ inr above ])
 
 pub fresh_reuse_stored : (was now : List ℕ) (id : PageId) → IsBlank id 5 was → SameOutside (IsInSpan (span_of 16 4)) was now → IsStoredReuse id now
 fresh_reuse_stored was now id page outside =
@@ -72,6 +72,6 @@ fresh_reuse_stored was now id page outside =
         size = subst IsPageSize (sym w.size) size';
         kind = w.kind_is;
         before = λ k ge lt. w.zeros k ge (omega (arith, (page_size_bounds (length was) size').0)) (inl (omega arith));
-        behind = λ k ge lt. w.zeros k (omega arith) (omega (arith, w.size)) (inr (omega arith));
+        after = λ k ge lt. w.zeros k (omega arith) (omega (arith, w.size)) (inr (omega arith));
       };
     }

@@ -1,3 +1,5 @@
 pub mod FreshPages
+pub mod Indexes
 pub mod OneField
-pub mod PlacesApart
+pub mod OffsetsApart
+pub mod StoredPages

@@ -37,23 +37,31 @@ IsSlot Reuse = Unit {0}
 IsSlot Pages = Unit {0}
 IsSlot Rows = Unit {0}
 
+-- the number in this slot is the index of a page
+abbrev pub IsPageSlot : MetaSlot → Type 0
+IsPageSlot (Root cache) = cache < CACHES
+IsPageSlot (Bucket bucket) = bucket < BUCKETS
+IsPageSlot Reuse = Unit {0}
+IsPageSlot Pages = ⊥
+IsPageSlot Rows = ⊥
+
 -- where the number of a slot stands
-abbrev pub place_of : MetaSlot → ℕ
-place_of (Root cache) = FIELDS_AT + 4 * cache
-place_of (Bucket bucket) = HEADS_AT + 4 * bucket
-place_of Reuse = REUSE_AT
-place_of Pages = PAGES_AT
-place_of Rows = ROWS_AT
+abbrev pub offset_of : MetaSlot → ℕ
+offset_of (Root cache) = FIELDS_AT + 4 * cache
+offset_of (Bucket bucket) = HEADS_AT + 4 * bucket
+offset_of Reuse = REUSE_AT
+offset_of Pages = PAGES_AT
+offset_of Rows = ROWS_AT
 
 -- the number in a slot
 abbrev pub field_of : List ℕ → MetaSlot → ℕ
-field_of page slot = u32_at page (place_of slot)
+field_of page slot = u32_at page (offset_of slot)
 
 -- the kind, and the bytes that are zero
 pub record HasForm (page : List ℕ) : Type 0 where
   pub kind : slice_index page KIND_AT ≡ META_KIND
   pub before : AreZero page 9 FIELDS_AT
-  pub behind : AreZero page FIELDS_END (length page)
+  pub after : AreZero page FIELDS_END (length page)
 
 -- the page count and the row count are within their limits
 pub record HasCounts (max_rows : ℕ) (page : List ℕ) : Type 0 where
@@ -63,7 +71,16 @@ pub record HasCounts (max_rows : ℕ) (page : List ℕ) : Type 0 where
 
 -- each root and each head of a chain is below this page count
 abbrev pub AllBelow : ℕ → List ℕ → Type 0
-AllBelow pages page = (i : ℕ) → i < INDEXES → u32_at page (FIELDS_AT + 4 * i) < pages
+AllBelow pages page = (slot : MetaSlot) → IsPageSlot slot → field_of page slot < pages
+
+-- the number may stand in this slot of a meta page: an index is below the page count, no index that is there is at a new
+-- page count or above it, and no count is past its limit
+abbrev pub IsInBounds : ℕ → List ℕ → MetaSlot → ℕ → Type 0
+IsInBounds max_rows page (Root cache) index = index < field_of page Pages
+IsInBounds max_rows page (Bucket bucket) index = index < field_of page Pages
+IsInBounds max_rows page Reuse index = index < field_of page Pages
+IsInBounds max_rows page Pages pages = (1 ≤ pages) × (pages ≤ 2 * max_rows + EXTRA_PAGES) × AllBelow pages page
+IsInBounds max_rows page Rows rows = rows ≤ max_rows
 
 -- a meta page
 pub record IsMetaPage (page : List ℕ) : Type 0 where
@@ -86,7 +103,7 @@ pub record IsReusePage (page : List ℕ) : Type 0 where
   pub size : IsPageSize (length page)
   pub kind : slice_index page KIND_AT ≡ REUSE_KIND
   pub before : AreZero page 9 NEXT_AT
-  pub behind : AreZero page REUSE_END (length page)
+  pub after : AreZero page REUSE_END (length page)
 
 -- a reuse page as it may stand in its file: under its own name
 pub record IsStoredReuse (id : PageId) (page : List ℕ) : Type 0 where

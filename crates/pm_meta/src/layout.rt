@@ -14,7 +14,7 @@ pub const REUSE_AT: u16 = 160;
 pub const PAGES_AT: u16 = 164;
 /// Where the row count stands.
 pub const ROWS_AT: u16 = 168;
-/// Where the numbers of a meta page end. What is behind is zero.
+/// Where the numbers of a meta page end. What follows is zero.
 pub const FIELDS_END: u16 = 172;
 /// How many of the first numbers of a meta page name pages: sixteen roots, sixteen buckets and the reuse chain.
 pub const INDEXES: u16 = 33;

@@ -10,7 +10,7 @@ mod slots;
 mod tests;
 
 pub use checks::check;
-pub use layout::{META_KIND, REUSE_KIND};
+pub use layout::{BUCKETS, META_KIND, REUSE_KIND};
 pub use meta::{fresh, get, set};
 pub use reuse::{check_reuse, fresh_reuse, reuse_next};
 pub use slots::MetaSlot;

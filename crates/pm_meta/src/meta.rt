@@ -4,12 +4,13 @@ ghost use Rattle.std.specs.Prelude.{◌≡◌, ◌≢◌, ℕ, length};
 ghost use Rattle.pm_types.specs.PageSizes.{IsPageSize};
 ghost use Rattle.pm_types.specs.Pages.{IsNoted};
 ghost use Rattle.pm_types.specs.Fields.{u64_at};
+ghost use Rattle.pm_types.specs.declared.page_id.PageId.{PageId};
 ghost use Rattle.pm_meta.specs.declared.slots.MetaSlot.{MetaSlot};
 ghost use Rattle.pm_meta.specs.declared.slots.MetaSlot.TheVariants.{Pages};
-ghost use Rattle.pm_meta.specs.MetaPages.{field_of, IsSlot, IsMetaPage, IsStoredMeta};
+ghost use Rattle.pm_meta.specs.MetaPages.{field_of, IsSlot, IsInBounds, IsMetaPage, IsStoredMeta};
 
 use crate::layout::{META_KIND, PAGES_AT};
-use crate::slots::{MetaSlot, place};
+use crate::slots::{MetaSlot, offset};
 use pm_types::fields::{get_u32, put_u32, set_u32};
 use pm_types::head::put_head;
 use pm_types::{PageId, Patch};
@@ -33,20 +34,22 @@ pub fn get(page: &[u8], slot: MetaSlot) -> u32
     requires slot { IsSlot slot }
     ensures { result ≡ field_of page.now slot }
 {
-    get_u32(page, place(slot))
+    get_u32(page, offset(slot))
 }
 
-/// Sets the number in a slot.
+/// Sets the number in a slot. Where the page may stand in its file, and the number is in bounds, it still may.
 pub fn set(page: &mut [u8], slot: MetaSlot, value: u32, patch: &mut Patch)
     requires page { IsMetaPage page.old }
     requires slot { IsSlot slot }
     requires size { patch.old.page_size ≡ length page.old }
     ensures page { IsMetaPage page.new }
+    ensures stored { (id : PageId) (max_rows : ℕ) → IsStoredMeta id max_rows page.old
+        → IsInBounds max_rows page.old slot value → IsStoredMeta id max_rows page.new }
     ensures value { field_of page.new slot ≡ value }
     ensures others { (other : MetaSlot) → IsSlot other → other ≢ slot
         → field_of page.new other ≡ field_of page.old other }
     ensures id { u64_at page.new 0 ≡ u64_at page.old 0 }
     ensures noted { IsNoted patch.old patch.new page.old page.new }
 {
-    set_u32(page, place(slot), value, patch);
+    set_u32(page, offset(slot), value, patch);
 }

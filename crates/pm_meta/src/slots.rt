@@ -1,7 +1,7 @@
 //! The numbers of a meta page, by name.
 
 ghost use Rattle.std.specs.Prelude.{◌≡◌};
-ghost use Rattle.pm_meta.specs.MetaPages.{place_of, IsSlot};
+ghost use Rattle.pm_meta.specs.MetaPages.{offset_of, IsSlot};
 
 use crate::layout::{FIELDS_AT, HEADS_AT, PAGES_AT, REUSE_AT, ROWS_AT};
 
@@ -21,9 +21,9 @@ pub enum MetaSlot {
 }
 
 /// Where the number of a slot stands, in bytes from the page's start.
-pub fn place(slot: MetaSlot) -> u16
+pub fn offset(slot: MetaSlot) -> u16
     requires { IsSlot slot }
-    ensures { result ≡ place_of slot }
+    ensures { result ≡ offset_of slot }
 {
     match slot {
         MetaSlot::Root(cache) => FIELDS_AT + 4 * cache as u16,

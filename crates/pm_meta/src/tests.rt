@@ -64,3 +64,15 @@ fn a_reuse_page_names_the_next(rt: HostRuntime) {
     page[20] = 1;
     assert!(rt; !check_reuse(&page, id));
 }
+
+#[test]
+fn a_number_that_is_set_notes_its_four_bytes(rt: HostRuntime) {
+    let mut page = [0; 1024];
+    let mut patch = Patch::none(1024);
+    let id = PageId::new(3, 0);
+    fresh(&mut page, id);
+    assert!(rt; check(&page, id, 0));
+    set(&mut page, MetaSlot::Rows, 9, &mut patch);
+    assert!(rt; !patch.is_whole() && patch.len() == 1);
+    assert_eq!(rt; patch.range(0), (168, 4));
+}

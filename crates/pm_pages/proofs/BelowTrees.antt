@@ -8,6 +8,7 @@ use Rattle.std.proofs.lemmas.List.Elements.{All-append}
 use Rattle.std.proofs.lemmas.List.Concat.{flat_map-append}
 use Rattle.pm_btpage.specs.declared.layout.TheConstants.{LEAF_KIND, INNER_KIND}
 use Rattle.pm_btpage.specs.IndexPages.{Item, items_of, index_of, capacity_of, IsIndexPage}
+use Rattle.pm_pages.proofs.RowsFrom.{range_more}
 use Rattle.pm_pages.specs.Rows.{Partition, page_at, kind_of}
 use Rattle.pm_pages.specs.PageLists.{MayRead}
 use Rattle.pm_pages.specs.Trees.{children_of, child_of, levels_from, leaves_below, nodes_below, items_in, items_below, IsNode, IsWithin, IsTree, IsSomeTree, index_in}
@@ -26,14 +27,14 @@ all_below P pages levels (child ∷ children) =
     let own : List Item = items_below pages levels child in
     let rest : List ℕ = flat_map (leaves_below pages levels) children in
     let both : items_in pages (leaves_below pages levels child ++ rest) ≡ own ++ items_in pages rest = flat_map-append (λ i. items_of (page_at pages i)) (leaves_below pages levels child) rest in
-    let behind = all_below P pages levels children in (
-      λ all k lt. each_child (all_parts P own (items_in pages rest) (subst (All P) both all)) behind.0 k lt,
-      λ each. subst (All P) (sym both) (All-append P own (items_in pages rest) (each 0 (omega arith)) (behind.1 (λ k lt. each (suc k) (omega (arith, lt))))),
+    let after = all_below P pages levels children in (
+      λ all k lt. each_child (all_parts P own (items_in pages rest) (subst (All P) both all)) after.0 k lt,
+      λ each. subst (All P) (sym both) (All-append P own (items_in pages rest) (each 0 (omega arith)) (after.1 (λ k lt. each (suc k) (omega (arith, lt))))),
     )
   where
     each_child : All P (items_below pages levels child) × All P (items_in pages (flat_map (leaves_below pages levels) children)) → (All P (items_in pages (flat_map (leaves_below pages levels) children)) → (k : ℕ) → k < length children → All P (items_below pages levels (get_or children k 0))) → (k : ℕ) → k < length {A = ℕ} (child ∷ children) → All P (items_below pages levels (get_or (child ∷ children) k 0))
-    each_child parts behind zero lt = parts.0
-    each_child parts behind (suc k) lt = behind parts.1 k (omega (arith, lt))
+    each_child parts after zero lt = parts.0
+    each_child parts after (suc k) lt = after parts.1 k (omega (arith, lt))
 
 pub length-children : (page : List ℕ) → length (children_of page) ≡ length (items_of page) + 1
 length-children page = omega (arith, length-map (items_of page) (λ (item : Item). index_in item.word))
@@ -139,16 +140,12 @@ all_leaves pages zero least at tree = one at tree.kind_is
 all_leaves pages (suc levels) least at tree =
     all_flat (λ i. kind_of (page_at pages i) ≡ LEAF_KIND) (leaves_below pages levels) (children_of (page_at pages at)) (λ k d lt. all_leaves pages levels (capacity_of (length (page_at pages at)) / 2) (get_or (children_of (page_at pages at)) k d) (tree.1 k d lt))
 
--- the numbers from one on are it and those behind it
-range_next : (i n : ℕ) → i < n → range_with_len i (n - i) ≡ i ∷ range_with_len (i + 1) (n - (i + 1))
-range_next i n lt = (let e : n - i ≡ suc (n - (i + 1)) = omega arith in ap (range_with_len i) e)
-
 -- one number's list more
 pub one_list_more : (f : ℕ → List ℕ) (out out' all : List ℕ) (i n : ℕ) → i < n → out ++ flat_map f (range_with_len i (n - i)) ≡ all → out' ≡ out ++ f i → out' ++ flat_map f (range_with_len (i + 1) (n - (i + 1))) ≡ all
 one_list_more f out out' all i n lt before more =
     ap (λ (t : List ℕ). t ++ flat_map f (range_with_len (i + 1) (n - (i + 1)))) more
     ∙ append_assoc out (f i) (flat_map f (range_with_len (i + 1) (n - (i + 1))))
-    ∙ ap (λ (is : List ℕ). out ++ flat_map f is) (sym (range_next i n lt))
+    ∙ ap (λ (is : List ℕ). out ++ flat_map f is) (sym (range_more i n lt))
     ∙ before
 
 -- no number is left

@@ -22,7 +22,7 @@ none_seen list wanted = record {
   below = λ j d lt. absurd (omega arith);
 }
 
--- the numbers from one on are it and those behind it
+-- the numbers from one on are it and those after it
 times-drop : (list : List ℕ) (k i n : ℕ) → k < length list → n ≡ get_or list k n → times i (drop k list) ≡ one_if (n == i) + times i (drop (k + 1) list)
 times-drop list k i n lt is = ap (times i) (drop_more list k n lt) ∙ ap (λ m. one_if (m == i) + times i (drop (k + 1) list)) (sym is)
 

@@ -1,10 +1,13 @@
 pub mod AskedPages
-pub mod Exactly
 pub mod BelowTrees
 pub mod DeltaLaw
+pub mod Exactly
+pub mod GrownPartitions
 pub mod PageReads
 pub mod PlainSteps
 pub mod RowsFrom
+pub mod SamePages
 pub mod TreeLists
 pub mod Walks
+pub mod WholePages
 pub mod WrittenRanges

@@ -1,70 +1,113 @@
 -- What a change of the list of pages that were asked for, or of the pages, does to what contracts see of plain pages.
-use Rattle.std.proofs.Common.{◌≡◌, ℕ, ◌+◌, ◌-◌, ◌<◌, ◌≤◌, ◌⊎◌, Bool, true, List, [], ◌∷◌, ◌++◌, length, set, get_or, replicate, subst, refl, sym, ap, ◌∙◌, inl, inr, arith}
-use Rattle.std.specs.Prelude.{Option, None, Some, IsSome, IsSomeAnd, IsTrue, unwrap_or, slice_get}
+use Rattle.std.proofs.Common.{◌≡◌, ◌≢◌, ℕ, ◌+◌, ◌-◌, ◌<◌, ◌≤◌, ◌⊎◌, true, List, [], ◌∷◌, ◌++◌, length, set, get_or, replicate, subst, refl, sym, ap, ◌∙◌, inl, inr, arith}
+use Rattle.std.specs.Prelude.{Option, None, Some, IsSome, IsSomeAnd, IsTrue, All, unwrap_or, slice_get}
 use Rattle.std.specs.Option.{option_map}
 use Rattle.std.proofs.lemmas.Bool.{cases_eq, cases_lt, eq-eqb, ne_eqb}
-use Rattle.std.proofs.lemmas.List.{length-set, length-append, get_or-set_same, get_or-set_other, get_or_append_left, get_or-append_right}
+use Rattle.std.proofs.lemmas.List.{length-append, get_or_append_left, get_or-append_right}
+use Rattle.std.proofs.lemmas.List.Elements.{All-append, All-from_recursion}
 use Rattle.std.proofs.lemmas.Option.{slice_get-get_or, slice_get_past}
 use Rattle.pm_types.specs.declared.page.Page.{Page}
 use Rattle.pm_types.specs.Spans.{Coverage}
 use Rattle.pm_pages.specs.declared.asked.Asked.{Asked}
-use Rattle.pm_pages.specs.Asked.{to_read, entry_of, entry_or_new, patch_of, IsLentIn, HaveSize, lent_below, Registers, MakesEntry, NotesEntry}
-use Rattle.pm_pages.proofs.AskedPages.{fewer_lent, lent_here}
-use Rattle.pm_pages.specs.PlainRooms.{HasRooms}
+use Rattle.pm_pages.specs.Asked.{to_read, entry_of, entry_or_new, is_asked, is_lent_in, patch_of, HaveSize, RegistersPage, MakesEntry, NotesEntry}
 use Rattle.pm_pages.specs.PageLists.{pages_in}
+use Rattle.pm_pages.specs.Paged.{Paged, JoinsPatch, IsWhole, with_page, TakesRoom, AsksPage, MakesPage, NotesPatch}
 use Rattle.pm_pages.specs.Plain.{Shown, paged}
-use Rattle.pm_pages.specs.Paged.{CoversByte, Joins, IsNext, with_page, Asks, Writes, Makes, Notes}
+use Rattle.pm_pages.specs.PlainRooms.{AreZeros, IsOfSize, IsOrdered, HasRooms, AreReady}
+use Rattle.pm_pages.specs.PlainLaws.{pages_in-set}
+use Rattle.pm_pages.proofs.AskedPages.{length_after}
 
 -- what holds of the entry of the page that was asked for, and of an entry that stays, holds of each
-pub each_entry : (R : Option Asked → Option Asked → Type 0) → ((o : Option Asked) → R o o) → (was now : List Asked) (i : ℕ) → Registers was now i → R (entry_of was i) (entry_of now i) → (j : ℕ) → R (entry_of was j) (entry_of now j)
+pub each_entry : (R : Option Asked → Option Asked → Type 0) → ((o : Option Asked) → R o o) → (was now : List Asked) (i : ℕ) → RegistersPage was now i → R (entry_of was i) (entry_of now i) → (j : ℕ) → R (entry_of was j) (entry_of now j)
 each_entry R stays was now i registers here j = elim (cases_eq j i) [
   | inl same ↦ subst (λ k. R (entry_of was k) (entry_of now k)) (sym same) here
   | inr away ↦ subst (λ o. R (entry_of was j) o) (sym (registers.others j away)) (stays (entry_of was j))
 ]
 
--- the page counts as asked for
-pub asks : (s s' : Shown) (i : ℕ) → Registers s.asked s'.asked i → Asks (paged s) (paged s') i
-asks s s' i registers = record {
-  this = registers.here;
-  others = each_entry (λ a b. IsSome a → IsSome b) (λ o h. h) s.asked s'.asked i registers (λ h. registers.here);
-  cost = omega (arith, registers.cost);
-  again = λ there. omega (arith, registers.again there);
-}
+pub some_asked : (o : Option Asked) → IsSome o → IsTrue (is_asked o)
+some_asked None some = absurd (cc some)
+some_asked (Some entry) some = refl
 
--- the room for new pages is as it was
-pub rooms_kept : (is_ready : Bool) (pages rooms capacity i : ℕ) (was now : List Asked) → Registers was now i → HasRooms is_ready pages rooms capacity was → HasRooms is_ready pages rooms capacity now
-rooms_kept is_ready pages rooms capacity i was now registers has ready =
-    let more = registers.more pages in
-    (omega (arith, (has ready).0, more), omega (arith, (has ready).1, more))
+pub asked_some : (o : Option Asked) → IsTrue (is_asked o) → IsSome o
+asked_some None asked = absurd (cc asked)
+asked_some (Some entry) asked = refl
 
--- not too many pages were asked for
-pub few_kept : (i : ℕ) (was now : List Asked) → Registers was now i → length was ≤ 32 → (IsSome (entry_of was i) ⊎ (0 < 32 - length was)) → length now ≤ 32
-few_kept i was now registers few askable = elim askable [
-  | inl there ↦ omega (arith, registers.again there)
-  | inr spare ↦ omega (arith, registers.cost)
-]
+-- what was lent stays so
+abbrev pub StaysLent : Option Asked → Option Asked → Type 0
+StaysLent was now = IsTrue (is_lent_in was) → IsTrue (is_lent_in now)
 
--- all patches are of pages of one size where that of the page that was asked for is
-pub sizes_kept : (size i : ℕ) (was now : List Asked) → Registers was now i → HaveSize size was → (((patch : Coverage) → patch_of (entry_of was i) ≡ Some patch → patch.page_size ≡ size) → (patch : Coverage) → patch_of (entry_of now i) ≡ Some patch → patch.page_size ≡ size) → HaveSize size now
-sizes_kept size i was now registers sizes here j =
-    each_entry (λ a b. ((patch : Coverage) → patch_of a ≡ Some patch → patch.page_size ≡ size) → (patch : Coverage) → patch_of b ≡ Some patch → patch.page_size ≡ size) (λ o h. h) was now i registers here j (sizes j)
+-- the patch is the one that it was
+abbrev pub SamePatch : Option Asked → Option Asked → Type 0
+SamePatch was now = patch_of now ≡ patch_of was
 
--- an entry that stays, or is that of a page asked for to be read, has the patch that it had
+-- an entry that stays, or is that of a page asked for to be read, is lent as before, and has the patch that it had
+same_lent : (o : Option Asked) (i : ℕ) → is_lent_in (Some (unwrap_or o (to_read i))) ≡ is_lent_in o
+same_lent None i = refl
+same_lent (Some entry) i = refl
+
 same_patch : (o : Option Asked) (i : ℕ) → patch_of (Some (unwrap_or o (to_read i))) ≡ patch_of o
 same_patch None i = refl
 same_patch (Some entry) i = refl
 
-pub sizes_lent : (size i : ℕ) (was now : List Asked) → Registers was now i → HaveSize size was → entry_of now i ≡ Some (record (entry_or_new was i) { is_lent = true }) → HaveSize size now
-sizes_lent size i was now registers sizes is = sizes_kept size i was now registers sizes (λ h patch e. h patch (sym (same_patch (entry_of was i) i) ∙ sym (ap patch_of is) ∙ e))
+-- the page counts as asked for
+pub takes_room : (s s' : Shown) (i : ℕ) → RegistersPage s.asked s'.asked i → TakesRoom (paged s) (paged s') i
+takes_room s s' i registers = record {
+  others = each_entry (λ a b. IsTrue (is_asked a) → IsTrue (is_asked b)) (λ o h. h) s.asked s'.asked i registers (λ h. some_asked (entry_of s'.asked i) registers.here);
+  most = omega (arith, (length_after s.asked s'.asked i registers).1);
+  free = inl (some_asked (entry_of s'.asked i) registers.here);
+  again = λ h. omega (arith, registers.again (asked_some (entry_of s.asked i) h));
+}
 
-made_size : (size : ℕ) (o : Option Asked) → IsSomeAnd o (MakesEntry size) → (patch : Coverage) → patch_of o ≡ Some patch → patch.page_size ≡ size
-made_size size None made patch e = absurd made
-made_size size (Some entry) made patch e = made.size patch e
+-- what a change of one entry keeps of all
+pub record KeepsEntries (was now : List Asked) (i : ℕ) : Type 0 where
+  pub registers : RegistersPage was now i
+  pub lent : (j : ℕ) → StaysLent (entry_of was j) (entry_of now j)
+  pub patches : (size : ℕ) → HaveSize size was → HaveSize size now
 
-pub sizes_made : (size i : ℕ) (was now : List Asked) → Registers was now i → HaveSize size was → IsSomeAnd (entry_of now i) (MakesEntry size) → HaveSize size now
-sizes_made size i was now registers sizes made = sizes_kept size i was now registers sizes (λ h. made_size size (entry_of now i) made)
+-- a page was asked for to be read
+pub keeps_read : (was now : List Asked) (i : ℕ) → RegistersPage was now i → entry_of now i ≡ Some (entry_or_new was i) → KeepsEntries was now i × ((j : ℕ) → is_lent_in (entry_of now j) ≡ is_lent_in (entry_of was j)) × ((j : ℕ) → SamePatch (entry_of was j) (entry_of now j))
+keeps_read was now i registers is =
+    let lent = each_entry (λ a b. is_lent_in b ≡ is_lent_in a) (λ o. refl) was now i registers (ap is_lent_in is ∙ same_lent (entry_of was i) i) in
+    let patches = each_entry SamePatch (λ o. refl) was now i registers (ap patch_of is ∙ same_patch (entry_of was i) i) in
+    (record { registers = registers; lent = λ j h. lent j ∙ h; patches = λ size sizes j patch e. sizes j patch (sym (patches j) ∙ e) }, lent, patches)
 
-joined_size : (size : ℕ) (old : Option Coverage) (patch joined : Coverage) → patch.page_size ≡ size → ((p : Coverage) → old ≡ Some p → p.page_size ≡ size) → Joins old patch joined → joined.page_size ≡ size
+-- a page was asked for to be written
+pub keeps_lent : (was now : List Asked) (i : ℕ) → RegistersPage was now i → entry_of now i ≡ Some (record (entry_or_new was i) { is_lent = true }) → KeepsEntries was now i × ((j : ℕ) → SamePatch (entry_of was j) (entry_of now j))
+keeps_lent was now i registers is =
+    let patches = each_entry SamePatch (λ o. refl) was now i registers (ap patch_of is ∙ same_patch (entry_of was i) i) in
+    (record {
+      registers = registers;
+      lent = each_entry StaysLent (λ o h. h) was now i registers (λ h. ap is_lent_in is);
+      patches = λ size sizes j patch e. sizes j patch (sym (patches j) ∙ e);
+    }, patches)
+
+-- the patches of all are of one size where that of the page is
+sizes_kept : (size i : ℕ) (was now : List Asked) → RegistersPage was now i → HaveSize size was → ((patch : Coverage) → patch_of (entry_of now i) ≡ Some patch → patch.page_size ≡ size) → HaveSize size now
+sizes_kept size i was now registers sizes here j patch e = elim (cases_eq j i) [
+  | inl same ↦ here patch (ap (λ k. patch_of (entry_of now k)) (sym same) ∙ e)
+  | inr away ↦ sizes j patch (ap patch_of (sym (registers.others j away)) ∙ e)
+]
+
+-- a page that was made is lent, and its patch is the whole page
+pub made_lent : (size : ℕ) (o : Option Asked) → IsSomeAnd o (MakesEntry size) → IsTrue (is_lent_in o)
+made_lent size None made = absurd made
+made_lent size (Some entry) made = made.lent
+
+made_whole : (size : ℕ) (o : Option Asked) → IsSomeAnd o (MakesEntry size) → IsSomeAnd (patch_of o) (IsWhole size)
+made_whole size None made = absurd made
+made_whole size (Some entry) made = made.whole
+
+whole_size : (size : ℕ) (o : Option Coverage) → IsSomeAnd o (IsWhole size) → (patch : Coverage) → o ≡ Some patch → patch.page_size ≡ size
+whole_size size None whole patch e = absurd whole
+whole_size size (Some p) whole patch e = (let same : p ≡ patch = cc e in ap (λ (q : Coverage). q.page_size) (sym same) ∙ whole.size)
+
+-- a page was made
+pub keeps_made : (was now : List Asked) (i size : ℕ) → RegistersPage was now i → IsSomeAnd (entry_of now i) (MakesEntry size) → HaveSize size was → HaveSize size now × ((j : ℕ) → StaysLent (entry_of was j) (entry_of now j))
+keeps_made was now i size registers made sizes =
+    (sizes_kept size i was now registers sizes (whole_size size (patch_of (entry_of now i)) (made_whole size (entry_of now i) made)),
+    each_entry StaysLent (λ o h. h) was now i registers (λ h. made_lent size (entry_of now i) made))
+
+joined_size : (size : ℕ) (old : Option Coverage) (patch joined : Coverage) → patch.page_size ≡ size → ((p : Coverage) → old ≡ Some p → p.page_size ≡ size) → JoinsPatch old patch joined → joined.page_size ≡ size
 joined_size size None patch joined same sizes joins = ap (λ (p : Coverage). p.page_size) joins ∙ same
 joined_size size (Some old) patch joined same sizes joins = joins.size ∙ sizes old refl
 
@@ -72,28 +115,77 @@ noted_size : (size : ℕ) (was : Asked) (patch : Coverage) (o : Option Asked) �
 noted_size size was patch None same sizes notes p e = absurd notes
 noted_size size was patch (Some entry) same sizes notes p e = of_joined entry.patch notes.joins p e
   where
-    of_joined : (o : Option Coverage) → IsSomeAnd o (Joins was.patch patch) → (p : Coverage) → o ≡ Some p → p.page_size ≡ size
+    of_joined : (o : Option Coverage) → IsSomeAnd o (JoinsPatch was.patch patch) → (p : Coverage) → o ≡ Some p → p.page_size ≡ size
     of_joined None joins p e = absurd joins
     of_joined (Some joined) joins p e = (let is : joined ≡ p = cc e in sym (ap (λ (q : Coverage). q.page_size) is) ∙ joined_size size was.patch patch joined same sizes joins)
 
-pub sizes_noted : (size i : ℕ) (patch : Coverage) (was now : List Asked) → Registers was now i → HaveSize size was → patch.page_size ≡ size → IsSomeAnd (entry_of now i) (NotesEntry (entry_or_new was i) patch) → HaveSize size now
-sizes_noted size i patch was now registers sizes same notes = sizes_kept size i was now registers sizes
-    (λ h. noted_size size (entry_or_new was i) patch (entry_of now i) same (λ p e. h p (sym (same_patch (entry_of was i) i) ∙ e)) notes)
+noted_lent : (was : Asked) (patch : Coverage) (o : Option Asked) → IsSomeAnd o (NotesEntry was patch) → is_lent_in o ≡ was.is_lent
+noted_lent was patch None notes = absurd notes
+noted_lent was patch (Some entry) notes = notes.lent
 
--- the pages, with one of them replaced
-pub pages_in-set : (pages : List Page) (i j : ℕ) (page : Page) → i < length pages → pages_in (set pages i page) j ≡ with_page (pages_in pages) i page.bytes.items j
-pages_in-set pages i j page lt = elim (cases_eq j i) [
-  | inl same ↦
-      let here : slice_get (set pages i page) i ≡ Some page = slice_get-get_or (set pages i page) i page (omega (arith, length-set pages i page)) ∙ ap Some (get_or-set_same pages i page page lt) in
-      simp (eq-eqb j i same) (ap (λ k. pages_in (set pages i page) k) same ∙ ap (option_map (λ (p : Page). p.bytes.items)) here)
-  | inr away ↦ simp (ne_eqb j i away) (ap (option_map (λ (p : Page). p.bytes.items)) (elim (cases_lt j (length pages)) [
-    | inl lt' ↦ slice_get-get_or (set pages i page) j page (omega (arith, length-set pages i page)) ∙ ap Some (get_or-set_other pages i j page page away) ∙ sym (slice_get-get_or pages j page lt')
-    | inr le ↦ slice_get_past (set pages i page) j (omega (arith, length-set pages i page)) ∙ sym (slice_get_past pages j le)
-  ]))
+-- a patch was noted
+pub keeps_noted : (was now : List Asked) (i size : ℕ) (patch : Coverage) → RegistersPage was now i → IsSomeAnd (entry_of now i) (NotesEntry (entry_or_new was i) patch) → HaveSize size was → patch.page_size ≡ size → HaveSize size now × ((j : ℕ) → is_lent_in (entry_of now j) ≡ is_lent_in (entry_of was j))
+keeps_noted was now i size patch registers notes sizes same =
+    (sizes_kept size i was now registers sizes (noted_size size (entry_or_new was i) patch (entry_of now i) same (λ p e. sizes i p (sym (same_patch (entry_of was i) i) ∙ e)) notes),
+    each_entry (λ a b. is_lent_in b ≡ is_lent_in a) (λ o. refl) was now i registers (noted_lent (entry_or_new was i) patch (entry_of now i) notes ∙ same_lent (entry_of was i) i))
+
+-- not too many pages were asked for
+pub few_kept : (i : ℕ) (was now : List Asked) → RegistersPage was now i → length was ≤ 32 → IsTrue (is_asked (entry_of was i)) ⊎ (0 < 32 - length was) → length now ≤ 32
+few_kept i was now registers few room = elim room [
+  | inl there ↦ omega (arith, registers.again (asked_some (entry_of was i) there), few)
+  | inr spare ↦ omega (arith, (length_after was now i registers).1)
 ]
 
+-- what was in order stays so where a page that is there was asked for
+pub ordered_kept : (size : ℕ) (pages rooms : List Page) (was now : List Asked) (held held' i : ℕ) → IsOrdered size pages rooms was held → RegistersPage was now i → i < length pages → HaveSize size now → IsTrue (is_asked (entry_of was i)) ⊎ (0 < 32 - length was) → held ≤ held' → IsOrdered size pages rooms now held'
+ordered_kept size pages rooms was now held held' i is registers lt sizes room more = record {
+  is_size = is.is_size;
+  sized = is.sized;
+  zeros = is.zeros;
+  there = λ j some. elim (cases_eq j i) [
+    | inl same ↦ omega (arith, same, lt)
+    | inr away ↦ is.there j (subst IsSome (registers.others j away) some)
+  ];
+  few = few_kept i was now registers is.few room;
+  room = omega (arith, is.room, more);
+  patches = sizes;
+}
+
+pub ready_kept : (size : ℕ) (pages rooms : List Page) (was now : List Asked) (space held held' i : ℕ) → AreReady size pages rooms was space held → RegistersPage was now i → i < length pages → HaveSize size now → ((j : ℕ) → StaysLent (entry_of was j) (entry_of now j)) → IsTrue (is_asked (entry_of was i)) ⊎ (0 < 32 - length was) → held ≤ held' → AreReady size pages rooms now space held'
+ready_kept size pages rooms was now space held held' i is registers lt sizes lent room more =
+    let longer = (length_after was now i registers).0 in
+    record {
+      ordered = ordered_kept size pages rooms was now held held' i is.ordered registers lt sizes room more;
+      enough = record { zeros = omega (arith, is.enough.zeros, longer); space = omega (arith, is.enough.space, longer) };
+      idle = λ none. is.idle (λ j h. none j (lent j h));
+    }
+
+-- a page was asked for, and the pages are as they were
+pub asks_page : (s : Shown) (now : List Asked) (i : ℕ) → RegistersPage s.asked now i → ((j : ℕ) → StaysLent (entry_of s.asked j) (entry_of now j)) → ((j : ℕ) → SamePatch (entry_of s.asked j) (entry_of now j)) → AsksPage (Unit {0}) (paged s) (paged (record s { asked = now })) i
+asks_page s now i registers lent patches = record {
+  pages = λ j told. refl;
+  known = λ j k. refl;
+  passes = λ j k. inl refl;
+  lent = lent;
+  patches = patches;
+  room = takes_room s (record s { asked = now }) i registers;
+  same = record { page_size = refl; max_rows = refl; part = refl; faults = omega arith };
+}
+
+-- nothing happened
+pub asks_none : (p : Paged) (i : ℕ) → AsksPage (Unit {0}) p p i
+asks_none p i = record {
+  pages = λ j told. refl;
+  known = λ j k. k;
+  passes = λ j k. inl k;
+  lent = λ j l. l;
+  patches = λ j. refl;
+  room = record { others = λ j k. k; most = omega arith; free = inr (omega arith); again = λ k. omega arith };
+  same = record { page_size = refl; max_rows = refl; part = refl; faults = omega arith };
+}
+
 -- the pages, with one more
-pub pages_in-push : (pages : List Page) (i j : ℕ) (page : Page) → i ≡ length pages → pages_in (pages ++ page ∷ []) j ≡ with_page (pages_in pages) i page.bytes.items j
+pages_in-push : (pages : List Page) (i j : ℕ) (page : Page) → i ≡ length pages → pages_in (pages ++ page ∷ []) j ≡ with_page (pages_in pages) i page.bytes.items j
 pages_in-push pages i j page last = elim (cases_eq j i) [
   | inl same ↦
       let more : List Page = pages ++ page ∷ [] in
@@ -115,122 +207,97 @@ there_below pages i there = elim (cases_lt i (length pages)) [
   | inr le ↦ (let none = subst (λ o. IsSome (option_map (λ (p : Page). p.bytes.items) o)) (slice_get_past pages i le) there in absurd (cc none))
 ]
 
--- no page got bad
-bad_kept : (was now : ℕ → Option (List ℕ)) (i j : ℕ) (bytes : List ℕ) → now j ≡ with_page was i bytes j → now j ≡ None → was j ≡ None
-bad_kept was now i j bytes is none = elim (cases_eq j i) [
-  | inl same ↦ (let here : None ≡ Some bytes = sym none ∙ simp (eq-eqb j i same) at is in absurd (cc here))
-  | inr away ↦ sym (simp (ne_eqb j i away) at is) ∙ none
-]
+pub none_past : (pages : List Page) (i : ℕ) → length pages ≤ i → pages_in pages i ≡ None
+none_past pages i le = ap (option_map (λ (p : Page). p.bytes.items)) (slice_get_past pages i le)
 
--- a page is lent
-pub writes : (s : Shown) (now : List Asked) (i : ℕ) (page : Page) → Registers s.asked now i → i < length s.pages → entry_of now i ≡ Some (record (entry_or_new s.asked i) { is_lent = true }) → IsLentIn now i → Writes (paged s) (paged (record s { pages = set s.pages i page; asked = now })) i page.bytes.items
-writes s now i page registers lt entry lent = record {
-  pages = λ j. pages_in-set s.pages i j page lt;
-  lent = lent;
-  asks = asks s (record s { pages = set s.pages i page; asked = now }) i registers;
-  keeps = record {
-    page_size = refl;
-    part = refl;
-    bad = λ j bad. (bad.0, bad_kept (pages_in s.pages) (pages_in (set s.pages i page)) i j page.bytes.items (pages_in-set s.pages i j page lt) bad.1);
-    ready = λ h. h;
-    faults = omega arith;
-  };
-  remembers = record {
-    lent = registers.lent;
-    patches = each_entry (λ a b. patch_of b ≡ patch_of a) (λ o. refl) s.asked now i registers (ap patch_of entry ∙ same_patch (entry_of s.asked i) i);
-  };
-}
+with_page-here : (pages : ℕ → Option (List ℕ)) (i : ℕ) (bytes : List ℕ) → with_page pages i bytes i ≡ Some bytes
+with_page-here pages i bytes = simp (eq-eqb i i refl) refl
 
--- what the entry of a page made anew covers
-made_covers : (size : ℕ) (o : Option Asked) (k : ℕ) → IsSomeAnd o (MakesEntry size) → k < size → CoversByte (patch_of o) k
-made_covers size None k made lt = absurd made
-made_covers size (Some entry) k made lt = made.covers k lt
-
--- a page that was asked for doesn't count among the pages below it that were lent
-fewer_there : (asked : List Asked) (i : ℕ) → IsSome (entry_of asked i) → lent_below i asked + 1 ≤ length asked
-fewer_there asked i there = of_found (entry_of asked i) refl there
-  where
-    of_found : (o : Option Asked) → entry_of asked i ≡ o → IsSome o → lent_below i asked + 1 ≤ length asked
-    of_found None e there = absurd (cc there)
-    of_found (Some entry) e there = fewer_lent asked i entry e
-
--- a page that was made counts from the next index on
-made_here : (asked : List Asked) (i size : ℕ) → IsSomeAnd (entry_of asked i) (MakesEntry size) → lent_below i asked + 1 ≤ lent_below (i + 1) asked
-made_here asked i size made = of_found (entry_of asked i) refl made
-  where
-    of_found : (o : Option Asked) → entry_of asked i ≡ o → IsSomeAnd o (MakesEntry size) → lent_below i asked + 1 ≤ lent_below (i + 1) asked
-    of_found None e made = absurd made
-    of_found (Some entry) e made = lent_here asked i entry e made.lent
+with_page-other : (pages : ℕ → Option (List ℕ)) (i j : ℕ) (bytes : List ℕ) → j ≢ i → with_page pages i bytes j ≡ pages j
+with_page-other pages i j bytes away = simp (ne_eqb j i away) refl
 
 -- a page is made
-makes : (s s' : Shown) (i : ℕ) → Registers s.asked s'.asked i → ((j : ℕ) → pages_in s'.pages j ≡ with_page (pages_in s.pages) i (replicate s.page_size 0) j) → s'.page_size ≡ s.page_size → s'.part ≡ s.part → (IsTrue s.is_ready → IsTrue s'.is_ready) → IsSomeAnd (entry_of s'.asked i) (MakesEntry s.page_size) → IsLentIn s'.asked i → Makes (paged s) (paged s') i
-makes s s' i registers pages size part ready made lent = record {
-  pages = pages;
-  lent = lent;
-  covers = λ k lt. made_covers s.page_size (entry_of s'.asked i) k made lt;
-  asks = asks s s' i registers;
-  keeps = record {
-    page_size = size;
-    part = part;
-    bad = λ j bad. (bad.0, bad_kept (pages_in s.pages) (pages_in s'.pages) i j (replicate s.page_size 0) (pages j) bad.1);
-    ready = ready;
-    faults = omega arith;
+makes_page : (s : Shown) (pages : List Page) (now : List Asked) (i : ℕ) → RegistersPage s.asked now i → ((j : ℕ) → pages_in pages j ≡ with_page (pages_in s.pages) i (replicate s.page_size 0) j) → IsSomeAnd (entry_of now i) (MakesEntry s.page_size) → MakesPage (Unit {0}) (paged s) (paged (record s { pages = pages; asked = now })) i
+makes_page s pages now i registers laid made = record {
+  here = laid i ∙ with_page-here (pages_in s.pages) i (replicate s.page_size 0);
+  pages = λ j away told. laid j ∙ with_page-other (pages_in s.pages) i j (replicate s.page_size 0) away;
+  known = λ j k. refl;
+  only = λ j away k. refl;
+  lends = record {
+    known = refl;
+    asked = some_asked (entry_of now i) registers.here;
+    lent = made_lent s.page_size (entry_of now i) made;
+    there = subst IsSome (sym (laid i ∙ with_page-here (pages_in s.pages) i (replicate s.page_size 0))) refl;
   };
-  lent_stays = registers.lent;
+  lent = each_entry StaysLent (λ o h. h) s.asked now i registers (λ h. made_lent s.page_size (entry_of now i) made);
+  whole = made_whole s.page_size (entry_of now i) made;
   patches = λ j away. ap patch_of (registers.others j away);
+  room = takes_room s (record s { pages = pages; asked = now }) i registers;
+  same = record { page_size = refl; max_rows = refl; part = refl; faults = omega arith };
 }
 
 -- a page is made in place of another
-pub remakes : (s : Shown) (now : List Asked) (i : ℕ) (page : Page) → Registers s.asked now i → i < length s.pages → page.bytes.items ≡ replicate s.page_size 0 → IsSomeAnd (entry_of now i) (MakesEntry s.page_size) → IsLentIn now i → Makes (paged s) (paged (record s { pages = set s.pages i page; asked = now })) i
-remakes s now i page registers lt zeros made lent =
-    let after : Shown = record s { pages = set s.pages i page; asked = now } in
-    makes s after i registers (λ j. pages_in-set s.pages i j page lt ∙ ap (λ (bytes : List ℕ). with_page (pages_in s.pages) i bytes j) zeros) refl refl (λ h. h) made lent
+pub remakes_page : (s : Shown) (now : List Asked) (i : ℕ) (page : Page) → RegistersPage s.asked now i → i < length s.pages → AreZeros s.page_size page → IsSomeAnd (entry_of now i) (MakesEntry s.page_size) → MakesPage (Unit {0}) (paged s) (paged (record s { pages = set s.pages i page; asked = now })) i
+remakes_page s now i page registers lt zeros made =
+    makes_page s (set s.pages i page) now i registers (λ j. pages_in-set s.pages i j page lt ∙ ap (λ (bytes : List ℕ). with_page (pages_in s.pages) i bytes j) zeros) made
 
--- a page is made behind the last
-pub appends : (s : Shown) (now : List Asked) (i : ℕ) (page : Page) → Registers s.asked now i → i ≡ length s.pages → page.bytes.items ≡ replicate s.page_size 0 → IsSomeAnd (entry_of now i) (MakesEntry s.page_size) → IsLentIn now i → Makes (paged s) (paged (record s { pages = s.pages ++ page ∷ []; asked = now })) i
-appends s now i page registers last zeros made lent =
-    let after : Shown = record s { pages = s.pages ++ page ∷ []; asked = now } in
-    makes s after i registers (λ j. pages_in-push s.pages i j page last ∙ ap (λ (bytes : List ℕ). with_page (pages_in s.pages) i bytes j) zeros) refl refl (λ h. h) made lent
+-- a page is made after the last
+pub appends_page : (s : Shown) (pages : List Page) (now : List Asked) (i : ℕ) (page : Page) → pages ≡ s.pages ++ page ∷ [] → RegistersPage s.asked now i → i ≡ length s.pages → AreZeros s.page_size page → IsSomeAnd (entry_of now i) (MakesEntry s.page_size) → MakesPage (Unit {0}) (paged s) (paged (record s { pages = pages; asked = now })) i
+appends_page s pages now i page is registers last zeros made =
+    makes_page s pages now i registers (λ j. ap (λ ps. pages_in ps j) is ∙ pages_in-push s.pages i j page last ∙ ap (λ (bytes : List ℕ). with_page (pages_in s.pages) i bytes j) zeros) made
 
--- a page that is not there, and is next, is the one behind the last
-pub next_is : (s : Shown) (i : ℕ) → length s.pages ≤ i → IsNext (paged s) i → i ≡ length s.pages
-next_is s i le next = elim next [
-  | inl first ↦ omega (arith, first)
-  | inr (inl there) ↦ (let lt = there_below s.pages i there in omega (arith, lt))
-  | inr (inr before) ↦ (let lt = there_below s.pages (i - 1) before in omega (arith, lt))
-]
+-- a page that isn't there wasn't asked for, so there is room for it
+pub not_asked : (size : ℕ) (pages rooms : List Page) (asked : List Asked) (space held i : ℕ) → AreReady size pages rooms asked space held → length pages ≤ i → IsTrue (is_asked (entry_of asked i)) ⊎ (0 < 32 - length asked) → (entry_of asked i ≡ None) × (length asked < 32) × (0 < length rooms) × (length pages < space)
+not_asked size pages rooms asked space held i is past room =
+    let none : entry_of asked i ≡ None = of_found (entry_of asked i) (λ some. omega (arith, is.ordered.there i some, past)) in
+    let lt : 0 < 32 - length asked = elim room [ inl there ↦ absurd (let some = subst (λ o. IsTrue (is_asked o)) none there in cc some) | inr spare ↦ spare ] in
+    (none, omega (arith, lt), omega (arith, lt, is.enough.zeros), omega (arith, lt, is.enough.space))
+  where
+    of_found : (o : Option Asked) → (IsSome o → ⊥) → o ≡ None
+    of_found None away = refl
+    of_found (Some entry) away = absurd (away refl)
 
--- where a page is asked for that is not there, there is room for it
-pub some_rooms : (is_ready : Bool) (pages rooms capacity i : ℕ) (was now : List Asked) → Registers was now i → length was ≤ 32 → (IsSome (entry_of was i) ⊎ (0 < 32 - length was)) → HasRooms is_ready pages rooms capacity was → IsTrue is_ready → i ≡ pages → (0 < rooms) × (pages < capacity)
-some_rooms is_ready pages rooms capacity i was now registers few askable has ready last =
-    let few' = few_kept i was now registers few askable in
-    let more = registers.more pages in
-    let fewer = fewer_there now i registers.here in
-    let e : lent_below i now ≡ lent_below pages now = ap (λ n. lent_below n now) last in
-    (omega (arith, (has ready).0, few', more, fewer, e), omega (arith, (has ready).1, few', more, fewer, e))
-
--- the room that a page took, which now counts among those that are there and were lent
-pub rooms_taken : (is_ready : Bool) (pages pages' rooms rooms' capacity capacity' i size : ℕ) (was now : List Asked) → Registers was now i → HasRooms is_ready pages rooms capacity was → IsSomeAnd (entry_of now i) (MakesEntry size) → i ≡ pages → pages' ≡ pages + 1 → rooms' + 1 ≡ rooms → capacity ≤ capacity' → HasRooms is_ready pages' rooms' capacity' now
-rooms_taken is_ready pages pages' rooms rooms' capacity capacity' i size was now registers has made last more_pages fewer_rooms more_capacity ready =
-    let more = registers.more pages in
-    let here = made_here now i size made in
-    let e : lent_below i now ≡ lent_below pages now = ap (λ n. lent_below n now) last in
-    let e' : lent_below (i + 1) now ≡ lent_below pages' now = ap (λ n. lent_below n now) (omega (arith, last, more_pages)) in
-    (omega (arith, (has ready).0, more, here, e, e'), omega (arith, (has ready).1, more, here, e, e'))
+-- a page was made after the last, and took a room
+pub ready_taken : (size : ℕ) (pages pages' rooms rooms' : List Page) (was now : List Asked) (space space' held held' i : ℕ) (page : Page) → AreReady size pages rooms was space held → pages' ≡ pages ++ page ∷ [] → AreZeros size page → length {A = ℕ} (replicate size 0) ≡ size → All (AreZeros size) rooms' → length rooms' + 1 ≡ length rooms
+    → RegistersPage was now i → IsSomeAnd (entry_of now i) (MakesEntry size) → i ≡ length pages → entry_of was i ≡ None → length was < 32 → space ≤ space' → held ≤ held' → AreReady size pages' rooms' now space' held'
+ready_taken size pages pages' rooms rooms' was now space space' held held' i page is appended zeros long kept fewer registers made last none few more more' =
+    let count : length pages' ≡ length pages + 1 = ap length appended ∙ length-append pages (page ∷ []) in
+    let one = registers.more none in
+    let made_all = keeps_made was now i size registers made is.ordered.patches in
+    record {
+      ordered = record {
+        is_size = is.ordered.is_size;
+        sized = subst (λ ps. All (IsOfSize size) ps) (sym appended) (All-append (IsOfSize size) pages (page ∷ []) is.ordered.sized (All-from_recursion (IsOfSize size) (page ∷ []) (ap length zeros ∙ long, tt)));
+        zeros = kept;
+        there = λ j some. elim (cases_eq j i) [
+          | inl same ↦ omega (arith, same, last, count)
+          | inr away ↦ omega (arith, count, is.ordered.there j (subst IsSome (registers.others j away) some))
+        ];
+        few = omega (arith, one, few);
+        room = omega (arith, is.ordered.room, more');
+        patches = made_all.0;
+      };
+      enough = record { zeros = omega (arith, is.enough.zeros, one, fewer); space = omega (arith, is.enough.space, one, count, more) };
+      idle = λ none'. absurd (none' i (made_lent size (entry_of now i) made));
+    }
 
 -- the patch of an entry with a joined patch
-noted_joins : (was : Option Asked) (i : ℕ) (patch : Coverage) (o : Option Asked) → IsSomeAnd o (NotesEntry (unwrap_or was (to_read i)) patch) → IsSomeAnd (patch_of o) (Joins (patch_of was) patch)
+noted_joins : (was : Option Asked) (i : ℕ) (patch : Coverage) (o : Option Asked) → IsSomeAnd o (NotesEntry (unwrap_or was (to_read i)) patch) → IsSomeAnd (patch_of o) (JoinsPatch (patch_of was) patch)
 noted_joins was i patch None noted = absurd noted
-noted_joins was i patch (Some entry) noted = subst (λ p. IsSomeAnd entry.patch (Joins p patch)) (same_patch was i) noted.joins
+noted_joins was i patch (Some entry) noted = subst (λ p. IsSomeAnd entry.patch (JoinsPatch p patch)) (same_patch was i) noted.joins
+
+same_asked : (a b : Option Asked) → IsSome a → IsSome b → is_asked b ≡ is_asked a
+same_asked a b some some' = some_asked b some' ∙ sym (some_asked a some)
 
 -- a patch is joined to that of a page
-pub notes : (s : Shown) (now : List Asked) (i : ℕ) (patch : Coverage) → Registers s.asked now i → IsSome (entry_of s.asked i) → IsSomeAnd (entry_of now i) (NotesEntry (entry_or_new s.asked i) patch) → Notes (paged s) (paged (record s { asked = now })) i patch
-notes s now i patch registers there noted = record {
-  pages = λ j. refl;
+pub notes_patch : (s : Shown) (now : List Asked) (i : ℕ) (patch : Coverage) → RegistersPage s.asked now i → IsSome (entry_of s.asked i) → IsSomeAnd (entry_of now i) (NotesEntry (entry_or_new s.asked i) patch) → NotesPatch (Unit {0}) (paged s) (paged (record s { asked = now })) i patch
+notes_patch s now i patch registers there noted = record {
+  pages = λ j told. refl;
+  known = λ j. refl;
+  asked = each_entry (λ a b. is_asked b ≡ is_asked a) (λ o. refl) s.asked now i registers (same_asked (entry_of s.asked i) (entry_of now i) there registers.here);
+  lent = each_entry (λ a b. is_lent_in b ≡ is_lent_in a) (λ o. refl) s.asked now i registers (noted_lent (entry_or_new s.asked i) patch (entry_of now i) noted ∙ same_lent (entry_of s.asked i) i);
   joins = noted_joins (entry_of s.asked i) i patch (entry_of now i) noted;
   patches = λ j away. ap patch_of (registers.others j away);
-  lent = registers.lent;
-  asked = (asks s (record s { asked = now }) i registers).others;
   spare = omega (arith, registers.again there);
-  keeps = record { page_size = refl; part = refl; bad = λ j bad. bad; ready = λ h. h; faults = omega arith };
+  same = record { page_size = refl; max_rows = refl; part = refl; faults = omega arith };
 }

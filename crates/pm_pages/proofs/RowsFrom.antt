@@ -11,7 +11,7 @@ use Rattle.pm_data.specs.DataPages as data_page
 use Rattle.pm_pages.specs.declared.row.Row.{Row}
 use Rattle.pm_pages.specs.Rows.{kind_of, rows_from, rows_on}
 
--- behind the last item there is none
+-- after the last item there is none
 pub rows_from-end : (id : PageId) (items : List (Option (List ℕ))) (item : ℕ) → length items ≤ item → rows_from id item (drop item items) ≡ []
 rows_from-end id items item le = ap (rows_from id item) (drop_all item items le)
 
@@ -23,7 +23,7 @@ pub all_read : (id : PageId) (page : List ℕ) (before rows : List Row) (item : 
 all_read id page before rows item all last is =
     sym (append-nil rows) ∙ ap (λ (t : List Row). rows ++ t) (sym (rows_from-end id (data_page.rows_of page) item last)) ∙ all ∙ ap (λ (t : List Row). before ++ t) (sym (rows_on-data id page is))
 
--- the numbers from one on, up to another, are the first and those behind it
+-- the numbers from one on, up to another, are the first and those after it
 pub range_more : (i n : ℕ) → i < n → range_with_len i (n - i) ≡ i ∷ range_with_len (i + 1) (n - (i + 1))
 range_more i n lt =
     let e : n - i ≡ suc (n - (i + 1)) = omega arith in

@@ -5,9 +5,9 @@ use Rattle.std.proofs.lemmas.List.{length-map, drop_more, get_or_default, map-ap
 use Rattle.pm_types.specs.Keys.{HasKeyLength}
 use Rattle.pm_types.specs.Fields.{bytes_at}
 use Rattle.pm_types.proofs.Unchanged.{length-bytes_at}
-use Rattle.pm_btpage.specs.IndexPages.{Item, items_of, key_in, key_len_at, place_of, IsIndexPage, IsRising}
+use Rattle.pm_btpage.specs.IndexPages.{Item, items_of, key_in, key_len_at, offset_of, IsIndexPage, IsRising}
 use Rattle.pm_btpage.proofs.ItemsByIndex.{key_in-items_of, item_bounds}
-use Rattle.pm_pages.specs.declared.listing.TreeItem.{TreeItem}
+use Rattle.pm_pages.specs.declared.well_formed.listing.TreeItem.{TreeItem}
 use Rattle.pm_pages.specs.declared.row.Row.{Row}
 use Rattle.pm_pages.specs.TreeItems.{as_item, as_items}
 use Rattle.pm_pages.specs.Trees.{IsItemOf, ListsRows}
@@ -15,15 +15,6 @@ use Rattle.pm_pages.specs.Trees.{IsItemOf, ListsRows}
 -- the key of an item that was read
 pub key_in-as_items : (items : List TreeItem) (k : ℕ) (d : TreeItem) → k < length items → key_in (as_items items) k ≡ (get_or items k d).key
 key_in-as_items items k d lt = ap (λ (item : Item). item.key) (get_or-map as_item items k d (record { key = []; word = 0 }) lt)
-
--- a key of a page has a length that a key may have
-pub key_has_length : (page : List ℕ) (i : ℕ) → IsIndexPage page → i < length (items_of page) → HasKeyLength (key_in (items_of page) i)
-key_has_length page i is lt =
-    let bounds = item_bounds page i is lt in
-    let long : length (bytes_at page (place_of i + 1) (key_len_at page i)) ≡ key_len_at page i = length-bytes_at page (place_of i + 1) (key_len_at page i) (omega (arith, bounds.within, bounds.short)) in
-    let len : length (key_in (items_of page) i) ≡ key_len_at page i = ap length (key_in-items_of page i bounds.counted) ∙ long in
-    let item = is.items.each i bounds.counted in
-    record { some = omega (arith, len, item.some); short = omega (arith, len, item.short) }
 
 -- one item more
 pub one_item_more : (items items' : List TreeItem) (all own : List Item) (item : TreeItem) (i : ℕ) (d : Item) → i < length own → as_items items ++ drop i own ≡ all → as_item item ≡ get_or own i d → items' ≡ items ++ item ∷ [] → as_items items' ++ drop (i + 1) own ≡ all

@@ -1,5 +1,5 @@
 -- A delta that is written range by range: what is written, with the ranges that are left, is the delta.
-use Rattle.std.proofs.Common.{◌≡◌, ℕ, ◌+◌, ◌-◌, ◌≤◌, List, [], ◌∷◌, ◌++◌, length, take, drop, set, false, refl, sym, ap, ◌∙◌, append_assoc, arith}
+use Rattle.std.proofs.Common.{◌≡◌, ℕ, zero, suc, ◌+◌, ◌-◌, ◌≤◌, List, [], ◌∷◌, ◌++◌, length, take, drop, set, false, refl, sym, ap, ◌∙◌, append_assoc, arith}
 use Rattle.std.specs.Prelude.{Some, slice_get}
 use Rattle.std.proofs.lemmas.Option.{get_or_from_slice_get, slice_get_within}
 use Rattle.std.proofs.lemmas.Grind.{take-set_at}
@@ -9,7 +9,7 @@ use Rattle.pm_types.specs.Spans.{Coverage, Covers, IsInSpans, IsPatch}
 use Rattle.pm_types.proofs.Changes.{outside_wider}
 use Rattle.pm_types.proofs.PageSizeBounds.{page_size_bounds}
 use Rattle.pm_types.proofs.Coverages.{covers_spans}
-use Rattle.pm_types.specs.DeltaRanges.{IsDelta}
+use Rattle.pm_types.specs.DeltaRanges.{end_of, after_front, number_of, ranges_of, AreRanges, IsDelta}
 use Rattle.pm_pages.specs.Deltas.{range_bytes, ranges_bytes, delta_of, ranges_len, delta_len, GivesPage}
 use Rattle.pm_pages.proofs.DeltaLaw.{are_ranges, with_own_ranges}
 
@@ -64,3 +64,15 @@ first_written page spans into number size is_number = record {
   room = refl;
   written = ap (λ (t : List ℕ). t ++ ranges_bytes page spans) (take-set_at into 0 1 number refl (omega arith)) ∙ ap (λ n. n ∷ ranges_bytes page spans) is_number;
 }
+
+-- ranges that end before one end do so before a later one
+ranges_wider : (number low end end' : ℕ) (ranges : List ℕ) → end ≤ end' → AreRanges number low end ranges → AreRanges number low end' ranges
+ranges_wider zero low end end' ranges le is = is
+ranges_wider (suc number) low end end' ranges le is = (
+  record { head = is.0.head; rises = is.0.rises; some = is.0.some; within = omega (arith, is.0.within, le); whole = is.0.whole },
+  ranges_wider number (end_of ranges) end end' (after_front ranges) le is.1,
+)
+
+-- a delta of a page is one of a larger page
+pub delta_wider : (end end' : ℕ) (delta : List ℕ) → end ≤ end' → IsDelta end delta → IsDelta end' delta
+delta_wider end end' delta le is = record { some = is.some; few = is.few; ranges = ranges_wider (number_of delta) 0 end end' (ranges_of delta) le is.ranges }

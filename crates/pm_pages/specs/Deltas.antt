@@ -12,7 +12,7 @@ abbrev pub range_bytes : List ℕ → Span → List ℕ
 range_bytes page span =
     to_le_bytes w16 span.start ++ (to_le_bytes w16 (span.end - span.start) ++ slice_range page span.start span.end)
 
--- these ranges of a page, one behind the other
+-- these ranges of a page, one after the other
 abbrev pub ranges_bytes : List ℕ → List Span → List ℕ
 ranges_bytes page [] = []
 ranges_bytes page (span ∷ spans) = range_bytes page span ++ ranges_bytes page spans
@@ -21,7 +21,7 @@ ranges_bytes page (span ∷ spans) = range_bytes page span ++ ranges_bytes page 
 abbrev pub delta_of : List ℕ → List Span → List ℕ
 delta_of page spans = length spans ∷ ranges_bytes page spans
 
--- how many bytes these ranges take, one behind the other
+-- how many bytes these ranges take, one after the other
 abbrev pub ranges_len : List Span → ℕ
 ranges_len [] = 0
 ranges_len (span ∷ spans) = RANGE_HEAD_LEN + (span.end - span.start) + ranges_len spans

@@ -2,10 +2,12 @@ pub mod Asked
 pub mod Chains
 pub mod Deltas
 pub mod FileForms
+pub mod Growth
 pub mod PageLists
 pub mod Paged
 pub mod Passes
 pub mod Plain
+pub mod PlainLaws
 pub mod PlainRooms
 pub mod Rows
 pub mod TreeItems

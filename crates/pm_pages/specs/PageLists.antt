@@ -1,5 +1,5 @@
 -- Pages in a list.
-use Rattle.std.specs.Prelude.{ℕ, ◌<◌, List, IfSome, IsSomeAnd, slice_get, length, [], ◌⊎◌, ◌≡◌}
+use Rattle.std.specs.Prelude.{ℕ, zero, suc, ◌<◌, List, IfSome, IsSomeAnd, slice_get, length, [], ◌⊎◌, ◌≡◌}
 use Rattle.std.specs.Option.{option_map}
 use Rattle.pm_types.specs.declared.page.Page.{Page}
 use Rattle.pm_types.specs.PageSizes.{IsPageSize}
@@ -31,3 +31,8 @@ MayRead page = (page ≡ []) ⊎ IsReadable page
 pub record AreReadable (pages : Partition) : Type 0 where
   pub meta : IfSome (pages 0) IsMetaPage
   pub each : (i : ℕ) → i < page_count pages → IsSomeAnd (pages i) IsReadable
+
+-- as page i of its partition the page reads as what it says: the first is a meta page
+abbrev pub ReadsAt : ℕ → List ℕ → Type 0
+ReadsAt zero page = IsMetaPage page
+ReadsAt (suc i) page = IsReadable page

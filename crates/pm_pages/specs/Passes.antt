@@ -1,6 +1,7 @@
 -- The check of a page that was read.
-use Rattle.std.specs.Prelude.{◌≡◌, ℕ, ◌⊎◌, List, length}
+use Rattle.std.specs.Prelude.{◌≡◌, ℕ, zero, suc, ◌⊎◌, List, length}
 use Rattle.pm_types.specs.declared.page_id.PageId.{PageId}
+use Rattle.pm_types.specs.Ids.{page_id}
 use Rattle.pm_data.specs.DataPages.{IsStoredPage}
 use Rattle.pm_btpage.specs.Stored.{IsStoredIndex}
 use Rattle.pm_meta.specs.MetaPages.{IsStoredMeta, IsStoredReuse}
@@ -15,3 +16,8 @@ pub record Passes (page_size max_rows : ℕ) (id : PageId) (page : List ℕ) : T
 pub record PassesAsMeta (page_size max_rows : ℕ) (id : PageId) (page : List ℕ) : Type 0 where
   pub size : length page ≡ page_size
   pub stored : IsStoredMeta id max_rows page
+
+-- the bytes may stand as page i of this partition: the first page is a meta page, and any other is of one of the kinds
+abbrev pub PassesAt : ℕ → ℕ → ℕ → ℕ → List ℕ → Type 0
+PassesAt page_size max_rows part zero page = PassesAsMeta page_size max_rows (page_id part 0) page
+PassesAt page_size max_rows part (suc i) page = Passes page_size max_rows (page_id part (suc i)) page

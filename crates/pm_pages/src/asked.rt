@@ -5,8 +5,8 @@ ghost use Rattle.std.specs.Option.{option_copied};
 ghost use Rattle.std.specs.Vec.{vec_capacity};
 ghost use Rattle.pm_types.specs.PageSizes.{IsPageSize};
 ghost use Rattle.pm_types.specs.Spans.{Covers};
-ghost use Rattle.pm_pages.specs.Paged.{Joins};
-ghost use Rattle.pm_pages.specs.Asked.{to_read, entry_of, place_of, entry_or_new, patch_of, HaveSize, IsLentIn, Registers, MakesEntry, NotesEntry};
+ghost use Rattle.pm_pages.specs.Paged.{JoinsPatch};
+ghost use Rattle.pm_pages.specs.Asked.{to_read, entry_of, position_of, entry_or_new, HaveSize, RegistersPage, MakesEntry, NotesEntry};
 
 use pm_types::Patch;
 
@@ -28,9 +28,9 @@ pub fn entry(asked: &[Asked], index: u32) -> Option<&Asked>
     asked.iter().find(|entry| entry.index == index)
 }
 
-// Where the entry of a page stands, or behind the last.
-fn place(asked: &[Asked], index: u32) -> usize
-    ensures { result ≡ place_of asked.now index }
+// Where the entry of a page stands, or after the last.
+fn position(asked: &[Asked], index: u32) -> usize
+    ensures { result ≡ position_of asked.now index }
 {
     'each: for (i, entry) in asked.iter().enumerate() {
         if entry.index == index {
@@ -40,22 +40,21 @@ fn place(asked: &[Asked], index: u32) -> usize
     asked.len()
 }
 
-/// Notes that a page was asked for, and gives the place of its entry.
+/// Notes that a page was asked for, and gives the position of its entry.
 pub fn ask(asked: &mut Vec<Asked>, index: u32) -> usize
     requires { IsSome (entry_of asked.old.items index)
         ⊎ (length asked.old.items < vec_capacity asked.old) }
-    ensures place { result ≡ place_of asked.new.items index }
+    ensures position { result ≡ position_of asked.new.items index }
     ensures there { result < length asked.new.items }
     ensures entry { entry_of asked.new.items index ≡ Some (entry_or_new asked.old.items index) }
-    ensures registers { Registers asked.old.items asked.new.items index }
-    ensures none_lent { (j : ℕ) → IsLentIn asked.new.items j → IsLentIn asked.old.items j }
+    ensures registers { RegistersPage asked.old.items asked.new.items index }
     ensures capacity { vec_capacity asked.old ≤ vec_capacity asked.new }
 {
-    let place = place(asked, index);
-    if place == asked.len() {
+    let position = position(asked, index);
+    if position == asked.len() {
         push(asked, index);
     }
-    place
+    position
 }
 
 // Appends the entry of a page, for which there is room.
@@ -78,12 +77,11 @@ pub fn lend(asked: &mut Vec<Asked>, index: u32)
         ⊎ (length asked.old.items < vec_capacity asked.old) }
     ensures entry { entry_of asked.new.items index
         ≡ Some (record (entry_or_new asked.old.items index) { is_lent = true }) }
-    ensures lent { IsLentIn asked.new.items index }
-    ensures registers { Registers asked.old.items asked.new.items index }
+    ensures registers { RegistersPage asked.old.items asked.new.items index }
     ensures capacity { vec_capacity asked.old ≤ vec_capacity asked.new }
 {
-    let place = ask(asked, index);
-    asked[place].is_lent = true;
+    let position = ask(asked, index);
+    asked[position].is_lent = true;
 }
 
 /// Notes that a page was made anew, and is covered as a whole.
@@ -92,14 +90,13 @@ pub fn make(asked: &mut Vec<Asked>, index: u32, page_size: u32)
         ⊎ (length asked.old.items < vec_capacity asked.old) }
     requires size { IsPageSize page_size }
     ensures entry { IsSomeAnd (entry_of asked.new.items index) (MakesEntry page_size) }
-    ensures lent { IsLentIn asked.new.items index }
-    ensures registers { Registers asked.old.items asked.new.items index }
+    ensures registers { RegistersPage asked.old.items asked.new.items index }
     ensures capacity { vec_capacity asked.old ≤ vec_capacity asked.new }
 {
-    let place = ask(asked, index);
+    let position = ask(asked, index);
     let mut whole = Patch::none(page_size);
     whole.add(0, page_size as u16);
-    let entry = &mut asked[place];
+    let entry = &mut asked[position];
     entry.is_lent = true;
     entry.patch = Some(whole);
 }
@@ -110,18 +107,18 @@ pub fn note(asked: &mut Vec<Asked>, index: u32, patch: &Patch)
     requires size { HaveSize patch.now.page_size asked.old.items }
     ensures entry { IsSomeAnd (entry_of asked.new.items index)
         (NotesEntry (entry_or_new asked.old.items index) patch.now) }
-    ensures registers { Registers asked.old.items asked.new.items index }
+    ensures registers { RegistersPage asked.old.items asked.new.items index }
     ensures capacity { vec_capacity asked.old ≤ vec_capacity asked.new }
 {
-    let place = ask(asked, index);
-    let joined = joined(&asked[place].patch, patch);
-    asked[place].patch = Some(joined);
+    let position = ask(asked, index);
+    let joined = joined(&asked[position].patch, patch);
+    asked[position].patch = Some(joined);
 }
 
 // The patch that covers what both cover.
 fn joined(old: &Option<Patch>, patch: &Patch) -> Patch
     requires { IfSome old.now (λ old. old.page_size ≡ patch.now.page_size) }
-    ensures { Joins old.now patch.now result }
+    ensures { JoinsPatch old.now patch.now result }
 {
     match old {
         None => patch.copy(),

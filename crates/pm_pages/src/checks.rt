@@ -1,17 +1,27 @@
 //! The check of a page that was read.
 
-ghost use Rattle.std.specs.Prelude.{◌≡◌, ◌⊎◌, ◌↔◌, IsTrue, IfSome, IsSomeAnd, length};
+ghost use Rattle.std.specs.Prelude.{◌≡◌, ◌⊎◌, ◌↔◌, IsTrue, length};
 ghost use Rattle.pm_types.specs.PageSizes.{IsPageSize};
 ghost use Rattle.pm_data.specs.DataPages.{IsStoredPage};
 ghost use Rattle.pm_btpage.specs.Stored.{IsStoredIndex};
 ghost use Rattle.pm_meta.specs.MetaPages.{IsStoredMeta, IsStoredReuse};
-ghost use Rattle.pm_types.specs.Ids.{page_id};
-ghost use Rattle.pm_pages.specs.PageLists.{pages_in, AreReadable};
-ghost use Rattle.pm_pages.specs.Passes.{Passes, PassesAsMeta};
-ghost use Rattle.pm_pages.specs.WellFormed.{AllPass};
+ghost use Rattle.pm_pages.specs.Passes.{Passes, PassesAsMeta, PassesAt};
 
-use crate::listed::page_count;
-use pm_types::{Page, PageId, Shape};
+use pm_types::{PageId, Shape};
+
+/// Whether these bytes may stand as this page of a partition, in a store of this shape: page 0 is a meta page, and
+/// every other page is of one of the kinds, under its own name.
+pub fn check_at(page: &[u8], part: u16, index: u32, shape: &Shape) -> bool
+    requires { IsPageSize shape.now.page_size }
+    ensures { IsTrue result ↔ PassesAt shape.now.page_size shape.now.max_rows part index page.now }
+{
+    let id = PageId::new(part, index);
+    if index == 0 {
+        check_meta(page, id, shape)
+    } else {
+        check(page, id, shape)
+    }
+}
 
 /// Whether these bytes are a page of this name, of a store of this shape: a meta page, a leaf or an inner page with
 /// an item, a data page with a row, or a reuse page, each in its own form.
@@ -22,54 +32,13 @@ pub fn check(page: &[u8], id: PageId, shape: &Shape) -> bool
     page.len() == shape.page_size as usize && is_page(page, id, shape.max_rows)
 }
 
-/// Whether the first page, if it is there, is a meta page that passes its check, and each page below the page count is
-/// there and passes its own.
-pub fn all_pass(shape: &Shape, part: u16, pages: &[Page]) -> bool
-    requires { IsPageSize shape.now.page_size }
-    ensures pass { IsTrue result ↔ AllPass shape.now part (pages_in pages.now) }
-    ensures readable { IsTrue result → AreReadable (pages_in pages.now) }
-{
-    if !first_passes(shape, part, pages) {
-        return false;
-    }
-    'pages: for i in 0..page_count(pages) {
-        if !passes(shape, part, pages, i) {
-            return false;
-        }
-    }
-    true
-}
-
-// Whether the first page, if it is there, is a meta page that passes its check.
-fn first_passes(shape: &Shape, part: u16, pages: &[Page]) -> bool
-    requires { IsPageSize shape.now.page_size }
-    ensures { IsTrue result ↔ IfSome (pages_in pages.now 0)
-        (PassesAsMeta shape.now.page_size shape.now.max_rows (page_id part 0)) }
-{
-    match pages.first() {
-        Some(page) => is_meta(page.bytes.as_slice(), PageId::new(part, 0), shape),
-        None => true,
-    }
-}
-
-fn is_meta(page: &[u8], id: PageId, shape: &Shape) -> bool
+/// Whether these bytes are a meta page of this name, of a store of this shape.
+pub fn check_meta(page: &[u8], id: PageId, shape: &Shape) -> bool
     requires { IsPageSize shape.now.page_size }
     ensures { IsTrue result
         ↔ PassesAsMeta shape.now.page_size shape.now.max_rows id page.now }
 {
     page.len() == shape.page_size as usize && pm_meta::check(page, id, shape.max_rows)
-}
-
-// Whether a page is there and passes its check.
-fn passes(shape: &Shape, part: u16, pages: &[Page], i: u32) -> bool
-    requires { IsPageSize shape.now.page_size }
-    ensures { IsTrue result ↔ IsSomeAnd (pages_in pages.now i)
-        (Passes shape.now.page_size shape.now.max_rows (page_id part i)) }
-{
-    match pages.get(i as usize) {
-        Some(page) => check(page.bytes.as_slice(), PageId::new(part, i), shape),
-        None => false,
-    }
 }
 
 // Whether these bytes are a page of one of the kinds.

@@ -2,6 +2,7 @@
 
 ghost use Rattle.std.specs.Prelude.{◌≡◌, ℕ, ◌+◌, ◌<◌, ◌≤◌, ◌↔◌, ◌++◌, false, List, IsTrue, length, take};
 ghost use Rattle.std.specs.Bool.{OnTrue, OnFalse};
+ghost use Rattle.pm_types.specs.declared.limits.TheConstants.{PAGE_SIZE_MAX};
 ghost use Rattle.pm_types.specs.PageSizes.{IsPageSize};
 ghost use Rattle.pm_types.specs.Spans.{span_of};
 ghost use Rattle.pm_types.specs.DeltaRanges.{IsDelta, applied};
@@ -43,7 +44,7 @@ pub fn ranges_len(patch: &Patch) -> usize
 /// Writes the delta of a page that has this patch.
 ///
 /// Whatever the page was before, if it differed only where the patch covers it, applying the delta to what it was
-/// gives the page.
+/// gives the page. The delta is one that a record may carry, whatever the page's size.
 pub fn write_ranges(page: &[u8], patch: &Patch, into: &mut [u8])
     requires part { patch.now.whole ≡ false }
     requires some { 1 ≤ length patch.now.spans }
@@ -51,6 +52,7 @@ pub fn write_ranges(page: &[u8], patch: &Patch, into: &mut [u8])
     requires room { length into.old ≡ delta_len patch.now.spans }
     ensures written { into.new ≡ delta_of page.now patch.now.spans }
     ensures delta { IsDelta (length page.now) into.new }
+    ensures grammar { IsDelta PAGE_SIZE_MAX into.new }
     ensures gives { GivesPage into.new patch.now page.now }
 {
     into[0] = patch.len();

@@ -1,38 +1,29 @@
 //! The pages of a partition: deltas of pages, pages asked for one at a time, and what a well-formed partition is.
 #![tactic(auto)]
 
-mod asked;
-mod chains;
+pub mod asked;
 mod checks;
 mod deltas;
-mod exact;
-mod forest;
-mod keys;
+mod growth;
 mod limits;
-mod listed;
-mod listing;
 mod pages;
-mod placed;
 mod plain;
 mod ranges;
 mod row;
-mod rows;
 mod sealing;
 #[cfg(test)]
 mod tests;
-mod trees;
 mod well_formed;
 
-pub use chains::{bucket_chain, has_chain, has_reuse_chain, reuse_chain};
-pub use checks::{all_pass, check};
+pub use checks::{check, check_at, check_meta};
 pub use deltas::{apply, ranges_len, write_ranges};
-pub use keys::has_keys_once;
+pub use growth::growth_changes_nothing;
 pub use limits::LEVELS_MAX;
-pub use listed::page_count;
 pub use pages::Pages;
 pub use plain::PlainPages;
 pub use row::Row;
-pub use rows::rows_of;
 pub use sealing::{seal, unseal};
-pub use trees::is_tree;
-pub use well_formed::is_well_formed;
+pub use well_formed::{
+    all_pass, bucket_chain, has_chain, has_keys_once, has_reuse_chain, is_tree, is_well_formed,
+    page_count, reuse_chain, rows_of,
+};

@@ -1,70 +1,108 @@
 //! The pages of a partition, asked for one at a time.
 
-ghost use Rattle.std.specs.Prelude.{◌≡◌, ℕ, Option, Some, None, IsSome, IfOk, IfSome, IfNone, OnErr, OnOk, ◌≤◌};
-ghost use Rattle.std.specs.Borrow.{sem, LendsSoOk};
+ghost use Rattle.std.specs.Prelude.{◌≡◌, ℕ, ◌≤◌, List, Some, IsTrue, IfOk, IfSome, IfNone, OnErr, OnOk, length};
+ghost use Rattle.std.specs.Borrow.{sem, Lends, Array, u8};
 ghost use Rattle.std.specs.Io.BufRead.{Rests};
-ghost use Rattle.pm_types.specs.contracts.page.Page.{the_row as page_row};
 ghost use Rattle.pm_types.specs.PageSizes.{IsPageSize};
-ghost use Rattle.pm_pages.specs.Paged.{Paged, IsThere, IsAskable, IsNext, IsSized, NoneLent, Views, Writes, Makes, Notes, LetsGo, HasPageCause};
+ghost use Rattle.pm_pages.specs.Paged.{Paged, IsTold, IsThere, HasRoomFor, NoneLent, AsksPage, AsksInVain, LendsNone, IsPageIn, IsFirstAbsent, IsInHand, IsLent, WritesPage, MakesPage, NotesPatch, GivesUpPages, HasPageCause, HasGapCause};
 
-use pm_types::{Page, PageFault, Patch};
+use pm_types::{PageFault, Patch};
 
-/// The pages of a partition, lent one at a time.
+/// The pages of a partition, lent one at a time, over a store of whose content maybe nothing is known.
 ///
-/// Each call that asks for a page has two conditions: the last `ready` answered Ok, and fewer than `OP_PAGES`
-/// different pages were asked for since then, or this page was among them. `ready` itself isn't of the trait.
+/// Each call has the condition that the last `ready`, which isn't of the trait, answered Ok. A call that asks for a
+/// page has another: fewer than `OP_PAGES` different pages were asked for since then, or this page was among them. A
+/// call that fails, or whose page isn't there, doesn't count.
 pub trait Pages {
+    /// Whether contracts know the content of pages that weren't read.
+    ghost tells: { Type 0 };
     /// What contracts see of the pages.
     ghost seen: { Self → Paged };
+    /// The last `ready` answered Ok, and all is in order.
+    ghost ready: { Self → Type 0 };
+    /// What no call changes of all else that the pages stand on.
+    ghost kept: { Self → Self → Type 0 };
+    /// The same pages, with these bytes as one of them.
+    ghost written: { Self → ℕ → List ℕ → Self };
 
     /// How many bytes each page has.
     fn page_size(&self) -> u32
+        requires { ready self.now }
         ensures size { result ≡ (seen self.now).page_size }
         ensures page_size { IsPageSize result };
 
-    /// The bytes of a page. `None` comes exactly where page 0 is asked for and the partition has none.
+    /// The bytes of a page. `None` comes only where page 0 is asked for and the partition has none.
     ///
-    /// `Failed` comes only where a call on the disk failed, and `BadPage`, which names the page, where it isn't
+    /// `Failed` comes only where a call on the disk failed, and `BadPage`, which names the page, only where it isn't
     /// there or fails its check. No page is changed, whatever is answered.
     fn view(&mut self, index: u32) -> Result<Option<&[u8]>, PageFault>
-        requires { IsAskable (seen self.old) index }
+        requires ready { ready self.old }
+        requires room { HasRoomFor (seen self.old) index }
         ensures page { IfOk result (λ page. IfSome page (λ bytes.
-            (seen self.old).pages index ≡ Some bytes.now)) }
-        ensures none { IfOk result (λ page. IfNone page
-            ((index ≡ 0) × ((seen self.old).pages index ≡ None))) }
+            IsPageIn tells (seen self.old) index bytes.now)) }
+        ensures none { IfOk result (λ page. IfNone page (IsFirstAbsent tells (seen self.old) index)) }
         ensures* rests { sem 𝓛 (Rests Self.row self.entry (λ left.
-            Views (seen self.entry.now) (seen left) index
-            × HasPageCause (seen self.entry.now) (seen left).faults index result)) };
+            kept self.entry.now left
+            × AsksPage tells (seen self.entry.now) (seen left) index
+            × LendsNone (seen self.entry.now) (seen left)
+            × HasPageCause tells (seen self.entry.now) (seen left).faults index result
+            × IfOk result (λ page. IfSome page (λ bytes. IsInHand (seen left) index bytes.now)
+            × IfNone page ((seen self.entry.now).spare ≤ (seen left).spare))
+            × OnErr result ((seen self.entry.now).spare ≤ (seen left).spare))) };
 
-    /// Lends a page to be written. `note` then says which bytes may have changed.
+    /// Asks for a page to be written, which `page_mut` then lends. `note` says which bytes may have changed.
     ///
-    /// `Failed` comes only where a call on the disk failed, and no page is changed then.
-    fn change(&mut self, index: u32) -> Result<&mut Page, PageFault>
-        requires there { IsThere (seen self.old) index }
-        requires askable { IsAskable (seen self.old) index }
-        ensures page { IfOk result (λ page.
-            (seen self.old).pages index ≡ Some page.now.bytes.items) }
-        ensures* lends { sem 𝓛 (LendsSoOk Self.row page_row self.entry result
-            (λ left page. Writes (seen self.entry.now) (seen left) index page.bytes.items)
-            (λ left. Views (seen self.entry.now) (seen left) index
-            × HasPageCause (seen self.entry.now) (seen left).faults index result)) };
+    /// An error has a cause as in `view`. No page is changed, and none is lent besides.
+    fn change(&mut self, index: u32) -> Result<(), PageFault>
+        requires ready { ready self.old }
+        requires room { HasRoomFor (seen self.old) index }
+        requires there { IsTold tells (seen self.old) index → IsThere (seen self.old) index }
+        ensures kept { kept self.old self.new }
+        ensures asks { AsksPage tells (seen self.old) (seen self.new) index }
+        ensures lent { OnOk result (IsLent (seen self.new) index) }
+        ensures unchanged { OnErr result (AsksInVain tells (seen self.old) (seen self.new) index) }
+        ensures cause { HasPageCause tells (seen self.old) (seen self.new).faults index result };
 
-    /// Makes a page of zeros, new or in place of what it was. Its patch is the whole page. `change` then lends it.
-    fn fresh(&mut self, index: u32)
-        requires next { IsNext (seen self.old) index }
-        requires sized { IsSized (seen self.old) index }
-        requires askable { IsAskable (seen self.old) index }
-        ensures { Makes (seen self.old) (seen self.new) index };
+    /// Makes a page of zeros, new or in place of what it was, which `page_mut` then lends. Its patch is the whole page.
+    ///
+    /// `Failed` comes only where a call on the disk failed, and `BadPage` only where the page before this one, which
+    /// it names, isn't there. No page is changed then, and none is lent besides.
+    fn fresh(&mut self, index: u32) -> Result<(), PageFault>
+        requires ready { ready self.old }
+        requires room { HasRoomFor (seen self.old) index }
+        ensures kept { kept self.old self.new }
+        ensures makes { OnOk result (MakesPage tells (seen self.old) (seen self.new) index) }
+        ensures unchanged { OnErr result (AsksInVain tells (seen self.old) (seen self.new) index) }
+        ensures cause { HasGapCause tells (seen self.old) (seen self.new).faults index result };
+
+    /// Lends the bytes of a page that `change` or `fresh` made ready for it since `ready`.
+    fn page_mut(&mut self, index: u32) -> &mut [u8]
+        requires ready { ready self.old }
+        requires lent { IsTrue ((seen self.old).lent index) }
+        ensures page { (seen self.old).pages index ≡ Some result.now }
+        ensures size { length result.now ≡ (seen self.old).page_size }
+        ensures* lends { sem 𝓛 (Lends Self.row (Array u8 0) self.entry result (written self.entry.now index)) };
 
     /// Joins a patch to that of a page which was lent since `ready`.
     fn note(&mut self, index: u32, patch: &Patch)
-        requires lent { (seen self.old).lent index }
+        requires ready { ready self.old }
+        requires lent { IsTrue ((seen self.old).lent index) }
         requires size { patch.now.page_size ≡ (seen self.old).page_size }
-        ensures { Notes (seen self.old) (seen self.new) index patch.now };
+        ensures kept { kept self.old self.new }
+        ensures notes { NotesPatch tells (seen self.old) (seen self.new) index patch.now };
 
     /// Gives up the pages that were asked for since `ready`, none of which was lent to be written.
     fn let_go(&mut self)
-        requires ready { (seen self.old).is_ready }
+        requires ready { ready self.old }
         requires none_lent { NoneLent (seen self.old) }
-        ensures { LetsGo (seen self.old) (seen self.new) };
+        ensures kept { kept self.old self.new }
+        ensures gives_up { GivesUpPages tells (seen self.old) (seen self.new) };
+
+    ghost kept_refl: { (s : Self) → kept s s };
+    ghost kept_then: { (s t u : Self) → kept s t → kept t u → kept s u };
+    ghost kept_ready: { (s t : Self) → kept s t → ready s → ready t };
+    ghost writes: { (s : Self) (i : ℕ) (bytes : List ℕ) → ready s → IsTrue ((seen s).lent i)
+        → length bytes ≡ (seen s).page_size → WritesPage (seen s) (seen (written s i bytes)) i bytes };
+    ghost kept_written: { (s : Self) (i : ℕ) (bytes : List ℕ) → ready s → IsTrue ((seen s).lent i)
+        → length bytes ≡ (seen s).page_size → kept s (written s i bytes) };
 }

@@ -1,54 +1,64 @@
 //! The pages of a partition as a list in memory.
 
-ghost use Rattle.std.specs.Prelude.{◌≡◌, ℕ, ◌+◌, ◌<◌, ◌≤◌, ◌++◌, [], ◌∷◌, Option, Some, None, IsSome, IsTrue, IfOk, IfSome, OnOk, OnErr, MatchOption, All, length, replicate, slice_get};
+ghost use Rattle.std.specs.Prelude.{◌≡◌, ℕ, ◌+◌, ◌<◌, ◌≤◌, ◌++◌, [], ◌∷◌, None, Some, IfOk, OnOk, OnErr, MatchOption, All, length, replicate};
 ghost use Rattle.std.specs.Vec.{vec_capacity};
+ghost use Rattle.std.specs.Borrow.{sem, Lends, Array, u8};
 ghost use Rattle.pm_types.specs.PageSizes.{IsPageSize};
 ghost use Rattle.pm_types.specs.declared.limits.TheConstants.{OP_PAGES};
-ghost use Rattle.pm_pages.specs.Asked.{HaveSize};
-ghost use Rattle.pm_pages.specs.PlainRooms.{is_page_size, AreZeros, HasRooms};
+ghost use Rattle.pm_types.specs.contracts.page.Page.{the_row as page_row};
+ghost use Rattle.pm_pages.specs.PageLists.{pages_in};
+ghost use Rattle.pm_pages.specs.PlainRooms.{AreZeros, IsOfSize};
+ghost use Rattle.pm_pages.specs.Plain.{shown, refilled, plain_seen, plain_count, ArePlain, ArePlainReady, MakesReady};
 
 use crate::asked::{Asked, ask, entry, lend, make, note};
 use crate::pages::Pages;
-use pm_types::{OP_PAGES, Page, PageFault, PageId, Patch};
+use pm_types::{OP_PAGES, Page, PageFault, PageId, Patch, Shape};
 use std::alloc::{AllocError, Global};
 
 /// Pages of a partition as a list of vectors, with a patch for each that was changed since `ready`.
+///
+/// Every page counts as read: `view` and `change` look at no check, and no call on a disk can fail.
 #[derive(Drop)]
 pub struct PlainPages {
-    page_size: u32,
+    // The store's shape.
+    shape: Shape,
     part: u16,
-    // Whether the last `ready` answered Ok.
-    is_ready: bool,
     pages: Vec<Page>,
     // Pages of zeros, for those that are made.
     rooms: Vec<Page>,
     // The pages that were asked for since `ready`.
     asked: Vec<Asked>,
-    ghost size: { IsTrue (is_page_size page_size) },
-    ghost has_rooms: { HasRooms is_ready (length pages.items) (length rooms.items) (vec_capacity pages) asked.items },
-    ghost zeros: { All (AreZeros page_size) rooms.items },
-    ghost few: { length asked.items ≤ OP_PAGES },
-    ghost capacity: { OP_PAGES ≤ vec_capacity asked },
-    ghost sizes: { HaveSize page_size asked.items },
 }
 
 impl PlainPages {
-    ghost use Rattle.std.specs.Prelude.{refl};
-    ghost use Rattle.pm_pages.specs.Plain.{shown, plain_seen, plain_count};
-    ghost use Rattle.pm_pages.specs.Paged.{IsReady};
+    /// No page yet, of a partition with this number, in a store of this shape.
+    pub fn new(alloc: Global, shape: &Shape, part: u16) -> Result<PlainPages, AllocError>
+        requires { IsPageSize shape.now.page_size }
+        ensures plain { IfOk result ArePlain }
+        ensures shows { IfOk result (λ made. shown made ≡ record { page_size = shape.now.page_size;
+            max_rows = shape.now.max_rows; part = part; pages = []; asked = [] }) }
+    {
+        PlainPages::of(alloc, shape, part, Vec::new(alloc))
+    }
 
-    /// No page yet, of a partition with this number, whose pages have so many bytes.
-    pub fn new(alloc: Global, page_size: u32, part: u16) -> Result<PlainPages, AllocError>
-        requires { IsPageSize page_size }
-        ensures { IfOk result (λ made. (plain_count made ≡ 0)
-            × ((plain_seen made).page_size ≡ page_size) × ((plain_seen made).part ≡ part)) }
+    /// These pages, of a partition with this number, in a store of this shape.
+    pub fn of(
+        alloc: Global,
+        shape: &Shape,
+        part: u16,
+        pages: Vec<Page>,
+    ) -> Result<PlainPages, AllocError>
+        requires size { IsPageSize shape.now.page_size }
+        requires sized { All (IsOfSize shape.now.page_size) pages.items }
+        ensures plain { IfOk result ArePlain }
+        ensures shows { IfOk result (λ made. shown made ≡ record { page_size = shape.now.page_size;
+            max_rows = shape.now.max_rows; part = part; pages = pages.items; asked = [] }) }
     {
         let asked = Vec::with_capacity(alloc, OP_PAGES as usize)?;
         Ok(PlainPages {
-            page_size,
+            shape: *shape,
             part,
-            is_ready: false,
-            pages: Vec::new(alloc),
+            pages,
             rooms: Vec::new(alloc),
             asked,
         })
@@ -88,15 +98,18 @@ impl PlainPages {
     /// Makes room for `OP_PAGES` new pages, and begins anew to count the pages that are asked for. No page has a
     /// patch then.
     ///
-    /// Want of memory leaves the pages as before, and what was asked for and noted.
+    /// Out of memory leaves the pages as before, and what was asked for and noted.
     pub fn ready(&mut self, alloc: Global) -> Result<(), AllocError>
-        ensures ok { OnOk result (IsReady (plain_seen self.old) (plain_seen self.new)) }
-        ensures err { OnErr result (shown self.new ≡ shown self.old) }
+        requires { ArePlain self.old }
+        ensures plain { ArePlain self.new }
+        ensures ready { OnOk result (ArePlainReady self.new) }
+        ensures makes_ready { OnOk result (MakesReady (plain_seen self.old) (plain_seen self.new)) }
+        ensures unchanged { OnErr result (shown self.new ≡ shown self.old) }
+        ensures still_ready { OnErr result (ArePlainReady self.old → ArePlainReady self.new) }
     {
-        fill_rooms(alloc, &mut self.rooms, self.page_size)?;
+        fill_rooms(alloc, &mut self.rooms, self.shape.page_size)?;
         self.pages.reserve(OP_PAGES as usize)?;
         self.asked.clear();
-        self.is_ready = true;
         Ok(())
     }
 }
@@ -106,7 +119,7 @@ fn fill_rooms(alloc: Global, rooms: &mut Vec<Page>, page_size: u32) -> Result<()
     requires { All (AreZeros page_size) rooms.old.items }
     ensures zeros { All (AreZeros page_size) rooms.new.items }
     ensures more { length rooms.old.items ≤ length rooms.new.items }
-    ensures ok { OnOk result (OP_PAGES ≤ length rooms.new.items) }
+    ensures enough { OnOk result (OP_PAGES ≤ length rooms.new.items) }
 {
     'rooms: for _ in rooms.len()..OP_PAGES as usize {
         rooms.push(zeros(alloc, page_size)?)?;
@@ -127,6 +140,14 @@ fn clear(page: &mut Page)
     ensures { page.new.bytes.items ≡ replicate (length page.old.bytes.items) 0 }
 {
     page.bytes.as_mut_slice().fill(0);
+}
+
+// The bytes of a page, to be written: a function of its own, since a loan isn't followed through two fields.
+fn bytes_of_mut(page: &mut Page) -> &mut [u8]
+    ensures page { result.now ≡ page.old.bytes.items }
+    ensures* lends { sem 𝓛 (Lends page_row (Array u8 0) page.entry result (refilled page.entry.now)) }
+{
+    page.bytes.as_mut_slice()
 }
 
 // Takes a page of zeros out of those that are kept.
@@ -150,37 +171,55 @@ fn append(pages: &mut Vec<Page>, page: Page)
 }
 
 impl Pages for PlainPages {
-    ghost use Rattle.pm_pages.specs.Plain.{plain_seen};
+    ghost use Rattle.pm_pages.specs.Plain.{plain_seen, ArePlainReady, KeepsPlain, plain_written};
+    ghost use Rattle.pm_pages.specs.PlainLaws as laws;
+
+    ghost tells = { Unit {0} };
 
     ghost seen = { plain_seen };
 
+    ghost ready = { ArePlainReady };
+
+    ghost kept = { KeepsPlain };
+
+    ghost written = { plain_written };
+
     fn page_size(&self) -> u32 {
-        self.page_size
+        self.shape.page_size
     }
 
     fn view(&mut self, index: u32) -> Result<Option<&[u8]>, PageFault> {
-        ask(&mut self.asked, index);
-        let bad = PageFault::BadPage(PageId::new(self.part, index));
-        match self.pages.get(index as usize) {
-            Some(page) => Ok(Some(page.bytes.as_slice())),
-            None if index == 0 => Ok(None),
-            None => Err(bad),
+        if (index as usize) < self.pages.len() {
+            ask(&mut self.asked, index);
+            return Ok(Some(self.pages[index as usize].bytes.as_slice()));
         }
+        if index == 0 {
+            return Ok(None);
+        }
+        Err(PageFault::BadPage(PageId::new(self.part, index)))
     }
 
-    fn change(&mut self, index: u32) -> Result<&mut Page, PageFault> {
+    fn change(&mut self, index: u32) -> Result<(), PageFault> {
         lend(&mut self.asked, index);
-        Ok(&mut self.pages[index as usize])
+        Ok(())
     }
 
-    fn fresh(&mut self, index: u32) {
-        make(&mut self.asked, index, self.page_size);
+    fn fresh(&mut self, index: u32) -> Result<(), PageFault> {
+        if index as usize > self.pages.len() {
+            return Err(PageFault::BadPage(PageId::new(self.part, index - 1)));
+        }
+        make(&mut self.asked, index, self.shape.page_size);
         if (index as usize) < self.pages.len() {
             clear(&mut self.pages[index as usize]);
-            return;
+            return Ok(());
         }
         let room = take_room(&mut self.rooms);
         append(&mut self.pages, room);
+        Ok(())
+    }
+
+    fn page_mut(&mut self, index: u32) -> &mut [u8] {
+        bytes_of_mut(&mut self.pages[index as usize])
     }
 
     fn note(&mut self, index: u32, patch: &Patch) {
@@ -190,4 +229,14 @@ impl Pages for PlainPages {
     fn let_go(&mut self) {
         self.asked.clear();
     }
+
+    ghost kept_refl = { laws.kept_refl };
+
+    ghost kept_then = { laws.kept_then };
+
+    ghost kept_ready = { λ p q keeps. keeps.ready };
+
+    ghost writes = { laws.writes };
+
+    ghost kept_written = { laws.kept_written };
 }

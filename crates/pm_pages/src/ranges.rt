@@ -4,7 +4,7 @@ ghost use Rattle.std.specs.Prelude.{◌≡◌, length};
 ghost use Rattle.pm_types.specs.DeltaRanges.{BeginsWithRange, AreRanges, with_front, with_ranges};
 
 use pm_types::fields::get_u16;
-use pm_types::ranges::{RANGE_HEAD_LEN, behind};
+use pm_types::ranges::{RANGE_HEAD_LEN, after_front};
 
 /// Writes the bytes of so many ranges over a page's own.
 pub fn overwrite(number: u8, ranges: &[u8], page: &mut [u8])
@@ -16,7 +16,7 @@ pub fn overwrite(number: u8, ranges: &[u8], page: &mut [u8])
     'front: while left > 0 {
         left -= 1;
         overwrite_front(rest, page);
-        rest = behind(rest);
+        rest = after_front(rest);
     }
 }
 

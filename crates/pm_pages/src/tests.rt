@@ -1,10 +1,6 @@
-ghost use Rattle.std.specs.Prelude.{◌≡◌, ◌+◌, ◌<◌, ◌≤◌, ℕ, List, Some, OnOk, length, slice_set};
-ghost use Rattle.pm_pages.specs.Paged.{IsThere, IsAskable};
-
-use crate::pages::Pages;
 use crate::*;
 use pm_meta::MetaSlot;
-use pm_types::{Link, Page, PageFault, PageId, Patch, Shape};
+use pm_types::{Link, Page, PageId, Patch, Shape};
 use std::alloc::{AllocError, Global};
 use std::process::Abort;
 use std::test::Fail;
@@ -38,7 +34,7 @@ fn bytes_that_are_no_delta_change_nothing(rt: HostRuntime) {
         (b"\x01", "a range without its head"),
         (b"\x01\x00\x00\x00\x00", "a range without a byte"),
         (b"\x01\x00\x00\x02\x00x", "a range that is cut off"),
-        (b"\x01\x00\x00\x01\x00xy", "a byte behind the last range"),
+        (b"\x01\x00\x00\x01\x00xy", "a byte after the last range"),
         (b"\x02\x00\x00\x01\x00x", "a range too few"),
         (
             b"\x01\x00\x00\x01\x00x\x01\x00\x01\x00y",
@@ -74,58 +70,6 @@ fn version_1_has_the_page_itself_in_its_file(rt: HostRuntime) {
     assert!(rt; page.iter().all(|byte| *byte == 5));
     assert!(rt; unseal(&mut page, 1));
     assert!(rt; page.iter().all(|byte| *byte == 5));
-}
-
-// Writes one byte of a page, and notes it.
-fn set_byte<P: Pages>(pages: &mut P, index: u32, at: u16, byte: u8) -> Result<(), PageFault>
-    requires there { IsThere (P.seen pages.old) index }
-    requires long { (bytes : List ℕ) → (P.seen pages.old).pages index ≡ Some bytes → at < length bytes }
-    requires within { at + 1 ≤ (P.seen pages.old).page_size }
-    requires askable { IsAskable (P.seen pages.old) index }
-    ensures { OnOk result ((bytes : List ℕ) → (P.seen pages.old).pages index ≡ Some bytes
-        → (P.seen pages.new).pages index ≡ Some (slice_set bytes at byte)) }
-{
-    let mut patch = Patch::none(pages.page_size());
-    patch.add(at, 1);
-    let page = pages.change(index)?;
-    put(page.bytes.as_mut_slice(), at, byte);
-    pages.note(index, &patch);
-    Ok(())
-}
-
-fn put(page: &mut [u8], at: u16, byte: u8)
-    requires { at < length page.old }
-    ensures { page.new ≡ slice_set page.old at byte }
-{
-    page[at as usize] = byte;
-}
-
-#[test]
-fn plain_pages_keep_what_changed_since_they_were_made_ready(rt: HostRuntime) -> Result<(), Fail> {
-    let mut pages = PlainPages::new(rt.alloc(), 1024, 2)?;
-    assert!(rt; pages.len() == 0 && pages.page(0).is_none() && pages.patch(0).is_none());
-    pages.ready(rt.alloc())?;
-    assert!(rt; matches!(pages.view(0), Ok(None)));
-    assert!(rt;
-        matches!(pages.view(1), Err(PageFault::BadPage(page)) if page == PageId::new(2, 1))
-    );
-    pages.fresh(0);
-    assert!(rt; pages.len() == 1);
-    assert!(rt; pages.patch(0).is_some_and(|patch| patch.is_whole()));
-    pages.ready(rt.alloc())?;
-    assert!(rt; pages.patch(0).is_none());
-    assert!(rt; set_byte(&mut pages, 0, 1023, 7).is_ok());
-    assert!(rt;
-        pages
-            .patch(0)
-            .is_some_and(|patch| patch.len() == 1 && !patch.is_whole())
-    );
-    assert!(rt;
-        pages
-            .page(0)
-            .is_some_and(|page| page.len() == 1024 && page[1023] == 7)
-    );
-    Ok(())
 }
 
 // The shape of a store with one partition, whose pages have 1,024 bytes.
@@ -292,7 +236,7 @@ fn one_wrong_byte_of_a_partition_is_found(rt: HostRuntime) -> Result<(), Fail> {
             16,
             b"\x01",
             (true, true, true, false),
-            "a data page behind a reuse page",
+            "a data page after a reuse page",
         ),
     ];
     for (index, at, bytes, wanted, what) in rows {
@@ -377,9 +321,9 @@ fn a_partition_is_well_formed_up_to_one_wrong_byte(rt: HostRuntime) -> Result<()
         ((3, 33, b'f'), false, "a key that isn't that of its row"),
         ((3, 104, 0), false, "the name of another row"),
         ((2, 16, 0), false, "a leaf that doesn't name the next"),
-        ((3, 16, 2), false, "a leaf that names one behind the last"),
+        ((3, 16, 2), false, "a leaf that names one after the last"),
         ((0, 148, 0), false, "a data page in no chain"),
-        ((1, 16, 1), false, "a data page behind itself"),
+        ((1, 16, 1), false, "a data page after itself"),
         ((0, 160, 1), false, "a data page in the reuse chain"),
     ];
     for (at, wanted, what) in rows {
@@ -487,5 +431,19 @@ fn a_partition_made_by_calls_is_well_formed_up_to_one_point(rt: HostRuntime) -> 
             "{what}"
         );
     }
+    Ok(())
+}
+
+#[test]
+fn each_page_is_checked_as_its_index_asks(rt: HostRuntime) -> Result<(), Fail> {
+    let pages = made(&rt, rt.alloc(), SOUND)?;
+    assert!(rt; pages.len() == 4);
+    let meta = pages[0].bytes.as_slice();
+    let data = pages[1].bytes.as_slice();
+    assert!(rt; check_at(meta, 0, 0, &SHAPE) && check_meta(meta, PageId::new(0, 0), &SHAPE));
+    assert!(rt; check_at(data, 0, 1, &SHAPE));
+    assert!(rt; !check_at(data, 0, 0, &SHAPE) && !check_at(meta, 0, 1, &SHAPE));
+    assert!(rt; !check_at(data, 1, 1, &SHAPE));
+    growth_changes_nothing();
     Ok(())
 }

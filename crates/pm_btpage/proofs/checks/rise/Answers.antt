@@ -9,7 +9,7 @@ returns-then-not-is_below c =
     let page = c.args.page.now in
     let i = c.pairs.i in
     let below = λ (rising : IsRising (items_of page)). subst (λ (z : List ℕ × List ℕ). IsBelow z.0 z.1)
-    (λ t. ((key_in-items_of page (i - 1) (omega (arith, c.requires.count)) ∙ sym c.stored_key.ensures) t, (key_in-items_of page i (omega (arith, c.requires.count)) ∙ sym c.stored_key-in-pairs.ensures) t))
+    (λ t. ((key_in-items_of page (i - 1) (omega (arith, c.requires.count)) ∙ sym c.stored_key.ensures.key) t, (key_in-items_of page i (omega (arith, c.requires.count)) ∙ sym c.stored_key-in-pairs.ensures.key) t))
     (rising (i - 1) i (omega arith) (omega (arith, c.requires.count, length-items_of page))) in
     (λ t. absurd (cc), λ rising. sym c.if-not-is_below.true ∙ c.is_below.ensures.1 (below rising))
 

@@ -5,7 +5,7 @@ use Rattle.std.proofs.lemmas.List.FromFn.{length-map-range_with_len}
 use Rattle.std.proofs.lemmas.List.Sorted.{length_permutation}
 use Rattle.pm_data.specs.declared.slots.Slot.{Slot}
 use Rattle.pm_data.specs.DataPages.{slot_at}
-use Rattle.pm_data.specs.Following.{Follow}
+use Rattle.pm_data.specs.Following.{AreConsecutive}
 use Rattle.pm_data.proofs.Filled.{page_filled}
 use Rattle.pm_data.proofs.checks.are_full.Goals as goal
 
@@ -17,6 +17,6 @@ returns c =
     let len : length sorted ≡ c.args.count = length_permutation _ sorted same ∙ length-map-range_with_len (slot_at page) 0 c.args.count in
     let whole = take_at sorted (drop c.args.count c.all_slots-slots.result) c.args.count len in
     let is = page_filled page c.args.count c.args.low sorted c.requires.low c.requires.some c.requires.above c.requires.each same c.sort_by_start.ensures.rising in (
-      λ t. is.0 (subst (λ (t : List Slot). Follow c.args.low (length page) t) whole (c.follow.ensures.0 t)),
-      λ h. c.follow.ensures.1 (subst (λ (t : List Slot). Follow c.args.low (length page) t) (sym whole) (is.1 h)),
+      λ t. is.0 (subst (λ (t : List Slot). AreConsecutive c.args.low (length page) t) whole (c.are_consecutive.ensures.0 t)),
+      λ h. c.are_consecutive.ensures.1 (subst (λ (t : List Slot). AreConsecutive c.args.low (length page) t) (sym whole) (is.1 h)),
     )

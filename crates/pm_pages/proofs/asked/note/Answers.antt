@@ -2,27 +2,27 @@ use Rattle.std.proofs.Common.{◌≡◌, ℕ, ◌<◌, List, length, set, get_or
 use Rattle.std.specs.Prelude.{Option, Some, IsSome, None, unwrap_or, IfSome, IsSomeAnd}
 use Rattle.pm_types.specs.Spans.{Coverage}
 use Rattle.pm_pages.specs.declared.asked.Asked.{Asked}
-use Rattle.pm_pages.specs.Asked.{entry_of, place_of, to_read, entry_or_new, patch_of, HaveSize, Registers, NotesEntry}
-use Rattle.pm_pages.specs.Paged.{Joins}
+use Rattle.pm_pages.specs.Asked.{entry_of, position_of, to_read, entry_or_new, patch_of, HaveSize, RegistersPage, NotesEntry}
+use Rattle.pm_pages.specs.Paged.{JoinsPatch}
 use Rattle.std.proofs.lemmas.List.{get_or_default}
 use Rattle.pm_pages.proofs.AskedPages.{found_at, changed}
 use Rattle.pm_pages.proofs.asked.note.Goals as goal
 
--- two reads of one place
-same_entry : (asked : List Asked) (place : ℕ) (a b : Asked) → place < length asked → a ≡ get_or asked place a → b ≡ get_or asked place b → a ≡ b
-same_entry asked place a b lt is_a is_b = is_a ∙ get_or_default asked place a b lt ∙ sym is_b
+-- two reads of one entry
+same_entry : (asked : List Asked) (position : ℕ) (a b : Asked) → position < length asked → a ≡ get_or asked position a → b ≡ get_or asked position b → a ≡ b
+same_entry asked position a b lt is_a is_b = is_a ∙ get_or_default asked position a b lt ∙ sym is_b
 
--- a patch is joined to that of the entry at the place of a page
-is_noted_now : (was mid : List Asked) (index place : ℕ) (d : Asked) (patch joined : Coverage) → Registers was mid index → entry_of mid index ≡ Some (entry_or_new was index) → place ≡ place_of mid index → place < length mid → d ≡ get_or mid place d → Joins d.patch patch joined
-    → IsSomeAnd (entry_of (set mid place (record { index = d.index; is_lent = d.is_lent; patch = Some joined })) index) (NotesEntry (entry_or_new was index) patch) × Registers was (set mid place (record { index = d.index; is_lent = d.is_lent; patch = Some joined })) index
-is_noted_now was mid index place d patch joined registers is at lt here joins =
+-- a patch is joined to that of the entry at the position of a page
+is_noted_now : (was mid : List Asked) (index position : ℕ) (d : Asked) (patch joined : Coverage) → RegistersPage was mid index → entry_of mid index ≡ Some (entry_or_new was index) → position ≡ position_of mid index → position < length mid → d ≡ get_or mid position d → JoinsPatch d.patch patch joined
+    → IsSomeAnd (entry_of (set mid position (record { index = d.index; is_lent = d.is_lent; patch = Some joined })) index) (NotesEntry (entry_or_new was index) patch) × RegistersPage was (set mid position (record { index = d.index; is_lent = d.is_lent; patch = Some joined })) index
+is_noted_now was mid index position d patch joined registers is at lt here joins =
     let entry : Asked = record { index = d.index; is_lent = d.is_lent; patch = Some joined } in
-    let found = found_at mid index place (entry_or_new was index) d is at lt here in
+    let found = found_at mid index position (entry_or_new was index) d is at lt here in
     let lent : d.is_lent ≡ (entry_or_new was index).is_lent = ap (λ (e : Asked). e.is_lent) found.0 in
-    let both = changed was mid index place (entry_or_new was index) entry registers is at lt found.1 (λ h. lent ∙ h) in
+    let both = changed was mid index position entry registers at lt found.1 in
     let notes : NotesEntry (entry_or_new was index) patch entry = record {
       lent = lent;
-      joins = subst (λ (e : Asked). Joins e.patch patch joined) found.0 joins;
+      joins = subst (λ (e : Asked). JoinsPatch e.patch patch joined) found.0 joins;
     } in
     (subst (λ o. IsSomeAnd o (NotesEntry (entry_or_new was index) patch)) (sym both.0) notes, both.1)
 
@@ -36,18 +36,18 @@ entry_sizes None index size sizes = tt
 entry_sizes (Some entry) index size sizes = of_patch entry.patch size sizes
 
 -- the patch that is there is of a page of the same size
-same_size : (was mid : List Asked) (index place size : ℕ) (d : Asked) → entry_of mid index ≡ Some (entry_or_new was index) → place ≡ place_of mid index → place < length mid → d ≡ get_or mid place d → IsSome (entry_of was index) → HaveSize size was → IfSome d.patch (λ old. old.page_size ≡ size)
-same_size was mid index place size d is at lt here there sizes =
-    let found = found_at mid index place (entry_or_new was index) d is at lt here in
+same_size : (was mid : List Asked) (index position size : ℕ) (d : Asked) → entry_of mid index ≡ Some (entry_or_new was index) → position ≡ position_of mid index → position < length mid → d ≡ get_or mid position d → IsSome (entry_of was index) → HaveSize size was → IfSome d.patch (λ old. old.page_size ≡ size)
+same_size was mid index position size d is at lt here there sizes =
+    let found = found_at mid index position (entry_or_new was index) d is at lt here in
     subst (λ (e : Asked). IfSome e.patch (λ old. old.page_size ≡ size)) (sym found.0) (entry_sizes (entry_of was index) index size (λ patch e. sizes index patch e))
 
 pub joined-joined-requires : goal.joined-joined-requires
-joined-joined-requires c = same_size c.args.asked.now.items c.ask-place.new.asked.items c.args.index c.ask-place.result c.args.patch.now.page_size c.index.result.now c.ask-place.ensures.entry c.ask-place.ensures.place c.ask-place.ensures.there c.index.ensures c.requires.there c.requires.size
+joined-joined-requires c = same_size c.args.asked.now.items c.ask-position.new.asked.items c.args.index c.ask-position.result c.args.patch.now.page_size c.index.result.now c.ask-position.ensures.entry c.ask-position.ensures.position c.ask-position.ensures.there c.index.ensures c.requires.there c.requires.size
 
 pub returns-clause-entry : goal.returns-clause-entry
-returns-clause-entry c = (is_noted_now c.args.asked.now.items c.ask-place.new.asked.items c.args.index c.ask-place.result c.index_mut.result.now c.args.patch.now c.joined-joined.result c.ask-place.ensures.registers c.ask-place.ensures.entry c.ask-place.ensures.place c.ask-place.ensures.there c.index_mut.ensures.value
-    (subst (λ (e : Asked). Joins e.patch c.args.patch.now c.joined-joined.result) (same_entry c.ask-place.new.asked.items c.ask-place.result c.index.result.now c.index_mut.result.now c.ask-place.ensures.there c.index.ensures c.index_mut.ensures.value) c.joined-joined.ensures)).0
+returns-clause-entry c = (is_noted_now c.args.asked.now.items c.ask-position.new.asked.items c.args.index c.ask-position.result c.index_mut.result.now c.args.patch.now c.joined-joined.result c.ask-position.ensures.registers c.ask-position.ensures.entry c.ask-position.ensures.position c.ask-position.ensures.there c.index_mut.ensures.value
+    (subst (λ (e : Asked). JoinsPatch e.patch c.args.patch.now c.joined-joined.result) (same_entry c.ask-position.new.asked.items c.ask-position.result c.index.result.now c.index_mut.result.now c.ask-position.ensures.there c.index.ensures c.index_mut.ensures.value) c.joined-joined.ensures)).0
 
 pub returns-clause-registers : goal.returns-clause-registers
-returns-clause-registers c = (is_noted_now c.args.asked.now.items c.ask-place.new.asked.items c.args.index c.ask-place.result c.index_mut.result.now c.args.patch.now c.joined-joined.result c.ask-place.ensures.registers c.ask-place.ensures.entry c.ask-place.ensures.place c.ask-place.ensures.there c.index_mut.ensures.value
-    (subst (λ (e : Asked). Joins e.patch c.args.patch.now c.joined-joined.result) (same_entry c.ask-place.new.asked.items c.ask-place.result c.index.result.now c.index_mut.result.now c.ask-place.ensures.there c.index.ensures c.index_mut.ensures.value) c.joined-joined.ensures)).1
+returns-clause-registers c = (is_noted_now c.args.asked.now.items c.ask-position.new.asked.items c.args.index c.ask-position.result c.index_mut.result.now c.args.patch.now c.joined-joined.result c.ask-position.ensures.registers c.ask-position.ensures.entry c.ask-position.ensures.position c.ask-position.ensures.there c.index_mut.ensures.value
+    (subst (λ (e : Asked). JoinsPatch e.patch c.args.patch.now c.joined-joined.result) (same_entry c.ask-position.new.asked.items c.ask-position.result c.index.result.now c.index_mut.result.now c.ask-position.ensures.there c.index.ensures c.index_mut.ensures.value) c.joined-joined.ensures)).1

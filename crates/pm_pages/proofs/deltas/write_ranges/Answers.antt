@@ -1,8 +1,9 @@
 use Rattle.std.proofs.Common.{ℕ, List, length, subst, sym, arith}
 use Rattle.pm_types.specs.Spans.{span_of}
 use Rattle.pm_types.specs.DeltaRanges.{IsDelta}
+use Rattle.pm_types.proofs.PageSizeBounds.{page_size_bounds}
 use Rattle.pm_pages.specs.Deltas.{GivesPage}
-use Rattle.pm_pages.proofs.WrittenRanges.{room_for, first_written, one_more, all_written, is_delta, gives_page}
+use Rattle.pm_pages.proofs.WrittenRanges.{room_for, first_written, one_more, all_written, is_delta, gives_page, delta_wider}
 use Rattle.pm_pages.proofs.deltas.write_ranges.Goals as goal
 
 pub each-init : goal.each-init
@@ -27,3 +28,7 @@ returns-clause-delta c =
 pub returns-clause-gives : goal.returns-clause-gives
 returns-clause-gives c =
     subst (λ (t : List ℕ). GivesPage t c.args.patch.now c.args.page.now) (sym (returns-clause-written c)) (gives_page c.args.page.now c.args.patch.now c.len.ensures.patch c.requires.part c.requires.size)
+
+pub returns-clause-grammar : goal.returns-clause-grammar
+returns-clause-grammar c =
+    delta_wider (length c.args.page.now) 16384 c.each.into (omega (arith, (page_size_bounds c.args.patch.now.page_size c.len.ensures.patch.size).1, c.requires.size)) (returns-clause-delta c)

@@ -1,22 +1,16 @@
-use Rattle.std.proofs.Common.{length, refl, arith}
-use Rattle.pm_pages.proofs.PageReads.{page_read}
-use Rattle.pm_pages.proofs.PlainSteps.{rooms_kept, few_kept, sizes_lent, there_below, writes}
-use Rattle.pm_pages.specs.Plain.{shown}
+use Rattle.std.proofs.Common.{inl, refl}
+use Rattle.std.specs.Vec.{vec_capacity}
+use Rattle.pm_pages.proofs.PlainSteps.{keeps_lent, ready_kept, there_below}
 use Rattle.pm_pages.proofs.plain.PlainPagesPages.change.Goals as goal
 
-pub invariant_of-self : goal.invariant_of-self
-invariant_of-self c = record {
-  size = c.args.self.now.size;
-  has_rooms = rooms_kept c.args.self.now.is_ready (length c.args.self.now.pages.items) (length c.args.self.now.rooms.items) _ c.args.index c.args.self.now.asked.items c.lend.new.asked.items c.lend.ensures.registers c.args.self.now.has_rooms;
-  zeros = c.args.self.now.zeros;
-  few = few_kept c.args.index c.args.self.now.asked.items c.lend.new.asked.items c.lend.ensures.registers c.args.self.now.few c.requires.askable.room;
-  capacity = omega (arith, c.args.self.now.capacity, c.lend.ensures.capacity);
-  sizes = sizes_lent c.args.self.now.page_size c.args.index c.args.self.now.asked.items c.lend.new.asked.items c.lend.ensures.registers c.args.self.now.sizes c.lend.ensures.entry;
-}
-
-pub index_mut-requires : goal.index_mut-requires
-index_mut-requires c = omega (arith, there_below c.args.self.now.pages.items c.args.index c.requires.there)
-
-pub returns : goal.returns
-returns c =
-    ((refl, (λ w is_ok. writes (shown c.args.self.now) c.lend.new.asked.items c.args.index w c.lend.ensures.registers (there_below c.args.self.now.pages.items c.args.index c.requires.there) c.lend.ensures.entry c.lend.ensures.lent), tt), record { page = page_read c.args.self.now.pages.items c.args.index c.index_mut.result.now (there_below c.args.self.now.pages.items c.args.index c.requires.there) c.index_mut.ensures.value; lends = tt })
+pub returns-clause-kept : goal.returns-clause-kept
+returns-clause-kept c =
+    let p = c.args.self.now in
+    let registers = c.lend.ensures.registers in
+    let keeps = keeps_lent p.asked.items c.lend.new.asked.items c.args.index registers c.lend.ensures.entry in
+    record {
+      shape = refl;
+      part = refl;
+      ready = λ is. ready_kept p.shape.page_size p.pages.items p.rooms.items p.asked.items c.lend.new.asked.items (vec_capacity p.pages) (vec_capacity p.asked) (vec_capacity c.lend.new.asked) c.args.index is registers
+          (there_below p.pages.items c.args.index (c.requires.there (inl tt))) (keeps.0.patches p.shape.page_size is.ordered.patches) keeps.0.lent c.requires.room c.lend.ensures.capacity;
+    }

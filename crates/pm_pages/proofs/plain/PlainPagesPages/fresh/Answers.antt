@@ -1,48 +1,69 @@
-use Rattle.std.proofs.Common.{◌≡◌, ◌+◌, ◌<◌, List, [], ◌∷◌, length, replicate, subst, sym, ap, ◌∙◌, arith}
-use Rattle.pm_pages.proofs.PageReads.{page_read}
-use Rattle.pm_pages.proofs.PlainSteps.{few_kept, sizes_made, next_is, some_rooms, rooms_taken, remakes, appends}
+use Rattle.std.proofs.Common.{◌≡◌, ◌<◌, ◌≤◌, ◌∙◌, length, replicate, refl, sym, ap, subst, arith}
 use Rattle.std.specs.Vec.{vec_capacity}
-use Rattle.std.proofs.lemmas.List.{length-append}
-use Rattle.pm_types.specs.declared.page.Page.{Page}
-use Rattle.pm_pages.specs.Paged.{Makes}
-use Rattle.pm_pages.specs.Plain.{shown, paged}
+use Rattle.std.proofs.lemmas.List.{length-replicate}
+use Rattle.pm_pages.specs.Plain.{shown}
+use Rattle.pm_pages.specs.PlainLaws.{ready_set}
+use Rattle.pm_pages.specs.PlainRooms.{AreZeros, IsOfSize}
+use Rattle.pm_pages.proofs.PlainSteps.{keeps_made, ready_kept, remakes_page, appends_page, not_asked, ready_taken}
 use Rattle.pm_pages.proofs.plain.PlainPagesPages.fresh.Goals as goal
 
-pub returns-then-index-len : goal.returns-then-index-len
-returns-then-index-len c =
-    let lt : c.args.index < length c.args.self.now.pages.items = omega arith in
-    let size = c.requires.sized c.index_mut.result.now.bytes.items (page_read c.args.self.now.pages.items c.args.index c.index_mut.result.now lt c.index_mut.ensures.value) in
-    remakes (shown c.args.self.now) c.make.new.asked.items c.args.index c.clear.new.page c.make.ensures.registers lt (c.clear.ensures ∙ ap (λ n. replicate n 0) size) c.make.ensures.entry c.make.ensures.lent
+pub returns-then-index-len-2-clause-kept : goal.returns-then-index-len-2-clause-kept
+returns-then-index-len-2-clause-kept c =
+    let p = c.args.self.now in
+    let i = c.args.index in
+    let lt : i < length p.pages.items = omega arith in
+    let page = c.index_mut.result.now in
+    let size = subst (IsOfSize p.shape.page_size) (sym c.index_mut.ensures.value) (c.requires.ready.ordered.sized i page lt) in
+    let zeros : AreZeros p.shape.page_size c.clear.new.page = c.clear.ensures ∙ ap (λ n. replicate n 0) size in
+    record {
+      shape = refl;
+      part = refl;
+      ready = λ is.
+          let keeps = keeps_made p.asked.items c.make.new.asked.items i p.shape.page_size c.make.ensures.registers c.make.ensures.entry is.ordered.patches in
+          let asked = ready_kept p.shape.page_size p.pages.items p.rooms.items p.asked.items c.make.new.asked.items (vec_capacity p.pages) (vec_capacity p.asked) (vec_capacity c.make.new.asked) i is c.make.ensures.registers lt keeps.0 keeps.1 c.requires.room c.make.ensures.capacity in
+          ready_set p.shape.page_size p.pages.items p.rooms.items c.make.new.asked.items (vec_capacity p.pages) (vec_capacity c.make.new.asked) i c.clear.new.page asked (ap length zeros ∙ length-replicate p.shape.page_size 0);
+    }
+
+pub returns-then-index-len-2-clause-makes : goal.returns-then-index-len-2-clause-makes
+returns-then-index-len-2-clause-makes c =
+    let p = c.args.self.now in
+    let i = c.args.index in
+    let lt : i < length p.pages.items = omega arith in
+    let page = c.index_mut.result.now in
+    let size = subst (IsOfSize p.shape.page_size) (sym c.index_mut.ensures.value) (c.requires.ready.ordered.sized i page lt) in
+    let zeros : AreZeros p.shape.page_size c.clear.new.page = c.clear.ensures ∙ ap (λ n. replicate n 0) size in
+    remakes_page (shown p) c.make.new.asked.items i c.clear.new.page c.make.ensures.registers lt zeros c.make.ensures.entry
 
 pub take_room-room-requires : goal.take_room-room-requires
 take_room-room-requires c =
-    let rooms = some_rooms c.args.self.now.is_ready (length c.args.self.now.pages.items) (length c.args.self.now.rooms.items) (vec_capacity c.args.self.now.pages) c.args.index c.args.self.now.asked.items c.make.new.asked.items c.make.ensures.registers c.args.self.now.few c.requires.askable.room c.args.self.now.has_rooms c.requires.askable.ready
-    (next_is (shown c.args.self.now) c.args.index (omega arith) c.requires.next) in
-    rooms.0
+    let p = c.args.self.now in
+    (not_asked p.shape.page_size p.pages.items p.rooms.items p.asked.items (vec_capacity p.pages) (vec_capacity p.asked) c.args.index c.requires.ready (omega arith) c.requires.room).2
 
 pub append-requires : goal.append-requires
 append-requires c =
-    let rooms = some_rooms c.args.self.now.is_ready (length c.args.self.now.pages.items) (length c.args.self.now.rooms.items) (vec_capacity c.args.self.now.pages) c.args.index c.args.self.now.asked.items c.make.new.asked.items c.make.ensures.registers c.args.self.now.few c.requires.askable.room c.args.self.now.has_rooms c.requires.askable.ready
-    (next_is (shown c.args.self.now) c.args.index (omega arith) c.requires.next) in
-    rooms.1
+    let p = c.args.self.now in
+    (not_asked p.shape.page_size p.pages.items p.rooms.items p.asked.items (vec_capacity p.pages) (vec_capacity p.asked) c.args.index c.requires.ready (omega arith) c.requires.room).3
 
-pub invariant_of-self-2 : goal.invariant_of-self-2
-invariant_of-self-2 c =
-    let last = next_is (shown c.args.self.now) c.args.index (omega arith) c.requires.next in
-    let long : length c.append.new.pages.items ≡ length c.args.self.now.pages.items + 1 = ap length c.append.ensures.appended ∙ length-append c.args.self.now.pages.items (c.take_room-room.result ∷ []) in
+pub returns-clause-kept : goal.returns-clause-kept
+returns-clause-kept c =
+    let p = c.args.self.now in
+    let i = c.args.index in
+    let last : i ≡ length p.pages.items = omega arith in
+    let zeros = c.take_room-room.ensures.zeros p.shape.page_size c.requires.ready.ordered.zeros in
     record {
-      size = c.args.self.now.size;
-      has_rooms = rooms_taken c.args.self.now.is_ready (length c.args.self.now.pages.items) (length c.append.new.pages.items) (length c.args.self.now.rooms.items) (length c.take_room-room.new.rooms.items) (vec_capacity c.args.self.now.pages) (vec_capacity c.append.new.pages) c.args.index c.args.self.now.page_size c.args.self.now.asked.items c.make.new.asked.items
-          c.make.ensures.registers c.args.self.now.has_rooms c.make.ensures.entry last long c.take_room-room.ensures.len c.append.ensures.capacity;
-      zeros = c.take_room-room.ensures.rest c.args.self.now.page_size c.args.self.now.zeros;
-      few = few_kept c.args.index c.args.self.now.asked.items c.make.new.asked.items c.make.ensures.registers c.args.self.now.few c.requires.askable.room;
-      capacity = omega (arith, c.args.self.now.capacity, c.make.ensures.capacity);
-      sizes = sizes_made c.args.self.now.page_size c.args.index c.args.self.now.asked.items c.make.new.asked.items c.make.ensures.registers c.args.self.now.sizes c.make.ensures.entry;
+      shape = refl;
+      part = refl;
+      ready = λ is.
+          let away = not_asked p.shape.page_size p.pages.items p.rooms.items p.asked.items (vec_capacity p.pages) (vec_capacity p.asked) i is (omega (arith, last)) c.requires.room in
+          ready_taken p.shape.page_size p.pages.items c.append.new.pages.items p.rooms.items c.take_room-room.new.rooms.items p.asked.items c.make.new.asked.items (vec_capacity p.pages) (vec_capacity c.append.new.pages) (vec_capacity p.asked) (vec_capacity c.make.new.asked) i c.take_room-room.result
+          is c.append.ensures.appended zeros (length-replicate p.shape.page_size 0) (c.take_room-room.ensures.rest p.shape.page_size is.ordered.zeros) c.take_room-room.ensures.len
+          c.make.ensures.registers c.make.ensures.entry last away.0 away.1 c.append.ensures.capacity c.make.ensures.capacity;
     }
 
-pub returns : goal.returns
-returns c =
-    let last = next_is (shown c.args.self.now) c.args.index (omega arith) c.requires.next in
-    let P : List Page → Type 0 = λ pages. Makes (paged (shown c.args.self.now)) (paged (record (shown c.args.self.now) { pages = pages; asked = c.make.new.asked.items })) c.args.index in
-    subst P (sym c.append.ensures.appended)
-    (appends (shown c.args.self.now) c.make.new.asked.items c.args.index c.take_room-room.result c.make.ensures.registers last (c.take_room-room.ensures.zeros c.args.self.now.page_size c.args.self.now.zeros) c.make.ensures.entry c.make.ensures.lent)
+pub returns-clause-makes : goal.returns-clause-makes
+returns-clause-makes c =
+    let p = c.args.self.now in
+    let i = c.args.index in
+    let last : i ≡ length p.pages.items = omega arith in
+    let zeros = c.take_room-room.ensures.zeros p.shape.page_size c.requires.ready.ordered.zeros in
+    appends_page (shown p) c.append.new.pages.items c.make.new.asked.items i c.take_room-room.result c.append.ensures.appended c.make.ensures.registers last zeros c.make.ensures.entry

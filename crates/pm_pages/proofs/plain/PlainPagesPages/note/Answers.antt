@@ -1,23 +1,30 @@
-use Rattle.std.proofs.Common.{length, inl, arith}
-use Rattle.pm_pages.proofs.AskedPages.{lent_there}
-use Rattle.pm_pages.proofs.PlainSteps.{rooms_kept, few_kept, sizes_noted, notes}
+use Rattle.std.proofs.Common.{◌≡◌, ◌∙◌, inl, refl, sym}
+use Rattle.std.specs.Vec.{vec_capacity}
+use Rattle.pm_pages.specs.Asked.{entry_of}
 use Rattle.pm_pages.specs.Plain.{shown}
+use Rattle.pm_pages.specs.PlainLaws.{lent_asked}
+use Rattle.pm_pages.proofs.PlainSteps.{some_asked, keeps_noted, ready_kept, notes_patch}
 use Rattle.pm_pages.proofs.plain.PlainPagesPages.note.Goals as goal
 
 pub note-requires-clause-there : goal.note-requires-clause-there
-note-requires-clause-there c = lent_there c.args.self.now.asked.items c.args.index c.requires.lent
+note-requires-clause-there c = lent_asked (entry_of c.args.self.now.asked.items c.args.index) c.requires.lent
 
-pub invariant_of-self : goal.invariant_of-self
-invariant_of-self c =
-    let there = lent_there c.args.self.now.asked.items c.args.index c.requires.lent in
+pub note-requires-clause-size : goal.note-requires-clause-size
+note-requires-clause-size c = λ j patch e. c.requires.ready.ordered.patches j patch e ∙ sym c.requires.size
+
+pub returns-clause-kept : goal.returns-clause-kept
+returns-clause-kept c =
+    let p = c.args.self.now in
+    let registers = c.note.ensures.registers in
+    let some = lent_asked (entry_of p.asked.items c.args.index) c.requires.lent in
     record {
-      size = c.args.self.now.size;
-      has_rooms = rooms_kept c.args.self.now.is_ready (length c.args.self.now.pages.items) (length c.args.self.now.rooms.items) _ c.args.index c.args.self.now.asked.items c.note.new.asked.items c.note.ensures.registers c.args.self.now.has_rooms;
-      zeros = c.args.self.now.zeros;
-      few = few_kept c.args.index c.args.self.now.asked.items c.note.new.asked.items c.note.ensures.registers c.args.self.now.few (inl there);
-      capacity = omega (arith, c.args.self.now.capacity, c.note.ensures.capacity);
-      sizes = sizes_noted c.args.self.now.page_size c.args.index c.args.patch.now c.args.self.now.asked.items c.note.new.asked.items c.note.ensures.registers c.args.self.now.sizes c.requires.size c.note.ensures.entry;
+      shape = refl;
+      part = refl;
+      ready = λ is.
+          let keeps = keeps_noted p.asked.items c.note.new.asked.items c.args.index p.shape.page_size c.args.patch.now registers c.note.ensures.entry is.ordered.patches c.requires.size in
+          ready_kept p.shape.page_size p.pages.items p.rooms.items p.asked.items c.note.new.asked.items (vec_capacity p.pages) (vec_capacity p.asked) (vec_capacity c.note.new.asked) c.args.index is registers
+          (is.ordered.there c.args.index some) keeps.0 (λ j lent. keeps.1 j ∙ lent) (inl (some_asked (entry_of p.asked.items c.args.index) some)) c.note.ensures.capacity;
     }
 
-pub returns : goal.returns
-returns c = notes (shown c.args.self.now) c.note.new.asked.items c.args.index c.args.patch.now c.note.ensures.registers (lent_there c.args.self.now.asked.items c.args.index c.requires.lent) c.note.ensures.entry
+pub returns-clause-notes : goal.returns-clause-notes
+returns-clause-notes c = notes_patch (shown c.args.self.now) c.note.new.asked.items c.args.index c.args.patch.now c.note.ensures.registers (lent_asked (entry_of c.args.self.now.asked.items c.args.index) c.requires.lent) c.note.ensures.entry

@@ -1,6 +1,0 @@
-use Rattle.pm_pages.proofs.Exactly.{HasSeen}
-use Rattle.pm_pages.proofs.exact.is_exactly.Given as goal
-
--- what was seen so far, each number once
-abbrev pub invariant-each : goal.invariant-each
-invariant-each l = HasSeen l.list l.wanted l.seen.items l.number-index

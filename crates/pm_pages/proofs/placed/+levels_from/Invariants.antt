@@ -1,4 +1,0 @@
-use Rattle.pm_pages.proofs.placed.+levels_from.Given as goal
-
-abbrev pub decreases-levels_from : goal.decreases-levels_from
-decreases-levels_from l = l.limit
