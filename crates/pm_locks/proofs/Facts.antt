@@ -73,15 +73,15 @@ same_ranges (x ∷ xs) (w ∷ ws) e zero y z a b =
     let p : x ≡ y = cc a in let q : w ≡ z = cc b in let r : x.range ≡ w.range = cc e in ap (λ (l : Leased). l.range) (sym p) ∙ r ∙ ap (λ (l : Leased). l.range) q
 same_ranges (x ∷ xs) (w ∷ ws) e (suc i) y z a b = same_ranges xs ws (cc e) i y z a b
 
--- leases that come back with the numbers and places that they had are the region's again
+-- leases that come back with the numbers and ranges that they had are the region's again
 pub leases_back : (region : Extent) (before after : List Leased) → AreLeasesOf region before → AreNumbered after → map (λ y. y.range) after ≡ map (λ y. y.range) before → AreLeasesOf region after
-leases_back region before after are numbered places =
-    let same : length after ≡ length before = sym (length-map after (λ y. y.range)) ∙ ap length places ∙ length-map before (λ y. y.range) in record {
+leases_back region before after are numbered ranges =
+    let same : length after ≡ length before = sym (length-map after (λ y. y.range)) ∙ ap length ranges ∙ length-map before (λ y. y.range) in record {
       count = same ∙ are.count;
       each = λ i y at.
           let lt = slice_get_within after i y at in
           let was = slice_get-get_or before i y (omega arith) in
-          record { number = numbered i y at; range = same_ranges after before places i y (get_or before i y) at was ∙ (are.each i (get_or before i y) was).range };
+          record { number = numbered i y at; range = same_ranges after before ranges i y (get_or before i y) at was ∙ (are.each i (get_or before i y) was).range };
     }
 
 -- after a take the frame is out under the word that was left, with its lease
@@ -91,7 +91,7 @@ out_taken v v' f word left lease is = ap (λ (u : View). out_of u f) is ∙ ap o
 -- after its owner took a frame and put it back, its entry has what was put, under the word's tag
 pub entry_put : (v v' v'' : View) (f : ℕ) (word : LockWord) (lease : Leased) (now : Flag) (bytes : List ℕ) → v' ≡ taken_out v f word (held_by word.owner word) lease → v'' ≡ put_back v' f (put_as now (out_of v' f).word) bytes
     → entry_at v''.entries word.owner f ≡ Some (entry_as f (put_as now word) bytes)
-entry_put v v' v'' f word lease now bytes took put =
-    let word' : (out_of v' f).word ≡ held_by word.owner word = ap (λ (o : Out). o.word) (out_taken v v' f word (held_by word.owner word) lease took) in
+entry_put v v' v'' f word lease now bytes take put =
+    let word' : (out_of v' f).word ≡ held_by word.owner word = ap (λ (o : Out). o.word) (out_taken v v' f word (held_by word.owner word) lease take) in
     let e = entry_as f (put_as now word) bytes in
     ap (λ (u : View). entry_at u.entries word.owner f) (put ∙ ap (λ k. put_back v' f (put_as now k) bytes) word') ∙ entry_at-here v'.entries e

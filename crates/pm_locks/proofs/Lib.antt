@@ -18,4 +18,6 @@ pub mod Closing
 pub mod Openings
 pub mod Closings
 pub mod Facts
+pub mod Knowing
+pub mod Refusing
 pub mod Pairs

@@ -1,5 +1,6 @@
 -- What a seat's view says of each frame.
 use Rattle.std.specs.Prelude.{◌≡◌, ℕ, Bool, true, false, List, [], ◌∷◌, ◌+◌, ◌==◌, ◌&&◌, ◌||◌, if◌then◌else◌, Option, Some, None, nat_le, nat_lt}
+use Rattle.pm_types.specs.declared.flag.Flag.TheVariants as flag
 use Rattle.pm_locks.specs.Words.{LockWord, FLUSHER}
 use Rattle.pm_locks.specs.declared.view.Numbers.{Numbers}
 use Rattle.pm_locks.specs.declared.view.Entry.{Entry}
@@ -51,6 +52,15 @@ due_at (d ∷ ds) f = if d.0 == f then Some d.1 else due_at ds f
 abbrev pub word_at : List (ℕ × LockWord) → ℕ → Option LockWord
 word_at [] f = None
 word_at (w ∷ ws) f = if w.0 == f then Some w.1 else word_at ws f
+
+-- a word where none is known
+abbrev pub word_or : Option LockWord → LockWord
+word_or None = record { tag = 0; owner = 0; holder = 0; flag = flag.Empty }
+word_or (Some w) = w
+
+-- the word that the seat knows at a frame
+abbrev pub known_at : View → ℕ → LockWord
+known_at view f = word_or (word_at view.words f)
 
 -- the seat has nothing out
 abbrev pub IsStill : View → Type 0

@@ -77,7 +77,7 @@ fn rewrite(
     }
 }
 
-// Steals a frame for a worker, fills it with a byte and puts it back. Answers its new tag, or 0
+// StealAnswer a frame for a worker, fills it with a byte and puts it back. Answers its new tag, or 0
 // where it isn't to be had.
 fn replace(locks: &Locks, seat: &mut PageSeat, number: u8, f: FrameNo, byte: u8, dirty: bool) -> Tag
     requires seat { IsWorkers locks.now number seat.old }
@@ -116,7 +116,7 @@ fn flush(locks: &Locks, seat: &mut PageSeat, f: FrameNo, tag: Tag, want: Flag, n
 // Locks for two workers and so many frames of 7 bytes, the workers' seats and the flusher's.
 fn begin(alloc: Global, frames: u32) -> Result<(Locks, PageSeat, PageSeat, PageSeat), AllocError>
     requires { (1 ≤ frames) × (frames ≤ 8) }
-    ensures frames { IfOk result (λ r. length r.0.places ≡ frames) }
+    ensures frames { IfOk result (λ r. length r.0.ranges ≡ frames) }
     ensures first { IfOk result (λ r. IsWorkers r.0 0 r.1) }
     ensures second { IfOk result (λ r. IsWorkers r.0 1 r.2) }
     ensures flusher { IfOk result (λ r. IsFlushers r.0 r.3) }
@@ -175,7 +175,7 @@ fn the_flusher_brings_a_frame_from_dirty_to_done(rt: HostRuntime) -> Result<(), 
 fn churn(locks: &Locks, seat: &mut PageSeat, number: u8) -> u32
     requires seat { IsWorkers locks.now number seat.old }
     requires number { number < 8 }
-    requires frames { 3 ≤ length locks.now.places }
+    requires frames { 3 ≤ length locks.now.ranges }
     ensures { IsWorkers locks.now number seat.new }
 {
     let mut tags = [0; 3];

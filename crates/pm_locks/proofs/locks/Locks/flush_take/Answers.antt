@@ -13,5 +13,5 @@ returns-in-Ok-clause-answer c =
       here = c.in-Ok.ensures.lease.0;
       met = c.look-seen.ensures.met.told;
       backed = backed_before c.args.seat.now.view c.look-seen.new.seat.view c.args.f w met y.bytes c.in-Ok.ensures.lease.1;
-      view = c.in-Ok.ensures.took ∙ ap (λ z. taken_out z c.args.f w (held_by 8 w) y) met;
+      view = c.in-Ok.ensures.taken ∙ ap (λ z. taken_out z c.args.f w (held_by 8 w) y) met;
     }
