@@ -1,16 +1,16 @@
 -- A seat that stands for all numbers and knows each frame's word still does after each step.
-use Rattle.std.proofs.Common.{◌≡◌, ℕ, ◌+◌, ◌<◌, List, [], ◌∷◌, length, map, get_or, cond, eq-eqb, sym, refl, ap, ◌∙◌, subst, arith, Option, Some, None}
+use Rattle.std.proofs.Common.{◌≡◌, ℕ, ◌+◌, ◌<◌, List, ◌∷◌, length, map, get_or, cond, eq-eqb, sym, refl, ap, ◌∙◌, subst, arith, Option, Some, None}
 use Rattle.std.specs.List.{slice_get}
 use Rattle.std.proofs.lemmas.List.{length-map}
 use Rattle.std.proofs.lemmas.Option.{slice_get-get_or}
 use mathlib.Core.Logic.{dite}
 use native.Mathlib.Decide.{ℕ_discrete}
-use Rattle.pm_region.specs.Lease.{Leased, Range}
+use Rattle.pm_region.specs.Lease.{Leased}
 use Rattle.pm_locks.specs.Words.{LockWord}
 use Rattle.pm_locks.specs.declared.view.View.{View}
 use Rattle.pm_locks.specs.declared.view.Met.{Met}
 use Rattle.pm_locks.specs.Views.{IsWhole, all_numbers, word_at, word_or, known_at}
-use Rattle.pm_locks.specs.Sight.{LockTable, IsFrameOf, KnowsAll}
+use Rattle.pm_locks.specs.Sight.{LockTable, KnowsAll}
 use Rattle.pm_locks.specs.Opening.{first_word, first_words, first_view}
 use Rattle.pm_locks.specs.Rounds.{HasReread}
 use Rattle.pm_locks.proofs.Looks.{word_past}

@@ -20,4 +20,5 @@ pub mod Closings
 pub mod Facts
 pub mod Knowing
 pub mod Refusing
+pub mod Callers
 pub mod Pairs

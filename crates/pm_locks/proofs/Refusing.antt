@@ -4,7 +4,7 @@ use Rattle.std.proofs.lemmas.List.{append-nil}
 use Rattle.std.proofs.lemmas.List.Elements.{All-nil, All-cons}
 use Rattle.pm_types.specs.declared.flag.Flag.{Flag}
 use Rattle.pm_region.specs.Lease.{Leased}
-use Rattle.pm_locks.specs.Words.{LockWord, AT_HOME, FLUSHER, held_by, stolen_as}
+use Rattle.pm_locks.specs.Words.{LockWord, AT_HOME}
 use Rattle.pm_locks.specs.declared.view.Met.{Met}
 use Rattle.pm_locks.specs.declared.view.Out.{Out}
 use Rattle.pm_locks.specs.declared.view.View.{View}
@@ -12,7 +12,7 @@ use Rattle.pm_locks.specs.declared.own.Take.TheVariants as take
 use Rattle.pm_locks.specs.declared.steal.Steal.TheVariants as steal
 use Rattle.pm_locks.specs.declared.flush.FlushTake.TheVariants as flushed
 use Rattle.pm_locks.specs.Views.{Has, out_at}
-use Rattle.pm_locks.specs.Steps.{meets, met_as, put_back, flushed_back, taken_out, stolen_out, IsTold, IsMet}
+use Rattle.pm_locks.specs.Steps.{meets, met_as, put_back, flushed_back, IsTold, IsMet}
 use Rattle.pm_locks.specs.Answers.{MetTwo, MetLast, MetBusy, OwnTakeAnswer, StealAnswer, FlushTakeAnswer}
 use Rattle.pm_locks.specs.Refusals.{HasAdded, HasPiece, HasEntry, HasChange, ShowsGone, ShowsBusy, ShowsNotStolen, ShowsMoved, ShowsHeld, ShowsNotLent, IsNowhereMine, AreOfFrame, HasShown}
 

@@ -13,7 +13,7 @@ use Rattle.pm_locks.specs.declared.steal.Steal.{Steal}
 use Rattle.pm_locks.specs.declared.steal.Steal.TheVariants as steal
 use Rattle.pm_locks.specs.declared.flush.FlushTake.{FlushTake}
 use Rattle.pm_locks.specs.declared.flush.FlushTake.TheVariants as flushed
-use Rattle.pm_locks.specs.Rule.{nowhere, range_of}
+use Rattle.pm_locks.specs.Rule.{nowhere, known_range}
 use Rattle.pm_locks.specs.Views.{entry_at, out_at, Has, IsMine}
 use Rattle.pm_locks.specs.Steps.{meets, taken_out, stolen_out, IsTold, IsMet, IsBacked}
 
@@ -40,7 +40,7 @@ pub record GotOwn (v v' : View) (f tag : ℕ) (lease : Leased) (told : Flag) : T
   pub home : word.holder ≡ AT_HOME
   pub flag : told ≡ word.flag
   pub here : lease.number ≡ f
-  pub range_is : lease.range ≡ range_of v f
+  pub range_is : lease.range ≡ known_range v f
   pub met : IsTold v f word
   pub backed : IsBacked v f word lease.bytes
   pub view : v' ≡ taken_out (meets v f word) f word (held_by word.owner word) lease
@@ -80,7 +80,7 @@ pub record GotStolen (v v' : View) (number f : ℕ) (lease : Leased) (tag : ℕ)
   pub free : CanBeStolen word
   pub next : tag ≡ word.tag + 1
   pub here : lease.number ≡ f
-  pub range_is : lease.range ≡ range_of v f
+  pub range_is : lease.range ≡ known_range v f
   pub met : IsTold v f word
   pub view : v' ≡ stolen_out (meets v f word) f word (stolen_as number word) lease
 
@@ -99,6 +99,7 @@ pub record GotLent (v v' : View) (f tag : ℕ) (want : Flag) (lease : Leased) : 
   pub wanted : IsWanted word tag want
   pub home : word.holder ≡ AT_HOME
   pub here : lease.number ≡ f
+  pub range_is : lease.range ≡ known_range v f
   pub met : IsTold v f word
   pub backed : IsBacked v f word lease.bytes
   pub view : v' ≡ taken_out (meets v f word) f word (held_by FLUSHER word) lease

@@ -3,7 +3,7 @@
 use Rattle.std.specs.Prelude.{◌≡◌, ◌≢◌, ℕ, ◌∷◌, Option, Some, None}
 use Rattle.atomic_table.specs.Table.{Me, Step, rest}
 use Rattle.pm_region.specs.Lease.{Leased}
-use Rattle.pm_locks.specs.Rule.{range_of}
+use Rattle.pm_locks.specs.Rule.{known_range}
 use Rattle.pm_locks.specs.Words.{FLUSHER, packed, unpacked}
 use Rattle.pm_locks.specs.declared.view.View.{View}
 use Rattle.pm_locks.specs.declared.view.Out.{Out}
@@ -33,7 +33,7 @@ pub record IsLook (step : TableStep) (m : Seated) (found : ℕ) (m' : Seated) : 
 pub record IsLifted (step : TableStep) (m m' : Seated) (lease : Leased) : Type 0 where
   pub carried : m'.1 ≡ (step.word, Some lease) ∷ m.1
   pub number : lease.number ≡ step.word
-  pub range_is : lease.range ≡ range_of m.0 step.word
+  pub range_is : lease.range ≡ known_range m.0 step.word
 
 -- a frame is taken by its owner or the flusher
 abbrev pub IsTaken : TableStep → Seated → Seated → Type 0

@@ -110,8 +110,8 @@ abbrev pub frame_range : List Range → ℕ → Range
 frame_range ranges f = slice_index_or ranges f nowhere
 
 -- the same, by what a seat knows of the start
-abbrev pub range_of : View → ℕ → Range
-range_of v f = frame_range (map (λ y. y.range) v.leases) f
+abbrev pub known_range : View → ℕ → Range
+known_range v f = frame_range (map (λ y. y.range) v.leases) f
 
 -- the rule of locks for so many workers, whose frames lie there
 pub record IsLawful (workers : ℕ) (ranges : List Range) (s : State (Option Leased) View) : Type 0 where

@@ -1,7 +1,7 @@
 //! The slot of a frame that a seat has out. Between two calls it is at home, and empty.
 
 ghost use Rattle.std.specs.Prelude.{◌≡◌, ◌≢◌, ◌⊎◌, ◌∷◌, Some, None, IfOk, IfErr};
-ghost use Rattle.pm_locks.specs.Rule.{range_of};
+ghost use Rattle.pm_locks.specs.Rule.{known_range};
 ghost use Rattle.atomic_table.specs.Table.{rest};
 ghost use Rattle.pm_region.specs.Lease.{Leased};
 ghost use Rattle.pm_locks.specs.Sight.{IsSeatOf, IsFrameOf, KnowsAll};
@@ -39,7 +39,7 @@ impl Locks {
             ≡ taken_out seat.old.view f seen (held_by number seen) y) }
         ensures lease { IfOk result (λ y. (y.number ≡ f)
             × IsBacked seat.old.view f seen y.bytes) }
-        ensures range { IfOk result (λ y. y.range ≡ range_of seat.old.view f) }
+        ensures range { IfOk result (λ y. y.range ≡ known_range seat.old.view f) }
         ensures knows { KnowsAll self.now seat.old.view → KnowsAll self.now seat.new.view }
         ensures met { IfErr result (λ w. IsMet seat.old.view seat.new.view f w) }
         ensures other { IfErr result (λ w. w ≢ seen) }

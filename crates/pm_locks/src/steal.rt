@@ -1,7 +1,7 @@
 //! A frame is given to another page.
 
 ghost use Rattle.std.specs.Prelude.{◌≡◌, ◌≢◌, ◌<◌, IfOk, IfErr};
-ghost use Rattle.pm_locks.specs.Rule.{range_of};
+ghost use Rattle.pm_locks.specs.Rule.{known_range};
 ghost use Rattle.pm_locks.specs.Sight.{IsSeatOf, IsFrameOf, KnowsAll};
 ghost use Rattle.pm_locks.specs.Steps.{stolen_out, IsMet};
 ghost use Rattle.pm_locks.specs.Views.{Has, known_at};
@@ -66,7 +66,7 @@ impl Locks {
         ensures taken { IfOk result (λ y. seat.new.view
             ≡ stolen_out seat.old.view f seen (stolen_as number seen) y) }
         ensures lease { IfOk result (λ y. y.number ≡ f) }
-        ensures range { IfOk result (λ y. y.range ≡ range_of seat.old.view f) }
+        ensures range { IfOk result (λ y. y.range ≡ known_range seat.old.view f) }
         ensures knows { KnowsAll self.now seat.old.view → KnowsAll self.now seat.new.view }
         ensures met { IfErr result (λ w. IsMet seat.old.view seat.new.view f w) }
         ensures other { IfErr result (λ w. w ≢ seen) }

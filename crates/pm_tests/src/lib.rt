@@ -11,6 +11,7 @@ mod consoles;
 mod crashes;
 #[cfg(test)]
 mod hosts;
+pub mod lock_clients;
 #[cfg(test)]
 mod logs;
 #[cfg(test)]
