@@ -14,9 +14,9 @@ use Rattle.pm_locks.specs.Rule.{HasImage, HasTakenImage}
 use Rattle.pm_locks.specs.Sight.{LockTable, KnowsAll}
 use Rattle.pm_locks.specs.Views.{is_among, Has, IsStill, HasLeft, left_at, entry_at, entry_or, out_at, due_at, word_at, word_or, known_at, worker_alone, flusher_alone}
 use Rattle.pm_locks.specs.Steps.{meets, put_back, flushed_back, due_as, out_as, IsTold}
-use Rattle.pm_locks.specs.Answers.{OwnTakeAnswer, FlushTakeAnswer, MayPut, out_of}
+use Rattle.pm_locks.specs.Answers.{OwnTakeAnswer, FlushTakeAnswer, IsOwnOut, IsSameLease, MayPut, out_of}
 use Rattle.pm_locks.proofs.Numbering.{among, is_one, whole_has}
-use Rattle.pm_locks.proofs.Facts.{entry_put, out_taken, left_is, due_at-here, word_at-here, word_at-else, still_again, not_gone}
+use Rattle.pm_locks.proofs.Facts.{entry_put, out_taken, out_at-here, left_is, due_at-here, word_at-here, word_at-else, still_again, not_gone}
 
 flag_not : true ≡ false → ⊥
 flag_not e = cc e
@@ -171,3 +171,18 @@ left_same v v' n f tag want same x =
       record { at = same ∙ x.at ∙ ap Some (sym is); tag_is = ap (λ (e : Entry). e.tag) is ∙ x.tag_is; flag_is = ap (λ (e : Entry). e.flag) is ∙ x.flag_is },
       is,
     )
+
+-- and may be put back with the lease that was taken, whatever its bytes
+pub own_out_own : (v v' : View) (f tag : ℕ) (lease : Leased) (told : Flag) → OwnTakeAnswer v v' f tag (take.Got lease told) → IsOwnOut v' f
+own_out_own v v' f tag lease told got =
+    let w = got.word in let is = own_out v v' f tag lease told got in record {
+      out = ap (λ (u : View). out_at u.outs f) got.view ∙ out_at-here v.outs f (Some (out_as (held_by w.owner w) lease)) ∙ ap Some (sym is);
+      own = ap (λ (o : Out). o.word.holder) is ∙ sym (ap (λ (o : Out). o.word.owner) is);
+    }
+
+pub own_same_lease : (v v' : View) (f tag : ℕ) (lease y : Leased) (told : Flag) → OwnTakeAnswer v v' f tag (take.Got lease told) → y.number ≡ lease.number → y.range ≡ lease.range → IsSameLease (out_of v' f).lease y
+own_same_lease v v' f tag lease y told got number range =
+    let is = own_out v v' f tag lease told got in record {
+      number = number ∙ sym (ap (λ (o : Out). o.lease.number) is);
+      range = range ∙ sym (ap (λ (o : Out). o.lease.range) is);
+    }

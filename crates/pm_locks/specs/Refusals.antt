@@ -5,10 +5,10 @@
 --
 --   call        answer   the entries show
 --   own_take    Gone     a word with another tag, or an owner that is no number of the seat
---               Busy     the word that was asked for, which is out or followed upon another one
---   steal       Not      a word that can't be stolen, or one that followed upon another one
+--               Busy     the word that was asked for, which is out or followed another one
+--   steal       Not      a word that can't be stolen, or one that followed another one
 --   flush_take  Moved    a word with another tag or another flag
---               Busy     the word that was asked for, which is out or followed upon another one
+--               Busy     the word that was asked for, which is out or followed another one
 use Rattle.std.specs.Prelude.{◌≡◌, ◌≢◌, ℕ, ◌⊎◌, ◌++◌, ◌∷◌, List, [], All, None}
 use Rattle.pm_types.specs.declared.flag.Flag.{Flag}
 use Rattle.pm_locks.specs.Words.{LockWord, AT_HOME, CanBeStolen, IsWanted}

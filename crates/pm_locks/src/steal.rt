@@ -50,7 +50,7 @@ impl Locks {
         }
     }
 
-    // StealAnswer the frame where its word is still `seen`, and else answers the word that it met.
+    // Steals the frame where its word is still `seen`, and else answers the word that it met.
     fn steal_from(
         &self,
         seat: &mut PageSeat,

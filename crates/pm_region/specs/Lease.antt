@@ -28,6 +28,6 @@ AreApart a b = (block offset : ℕ) → Covers a.range block offset → ¬ Cover
 abbrev pub ShareNoByte : List Leased → Type 0
 ShareNoByte leases = AllPairs AreApart leases
 
--- the lease with these bytes in offset of its own, as far as it has bytes
+-- the lease with these bytes in place of its own, as far as it has bytes
 abbrev pub with_bytes : Leased → List ℕ → Leased
 with_bytes lease bytes = record lease { bytes = refill (length lease.bytes) lease.bytes bytes }
