@@ -1,3 +1,4 @@
+pub mod Counts
 pub mod DeltaRanges
 pub mod Faults
 pub mod Fields

@@ -1,0 +1,6 @@
+-- Counts of failed calls.
+use Rattle.std.specs.Prelude.{ℕ, ◌+◌, ◌-◌, ◌^◌, ◌≤◌, min}
+
+-- the count has risen, or stands at its last value
+abbrev pub HasRisen : ℕ → ℕ → Type 0
+HasRisen before now = min (before + 1) (2 ^ 64 - 1) ≤ now
