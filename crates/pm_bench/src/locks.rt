@@ -81,7 +81,7 @@ fn begin(alloc: Global, workers: u32) -> Result<(Locks, Seats), AllocError>
 fn frame_of(number: usize, stride: u32) -> FrameNo
     ensures { result < 256 }
 {
-    (number as u32).wrapping_mul(stride) % FRAMES
+    ((number % FRAMES as usize) as u32).wrapping_mul(stride) % FRAMES
 }
 
 // Each worker takes its frame so often, in a thread of its own.
