@@ -27,5 +27,5 @@ three locks seats two one none first second third have workers last next again =
     let at2 = ap (λ l. slice_get l (length two)) last ∙ slice_get-push two third in
     let at1 = ap (λ l. slice_get l (length one)) last ∙ slice_get-front two (third ∷ []) (length one) (omega arith) ∙ ap (λ l. slice_get l (length one)) next ∙ slice_get-push one second in
     let at0 = ap (λ l. slice_get l (length none)) last ∙ slice_get-front two (third ∷ []) (length none) (omega arith) ∙ ap (λ l. slice_get l (length none)) next
-        ∙ slice_get-front one (second ∷ []) (length none) (omega arith) ∙ ap (λ l. slice_get l (length none)) again ∙ slice_get-push none first in
+    ∙ slice_get-front one (second ∷ []) (length none) (omega arith) ∙ ap (λ l. slice_get l (length none)) again ∙ slice_get-push none first in
     (subst (λ n. IsWorkers locks n first) is0 (have.each (length none) first at0), subst (λ n. IsWorkers locks n second) is1 (have.each (length one) second at1), subst (λ n. IsWorkers locks n third) is2 (have.each (length two) third at2))

@@ -112,7 +112,14 @@ pub(crate) fn rewrite(
 
 // Steals a frame for a worker, whose bytes count up from this one then. Answers its new tag, or 0
 // where it isn't to be had.
-pub(crate) fn replace(locks: &Locks, seat: &mut PageSeat, number: u8, f: FrameNo, byte: u8, dirty: bool) -> Tag
+pub(crate) fn replace(
+    locks: &Locks,
+    seat: &mut PageSeat,
+    number: u8,
+    f: FrameNo,
+    byte: u8,
+    dirty: bool,
+) -> Tag
     requires seat { IsWorkers locks.now number seat.old }
     requires number { number < 8 }
     requires frame { IsFrameOf locks.now f }
@@ -129,7 +136,14 @@ pub(crate) fn replace(locks: &Locks, seat: &mut PageSeat, number: u8, f: FrameNo
 }
 
 // Takes a frame for the flusher and puts it back.
-pub(crate) fn flush(locks: &Locks, seat: &mut PageSeat, f: FrameNo, tag: Tag, want: Flag, next: Flag) -> Answer
+pub(crate) fn flush(
+    locks: &Locks,
+    seat: &mut PageSeat,
+    f: FrameNo,
+    tag: Tag,
+    want: Flag,
+    next: Flag,
+) -> Answer
     requires seat { IsFlushers locks.now seat.old }
     requires frame { IsFrameOf locks.now f }
     requires flags { IsNext want next }

@@ -160,10 +160,10 @@ mod tests {
         Ok(())
     }
 
-    // Together they take 32 GiB, more than the machine has.
+    // Together they take 25 GiB: with blocks that are kept the memory of most machines runs out.
     #[test]
     fn regions_in_turns_take_the_memory_of_one(rt: HostRuntime) -> Result<(), Fail> {
-        for _ in 0..32_768 {
+        for _ in 0..25_600 {
             make_and_close(rt.alloc())?;
         }
         Ok(())
