@@ -5,15 +5,18 @@
 mod block;
 mod command;
 mod hash_map;
+mod locks;
 mod lookups;
 mod page_table;
 mod region;
 
 use command::{COMMANDS, Command};
 use std::process::ExitCode;
+use std::thread::Threads;
 use std::{env, io};
 
-const USAGE: &str = "usage: pm_bench all|page_table|hash_map|region|block COUNT";
+const USAGE: &str =
+    "usage: pm_bench all|page_table|hash_map|region|block|locks|locks_apart|locks_near COUNT";
 
 fn main(rt: HostRuntime) -> io::Result<ExitCode> {
     let mut words = env::args(&rt)?;
@@ -42,8 +45,12 @@ fn refused(rt: &impl Eprint) -> io::Result<ExitCode> {
 }
 
 // Runs a command and prints its sum.
-fn report<R: Print + AllocGlobal>(rt: &R, command: Command, count: u32) -> io::Result<()> {
-    let sum = command.run(rt.alloc(), count)?;
+fn report<R: Print + AllocGlobal + Threads + Sync>(
+    rt: &R,
+    command: Command,
+    count: u32,
+) -> io::Result<()> {
+    let sum = command.run(rt, rt.alloc(), count)?;
     let name = command.name();
     println!(rt; "{name} {sum}")
 }

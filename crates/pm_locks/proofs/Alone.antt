@@ -28,17 +28,17 @@ flushed_alone v f word bytes x has = record {
 }
 
 -- what is so of a seat between two calls
-abbrev pub Rests : View → Seated → Type 0
-Rests v m = (m.1 ≡ []) × (m.0.hand ≡ None) × (m.0.numbers ≡ v.numbers) × IsOwnAlone m.0
+abbrev pub IsAtRest : View → Seated → Type 0
+IsAtRest v m = (m.1 ≡ []) × (m.0.hand ≡ None) × (m.0.numbers ≡ v.numbers) × IsOwnAlone m.0
 
 pub put_rests : (v : View) (m m' : Seated) (slots : List (ℕ × Option Leased)) (f : ℕ) (word : LockWord) (lease : Leased) → m ≡ (carrying v f, (f, Some lease) ∷ slots) → slots ≡ []
-    → (m'.0 ≡ record (put_back m.0 f word lease.bytes) { hand = None }) × (m'.1 ≡ rest m.1) × Has m.0 word.owner → IsOwnAlone v → Rests v m'
+    → (m'.0 ≡ record (put_back m.0 f word lease.bytes) { hand = None }) × (m'.1 ≡ rest m.1) × Has m.0 word.owner → IsOwnAlone v → IsAtRest v m'
 put_rests v m m' slots f word lease e none did x =
-    let P : Seated → Type 0 = λ z. (m'.0 ≡ record (put_back z.0 f word lease.bytes) { hand = None }) × (m'.1 ≡ rest z.1) × Has z.0 word.owner → Rests v m' in
+    let P : Seated → Type 0 = λ z. (m'.0 ≡ record (put_back z.0 f word lease.bytes) { hand = None }) × (m'.1 ≡ rest z.1) × Has z.0 word.owner → IsAtRest v m' in
     subst P (sym e) (λ t. (t.1 ∙ none, ap (λ (u : View). u.hand) t.0, ap (λ (u : View). u.numbers) t.0, subst IsOwnAlone (sym t.0) (put_alone (carrying v f) f word lease.bytes (record { entries = x.entries; dues = x.dues }) t.2))) did
 
 pub flushed_rests : (v : View) (m m' : Seated) (slots : List (ℕ × Option Leased)) (f : ℕ) (word : LockWord) (lease : Leased) → m ≡ (carrying v f, (f, Some lease) ∷ slots) → slots ≡ []
-    → (m'.0 ≡ record (flushed_back m.0 f word lease.bytes) { hand = None }) × (m'.1 ≡ rest m.1) × Has m.0 8 → IsOwnAlone v → Rests v m'
+    → (m'.0 ≡ record (flushed_back m.0 f word lease.bytes) { hand = None }) × (m'.1 ≡ rest m.1) × Has m.0 8 → IsOwnAlone v → IsAtRest v m'
 flushed_rests v m m' slots f word lease e none did x =
-    let P : Seated → Type 0 = λ z. (m'.0 ≡ record (flushed_back z.0 f word lease.bytes) { hand = None }) × (m'.1 ≡ rest z.1) × Has z.0 8 → Rests v m' in
+    let P : Seated → Type 0 = λ z. (m'.0 ≡ record (flushed_back z.0 f word lease.bytes) { hand = None }) × (m'.1 ≡ rest z.1) × Has z.0 8 → IsAtRest v m' in
     subst P (sym e) (λ t. (t.1 ∙ none, ap (λ (u : View). u.hand) t.0, ap (λ (u : View). u.numbers) t.0, subst IsOwnAlone (sym t.0) (flushed_alone (carrying v f) f word lease.bytes (record { entries = x.entries; dues = x.dues }) t.2))) did

@@ -3,6 +3,6 @@ use Rattle.std.proofs.Common.{◌≡◌, ℕ, ◌<◌, List, map, length, sym, a
 use Rattle.std.proofs.lemmas.List.{length-map}
 use Rattle.pm_region.specs.Lease.{Range, Leased}
 
-pub within : (leases : List Leased) (places : List Range) (f frames n : ℕ) → map (λ y. y.range) leases ≡ places → length leases ≡ frames → n ≡ frames → f < length places → f < n
-within leases places f frames n are count same lt =
+pub within : (leases : List Leased) (ranges : List Range) (f frames n : ℕ) → map (λ y. y.range) leases ≡ ranges → length leases ≡ frames → n ≡ frames → f < length ranges → f < n
+within leases ranges f frames n are count same lt =
     subst (λ k. f < k) (ap length (sym are) ∙ length-map leases (λ y. y.range) ∙ count ∙ sym same) lt

@@ -10,7 +10,7 @@ use Rattle.pm_region.specs.Lease.{Leased}
 use Rattle.pm_locks.proofs.Pushing.{slice_get-pushed}
 
 -- f slots are emptied, and their leases stand in order
-pub record Takes (first now : List (Option Leased)) (filled : List Bool) (frames f : ℕ) (leases : List Leased) : Type 0 where
+pub record HasTaken (first now : List (Option Leased)) (filled : List Bool) (frames f : ℕ) (leases : List Leased) : Type 0 where
   pub same : now ≡ first
   pub wide : frames ≤ length filled
   pub full : (k : ℕ) → f ≤ k → k < frames → get_or filled k false ≡ true
@@ -18,8 +18,8 @@ pub record Takes (first now : List (Option Leased)) (filled : List Bool) (frames
   pub count : length leases ≡ f
   pub each : (k : ℕ) (y : Leased) → slice_get leases k ≡ Some y → get_elem? first k ≡ some (Some y)
 
-pub takes_next : (first now now' : List (Option Leased)) (filled filled' : List Bool) (frames f : ℕ) (leases : List Leased) (y : Leased) → Takes first now filled frames f leases → f < frames
-    → get_elem? now f ≡ some (Some y) → now' ≡ now → filled' ≡ set filled f false → Takes first now' filled' frames (f + 1) (leases ++ y ∷ [])
+pub takes_next : (first now now' : List (Option Leased)) (filled filled' : List Bool) (frames f : ℕ) (leases : List Leased) (y : Leased) → HasTaken first now filled frames f leases → f < frames
+    → get_elem? now f ≡ some (Some y) → now' ≡ now → filled' ≡ set filled f false → HasTaken first now' filled' frames (f + 1) (leases ++ y ∷ [])
 takes_next first now now' filled filled' frames f leases y t lt at same is =
     let w = t.wide in
     let here : get_or (set filled f false) f false ≡ false = get_or-set_same filled f false false (omega arith) in record {

@@ -1,5 +1,5 @@
 -- The workers' seats are joined, from the last on, and each frame's word is met.
-use Rattle.std.proofs.Common.{◌≡◌, ℕ, suc, ◌+◌, ◌≤◌, List, [], ◌∷◌, ◌++◌, length, cond, eq-eqb, ap, sym, refl, ◌∙◌, subst, inl, ⊎_elim, arith, append_assoc, Some, None}
+use Rattle.std.proofs.Common.{◌≡◌, ℕ, suc, ◌+◌, ◌<◌, ◌≤◌, List, [], ◌∷◌, ◌++◌, length, cond, eq-eqb, ap, sym, refl, ◌∙◌, subst, inl, inr, ⊎_elim, arith, append_assoc, Some, None}
 use Rattle.std.specs.List.{slice_get}
 use Rattle.std.proofs.lemmas.List.{length-append, append-nil}
 use Rattle.std.proofs.lemmas.Option.{slice_get_within}
@@ -11,17 +11,17 @@ use Rattle.pm_locks.specs.declared.view.Out.{Out}
 use Rattle.pm_locks.specs.declared.view.View.{View}
 use Rattle.pm_locks.specs.Sight.{Sight, LockTable, IsSeatOf}
 use Rattle.pm_locks.specs.Views.{is_among, Has, IsWhole, IsStill, entry_at, out_at, due_at, word_at, worker_alone}
-use Rattle.pm_locks.specs.Shares.{joined, Follow, HasBoth}
-use Rattle.pm_locks.specs.Rounds.{IsWorkers, IsFlushers, IsKnown, Rereads, mets_of}
+use Rattle.pm_locks.specs.Shares.{joined, AreAdjacent, HasBoth}
+use Rattle.pm_locks.specs.Rounds.{IsWorkers, IsFlushers, IsKnown, HasReread, mets_of}
 use Rattle.pm_locks.specs.Steps.{meets, met_as, IsMet}
-use Rattle.pm_locks.proofs.Numbering.{is_one}
+use Rattle.pm_locks.proofs.Numbering.{is_one, whole_has}
 use Rattle.pm_locks.proofs.Looks.{word_past}
-use Rattle.pm_locks.proofs.Told.{backed_after}
+use Rattle.pm_locks.proofs.Told.{backed_after, dated_after}
 use Rattle.pm_locks.proofs.Spreading.{numbers_from}
 use Rattle.pm_locks.proofs.Pushing.{slice_get-pushed, slice_get-push, slice_get-front}
 
 -- the workers from n on are joined
-pub record Joins (locks : LockTable) (old : Sight) (workers : List Sight) (n : ℕ) (seat : Sight) (left : List Sight) : Type 0 where
+pub record HasJoined (locks : LockTable) (old : Sight) (workers : List Sight) (n : ℕ) (seat : Sight) (left : List Sight) : Type 0 where
   pub of : IsSeatOf locks seat
   pub numbers : seat.view.numbers ≡ numbers_from n locks.workers
   pub still : IsStill seat.view
@@ -33,10 +33,10 @@ pub record Joins (locks : LockTable) (old : Sight) (workers : List Sight) (n : �
   pub dues : (f : ℕ) → due_at seat.view.dues f ≡ due_at old.view.dues f
   pub met : seat.view.met ≡ old.view.met
 
-some_sight : (a b : Sight) → Some a ≡ Some b → a ≡ b
+pub some_sight : (a b : Sight) → Some a ≡ Some b → a ≡ b
 some_sight a b e = cc e
 
-pub joins_first : (locks : LockTable) (old : Sight) (workers : List Sight) → IsFlushers locks old → length workers ≡ locks.workers → Joins locks old workers (length workers) old workers
+pub joins_first : (locks : LockTable) (old : Sight) (workers : List Sight) → IsFlushers locks old → length workers ≡ locks.workers → HasJoined locks old workers (length workers) old workers
 joins_first locks old workers x count = record {
   of = x.of;
   numbers = x.alone ∙ ap (λ n. numbers_from n locks.workers) (sym count);
@@ -51,21 +51,21 @@ joins_first locks old workers x count = record {
 }
 
 -- the last of the workers that are left is joined
-module _ (locks : LockTable) (old : Sight) (workers : List Sight) (n : ℕ) (seat : Sight) (left left' : List Sight) (w : Sight) (j : Joins locks old workers n seat left) (eight : locks.workers ≤ 8) (is : left ≡ left' ++ w ∷ []) where
+module _ (locks : LockTable) (old : Sight) (workers : List Sight) (n : ℕ) (seat : Sight) (left left' : List Sight) (w : Sight) (j : HasJoined locks old workers n seat left) (eight : locks.workers ≤ 8) (is : left ≡ left' ++ w ∷ []) where
   long : n ≡ length left' + 1
   long = sym j.count ∙ ap length is ∙ length-append left' (w ∷ [])
 
   last_at : slice_get workers (length left') ≡ Some w
   last_at = j.each (length left') w (ap (λ l. slice_get l (length left')) is ∙ slice_get-push left' w)
 
-  pub next_follows : IsWorkers locks (length left') w → Follow w.view.numbers seat.view.numbers
-  next_follows x = subst (λ (p : Numbers × Numbers). Follow p.0 p.1) (λ i. (sym x.alone i, sym j.numbers i))
+  pub next_follows : IsWorkers locks (length left') w → AreAdjacent w.view.numbers seat.view.numbers
+  next_follows x = subst (λ (p : Numbers × Numbers). AreAdjacent p.0 p.1) (λ i. (sym x.alone i, sym j.numbers i))
       (record { some = omega arith; meets = sym long; rest = j.few; few = eight; alone = refl })
 
   pub next_is : ((k : ℕ) (s : Sight) → slice_get workers k ≡ Some s → IsWorkers locks k s) → IsWorkers locks (length left') w
   next_is all = all (length left') w last_at
 
-  pub joins_next : (seat' : Sight) → IsWorkers locks (length left') w → IsSeatOf locks seat' → seat'.view ≡ joined seat.view w.view → HasBoth seat.view w.view seat'.view → Joins locks old workers (length left') seat' left'
+  pub joins_next : (seat' : Sight) → IsWorkers locks (length left') w → IsSeatOf locks seat' → seat'.view ≡ joined seat.view w.view → HasBoth seat.view w.view seat'.view → HasJoined locks old workers (length left') seat' left'
   joins_next seat' x of both has =
       let m = length left' in record {
         of = of;
@@ -87,12 +87,12 @@ module _ (locks : LockTable) (old : Sight) (workers : List Sight) (n : ℕ) (sea
       }
 
 -- so many frames' words were met again
-pub record Looks (locks : LockTable) (old : Sight) (f : ℕ) (seat : Sight) : Type 0 where
+pub record HasLooked (locks : LockTable) (old : Sight) (f : ℕ) (seat : Sight) : Type 0 where
   pub of : IsSeatOf locks seat
-  pub words : Rereads f old.view.met seat.view
+  pub words : HasReread f old.view.met seat.view
   pub same : seat.view ≡ record old.view { words = seat.view.words; met = seat.view.met }
 
-pub looks_first : (locks : LockTable) (old : Sight) → IsSeatOf locks old → Looks locks old 0 old
+pub looks_first : (locks : LockTable) (old : Sight) → IsSeatOf locks old → HasLooked locks old 0 old
 looks_first locks old of = record {
   of = of;
   words = record { words = []; count = refl; mets = sym (append-nil old.view.met); known = λ f word e. absurd (cc e) };
@@ -106,7 +106,7 @@ mets_of-push g (x ∷ xs) w = let e : (g + 1) + length xs ≡ g + suc (length xs
 some_out : (o : Out) → None ≡ Some o → ⊥
 some_out o e = cc e
 
-pub looks_next : (locks : LockTable) (old seat seat' : Sight) (f : ℕ) (w : LockWord) → IsWhole old.view → IsStill old.view → Looks locks old f seat → IsSeatOf locks seat' → IsMet seat.view seat'.view f w → Looks locks old (f + 1) seat'
+pub looks_next : (locks : LockTable) (old seat seat' : Sight) (f : ℕ) (w : LockWord) → IsWhole old.view → IsStill old.view → HasLooked locks old f seat → IsSeatOf locks seat' → IsMet seat.view seat'.view f w → HasLooked locks old (f + 1) seat'
 looks_next locks old seat seat' f w whole still x of met =
     let v = seat.view in let r = x.words in
     let whole' : IsWhole v = subst IsWhole (sym x.same) whole in
@@ -121,9 +121,9 @@ looks_next locks old seat seat' f w whole still x of met =
             ∙ ap (λ k. old.view.met ++ (mets_of 0 r.words ++ met_as k w ∷ [])) (let e : f ≡ 0 + length r.words = let c = r.count in omega arith in e) ∙ ap (λ m. old.view.met ++ m) (sym (mets_of-push 0 r.words w));
         known = λ k u e. ⊎_elim
             (λ h. let lt = slice_get_within r.words k u h in let c = r.count in let kn = r.known k u h in
-            record { at = ap (λ ws. word_at ws k) words' ∙ word_past v.words f w k (λ q. omega arith) ∙ kn.at; home = kn.home; bytes = kn.bytes; backed = backed_after v seat'.view f w met.view k u kn.bytes kn.backed })
+            record { at = ap (λ ws. word_at ws k) words' ∙ word_past v.words f w k (λ q. omega arith) ∙ kn.at; home = kn.home; worker = subst (λ n. u.owner < n) (sym (ap (λ (z : View). z.workers) met.view)) kn.worker; dated = dated_after v seat'.view f w met.view k u kn.dated; bytes = kn.bytes; backed = backed_after v seat'.view f w met.view k u kn.bytes kn.backed })
             (λ t. let at : f ≡ k = sym (t.0 ∙ r.count) in subst (λ (p : ℕ × LockWord). IsKnown seat'.view p.0 p.1) (λ i. (at i, t.1 i))
-            (record { at = ap (λ ws. word_at ws f) words' ∙ ap (λ b. cond b (Some w) (word_at v.words f)) (eq-eqb f f refl); home = home; bytes = met.told.bytes; backed = backed_after v seat'.view f w met.view f w met.told.bytes met.told.backed }))
+            (record { at = ap (λ ws. word_at ws f) words' ∙ ap (λ b. cond b (Some w) (word_at v.words f)) (eq-eqb f f refl); home = home; worker = subst (λ n. w.owner < n) (sym (ap (λ (z : View). z.workers) met.view)) (met.told.worker 8 (whole_has v 8 whole' (inr refl))); dated = dated_after v seat'.view f w met.view f w met.told.dated; bytes = met.told.bytes; backed = backed_after v seat'.view f w met.view f w met.told.bytes met.told.backed }))
             (slice_get-pushed r.words w u k e);
       };
       same = met.view ∙ ap (λ z. meets z f w) x.same ∙ (λ i. record old.view { words = sym words' i; met = sym (ap (λ (z : View). z.met) met.view) i });

@@ -11,12 +11,12 @@ use Rattle.pm_locks.specs.declared.view.Numbers.{Numbers}
 use Rattle.pm_locks.specs.declared.view.View.{View}
 use Rattle.pm_locks.specs.declared.view.Out.{Out}
 use Rattle.pm_locks.specs.Views.{out_at, is_among, Has, is_hand}
-use Rattle.pm_locks.specs.Rule.{Frame, Keeps, out_for, vacant, place_of, holder_of}
+use Rattle.pm_locks.specs.Rule.{PageFrame, IsLawful, out_for, vacant, frame_range, holder_of}
 use Rattle.pm_locks.proofs.Numbering.{has_small}
 use Rattle.pm_locks.proofs.Keeping.{keeps_at}
 use Rattle.pm_locks.proofs.Takes.{self_eq, reheld}
 use Rattle.pm_locks.specs.Steps.{out_as}
-use Rattle.pm_locks.specs.Kinds.{Seated, leaves, grabs, carrying}
+use Rattle.pm_locks.specs.Kinds.{Seated, IsSlotLeft, IsSlotCarried, carrying}
 
 some_out : (a b : Out) → Some a ≡ Some b → a ≡ b
 some_out a b e = cc e
@@ -31,12 +31,12 @@ out_read l w lease o =
     let all : (b : Bool) → P b = λ b. elim b as P [ true ↦ λ h e. let q = some_out (out_as (unpacked w) lease) o e in (h, ap (λ (x : Out). x.word) (sym q), ap (λ (x : Out). x.lease) (sym q)) | false ↦ λ h e. absurd (none_some o e) ] in all (is_among l (holder_of w)) refl
 
 -- the frame with its slot carried or not
-abbrev carried_as : Frame → Bool → Frame
+abbrev carried_as : PageFrame → Bool → PageFrame
 carried_as g b = record g { carried = b }
 
-module _ {workers : ℕ} {places : List Range} where
+module _ {workers : ℕ} {ranges : List Range} where
   -- a frame that a seat has out
-  pub record Away (s : State (Option Leased) View) (r : Keeps workers places s) (v : View) (f : ℕ) (o : Out) : Type 0 where
+  pub record Away (s : State (Option Leased) View) (r : IsLawful workers ranges s) (v : View) (f : ℕ) (o : Out) : Type 0 where
     pub has : Has v (holder_of (get_or s.words f 0))
     pub word : o.word ≡ unpacked (get_or s.words f 0)
     pub same : o.lease ≡ (r.frames f).lease
@@ -44,7 +44,7 @@ module _ {workers : ℕ} {places : List Range} where
     pub home : get_elem? s.homes f ≡ vacant (is_hand v.hand f)
     pub carried : (r.frames f).carried ≡ is_hand v.hand f
 
-  pub away_of : (s : State (Option Leased) View) (r : Keeps workers places s) (id : ℕ) (v : View) (f : ℕ) (o : Out) → get_elem? s.views id ≡ some v → f < length s.words → out_at v.outs f ≡ Some o → Away s r v f o
+  pub away_of : (s : State (Option Leased) View) (r : IsLawful workers ranges s) (id : ℕ) (v : View) (f : ℕ) (o : Out) → get_elem? s.views id ≡ some v → f < length s.words → out_at v.outs f ≡ Some o → Away s r v f o
   away_of s r id v f o at lt out =
       let x = r.each_view id v at in let w = get_or s.words f 0 in let a = out_read v.numbers w (r.frames f).lease o (sym (x.outs f lt) ∙ out) in
       let few : v.numbers.upto ≤ 8 = let k = x.few in let m = r.few in omega arith in
@@ -52,16 +52,17 @@ module _ {workers : ℕ} {places : List Range} where
       let no : holder_of w ≢ 255 = λ e. omega arith in let c = x.hand f lt a.0 in
       record { has = a.0; word = a.1; same = a.2; not_home = no; home = ((r.each_frame f lt).away no).0 ∙ ap vacant c; carried = c }
 
-  moves : (s : State (Option Leased) View) (r : Keeps workers places s) (id : ℕ) (v : View) (f : ℕ) (o : Out) (hand' : Option ℕ) (b : Bool) (x : maybe.Option (Option Leased)) → get_elem? s.views id ≡ some v → f < length s.words → out_at v.outs f ≡ Some o
-      → some x ≡ vacant b → b ≡ is_hand hand' f → ((k : ℕ) → k ≢ f → is_hand hand' k ≡ is_hand v.hand k) → Keeps workers places (record { words = set s.words f (get_or s.words f 0); homes = set s.homes f x; views = set s.views id (record v { hand = hand' }) })
+  moves : (s : State (Option Leased) View) (r : IsLawful workers ranges s) (id : ℕ) (v : View) (f : ℕ) (o : Out) (hand' : Option ℕ) (b : Bool) (x : maybe.Option (Option Leased)) → get_elem? s.views id ≡ some v → f < length s.words → out_at v.outs f ≡ Some o
+      → some x ≡ vacant b → b ≡ is_hand hand' f → ((k : ℕ) → k ≢ f → is_hand hand' k ≡ is_hand v.hand k) → IsLawful workers ranges (record { words = set s.words f (get_or s.words f 0); homes = set s.homes f x; views = set s.views id (record v { hand = hand' }) })
   moves s r id v f o hand' b x at lt out is here there =
       let y = r.each_view id v at in let w = get_or s.words f 0 in let a = away_of s r id v f o at lt out in let g' = carried_as (r.frames f) b in
       let c : f < length s.homes = subst (λ k. f < k) (sym r.sized) lt in
       keeps_at s r id v (record v { hand = hand' }) f w (set s.homes f x) g' at lt (length-set s.homes f x) (λ k ne. set_else s.homes f k x ne)
-      (reheld workers (place_of places f) f w w (holder_of w) (get_elem? s.homes f) _ (r.frames f) g' (record { fields = refl; word = (r.each_frame f lt).word }) (r.each_frame f lt) refl refl refl a.not_home (set_here s.homes f x c ∙ is) ((r.each_frame f lt).away a.not_home).1)
+      (reheld workers (frame_range ranges f) f w w (holder_of w) (get_elem? s.homes f) _ (r.frames f) g' (record { fields = refl; word = (r.each_frame f lt).word }) (r.each_frame f lt) refl refl refl a.not_home (set_here s.homes f x c ∙ is) ((r.each_frame f lt).away a.not_home).1)
       (record {
         same = refl;
         staff = refl;
+        began = refl;
         known = λ n h. y.known n f h;
         known_else = λ n k ne. refl;
         out = y.outs f lt;
@@ -79,18 +80,18 @@ module _ {workers : ℕ} {places : List Range} where
       })
       (inr ((λ n e. inr (⊎_elim (λ p. subst (Has v) (sym p) a.has) (λ p. subst (Has v) (sym p) a.has) e)), (holder_of w, a.has)))
 
-  pub leaves_it : (n id : ℕ) (me : Seated) (f : ℕ) (o : Out) → f < n → me.0.hand ≡ Some f → me.1 ≡ (f, None) ∷ rest me.1 → out_at me.0.outs f ≡ Some o → Allows (Keeps workers places) n id me f (λ x. x) (leaves (step n f 0 0 none) me)
+  pub leaves_it : (n id : ℕ) (me : Seated) (f : ℕ) (o : Out) → f < n → me.0.hand ≡ Some f → me.1 ≡ (f, None) ∷ rest me.1 → out_at me.0.outs f ≡ Some o → Allows (IsLawful workers ranges) n id me f (λ x. x) (IsSlotLeft (step n f 0 0 none) me)
   leaves_it n id me f o lt hand holds out s r wide at fits =
       let b : f < length s.words = subst (λ k. f < k) (sym wide ∙ r.sized) lt in (
         record me.0 { hand = None },
         gives,
         tt,
-        subst (λ (h : List (maybe.Option (Option Leased))). Keeps workers places (record { words = set s.words f (get_or s.words f 0); homes = h; views = set s.views id (record me.0 { hand = None }) })) (sym (ap (put_back s.homes) holds))
+        subst (λ (h : List (maybe.Option (Option Leased))). IsLawful workers ranges (record { words = set s.words f (get_or s.words f 0); homes = h; views = set s.views id (record me.0 { hand = None }) })) (sym (ap (put_back s.homes) holds))
             (moves s r id me.0 f o None false (some None) at b out refl refl (λ k ne. sym (ap (λ h. is_hand h k) hand ∙ ne_eqb f k (λ e. ne (sym e))))),
         (refl, refl),
       )
 
-  pub grabs_it : (n id : ℕ) (me : Seated) (f : ℕ) (o : Out) → f < n → me.0.hand ≡ None → out_at me.0.outs f ≡ Some o → Allows (Keeps workers places) n id me f (λ x. x) (grabs (step n f 0 0 none) me)
+  pub grabs_it : (n id : ℕ) (me : Seated) (f : ℕ) (o : Out) → f < n → me.0.hand ≡ None → out_at me.0.outs f ≡ Some o → Allows (IsLawful workers ranges) n id me f (λ x. x) (IsSlotCarried (step n f 0 0 none) me)
   grabs_it n id me f o lt hand out s r wide at fits =
       let b : f < length s.words = subst (λ k. f < k) (sym wide ∙ r.sized) lt in
       let a = away_of s r id me.0 f o at b out in (

@@ -1,5 +1,5 @@
 -- A step on one frame keeps the rule, where it keeps the facts on that frame and on the seat's own view.
-use Rattle.std.proofs.Common.{◌≡◌, ℕ, ◌<◌, ◌≤◌, ◌≢◌, ◌⊎◌, true, cond, List, length, get_or, set, sym, refl, ap, ◌∙◌, subst, inl, inr, ⊎_elim, arith, eqb, eq-eqb, ne_eqb, Option, Some, None, get_or-set_other, get_or-set_same, length-set, zero, suc, [], ◌∷◌}
+use Rattle.std.proofs.Common.{◌≡◌, ℕ, ◌<◌, ◌≤◌, ◌≢◌, ◌⊎◌, true, cond, List, length, map, get_or, set, sym, refl, ap, ◌∙◌, subst, inl, inr, ⊎_elim, arith, eqb, eq-eqb, ne_eqb, Option, Some, None, get_or-set_other, get_or-set_same, length-set, zero, suc, [], ◌∷◌}
 use mathlib.Core.Logic.{dite}
 use native.Mathlib.Decide.{ℕ_discrete}
 use mathlib.Core.Option.{some, none, some-ne-none}
@@ -11,7 +11,7 @@ use Rattle.pm_locks.specs.Words.{LockWord, unpacked}
 use Rattle.pm_locks.specs.declared.view.Numbers.{Numbers}
 use Rattle.pm_locks.specs.declared.view.View.{View}
 use Rattle.pm_locks.specs.Views.{entry_at, out_at, due_at, word_at, is_among, Has, IsWhole, is_hand}
-use Rattle.pm_locks.specs.Rule.{Frame, Home, IsFrame, IsView, Keeps, out_for, place_of, holder_of}
+use Rattle.pm_locks.specs.Rule.{PageFrame, Home, IsPageFrame, IsView, IsLawful, out_for, frame_range, holder_of}
 use Rattle.pm_locks.specs.Steps.{out_as}
 use Rattle.pm_locks.proofs.Numbering.{not_true, among, has_small, whole_has}
 
@@ -26,9 +26,10 @@ module _ {A : Type 0} where
   updated-else g i a j ne = ap (λ b. cond b a (g j)) (ne_eqb j i ne)
 
 -- what is so of the view of the seat that steps, and of the views of others
-pub record Own (v v' : View) (f w w' : ℕ) (g g' : Frame) : Type 0 where
+pub record OwnView (v v' : View) (f w w' : ℕ) (g g' : PageFrame) : Type 0 where
   pub same : v'.numbers ≡ v.numbers
   pub staff : v'.workers ≡ v.workers
+  pub began : v'.leases ≡ v.leases
   pub known : (n : ℕ) → Has v n → entry_at v'.entries n f ≡ g'.entries n
   pub known_else : (n k : ℕ) → k ≢ f → entry_at v'.entries n k ≡ entry_at v.entries n k
   pub out : out_at v'.outs f ≡ out_for v.numbers w' g'.lease
@@ -45,14 +46,14 @@ pub record Own (v v' : View) (f w w' : ℕ) (g g' : Frame) : Type 0 where
   pub others : (n : ℕ) → ¬ Has v n → g'.entries n ≡ g.entries n
 
 -- no other seat has the holder before or after, and the seat has some number
-abbrev pub Apart : View → ℕ → ℕ → Type 0
-Apart v w w' = ((n : ℕ) → (n ≡ holder_of w) ⊎ (n ≡ holder_of w') → (n ≡ 255) ⊎ Has v n) × ((n : ℕ) × Has v n)
+abbrev pub IsApart : View → ℕ → ℕ → Type 0
+IsApart v w w' = ((n : ℕ) → (n ≡ holder_of w) ⊎ (n ≡ holder_of w') → (n ≡ 255) ⊎ Has v n) × ((n : ℕ) × Has v n)
 
-abbrev pub Stays : ℕ → ℕ → Frame → Frame → Type 0
-Stays w w' g g' = (w' ≡ w) × (g'.lease ≡ g.lease) × (g'.carried ≡ g.carried)
+abbrev pub IsSame : ℕ → ℕ → PageFrame → PageFrame → Type 0
+IsSame w w' g g' = (w' ≡ w) × (g'.lease ≡ g.lease) × (g'.carried ≡ g.carried)
 
-frame_moves : (workers : ℕ) (place : Range) (f w w' : ℕ) (h h' : Home) (g g' : Frame) → w' ≡ w → h' ≡ h → g' ≡ g → IsFrame workers place f w h g → IsFrame workers place f w' h' g'
-frame_moves workers place f w w' h h' g g' a b c x = subst (λ (p : ℕ × Home × Frame). IsFrame workers place f p.0 p.1 p.2) (λ i. (sym a i, sym b i, sym c i)) x
+frame_moves : (workers : ℕ) (span : Range) (f w w' : ℕ) (h h' : Home) (g g' : PageFrame) → w' ≡ w → h' ≡ h → g' ≡ g → IsPageFrame workers span f w h g → IsPageFrame workers span f w' h' g'
+frame_moves workers span f w w' h h' g g' a b c x = subst (λ (p : ℕ × Home × PageFrame). IsPageFrame workers span f p.0 p.1 p.2) (λ i. (sym a i, sym b i, sym c i)) x
 
 -- a fact on each number, from the fact at f and at the others
 pub at_or_else : (P : ℕ → Type 0) (f : ℕ) → P f → ((k : ℕ) → k ≢ f → P k) → (k : ℕ) → P k
@@ -65,14 +66,14 @@ out_is numbers w lease h = rw h
 pub none_for : (l : Numbers) (w : ℕ) (b : Leased) → ¬ (is_among l (holder_of w) ≡ true) → out_for l w b ≡ None
 none_for l w b h = rw (not_true (is_among l (holder_of w)) h)
 
-module _ (workers : ℕ) (eight : workers ≤ 8) (frames : ℕ → Frame) (words : List ℕ) (seats : ℕ → ℕ) (f w' : ℕ) (g' : Frame) (lt : f < length words) where
+module _ (workers : ℕ) (eight : workers ≤ 8) (frames : ℕ → PageFrame) (words : List ℕ) (seats : ℕ → ℕ) (f w' : ℕ) (g' : PageFrame) (lt : f < length words) where
   word_here : get_or (set words f w') f 0 ≡ w'
   word_here = rw get_or-set_same
 
   word_else : (k : ℕ) → k ≢ f → get_or (set words f w') k 0 ≡ get_or words k 0
   word_else k ne = rw get_or-set_other
 
-  own_view : (i : ℕ) (v v' : View) → Own v v' f (get_or words f 0) w' (frames f) g' → IsView workers frames words seats i v → IsView workers (updated frames f g') (set words f w') seats i v'
+  own_view : (i : ℕ) (v v' : View) → OwnView v v' f (get_or words f 0) w' (frames f) g' → IsView workers frames words seats i v → IsView workers (updated frames f g') (set words f w') seats i v'
   own_view i v v' o x =
       let had : (n : ℕ) → Has v' n → Has v n = λ n h. ap (λ (l : Numbers). is_among l n) (sym o.same) ∙ h in
       let has' : (n : ℕ) → Has v n → Has v' n = λ n h. ap (λ (l : Numbers). is_among l n) o.same ∙ h in record {
@@ -80,13 +81,13 @@ module _ (workers : ℕ) (eight : workers ≤ 8) (frames : ℕ → Frame) (words
         few = subst (λ (l : Numbers). l.upto ≤ workers) (sym o.same) x.few;
         mine = λ n h. x.mine n (had n h);
         known = λ n k h. at_or_else (λ z. entry_at v'.entries n z ≡ (updated frames f g' z).entries n) f
-            (o.known n (had n h) ∙ sym (ap (λ (g : Frame). g.entries n) (updated-here frames f g')))
-            (λ z ne. o.known_else n z ne ∙ x.known n z (had n h) ∙ sym (ap (λ (g : Frame). g.entries n) (updated-else frames f g' z ne))) k;
+            (o.known n (had n h) ∙ sym (ap (λ (g : PageFrame). g.entries n) (updated-here frames f g')))
+            (λ z ne. o.known_else n z ne ∙ x.known n z (had n h) ∙ sym (ap (λ (g : PageFrame). g.entries n) (updated-else frames f g' z ne))) k;
         foreign = λ n k no. let no' : ¬ Has v n = λ h. no (has' n h) in at_or_else (λ z. entry_at v'.entries n z ≡ None) f (o.foreign n no') (λ z ne. o.known_else n z ne ∙ x.foreign n z no') k;
         foreign_due = λ k no. let no' : ¬ Has v 8 = λ h. no (has' 8 h) in at_or_else (λ z. due_at v'.dues z ≡ None) f (o.foreign_due no') (λ z ne. o.due_else z ne ∙ x.foreign_due z no') k;
         due = λ k h. at_or_else (λ z. due_at v'.dues z ≡ (updated frames f g' z).due) f
-            (o.due (had 8 h) ∙ sym (ap (λ (g : Frame). g.due) (updated-here frames f g')))
-            (λ z ne. o.due_else z ne ∙ x.due z (had 8 h) ∙ sym (ap (λ (g : Frame). g.due) (updated-else frames f g' z ne))) k;
+            (o.due (had 8 h) ∙ sym (ap (λ (g : PageFrame). g.due) (updated-here frames f g')))
+            (λ z ne. o.due_else z ne ∙ x.due z (had 8 h) ∙ sym (ap (λ (g : PageFrame). g.due) (updated-else frames f g' z ne))) k;
         left = λ whole k z below. let had_all : IsWhole v = sym o.same ∙ whole ∙ ap (λ n. record { from = 0; upto = n; flusher = true }) o.staff in at_or_else (λ j. j < length words → word_at v'.words j ≡ Some z → unpacked (get_or (set words f w') j 0) ≡ z) f
             (λ _ is. ap unpacked word_here ∙ o.word had_all z is)
             (λ j ne b is. ap unpacked (word_else j ne) ∙ x.left had_all j z b (sym (o.word_else j ne) ∙ is)) k (subst (λ n. k < n) (length-set words f w') below);
@@ -94,28 +95,28 @@ module _ (workers : ℕ) (eight : workers ≤ 8) (frames : ℕ → Frame) (words
             (λ _. o.out ∙ (λ i. out_for (sym o.same i) (sym word_here i) (sym (updated-here frames f g') i).lease))
             (λ z ne b. o.out_else z ne ∙ x.outs z b ∙ (λ i. out_for (sym o.same i) (sym (word_else z ne) i) (sym (updated-else frames f g' z ne) i).lease)) k (subst (λ n. k < n) (length-set words f w') below);
         hand = λ k below. at_or_else (λ z. z < length words → Has v' (holder_of (get_or (set words f w') z 0)) → (updated frames f g' z).carried ≡ is_hand v'.hand z) f
-            (λ _ h. ap (λ (g : Frame). g.carried) (updated-here frames f g') ∙ o.hand (had _ (subst (λ w. Has v' (holder_of w)) word_here h)))
-            (λ z ne b h. ap (λ (g : Frame). g.carried) (updated-else frames f g' z ne) ∙ x.hand z b (had _ (subst (λ w. Has v' (holder_of w)) (word_else z ne) h)) ∙ sym (o.hand_else z ne)) k (subst (λ n. k < n) (length-set words f w') below);
+            (λ _ h. ap (λ (g : PageFrame). g.carried) (updated-here frames f g') ∙ o.hand (had _ (subst (λ w. Has v' (holder_of w)) word_here h)))
+            (λ z ne b h. ap (λ (g : PageFrame). g.carried) (updated-else frames f g' z ne) ∙ x.hand z b (had _ (subst (λ w. Has v' (holder_of w)) (word_else z ne) h)) ∙ sym (o.hand_else z ne)) k (subst (λ n. k < n) (length-set words f w') below);
       }
 
-  other_view : (i j : ℕ) (v v' u : View) → j ≢ i → Own v v' f (get_or words f 0) w' (frames f) g' → Stays (get_or words f 0) w' (frames f) g' ⊎ Apart v (get_or words f 0) w'
+  other_view : (i j : ℕ) (v v' u : View) → j ≢ i → OwnView v v' f (get_or words f 0) w' (frames f) g' → IsSame (get_or words f 0) w' (frames f) g' ⊎ IsApart v (get_or words f 0) w'
       → IsView workers frames words seats i v → IsView workers frames words seats j u → IsView workers (updated frames f g') (set words f w') seats j u
   other_view i j v v' u away o how x y =
       let not_both : (n : ℕ) → Has u n → Has v n → ⊥ = λ n a b. away (sym (y.mine n a) ∙ x.mine n b) in
       let small : (n : ℕ) → Has u n → n ≢ 255 = λ n h e. let few : u.numbers.upto ≤ 8 = let k = y.few in omega arith in let b : n < 9 = has_small u.numbers n few h in omega arith in
-      let no : Apart v (get_or words f 0) w' → (n : ℕ) → (n ≡ holder_of (get_or words f 0)) ⊎ (n ≡ holder_of w') → ¬ Has u n = λ a n is h. ⊎_elim (λ e. small n h e) (λ b. not_both n h b) (a.0 n is) in
+      let no : IsApart v (get_or words f 0) w' → (n : ℕ) → (n ≡ holder_of (get_or words f 0)) ⊎ (n ≡ holder_of w') → ¬ Has u n = λ a n is h. ⊎_elim (λ e. small n h e) (λ b. not_both n h b) (a.0 n is) in
       let all : IsWhole u → (n : ℕ) → Has v n → Has u n = λ whole n h. whole_has u n whole (⊎_elim (λ p. inl (let k = p.1 in let m = x.few in let s = y.staff 8 (whole_has u 8 whole (inr refl)) in omega arith)) (λ p. inr p.0) (among v.numbers n h)) in record {
         staff = y.staff;
         few = y.few;
         mine = y.mine;
         known = λ n k h. at_or_else (λ z. entry_at u.entries n z ≡ (updated frames f g' z).entries n) f
-            (y.known n f h ∙ sym (o.others n (not_both n h)) ∙ sym (ap (λ (g : Frame). g.entries n) (updated-here frames f g')))
-            (λ z ne. y.known n z h ∙ sym (ap (λ (g : Frame). g.entries n) (updated-else frames f g' z ne))) k;
+            (y.known n f h ∙ sym (o.others n (not_both n h)) ∙ sym (ap (λ (g : PageFrame). g.entries n) (updated-here frames f g')))
+            (λ z ne. y.known n z h ∙ sym (ap (λ (g : PageFrame). g.entries n) (updated-else frames f g' z ne))) k;
         foreign = y.foreign;
         foreign_due = y.foreign_due;
         due = λ k h. at_or_else (λ z. due_at u.dues z ≡ (updated frames f g' z).due) f
-            (y.due f h ∙ sym (o.due_others (not_both 8 h)) ∙ sym (ap (λ (g : Frame). g.due) (updated-here frames f g')))
-            (λ z ne. y.due z h ∙ sym (ap (λ (g : Frame). g.due) (updated-else frames f g' z ne))) k;
+            (y.due f h ∙ sym (o.due_others (not_both 8 h)) ∙ sym (ap (λ (g : PageFrame). g.due) (updated-here frames f g')))
+            (λ z ne. y.due z h ∙ sym (ap (λ (g : PageFrame). g.due) (updated-else frames f g' z ne))) k;
         left = λ whole k z below. at_or_else (λ j. j < length words → word_at u.words j ≡ Some z → unpacked (get_or (set words f w') j 0) ≡ z) f
             (λ b is. ap unpacked word_here ∙ ⊎_elim (λ t. ap unpacked t.0 ∙ y.left whole f z b is) (λ a. absurd (not_both a.1.0 (all whole a.1.0 a.1.1) a.1.1)) how)
             (λ j ne b is. ap unpacked (word_else j ne) ∙ y.left whole j z b is) k (subst (λ n. k < n) (length-set words f w') below);
@@ -126,8 +127,8 @@ module _ (workers : ℕ) (eight : workers ≤ 8) (frames : ℕ → Frame) (words
             (λ z ne b. y.outs z b ∙ (λ i. out_for u.numbers (sym (word_else z ne) i) (sym (updated-else frames f g' z ne) i).lease)) k (subst (λ n. k < n) (length-set words f w') below);
         hand = λ k below. at_or_else (λ z. z < length words → Has u (holder_of (get_or (set words f w') z 0)) → (updated frames f g' z).carried ≡ is_hand u.hand z) f
             (λ b h. let h' : Has u (holder_of w') = subst (λ w. Has u (holder_of w)) word_here h in
-            ap (λ (g : Frame). g.carried) (updated-here frames f g') ∙ ⊎_elim (λ t. t.2 ∙ y.hand f b (subst (λ w. Has u (holder_of w)) t.0 h')) (λ a. absurd (no a _ (inr refl) h')) how)
-            (λ z ne b h. ap (λ (g : Frame). g.carried) (updated-else frames f g' z ne) ∙ y.hand z b (subst (λ w. Has u (holder_of w)) (word_else z ne) h)) k (subst (λ n. k < n) (length-set words f w') below);
+            ap (λ (g : PageFrame). g.carried) (updated-here frames f g') ∙ ⊎_elim (λ t. t.2 ∙ y.hand f b (subst (λ w. Has u (holder_of w)) t.0 h')) (λ a. absurd (no a _ (inr refl) h')) how)
+            (λ z ne b h. ap (λ (g : PageFrame). g.carried) (updated-else frames f g' z ne) ∙ y.hand z b (subst (λ w. Has u (holder_of w)) (word_else z ne) h)) k (subst (λ n. k < n) (length-set words f w') below);
       }
 
 some_view : (a b : View) → some a ≡ some b → a ≡ b
@@ -147,22 +148,27 @@ seat_after views i j v v' u n at keep look has = dite (ℕ_discrete j i)
     (v', ap (get_elem? (set views i v')) e ∙ set_over views i v v' at, keep (subst (λ z. Has z n) same has)))
     (λ ne. (u, set_else views i j v' ne ∙ look, has))
 
-module _ {workers : ℕ} {places : List Range} where
-  pub keeps_at : (s : State (Option Leased) View) (r : Keeps workers places s) (i : ℕ) (v v' : View) (f w' : ℕ) (homes' : List (mathlib.Core.Option.Option (Option Leased))) (g' : Frame)
+module _ {workers : ℕ} {ranges : List Range} where
+  pub keeps_at : (s : State (Option Leased) View) (r : IsLawful workers ranges s) (i : ℕ) (v v' : View) (f w' : ℕ) (homes' : List (mathlib.Core.Option.Option (Option Leased))) (g' : PageFrame)
       → get_elem? s.views i ≡ some v → f < length s.words
       → length homes' ≡ length s.homes → ((k : ℕ) → k ≢ f → get_elem? homes' k ≡ get_elem? s.homes k)
-      → IsFrame workers (place_of places f) f w' (get_elem? homes' f) g'
-      → Own v v' f (get_or s.words f 0) w' (r.frames f) g'
-      → Stays (get_or s.words f 0) w' (r.frames f) g' ⊎ Apart v (get_or s.words f 0) w'
-      → Keeps workers places (record { words = set s.words f w'; homes = homes'; views = set s.views i v' })
+      → IsPageFrame workers (frame_range ranges f) f w' (get_elem? homes' f) g'
+      → OwnView v v' f (get_or s.words f 0) w' (r.frames f) g'
+      → IsSame (get_or s.words f 0) w' (r.frames f) g' ⊎ IsApart v (get_or s.words f 0) w'
+      → IsLawful workers ranges (record { words = set s.words f w'; homes = homes'; views = set s.views i v' })
   keeps_at s r i v v' f w' homes' g' at lt long same here own how = record {
     frames = updated r.frames f g';
     seats = r.seats;
     few = r.few;
     sized = long ∙ r.sized ∙ sym (length-set s.words f w');
-    each_frame = λ k below. at_or_else (λ z. z < length s.words → IsFrame workers (place_of places z) z (get_or (set s.words f w') z 0) (get_elem? homes' z) (updated r.frames f g' z)) f
-        (λ _. frame_moves workers (place_of places f) f w' _ _ _ g' _ (word_here workers r.few r.frames s.words r.seats f w' g' lt) refl (updated-here r.frames f g') here)
-        (λ z ne b. frame_moves workers (place_of places z) z _ _ _ _ _ _ (word_else workers r.few r.frames s.words r.seats f w' g' lt z ne) (same z ne) (updated-else r.frames f g' z ne) (r.each_frame z b)) k (subst (λ n. k < n) (length-set s.words f w') below);
+    each_frame = λ k below. at_or_else (λ z. z < length s.words → IsPageFrame workers (frame_range ranges z) z (get_or (set s.words f w') z 0) (get_elem? homes' z) (updated r.frames f g' z)) f
+        (λ _. frame_moves workers (frame_range ranges f) f w' _ _ _ g' _ (word_here workers r.few r.frames s.words r.seats f w' g' lt) refl (updated-here r.frames f g') here)
+        (λ z ne b. frame_moves workers (frame_range ranges z) z _ _ _ _ _ _ (word_else workers r.few r.frames s.words r.seats f w' g' lt z ne) (same z ne) (updated-else r.frames f g' z ne) (r.each_frame z b)) k (subst (λ n. k < n) (length-set s.words f w') below);
+    began = λ j u look n h. ⊎_elim
+        (λ t. let h' : Has v' n = subst (λ (z : View). Has z n) (sym t.1) h in
+        ap (λ (z : View). map (λ (y : Leased). y.range) z.leases) (sym t.1) ∙ ap (map (λ (y : Leased). y.range)) own.began ∙ r.began i v at n (ap (λ (l : Numbers). is_among l n) (sym own.same) ∙ h'))
+        (λ t. r.began j u t.1 n h)
+        (at_set s.views i j v' u look);
     each_view = λ j u look. ⊎_elim
         (λ t. subst (λ (p : ℕ × View). IsView workers (updated r.frames f g') (set s.words f w') r.seats p.0 p.1) (λ z. (sym t.0 z, t.1 z)) (own_view workers r.few r.frames s.words r.seats f w' g' lt i v v' own (r.each_view i v at)))
         (λ t. other_view workers r.few r.frames s.words r.seats f w' g' lt i j v v' u t.0 own how (r.each_view i v at) (r.each_view j u t.1))

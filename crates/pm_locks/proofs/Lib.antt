@@ -18,4 +18,7 @@ pub mod Closing
 pub mod Openings
 pub mod Closings
 pub mod Facts
+pub mod Knowing
+pub mod Refusing
+pub mod Callers
 pub mod Pairs

@@ -15,7 +15,7 @@ use Rattle.pm_locks.specs.Words.{LockWord}
 use Rattle.pm_locks.specs.declared.view.View.{View}
 use Rattle.pm_locks.specs.declared.view.Entry.{Entry}
 use Rattle.pm_locks.specs.Views.{entry_at, word_at, Has, IsOwnAlone}
-use Rattle.pm_locks.specs.Rule.{Frame, IsFrame, IsView, Keeps, place_of, nowhere, holder_of, owner_of, tag_of, flag_of}
+use Rattle.pm_locks.specs.Rule.{PageFrame, IsPageFrame, IsView, IsLawful, frame_range, nowhere, holder_of, owner_of, tag_of, flag_of}
 use Rattle.pm_locks.specs.Steps.{entry_as}
 use Rattle.pm_locks.specs.Opening.{first_word, first_entries, first_words, first_view, AreNumbered, AreFirst}
 use Rattle.pm_locks.proofs.Numbering.{true_not_false, and_false, whole_has}
@@ -32,7 +32,7 @@ no_lease = record { number = 0; bytes = []; range = nowhere }
 abbrev pub lease_at : List Leased → ℕ → Leased
 lease_at leases f = get_or leases f no_lease
 
-place_is : (leases : List Leased) (f : ℕ) → place_of (map (λ y. y.range) leases) f ≡ (lease_at leases f).range
+place_is : (leases : List Leased) (f : ℕ) → frame_range (map (λ y. y.range) leases) f ≡ (lease_at leases f).range
 place_is [] zero = refl
 place_is [] (suc f) = refl
 place_is (y ∷ ys) zero = refl
@@ -99,13 +99,13 @@ first_alone k leases pos = record {
   dues = λ f no. refl;
 }
 
-pub opens : (k : ℕ) (words : List ℕ) (leases : List Leased) → 0 < k → k ≤ 8 → AreNumbered leases → AreFirst k (length leases) words → Keeps k (map (λ y. y.range) leases) (opening words (map Some leases) (first_view k leases))
+pub opens : (k : ℕ) (words : List ℕ) (leases : List Leased) → 0 < k → k ≤ 8 → AreNumbered leases → AreFirst k (length leases) words → IsLawful k (map (λ y. y.range) leases) (opening words (map Some leases) (first_view k leases))
 opens k words leases pos most numbered first =
-    let frames : ℕ → Frame = λ f. record { entries = λ n. entry_at (first_entries k 0 leases) n f; due = None; lease = lease_at leases f; carried = false } in
+    let frames : ℕ → PageFrame = λ f. record { entries = λ n. entry_at (first_entries k 0 leases) n f; due = None; lease = lease_at leases f; carried = false } in
     let v = first_view k leases in
     let alone = first_alone k leases pos in
     let below : (f : ℕ) → f < length words → f < length leases = λ f lt. subst (λ n. f < n) first.count lt in
-    let frame : (f : ℕ) → f < length words → IsFrame k (place_of (map (λ y. y.range) leases) f) f (get_or words f 0) (get_elem? (map some (map Some leases)) f) (frames f) = λ f lt.
+    let frame : (f : ℕ) → f < length words → IsPageFrame k (frame_range (map (λ y. y.range) leases) f) f (get_or words f 0) (get_elem? (map some (map Some leases)) f) (frames f) = λ f lt.
     let lt' = below f lt in
     let w = get_or words f 0 in
     let p = present k leases 0 f f lt' (omega arith) in
@@ -117,7 +117,7 @@ opens k words leases pos most numbered first =
     let small : f % k < k = mod-lt f pos in record {
       word = (first.each f lt').exact;
       number = numbered f (lease_at leases f) (slice_get-get_or leases f no_lease lt');
-      lies = sym (place_is leases f);
+      range_is = sym (place_is leases f);
       here = λ _. (p.0, refl);
       away = λ no. absurd (no home);
       below = λ n d is'. let q = entry_is k leases 0 n f d is' in (let z = q.0 in omega arith, λ _. q.1 ∙ sym owner);
@@ -145,6 +145,7 @@ opens k words leases pos most numbered first =
       few = most;
       sized = length-map (map Some leases) some ∙ length-map leases Some ∙ sym first.count;
       each_frame = frame;
+      began = λ j u look n h. let t = at_first u v j look in ap (λ (z : View). map (λ (y : Leased). y.range) z.leases) (sym t.1);
       each_view = λ j u look. let t = at_first u v j look in subst (λ (p : ℕ × View). IsView k frames words (λ _. 0) p.0 p.1) (λ z. (sym t.0 z, t.1 z)) view;
       each_number = λ n which. (v, refl, whole_has v n refl which);
     }

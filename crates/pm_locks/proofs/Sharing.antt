@@ -1,5 +1,5 @@
 -- A split and a join keep the rule.
-use Rattle.std.proofs.Common.{◌≡◌, ℕ, zero, suc, ◌+◌, ◌<◌, ◌≤◌, ◌≢◌, ◌⊎◌, Bool, true, false, cond, List, [], ◌∷◌, ◌++◌, length, get_or, set, sym, refl, ap, ◌∙◌, subst, inl, inr, ⊎_elim, arith, eqb, ne_eqb, Option, Some, None, length-set}
+use Rattle.std.proofs.Common.{◌≡◌, ℕ, zero, suc, ◌+◌, ◌<◌, ◌≤◌, ◌≢◌, ◌⊎◌, Bool, true, false, cond, List, [], ◌∷◌, ◌++◌, length, map, get_or, set, sym, refl, ap, ◌∙◌, subst, inl, inr, ⊎_elim, arith, eqb, ne_eqb, Option, Some, None, length-set}
 use Rattle.std.specs.Prelude.{◌&&◌}
 use mathlib.Core.Option.{some, some-injective, some-ne-none}
 use mathlib.Core.Logic.{dite}
@@ -7,7 +7,7 @@ use native.Mathlib.Decide.{dec_le, ℕ_discrete}
 use lib.ListN.{get_elem?}
 use Rattle.atomic_table.specs.Table.{Splits, Joins}
 use Rattle.atomic_table.proofs.Lists.{at_set, set_else, at_last, at_longer}
-use Rattle.pm_region.specs.Lease.{Range}
+use Rattle.pm_region.specs.Lease.{Leased, Range}
 use Rattle.pm_locks.specs.Words.{LockWord, unpacked}
 use Rattle.pm_locks.specs.declared.view.Numbers.{Numbers}
 use Rattle.pm_locks.specs.declared.view.Entry.{Entry}
@@ -15,9 +15,9 @@ use Rattle.pm_locks.specs.declared.view.Due.{Due}
 use Rattle.pm_locks.specs.declared.view.Met.{Met}
 use Rattle.pm_locks.specs.declared.view.View.{View}
 use Rattle.pm_locks.specs.Views.{entry_at, due_at, is_among, Has, IsStill, IsOwnAlone}
-use Rattle.pm_locks.specs.Rule.{Frame, IsView, Keeps, holder_of}
+use Rattle.pm_locks.specs.Rule.{PageFrame, IsView, IsLawful, holder_of}
 use Rattle.pm_locks.specs.Steps.{out_as}
-use Rattle.pm_locks.specs.Shares.{least_of, others_of, entries_of, dues_of, share_of, what_stays, what_goes, joined, nobody, Follow, HasBoth}
+use Rattle.pm_locks.specs.Shares.{least_of, others_of, entries_of, dues_of, share_of, what_stays, what_goes, joined, nobody, AreAdjacent, HasBoth}
 use Rattle.pm_locks.proofs.Numbering.{true_not_false, not_true, among, is_one}
 use Rattle.pm_locks.proofs.Keeping.{none_for, set_over, seat_after}
 use Rattle.pm_locks.proofs.Hands.{none_some}
@@ -81,12 +81,12 @@ at_end (x ∷ xs) a b zero e = inl e
 at_end (x ∷ xs) a b (suc j) e = ⊎_elim (λ h. inl h) (λ t. inr (ap suc t.0, t.1)) (at_end xs a b j e)
 
 -- numbers that a still seat has hold no frame
-pub unheld : (workers : ℕ) (frames : ℕ → Frame) (words : List ℕ) (seats : ℕ → ℕ) (i : ℕ) (v : View) → IsView workers frames words seats i v → IsStill v → (f : ℕ) → f < length words → ¬ Has v (holder_of (get_or words f 0))
+pub unheld : (workers : ℕ) (frames : ℕ → PageFrame) (words : List ℕ) (seats : ℕ → ℕ) (i : ℕ) (v : View) → IsView workers frames words seats i v → IsStill v → (f : ℕ) → f < length words → ¬ Has v (holder_of (get_or words f 0))
 unheld workers frames words seats i v x still f lt h = let w = get_or words f 0 in
     none_some (out_as (unpacked w) (frames f).lease) (sym (still f) ∙ x.outs f lt ∙ ap (λ b. cond b (Some (out_as (unpacked w) (frames f).lease)) None) h)
 
 -- a share of the numbers, at the seat j
-shared : (workers : ℕ) (frames : ℕ → Frame) (words : List ℕ) (seats : ℕ → ℕ) (i : ℕ) (v : View) → IsView workers frames words seats i v → IsStill v
+shared : (workers : ℕ) (frames : ℕ → PageFrame) (words : List ℕ) (seats : ℕ → ℕ) (i : ℕ) (v : View) → IsView workers frames words seats i v → IsStill v
     → (seats' : ℕ → ℕ) (j : ℕ) (l : Numbers) (met : List Met) → l.upto ≤ workers → ((n : ℕ) → is_among l n ≡ true → Has v n) → ((n : ℕ) → is_among l n ≡ true → seats' n ≡ j)
     → IsView workers frames words seats' j (share_of l v met)
 shared workers frames words seats i v x still seats' j l met few sub mine = record {
@@ -103,7 +103,7 @@ shared workers frames words seats i v x still seats' j l met few sub mine = reco
 }
 
 -- the same view, where its numbers' seats are the same
-reseated : (workers : ℕ) (frames : ℕ → Frame) (words : List ℕ) (seats seats' : ℕ → ℕ) (j : ℕ) (u : View) → ((n : ℕ) → Has u n → seats' n ≡ seats n) → IsView workers frames words seats j u → IsView workers frames words seats' j u
+reseated : (workers : ℕ) (frames : ℕ → PageFrame) (words : List ℕ) (seats seats' : ℕ → ℕ) (j : ℕ) (u : View) → ((n : ℕ) → Has u n → seats' n ≡ seats n) → IsView workers frames words seats j u → IsView workers frames words seats' j u
 reseated workers frames words seats seats' j u same y = record {
   staff = y.staff;
   few = y.few;
@@ -120,8 +120,8 @@ reseated workers frames words seats seats' j u same y = record {
 nobody_has : (n : ℕ) → ¬ Has nobody n
 nobody_has n h = ⊎_elim (λ p. let a = p.1 in omega arith) (λ p. true_not_false (sym p.1)) (among nobody.numbers n h)
 
-module _ {workers : ℕ} {places : List Range} where
-  pub splits_it : (id : ℕ) (v : View) → v.numbers.from < v.numbers.upto → IsStill v → Splits (Keeps workers places) id v (what_stays v) (what_goes v)
+module _ {workers : ℕ} {ranges : List Range} where
+  pub splits_it : (id : ℕ) (v : View) → v.numbers.from < v.numbers.upto → IsStill v → Splits (IsLawful workers ranges) id v (what_stays v) (what_goes v)
   splits_it id v some' still s r at =
       let x = r.each_view id v at in let l = least_of v.numbers in
       let few : v.numbers.upto ≤ 8 = let k = x.few in let m = r.few in omega arith in
@@ -132,6 +132,13 @@ module _ {workers : ℕ} {places : List Range} where
         few = r.few;
         sized = r.sized;
         each_frame = r.each_frame;
+        began = λ j u look n h. ⊎_elim
+            (λ old. ⊎_elim
+            (λ t. ap (λ (z : View). map (λ (y : Leased). y.range) z.leases) (sym t.1) ∙ r.began id v at n (others_in v.numbers n (subst (λ (z : View). Has z n) (sym t.1) h)))
+            (λ t. r.began j u t.1 n h)
+            (at_set s.views id j (what_stays v) u old))
+            (λ t. ap (λ (z : View). map (λ (y : Leased). y.range) z.leases) (sym t.1) ∙ r.began id v at n (least_in v.numbers some' n (subst (λ (z : View). Has z n) (sym t.1) h)))
+            (at_end (set s.views id (what_stays v)) (what_goes v) u j look);
         each_view = λ j u look. ⊎_elim
             (λ old. ⊎_elim
             (λ t. subst (λ (p : ℕ × View). IsView workers r.frames s.words seats' p.0 p.1) (λ z. (sym t.0 z, t.1 z))
@@ -176,7 +183,7 @@ second_in : {A : Type 0} (a b c : Option A) → a ≡ None → b ≡ c → or_el
 second_in a b c e h = ap (λ o. or_else o b) e ∙ h
 
 -- the numbers of two seats that follow one another
-module _ (l m : Numbers) (follow : Follow m l) where
+module _ (l m : Numbers) (follow : AreAdjacent m l) where
   abbrev pub both_of : Numbers
   both_of = record { from = m.from; upto = l.upto; flusher = l.flusher }
 
@@ -201,7 +208,7 @@ module _ (l m : Numbers) (follow : Follow m l) where
   pub no_flusher : ¬ (is_among m 8 ≡ true) ⊎ (8 < m.upto)
   no_flusher = dite (dec_le m.upto 8) (λ a. inl (λ h. ⊎_elim (λ p. let b = p.1 in omega arith) (λ p. true_not_false (sym p.1 ∙ follow.alone)) (among m 8 h))) (λ a. inr (omega arith))
 
-nobody_view : (workers : ℕ) (frames : ℕ → Frame) (words : List ℕ) (seats : ℕ → ℕ) (i : ℕ) → IsView workers frames words seats i nobody
+nobody_view : (workers : ℕ) (frames : ℕ → PageFrame) (words : List ℕ) (seats : ℕ → ℕ) (i : ℕ) → IsView workers frames words seats i nobody
 nobody_view workers frames words seats i = record {
   staff = λ n h. absurd (nobody_has n h);
   few = omega arith;
@@ -215,8 +222,8 @@ nobody_view workers frames words seats i = record {
   left = λ whole f w lt is. absurd (none_word w is);
 }
 
-module _ {workers : ℕ} {places : List Range} where
-  pub joins_it : (id : ℕ) (v : View) (other : ℕ) (w : View) → v.workers ≡ w.workers → Follow w.numbers v.numbers → IsStill v → IsStill w → Joins (Keeps workers places) id v other w (joined v w) nobody
+module _ {workers : ℕ} {ranges : List Range} where
+  pub joins_it : (id : ℕ) (v : View) (other : ℕ) (w : View) → v.workers ≡ w.workers → AreAdjacent w.numbers v.numbers → IsStill v → IsStill w → Joins (IsLawful workers ranges) id v other w (joined v w) nobody
   joins_it id v other w same follow still still' s r at ne at' =
       let x = r.each_view id v at in
       let z = r.each_view other w (sym (set_else s.views id other (joined v w) ne) ∙ at') in
@@ -245,6 +252,13 @@ module _ {workers : ℕ} {places : List Range} where
         few = r.few;
         sized = r.sized;
         each_frame = r.each_frame;
+        began = λ j u look n h. ⊎_elim
+            (λ t. absurd (nobody_has n (subst (λ (z : View). Has z n) (sym t.1) h)))
+            (λ t. ⊎_elim
+            (λ q. ap (λ (z : View). map (λ (y : Leased). y.range) z.leases) (sym q.1) ∙ r.began other w (sym (set_else s.views id other (joined v w) ne) ∙ at') m.from (is_one m m.from (inl (omega arith, follow.some))))
+            (λ q. r.began j u q.1 n h)
+            (at_set s.views id j (joined v w) u t.1))
+            (at_set (set s.views id (joined v w)) other j nobody u look);
         each_view = λ j u look. ⊎_elim
             (λ t. subst (IsView workers r.frames s.words seats' j) t.1 (nobody_view workers r.frames s.words seats' j))
             (λ t. ⊎_elim
@@ -270,13 +284,13 @@ share_alone l v met = record {
   dues = λ f no. no_dues l v.dues f (not_true (is_among l 8) no);
 }
 
-pub joined_alone : (v w : View) → Follow w.numbers v.numbers → IsOwnAlone v → IsOwnAlone w → IsOwnAlone (joined v w)
+pub joined_alone : (v w : View) → AreAdjacent w.numbers v.numbers → IsOwnAlone v → IsOwnAlone w → IsOwnAlone (joined v w)
 joined_alone v w follow x z = record {
   entries = λ n f no. entries_append v.entries w.entries n f ∙ second_in _ _ _ (x.entries n f (λ a. no (first_is v.numbers w.numbers follow n a))) (z.entries n f (λ b. no (second_is v.numbers w.numbers follow n b)));
   dues = λ f no. x.dues f (λ a. no (first_is v.numbers w.numbers follow 8 a));
 }
 
-pub joined_has : (v w : View) → Follow w.numbers v.numbers → IsOwnAlone v → IsOwnAlone w → HasBoth v w (joined v w)
+pub joined_has : (v w : View) → AreAdjacent w.numbers v.numbers → IsOwnAlone v → IsOwnAlone w → HasBoth v w (joined v w)
 joined_has v w follow x z =
     let apart' : (n : ℕ) → Has v n → ¬ Has w n = λ n a b. disjoint v.numbers w.numbers follow n a b in record {
       firsts = λ n f h. entries_append v.entries w.entries n f ∙ first_in _ _ _ (z.entries n f (apart' n h)) refl;

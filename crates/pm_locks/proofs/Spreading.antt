@@ -16,7 +16,7 @@ abbrev pub numbers_from : ℕ → ℕ → Numbers
 numbers_from n workers = record { from = n; upto = workers; flusher = true }
 
 -- n workers have their seats, and the others' numbers are left
-pub record Spreads (locks : LockTable) (old : Sight) (n : ℕ) (seat : Sight) (given : List Sight) : Type 0 where
+pub record HasSpread (locks : LockTable) (old : Sight) (n : ℕ) (seat : Sight) (given : List Sight) : Type 0 where
   pub of : IsSeatOf locks seat
   pub share : IsShare old.view (numbers_from n locks.workers) seat.view
   pub met : seat.view.met ≡ old.view.met
@@ -35,7 +35,7 @@ share_again old v l m met x sub = record {
 share_at : (old v w : View) (l m : Numbers) (met : List Met) → IsShare old l v → ((n : ℕ) → is_among m n ≡ true → is_among l n ≡ true) → w ≡ share_of m v met → IsShare old m w
 share_at old v w l m met x sub is = subst (IsShare old m) (sym is) (share_again old v l m met x sub)
 
-pub spreads_first : (locks : LockTable) (old : Sight) → IsSeatOf locks old → IsWhole old.view → IsStill old.view → Spreads locks old 0 old []
+pub spreads_first : (locks : LockTable) (old : Sight) → IsSeatOf locks old → IsWhole old.view → IsStill old.view → HasSpread locks old 0 old []
 spreads_first locks old of whole still = record {
   of = of;
   share = record { has = whole ∙ ap (numbers_from 0) of.staff; staff = refl; still = still; entries = λ n f h. refl; dues = λ f h. refl };
@@ -43,9 +43,9 @@ spreads_first locks old of whole still = record {
   workers = record { many = refl; each = λ n seat e. absurd (cc e) };
 }
 
-pub spreads_next : (locks : LockTable) (old : Sight) (n : ℕ) (seat seat' new : Sight) (given : List Sight) → Spreads locks old n seat given → n < locks.workers
+pub spreads_next : (locks : LockTable) (old : Sight) (n : ℕ) (seat seat' new : Sight) (given : List Sight) → HasSpread locks old n seat given → n < locks.workers
     → IsSeatOf locks seat' → seat'.view ≡ what_stays seat.view → IsSeatOf locks new → new.view ≡ what_goes seat.view
-    → Spreads locks old (n + 1) seat' (given ++ new ∷ [])
+    → HasSpread locks old (n + 1) seat' (given ++ new ∷ [])
 spreads_next locks old n seat seat' new given s lt of stays of' goes =
     let l = numbers_from n locks.workers in
     let stays' : seat'.view ≡ share_of (others_of l) seat.view seat.view.met = stays ∙ ap (λ m. share_of (others_of m) seat.view seat.view.met) s.share.has in

@@ -6,8 +6,8 @@ use Rattle.pm_locks.specs.Words.{LockWord, IsReachedFrom}
 use Rattle.pm_locks.specs.declared.view.View.{View}
 use Rattle.pm_locks.specs.declared.view.Entry.{Entry}
 use Rattle.pm_locks.specs.Views.{entry_at, Has, IsMine}
-use Rattle.pm_locks.specs.Steps.{meets, LastPut, IsBacked}
-use Rattle.pm_locks.specs.Answers.{Follows}
+use Rattle.pm_locks.specs.Steps.{meets, LastPut, IsBacked, AreDated}
+use Rattle.pm_locks.specs.Answers.{IsAsPut}
 use Rattle.pm_locks.proofs.Puts.{some_entry}
 
 module _ (v v' : View) (f : ℕ) (word : LockWord) (met : v' ≡ meets v f word) where
@@ -29,9 +29,12 @@ module _ (v v' : View) (f : ℕ) (word : LockWord) (met : v' ≡ meets v f word)
     done = x.done;
   })
 
+  pub dated_after : (k : ℕ) (u : LockWord) → AreDated v k u → AreDated v' k u
+  dated_after k u x = subst (λ z. AreDated z k u) (sym met) x
+
 -- an entry of the word's tag is the owner's, and so the last put
 pub follows : (v : View) (f : ℕ) (word : LockWord) (lease : Leased) (told : Flag) → LastPut v f word lease.bytes → told ≡ word.flag
-    → (n : ℕ) (e : Entry) → Has v n → entry_at v.entries n f ≡ Some e → e.tag ≡ word.tag → Follows e lease told
+    → (n : ℕ) (e : Entry) → Has v n → entry_at v.entries n f ≡ Some e → e.tag ≡ word.tag → IsAsPut e lease told
 follows v f word lease told x flag n e has at tag =
     let same : x.entry ≡ e = some_entry x.entry e (sym x.at ∙ ap (λ k. entry_at v.entries k f) (sym (x.alone n e has at tag)) ∙ at) in record {
       bytes = sym x.same ∙ ap (λ (z : Entry). z.bytes) same;

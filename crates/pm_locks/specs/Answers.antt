@@ -13,7 +13,7 @@ use Rattle.pm_locks.specs.declared.steal.Steal.{Steal}
 use Rattle.pm_locks.specs.declared.steal.Steal.TheVariants as steal
 use Rattle.pm_locks.specs.declared.flush.FlushTake.{FlushTake}
 use Rattle.pm_locks.specs.declared.flush.FlushTake.TheVariants as flushed
-use Rattle.pm_locks.specs.Rule.{nowhere}
+use Rattle.pm_locks.specs.Rule.{nowhere, known_range}
 use Rattle.pm_locks.specs.Views.{entry_at, out_at, Has, IsMine}
 use Rattle.pm_locks.specs.Steps.{meets, taken_out, stolen_out, IsTold, IsMet, IsBacked}
 
@@ -40,6 +40,7 @@ pub record GotOwn (v v' : View) (f tag : ℕ) (lease : Leased) (told : Flag) : T
   pub home : word.holder ≡ AT_HOME
   pub flag : told ≡ word.flag
   pub here : lease.number ≡ f
+  pub range_is : lease.range ≡ known_range v f
   pub met : IsTold v f word
   pub backed : IsBacked v f word lease.bytes
   pub view : v' ≡ taken_out (meets v f word) f word (held_by word.owner word) lease
@@ -50,28 +51,28 @@ pub record IsGone (v v' : View) (f tag : ℕ) : Type 0 where
   pub not_mine : ¬ IsMine v word tag
   pub met : MetLast v v' f word
 
-abbrev pub OwnTakes : View → View → ℕ → ℕ → Take → Type 0
-OwnTakes v v' f tag (take.Got lease told) = GotOwn v v' f tag lease told
-OwnTakes v v' f tag take.Gone = IsGone v v' f tag
-OwnTakes v v' f tag (take.Busy word) = IsMine v word tag × MetBusy v v' f word
+abbrev pub OwnTakeAnswer : View → View → ℕ → ℕ → Take → Type 0
+OwnTakeAnswer v v' f tag (take.Got lease told) = GotOwn v v' f tag lease told
+OwnTakeAnswer v v' f tag take.Gone = IsGone v v' f tag
+OwnTakeAnswer v v' f tag (take.Busy word) = IsMine v word tag × MetBusy v v' f word
 
 -- a lease and a flag, after the entry
-pub record Follows (entry : Entry) (lease : Leased) (told : Flag) : Type 0 where
+pub record IsAsPut (entry : Entry) (lease : Leased) (told : Flag) : Type 0 where
   pub bytes : lease.bytes ≡ entry.bytes
   pub flag : IsReachedFrom entry.flag told
 
 -- the lease has what any number of the seat last put under this tag
-abbrev pub GivesLast : View → ℕ → ℕ → Take → Type 0
-GivesLast v f tag (take.Got lease told) = (n : ℕ) (e : Entry) → Has v n
-    → entry_at v.entries n f ≡ Some e → e.tag ≡ tag → Follows e lease told
-GivesLast v f tag take.Gone = Unit {0}
-GivesLast v f tag (take.Busy word) = Unit {0}
+abbrev pub HoldsLastPut : View → ℕ → ℕ → Take → Type 0
+HoldsLastPut v f tag (take.Got lease told) = (n : ℕ) (e : Entry) → Has v n
+    → entry_at v.entries n f ≡ Some e → e.tag ≡ tag → IsAsPut e lease told
+HoldsLastPut v f tag take.Gone = Unit {0}
+HoldsLastPut v f tag (take.Busy word) = Unit {0}
 
--- where the seat stands for all numbers and knows the frame's word
-abbrev pub TakesExactly : View → ℕ → LockWord → Take → Type 0
-TakesExactly v tag known (take.Got lease told) = IsMine v known tag × (known.holder ≡ AT_HOME)
-TakesExactly v tag known take.Gone = ¬ IsMine v known tag
-TakesExactly v tag known (take.Busy word) = (word ≡ known) × (known.holder ≢ AT_HOME)
+-- beside the word that a seat for all numbers knows
+abbrev pub IsExactTake : View → ℕ → LockWord → Take → Type 0
+IsExactTake v tag known (take.Got lease told) = IsMine v known tag × (known.holder ≡ AT_HOME)
+IsExactTake v tag known take.Gone = ¬ IsMine v known tag
+IsExactTake v tag known (take.Busy word) = (word ≡ known) × (known.holder ≢ AT_HOME)
 
 -- steal got the frame: it could be stolen, and is out under the next tag
 pub record GotStolen (v v' : View) (number f : ℕ) (lease : Leased) (tag : ℕ) : Type 0 where
@@ -79,17 +80,18 @@ pub record GotStolen (v v' : View) (number f : ℕ) (lease : Leased) (tag : ℕ)
   pub free : CanBeStolen word
   pub next : tag ≡ word.tag + 1
   pub here : lease.number ≡ f
+  pub range_is : lease.range ≡ known_range v f
   pub met : IsTold v f word
   pub view : v' ≡ stolen_out (meets v f word) f word (stolen_as number word) lease
 
-abbrev pub Steals : View → View → ℕ → ℕ → Steal → Type 0
-Steals v v' number f (steal.Got lease tag) = GotStolen v v' number f lease tag
-Steals v v' number f (steal.Not word) = (IsMet v v' f word × ¬ CanBeStolen word) ⊎ MetTwo v v' f word
+abbrev pub StealAnswer : View → View → ℕ → ℕ → Steal → Type 0
+StealAnswer v v' number f (steal.Got lease tag) = GotStolen v v' number f lease tag
+StealAnswer v v' number f (steal.Not word) = (IsMet v v' f word × ¬ CanBeStolen word) ⊎ MetTwo v v' f word
 
--- where the seat stands for all numbers and knows the frame's word
-abbrev pub StealsExactly : LockWord → Steal → Type 0
-StealsExactly known (steal.Got lease tag) = CanBeStolen known
-StealsExactly known (steal.Not word) = (word ≡ known) × ¬ CanBeStolen known
+-- beside the word that a seat for all numbers knows
+abbrev pub IsExactSteal : LockWord → Steal → Type 0
+IsExactSteal known (steal.Got lease tag) = CanBeStolen known
+IsExactSteal known (steal.Not word) = (word ≡ known) × ¬ CanBeStolen known
 
 -- flush_take got the frame: at home, with this tag and this flag, and with the image where that is due
 pub record GotLent (v v' : View) (f tag : ℕ) (want : Flag) (lease : Leased) : Type 0 where
@@ -97,6 +99,7 @@ pub record GotLent (v v' : View) (f tag : ℕ) (want : Flag) (lease : Leased) : 
   pub wanted : IsWanted word tag want
   pub home : word.holder ≡ AT_HOME
   pub here : lease.number ≡ f
+  pub range_is : lease.range ≡ known_range v f
   pub met : IsTold v f word
   pub backed : IsBacked v f word lease.bytes
   pub view : v' ≡ taken_out (meets v f word) f word (held_by FLUSHER word) lease
@@ -107,16 +110,16 @@ pub record HasMoved (v v' : View) (f tag : ℕ) (want : Flag) : Type 0 where
   pub not_wanted : ¬ IsWanted word tag want
   pub met : MetLast v v' f word
 
-abbrev pub FlushTakes : View → View → ℕ → ℕ → Flag → FlushTake → Type 0
-FlushTakes v v' f tag want (flushed.Got lease) = GotLent v v' f tag want lease
-FlushTakes v v' f tag want flushed.Moved = HasMoved v v' f tag want
-FlushTakes v v' f tag want (flushed.Busy word) = IsWanted word tag want × MetBusy v v' f word
+abbrev pub FlushTakeAnswer : View → View → ℕ → ℕ → Flag → FlushTake → Type 0
+FlushTakeAnswer v v' f tag want (flushed.Got lease) = GotLent v v' f tag want lease
+FlushTakeAnswer v v' f tag want flushed.Moved = HasMoved v v' f tag want
+FlushTakeAnswer v v' f tag want (flushed.Busy word) = IsWanted word tag want × MetBusy v v' f word
 
--- where the seat stands for all numbers and knows the frame's word
-abbrev pub LendsExactly : ℕ → Flag → LockWord → FlushTake → Type 0
-LendsExactly tag want known (flushed.Got lease) = IsWanted known tag want × (known.holder ≡ AT_HOME)
-LendsExactly tag want known flushed.Moved = ¬ IsWanted known tag want
-LendsExactly tag want known (flushed.Busy word) = (word ≡ known) × (known.holder ≢ AT_HOME)
+-- beside the word that a seat for all numbers knows
+abbrev pub IsExactFlushTake : ℕ → Flag → LockWord → FlushTake → Type 0
+IsExactFlushTake tag want known (flushed.Got lease) = IsWanted known tag want × (known.holder ≡ AT_HOME)
+IsExactFlushTake tag want known flushed.Moved = ¬ IsWanted known tag want
+IsExactFlushTake tag want known (flushed.Busy word) = (word ≡ known) × (known.holder ≢ AT_HOME)
 
 -- a word and a lease where none are
 abbrev pub nothing : Out

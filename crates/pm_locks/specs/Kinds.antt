@@ -3,6 +3,7 @@
 use Rattle.std.specs.Prelude.{◌≡◌, ◌≢◌, ℕ, ◌∷◌, Option, Some, None}
 use Rattle.atomic_table.specs.Table.{Me, Step, rest}
 use Rattle.pm_region.specs.Lease.{Leased}
+use Rattle.pm_locks.specs.Rule.{known_range}
 use Rattle.pm_locks.specs.Words.{FLUSHER, packed, unpacked}
 use Rattle.pm_locks.specs.declared.view.View.{View}
 use Rattle.pm_locks.specs.declared.view.Out.{Out}
@@ -22,54 +23,55 @@ abbrev pub carrying : View → ℕ → View
 carrying v f = record v { hand = Some f }
 
 -- a load, or an exchange that found another word
-pub record Looks (step : TableStep) (m : Seated) (found : ℕ) (m' : Seated) : Type 0 where
+pub record IsLook (step : TableStep) (m : Seated) (found : ℕ) (m' : Seated) : Type 0 where
   pub view : m'.0 ≡ meets m.0 step.word (unpacked found)
   pub carried : m'.1 ≡ m.1
   pub word : packed (unpacked found) ≡ found
   pub told : IsTold m.0 step.word (unpacked found)
 
 -- the seat carries the frame's slot, with a lease in it
-pub record Lifts (step : TableStep) (m m' : Seated) (lease : Leased) : Type 0 where
+pub record IsLifted (step : TableStep) (m m' : Seated) (lease : Leased) : Type 0 where
   pub carried : m'.1 ≡ (step.word, Some lease) ∷ m.1
   pub number : lease.number ≡ step.word
+  pub range_is : lease.range ≡ known_range m.0 step.word
 
 -- a frame is taken by its owner or the flusher
-abbrev pub Took : TableStep → Seated → Seated → Type 0
-Took st m m' = (lease : Leased) × Lifts st m m' lease
+abbrev pub IsTaken : TableStep → Seated → Seated → Type 0
+IsTaken st m m' = (lease : Leased) × IsLifted st m m' lease
     × (m'.0 ≡ carrying (taken_out m.0 st.word (unpacked st.first) (unpacked st.second) lease) st.word)
     × IsBacked m.0 st.word (unpacked st.first) lease.bytes
 
-abbrev pub took : TableStep → Seated → ℕ → Seated → Type 0
-took st m found m' =
-    (found ≡ st.first → Took st m m') × (found ≢ st.first → Looks st m found m')
+abbrev pub IsTake : TableStep → Seated → ℕ → Seated → Type 0
+IsTake st m found m' =
+    (found ≡ st.first → IsTaken st m m') × (found ≢ st.first → IsLook st m found m')
 
 -- a frame is given to another page
-abbrev pub Stole : TableStep → Seated → Seated → Type 0
-Stole st m m' = (lease : Leased) × Lifts st m m' lease
+abbrev pub IsStolen : TableStep → Seated → Seated → Type 0
+IsStolen st m m' = (lease : Leased) × IsLifted st m m' lease
     × (m'.0 ≡ carrying (stolen_out m.0 st.word (unpacked st.first) (unpacked st.second) lease) st.word)
 
-abbrev pub stole : TableStep → Seated → ℕ → Seated → Type 0
-stole st m found m' =
-    (found ≡ st.first → Stole st m m') × (found ≢ st.first → Looks st m found m')
+abbrev pub IsSteal : TableStep → Seated → ℕ → Seated → Type 0
+IsSteal st m found m' =
+    (found ≡ st.first → IsStolen st m m') × (found ≢ st.first → IsLook st m found m')
 
 -- the emptied slot is given back
-abbrev pub leaves : TableStep → Seated → ℕ → Seated → Type 0
-leaves st m found m' = (m'.0 ≡ record m.0 { hand = None }) × (m'.1 ≡ rest m.1)
+abbrev pub IsSlotLeft : TableStep → Seated → ℕ → Seated → Type 0
+IsSlotLeft st m found m' = (m'.0 ≡ record m.0 { hand = None }) × (m'.1 ≡ rest m.1)
 
 -- the emptied slot is carried again, and the word is what it was
-abbrev pub grabs : TableStep → Seated → ℕ → Seated → Type 0
-grabs st m found m' = (m'.0 ≡ carrying m.0 st.word) × (m'.1 ≡ (st.word, None) ∷ m.1)
+abbrev pub IsSlotCarried : TableStep → Seated → ℕ → Seated → Type 0
+IsSlotCarried st m found m' = (m'.0 ≡ carrying m.0 st.word) × (m'.1 ≡ (st.word, None) ∷ m.1)
     × (packed (unpacked found) ≡ found)
     × ((o : Out) → out_at m.0.outs st.word ≡ Some o → unpacked found ≡ o.word)
 
 -- a worker puts a frame back
-abbrev pub puts : TableStep → Seated → ℕ → Seated → Type 0
-puts st m found m' = (lease : Leased) → m.1 ≡ (st.word, Some lease) ∷ rest m.1
+abbrev pub IsPut : TableStep → Seated → ℕ → Seated → Type 0
+IsPut st m found m' = (lease : Leased) → m.1 ≡ (st.word, Some lease) ∷ rest m.1
     → (m'.0 ≡ record (put_back m.0 st.word (unpacked st.first) lease.bytes) { hand = None })
     × (m'.1 ≡ rest m.1) × Has m.0 (unpacked st.first).owner
 
 -- the flusher puts a frame back
-abbrev pub flushes : TableStep → Seated → ℕ → Seated → Type 0
-flushes st m found m' = (lease : Leased) → m.1 ≡ (st.word, Some lease) ∷ rest m.1
+abbrev pub IsFlushPut : TableStep → Seated → ℕ → Seated → Type 0
+IsFlushPut st m found m' = (lease : Leased) → m.1 ≡ (st.word, Some lease) ∷ rest m.1
     → (m'.0 ≡ record (flushed_back m.0 st.word (unpacked st.first) lease.bytes) { hand = None })
     × (m'.1 ≡ rest m.1) × Has m.0 FLUSHER

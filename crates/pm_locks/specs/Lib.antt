@@ -8,3 +8,4 @@ pub mod Sight
 pub mod Answers
 pub mod Shares
 pub mod Rounds
+pub mod Refusals

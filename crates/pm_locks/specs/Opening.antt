@@ -27,6 +27,7 @@ first_words workers f (y ∷ ys) = (f, first_word workers f) ∷ first_words wor
 abbrev pub first_view : ℕ → List Leased → View
 first_view workers leases = record {
   workers = workers;
+  leases = leases;
   numbers = all_numbers workers;
   entries = first_entries workers 0 leases;
   outs = [];
@@ -36,7 +37,7 @@ first_view workers leases = record {
   met = [];
 }
 
--- the lease in place i has the number i
+-- the lease at index i has the number i
 abbrev pub AreNumbered : List Leased → Type 0
 AreNumbered leases = (i : ℕ) (lease : Leased) → slice_get leases i ≡ Some lease → lease.number ≡ i
 

@@ -1,12 +1,12 @@
 -- The seats of a round.
-use Rattle.std.specs.Prelude.{◌≡◌, ℕ, ◌+◌, ◌++◌, List, [], ◌∷◌, length, Some, None, slice_get}
+use Rattle.std.specs.Prelude.{◌≡◌, ℕ, ◌<◌, ◌+◌, ◌++◌, List, [], ◌∷◌, length, Some, None, slice_get}
 use Rattle.pm_locks.specs.Words.{LockWord, AT_HOME}
 use Rattle.pm_locks.specs.declared.view.Met.{Met}
 use Rattle.pm_locks.specs.declared.view.View.{View}
 use Rattle.pm_locks.specs.declared.seats.Seats.{Seats}
 use Rattle.pm_locks.specs.Views.{entry_at, due_at, word_at, IsStill, worker_alone, flusher_alone}
 use Rattle.pm_locks.specs.Sight.{Sight, LockTable, IsSeatOf}
-use Rattle.pm_locks.specs.Steps.{met_as, IsBacked}
+use Rattle.pm_locks.specs.Steps.{met_as, IsBacked, AreDated}
 use Rattle.pm_locks.specs.Shares.{IsShare}
 
 -- no seat is there
@@ -46,7 +46,7 @@ pub record ArePartsOf (view : View) (seats : Seats) : Type 0 where
       → IsShare view (flusher_alone view.workers) seat.view × (seat.view.met ≡ view.met)
 
 -- the view has what the seats had of each number
-pub record Gathers (seats : Seats) (view : View) : Type 0 where
+pub record HasGathered (seats : Seats) (view : View) : Type 0 where
   pub entries : (n : ℕ) (seat : Sight) → slice_get seats.workers.items n ≡ Some seat
       → (f : ℕ) → entry_at view.entries n f ≡ entry_at seat.view.entries n f
   pub dues : (seat : Sight) → seats.flusher ≡ Some seat
@@ -61,11 +61,13 @@ mets_of f (word ∷ words) = met_as f word ∷ mets_of (f + 1) words
 pub record IsKnown (view : View) (f : ℕ) (word : LockWord) : Type 0 where
   pub at : word_at view.words f ≡ Some word
   pub home : word.holder ≡ AT_HOME
+  pub worker : word.owner < view.workers
+  pub dated : AreDated view f word
   pub bytes : List ℕ
   pub backed : IsBacked view f word bytes
 
 -- so many frames' words were met, one after the other
-pub record Rereads (frames : ℕ) (met : List Met) (view : View) : Type 0 where
+pub record HasReread (frames : ℕ) (met : List Met) (view : View) : Type 0 where
   pub words : List LockWord
   pub count : length words ≡ frames
   pub mets : view.met ≡ met ++ mets_of 0 words

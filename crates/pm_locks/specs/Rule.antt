@@ -1,6 +1,6 @@
 -- The rule of the page locks. It holds between any two steps, of the words, of the slots at home and
 -- of what every seat knows, whatever the threads do. Its seven parts are numbered below.
-use Rattle.std.specs.Prelude.{◌≡◌, ℕ, ◌<◌, ◌≤◌, ◌⊎◌, Bool, true, false, List, length, if◌then◌else◌, Option, Some, None, slice_index, slice_index_or}
+use Rattle.std.specs.Prelude.{◌≡◌, ℕ, ◌<◌, ◌≤◌, ◌⊎◌, Bool, true, false, List, length, map, if◌then◌else◌, Option, Some, None, slice_index, slice_index_or}
 use mathlib.Core.Option.{some, none}
 use mathlib.Core.Option as maybe
 use lib.ListN.{get_elem?}
@@ -31,7 +31,7 @@ flag_of w = (unpacked w).flag
 
 -- what is so of a frame: each number's entry of it, the flusher's image, its lease as it is at home
 -- or as its holder took it, and whether its holder carries its slot
-pub record Frame : Type 0 where
+pub record PageFrame : Type 0 where
   pub entries : ℕ → Option Entry
   pub due : Option Due
   pub lease : Leased
@@ -50,15 +50,15 @@ abbrev pub HasImage : Option Due → ℕ → List ℕ → Type 0
 HasImage due tag bytes = (d : Due) × (due ≡ Some d) × (d.tag ≡ tag) × (d.image ≡ bytes)
 
 -- the same, and it was taken
-abbrev pub TookImage : Option Due → ℕ → List ℕ → Type 0
-TookImage due tag bytes = (d : Due) × (due ≡ Some d) × (d.tag ≡ tag) × (d.image ≡ bytes)
+abbrev pub HasTakenImage : Option Due → ℕ → List ℕ → Type 0
+HasTakenImage due tag bytes = (d : Due) × (due ≡ Some d) × (d.tag ≡ tag) × (d.image ≡ bytes)
     × (d.taken ≡ true)
 
--- a frame, by its number, its place in memory, its word and its slot
-pub record IsFrame (workers : ℕ) (place : Range) (f w : ℕ) (home : Home) (g : Frame) : Type 0 where
+-- a frame, by its number, where it lies in memory, its word and its slot
+pub record IsPageFrame (workers : ℕ) (span : Range) (f w : ℕ) (home : Home) (g : PageFrame) : Type 0 where
   pub word : packed (unpacked w) ≡ w
   pub number : g.lease.number ≡ f
-  pub lies : g.lease.range ≡ place
+  pub range_is : g.lease.range ≡ span
   -- 1: it is at home where its holder is 255, and else its owner or the flusher has it
   pub here : holder_of w ≡ AT_HOME → (home ≡ some (some (Some g.lease))) × (g.carried ≡ false)
   pub away : ¬ (holder_of w ≡ AT_HOME) → (home ≡ vacant g.carried)
@@ -76,7 +76,7 @@ pub record IsFrame (workers : ℕ) (place : Range) (f w : ℕ) (home : Home) (g 
   -- 5: where the word says Due, the flusher's image is the frame's bytes
   pub due : flag_of w ≡ flag.Due → HasImage g.due (tag_of w) g.lease.bytes
   -- 6: where it says Done, the image was taken too
-  pub done : flag_of w ≡ flag.Done → TookImage g.due (tag_of w) g.lease.bytes
+  pub done : flag_of w ≡ flag.Done → HasTakenImage g.due (tag_of w) g.lease.bytes
 
 -- what a seat that stands for these numbers has out of a frame
 abbrev pub out_for : Numbers → ℕ → Leased → Option Out
@@ -84,7 +84,7 @@ out_for numbers w lease =
     if is_among numbers (holder_of w) then Some (record { word = unpacked w; lease = lease }) else None
 
 -- what a seat's view says is so, and no other seat has its numbers
-pub record IsView (workers : ℕ) (frames : ℕ → Frame) (words : List ℕ) (seats : ℕ → ℕ) (i : ℕ) (v : View) : Type 0 where
+pub record IsView (workers : ℕ) (frames : ℕ → PageFrame) (words : List ℕ) (seats : ℕ → ℕ) (i : ℕ) (v : View) : Type 0 where
   pub staff : (n : ℕ) → Has v n → v.workers ≡ workers
   pub few : v.numbers.upto ≤ workers
   pub mine : (n : ℕ) → Has v n → seats n ≡ i
@@ -106,17 +106,23 @@ abbrev pub nowhere : Range
 nowhere = record { block = 0; start = 0; len = 0 }
 
 -- where the frame lies
-abbrev pub place_of : List Range → ℕ → Range
-place_of places f = slice_index_or places f nowhere
+abbrev pub frame_range : List Range → ℕ → Range
+frame_range ranges f = slice_index_or ranges f nowhere
 
--- the rule of locks for so many workers, whose frames lie in these places
-pub record Keeps (workers : ℕ) (places : List Range) (s : State (Option Leased) View) : Type 0 where
-  pub frames : ℕ → Frame
+-- the same, by what a seat knows of the start
+abbrev pub known_range : View → ℕ → Range
+known_range v f = frame_range (map (λ y. y.range) v.leases) f
+
+-- the rule of locks for so many workers, whose frames lie there
+pub record IsLawful (workers : ℕ) (ranges : List Range) (s : State (Option Leased) View) : Type 0 where
+  pub frames : ℕ → PageFrame
   pub seats : ℕ → ℕ
   pub few : workers ≤ FLUSHER
   pub sized : length s.homes ≡ length s.words
   pub each_frame : (f : ℕ) → f < length s.words
-      → IsFrame workers (place_of places f) f (slice_index s.words f) (get_elem? s.homes f) (frames f)
+      → IsPageFrame workers (frame_range ranges f) f (slice_index s.words f) (get_elem? s.homes f) (frames f)
+  -- a seat with a number knows where the frames lie
+  pub began : (i : ℕ) (v : View) → get_elem? s.views i ≡ some v → (n : ℕ) → Has v n → map (λ y. y.range) v.leases ≡ ranges
   pub each_view : (i : ℕ) (v : View) → get_elem? s.views i ≡ some v
       → IsView workers frames s.words seats i v
   -- each number belongs to a seat, and so to just one

@@ -22,6 +22,7 @@ dues_of numbers dues = if is_among numbers FLUSHER then dues else []
 abbrev pub share_of : Numbers → View → List Met → View
 share_of numbers v met = record {
   workers = v.workers;
+  leases = v.leases;
   numbers = numbers;
   entries = entries_of numbers v.entries;
   outs = [];
@@ -49,6 +50,7 @@ what_goes v = share_of (least_of v.numbers) v []
 abbrev pub joined : View → View → View
 joined v w = record {
   workers = v.workers;
+  leases = w.leases;
   numbers = record { from = w.numbers.from; upto = v.numbers.upto; flusher = v.numbers.flusher };
   entries = v.entries ++ w.entries;
   outs = [];
@@ -62,6 +64,7 @@ joined v w = record {
 abbrev pub nobody : View
 nobody = record {
   workers = 0;
+  leases = [];
   numbers = record { from = 0; upto = 0; flusher = false };
   entries = [];
   outs = [];
@@ -72,7 +75,7 @@ nobody = record {
 }
 
 -- the numbers of the second follow those of the first, which hasn't the flusher's
-pub record Follow (first second : Numbers) : Type 0 where
+pub record AreAdjacent (first second : Numbers) : Type 0 where
   pub some : first.from < first.upto
   pub meets : first.upto ≡ second.from
   pub rest : second.from ≤ second.upto

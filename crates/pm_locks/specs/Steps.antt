@@ -1,16 +1,16 @@
 -- What the steps do to the view of their seat, and what the seat is told.
-use Rattle.std.specs.Prelude.{◌≡◌, ℕ, Bool, true, false, List, [], ◌∷◌, ◌++◌, ◌⊎◌, Some, None}
+use Rattle.std.specs.Prelude.{◌≡◌, ◌<◌, ◌≤◌, ℕ, Bool, true, false, List, [], ◌∷◌, ◌++◌, ◌⊎◌, Some, None}
 use Rattle.pm_types.specs.declared.flag.Flag.{Flag}
 use Rattle.pm_types.specs.declared.flag.Flag.TheVariants as flag
 use Rattle.pm_region.specs.Lease.{Leased}
-use Rattle.pm_locks.specs.Words.{LockWord, AT_HOME, FLUSHER, IsReachedFrom}
+use Rattle.pm_locks.specs.Words.{LockWord, AT_HOME, FLUSHER, IsReachedFrom, IsSpare}
 use Rattle.pm_locks.specs.declared.view.View.{View}
 use Rattle.pm_locks.specs.declared.view.Entry.{Entry}
 use Rattle.pm_locks.specs.declared.view.Out.{Out}
 use Rattle.pm_locks.specs.declared.view.Due.{Due}
 use Rattle.pm_locks.specs.declared.view.Met.{Met}
 use Rattle.pm_locks.specs.Views.{entry_at, out_at, due_at, word_at, Has, IsWhole}
-use Rattle.pm_locks.specs.Rule.{HasImage, TookImage}
+use Rattle.pm_locks.specs.Rule.{HasImage, HasTakenImage}
 
 -- what a step met at a frame
 abbrev pub met_as : ℕ → LockWord → Met
@@ -95,7 +95,19 @@ pub record LastPut (v : View) (f : ℕ) (word : LockWord) (bytes : List ℕ) : T
 pub record IsBacked (v : View) (f : ℕ) (word : LockWord) (bytes : List ℕ) : Type 0 where
   pub last : Has v word.owner → LastPut v f word bytes
   pub due : Has v FLUSHER → word.flag ≡ flag.Due → HasImage (due_at v.dues f) word.tag bytes
-  pub done : Has v FLUSHER → word.flag ≡ flag.Done → TookImage (due_at v.dues f) word.tag bytes
+  pub done : Has v FLUSHER → word.flag ≡ flag.Done → HasTakenImage (due_at v.dues f) word.tag bytes
+
+-- a number's entry of a frame, beside the frame's word
+pub record IsDated (n : ℕ) (e : Entry) (word : LockWord) : Type 0 where
+  -- no entry is newer than the word, and one with the word's tag is the owner's
+  pub at_most : e.tag ≤ word.tag
+  pub owner : e.tag ≡ word.tag → n ≡ word.owner
+  -- an older one is Empty or Clean
+  pub older : e.tag < word.tag → IsSpare e.flag
+
+-- each entry of the seat of this frame is so
+abbrev pub AreDated : View → ℕ → LockWord → Type 0
+AreDated v f word = (n : ℕ) (e : Entry) → Has v n → entry_at v.entries n f ≡ Some e → IsDated n e word
 
 -- what a seat knows of a word that it meets
 pub record IsTold (v : View) (f : ℕ) (word : LockWord) : Type 0 where
@@ -104,6 +116,13 @@ pub record IsTold (v : View) (f : ℕ) (word : LockWord) : Type 0 where
   -- a seat that stands for all numbers finds the word that it left
   pub exact : IsWhole v → (known : LockWord) → word_at v.words f ≡ Some known → word ≡ known
   pub home : IsWhole v → (word.holder ≡ AT_HOME) ⊎ Has v word.holder
+  -- where it is at home the seat hasn't the frame out
+  pub inside : word.holder ≡ AT_HOME → out_at v.outs f ≡ None
+  -- the owner is a worker
+  pub worker : (n : ℕ) → Has v n → word.owner < v.workers
+  -- no entry of the seat is newer, one with the word's tag is the owner's, and an older one is
+  -- Empty or Clean
+  pub dated : AreDated v f word
   -- the frame's bytes, or those that its holder took
   pub bytes : List ℕ
   pub backed : IsBacked v f word bytes

@@ -1,5 +1,7 @@
 -- What a seat's view says of each frame.
 use Rattle.std.specs.Prelude.{◌≡◌, ℕ, Bool, true, false, List, [], ◌∷◌, ◌+◌, ◌==◌, ◌&&◌, ◌||◌, if◌then◌else◌, Option, Some, None, nat_le, nat_lt}
+use Rattle.pm_types.specs.declared.flag.Flag.{Flag}
+use Rattle.pm_types.specs.declared.flag.Flag.TheVariants as flag
 use Rattle.pm_locks.specs.Words.{LockWord, FLUSHER}
 use Rattle.pm_locks.specs.declared.view.Numbers.{Numbers}
 use Rattle.pm_locks.specs.declared.view.Entry.{Entry}
@@ -37,6 +39,21 @@ abbrev pub entry_at : List Entry → ℕ → ℕ → Option Entry
 entry_at [] n f = None
 entry_at (e ∷ es) n f = if e.number == n && e.frame == f then Some e else entry_at es n f
 
+-- an entry where there is none
+abbrev pub entry_or : Option Entry → Entry
+entry_or None = record { number = 0; frame = 0; tag = 0; bytes = []; flag = flag.Empty }
+entry_or (Some e) = e
+
+-- what a number last left at a frame
+abbrev pub left_at : View → ℕ → ℕ → Entry
+left_at view n f = entry_or (entry_at view.entries n f)
+
+-- it left this flag there under this tag
+pub record HasLeft (view : View) (n f tag : ℕ) (want : Flag) : Type 0 where
+  pub at : entry_at view.entries n f ≡ Some (left_at view n f)
+  pub tag_is : (left_at view n f).tag ≡ tag
+  pub flag_is : (left_at view n f).flag ≡ want
+
 -- what the seat has out of a frame
 abbrev pub out_at : List (ℕ × Option Out) → ℕ → Option Out
 out_at [] f = None
@@ -51,6 +68,15 @@ due_at (d ∷ ds) f = if d.0 == f then Some d.1 else due_at ds f
 abbrev pub word_at : List (ℕ × LockWord) → ℕ → Option LockWord
 word_at [] f = None
 word_at (w ∷ ws) f = if w.0 == f then Some w.1 else word_at ws f
+
+-- a word where none is known
+abbrev pub word_or : Option LockWord → LockWord
+word_or None = record { tag = 0; owner = 0; holder = 0; flag = flag.Empty }
+word_or (Some w) = w
+
+-- the word that the seat knows at a frame
+abbrev pub known_at : View → ℕ → LockWord
+known_at view f = word_or (word_at view.words f)
 
 -- the seat has nothing out
 abbrev pub IsStill : View → Type 0

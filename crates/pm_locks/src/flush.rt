@@ -1,12 +1,12 @@
 //! The flusher takes a frame whose page is to be written, and puts it back.
 
-ghost use Rattle.std.specs.Prelude.{◌≡◌, Some};
-ghost use Rattle.pm_locks.specs.Sight.{IsSeatOf, IsFrameOf};
+ghost use Rattle.std.specs.Prelude.{◌≡◌};
+ghost use Rattle.pm_locks.specs.Sight.{IsSeatOf, IsFrameOf, KnowsAll};
 ghost use Rattle.pm_locks.specs.Steps.{flushed_back};
-ghost use Rattle.pm_locks.specs.Views.{Has, IsWhole, word_at};
-ghost use Rattle.pm_locks.specs.Words.{LockWord, IsFlushed, IsNext, put_as};
+ghost use Rattle.pm_locks.specs.Views.{Has, known_at};
+ghost use Rattle.pm_locks.specs.Words.{IsFlushed, IsNext, put_as};
 ghost use Rattle.pm_locks.specs.Words as word;
-ghost use Rattle.pm_locks.specs.Answers.{FlushTakes, LendsExactly, IsLentOut, out_of};
+ghost use Rattle.pm_locks.specs.Answers.{FlushTakeAnswer, IsExactFlushTake, IsLentOut, out_of};
 
 use crate::locks::Locks;
 use crate::plays::Flushed;
@@ -38,9 +38,10 @@ impl Locks {
         requires flusher { Has seat.old.view word.FLUSHER }
         requires want { IsFlushed want }
         ensures seat { IsSeatOf self.now seat.new }
-        ensures answer { FlushTakes seat.old.view seat.new.view f tag want result }
-        ensures exact { (known : LockWord) → IsWhole seat.old.view
-            → word_at seat.old.view.words f ≡ Some known → LendsExactly tag want known result }
+        ensures answer { FlushTakeAnswer seat.old.view seat.new.view f tag want result }
+        ensures exact { KnowsAll self.now seat.old.view
+            → IsExactFlushTake tag want (known_at seat.old.view f) result }
+        ensures knows { KnowsAll self.now seat.old.view → KnowsAll self.now seat.new.view }
     {
         let seen = self.look(seat, f);
         if !seen.is_wanted(tag, want) {
@@ -73,6 +74,7 @@ impl Locks {
         ensures seat { IsSeatOf self.now seat.new }
         ensures put { seat.new.view ≡ flushed_back seat.old.view f
             (put_as flag (out_of seat.old.view f).word) lease.bytes }
+        ensures knows { KnowsAll self.now seat.old.view → KnowsAll self.now seat.new.view }
     {
         let seen = self.fill_slot(&mut seat.seat, f as usize, lease);
         let home = Word::pack(seen.tag(), seen.owner(), AT_HOME, flag);

@@ -1,6 +1,8 @@
 //! Page locks: the threads of a round take page frames and put them back, and none of them waits.
 #![tactic(auto)]
 
+#[cfg(test)]
+mod churn;
 mod flush;
 mod locks;
 mod look;

@@ -58,7 +58,7 @@ impl Model for Locks {
     ghost view = { λ l. record {
       table = l.table.shared.table_id;
       workers = l.table.shared.key.workers;
-      places = map (λ y. y.range) l.table.shared.key.leases.value.items;
+      ranges = map (λ y. y.range) l.table.shared.key.leases.value.items;
     } };
 
     ghost invariant = { λ l. (l.table.shared.table_id.words ≡ l.frames)
@@ -71,7 +71,7 @@ impl Model for Locks {
 
 impl Locks {
     ghost use Rattle.pm_locks.specs.Opening.{first_view, AreNumbered};
-    ghost use Rattle.pm_locks.specs.Sight.{IsSeatOf};
+    ghost use Rattle.pm_locks.specs.Sight.{IsSeatOf, KnowsAll};
     ghost use Rattle.pm_locks.specs.Views.{IsWhole, IsStill};
 
     /// Locks for the frames of these leases, and a seat that stands for all numbers: each worker's,
@@ -88,9 +88,10 @@ impl Locks {
         requires workers { (1 ≤ workers) × (workers ≤ 8) }
         requires numbers { AreNumbered leases.items }
         ensures locks { IfOk result (λ r. (r.0.workers ≡ workers)
-            × (r.0.places ≡ map (λ y. y.range) leases.items)) }
+            × (r.0.ranges ≡ map (λ y. y.range) leases.items)) }
         ensures seat { IfOk result (λ r. IsSeatOf r.0 r.1
             × (r.1.view ≡ first_view workers leases.items)) }
+        ensures knows { IfOk result (λ r. KnowsAll r.0 r.1.view) }
         ensures refused { IfErr result (λ l. l.items ≡ leases.items) }
     {
         let frames = leases.len();
@@ -131,7 +132,7 @@ impl Locks {
         requires whole { IsWhole seat.view }
         requires still { IsStill seat.view }
         ensures numbers { AreNumbered result.items }
-        ensures places { map (λ y. y.range) result.items ≡ self.places }
+        ensures ranges { map (λ y. y.range) result.items ≡ self.ranges }
     {
         let Locks {
             table,

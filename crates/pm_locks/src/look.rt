@@ -1,6 +1,6 @@
 //! A look at a frame's word.
 
-ghost use Rattle.pm_locks.specs.Sight.{IsSeatOf, IsFrameOf};
+ghost use Rattle.pm_locks.specs.Sight.{IsSeatOf, IsFrameOf, KnowsAll};
 ghost use Rattle.pm_locks.specs.Steps.{IsMet};
 
 use crate::locks::Locks;
@@ -16,6 +16,7 @@ impl Locks {
         requires frame { IsFrameOf self.now f }
         ensures seat { IsSeatOf self.now seat.new }
         ensures met { IsMet seat.old.view seat.new.view f result }
+        ensures knows { KnowsAll self.now seat.old.view → KnowsAll self.now seat.new.view }
     {
         self.look_at(seat, f as usize)
     }
@@ -25,6 +26,7 @@ impl Locks {
         requires frame { IsFrameOf self.now f }
         ensures seat { IsSeatOf self.now seat.new }
         ensures met { IsMet seat.old.view seat.new.view f result }
+        ensures knows { KnowsAll self.now seat.old.view → KnowsAll self.now seat.new.view }
     {
         Word(self.table.shared.load::<Load>(&mut seat.seat, f))
     }

@@ -1,11 +1,11 @@
 //! A worker takes a frame that it owns, and puts it back.
 
-ghost use Rattle.std.specs.Prelude.{◌≡◌, Some};
-ghost use Rattle.pm_locks.specs.Sight.{IsSeatOf, IsFrameOf};
+ghost use Rattle.std.specs.Prelude.{◌≡◌};
+ghost use Rattle.pm_locks.specs.Sight.{IsSeatOf, IsFrameOf, KnowsAll};
 ghost use Rattle.pm_locks.specs.Steps.{put_back};
-ghost use Rattle.pm_locks.specs.Views.{IsWhole, word_at};
-ghost use Rattle.pm_locks.specs.Words.{LockWord, put_as};
-ghost use Rattle.pm_locks.specs.Answers.{OwnTakes, GivesLast, TakesExactly, IsOwnOut, IsSameLease, MayPut, out_of};
+ghost use Rattle.pm_locks.specs.Views.{known_at};
+ghost use Rattle.pm_locks.specs.Words.{put_as};
+ghost use Rattle.pm_locks.specs.Answers.{OwnTakeAnswer, HoldsLastPut, IsExactTake, IsOwnOut, IsSameLease, MayPut, out_of};
 
 use crate::locks::Locks;
 use crate::plays::Put;
@@ -35,11 +35,11 @@ impl Locks {
         requires seat { IsSeatOf self.now seat.old }
         requires frame { IsFrameOf self.now f }
         ensures seat { IsSeatOf self.now seat.new }
-        ensures answer { OwnTakes seat.old.view seat.new.view f tag result }
-        ensures last { GivesLast seat.old.view f tag result }
-        ensures exact { (known : LockWord) → IsWhole seat.old.view
-            → word_at seat.old.view.words f ≡ Some known
-            → TakesExactly seat.old.view tag known result }
+        ensures answer { OwnTakeAnswer seat.old.view seat.new.view f tag result }
+        ensures last { HoldsLastPut seat.old.view f tag result }
+        ensures exact { KnowsAll self.now seat.old.view
+            → IsExactTake seat.old.view tag (known_at seat.old.view f) result }
+        ensures knows { KnowsAll self.now seat.old.view → KnowsAll self.now seat.new.view }
     {
         let seen = self.look(seat, f);
         if !seat.owns(&seen, tag) {
@@ -74,6 +74,7 @@ impl Locks {
         ensures seat { IsSeatOf self.now seat.new }
         ensures put { seat.new.view ≡ put_back seat.old.view f
             (put_as flag (out_of seat.old.view f).word) lease.bytes }
+        ensures knows { KnowsAll self.now seat.old.view → KnowsAll self.now seat.new.view }
     {
         let seen = self.fill_slot(&mut seat.seat, f as usize, lease);
         let home = Word::pack(seen.tag(), seen.owner(), AT_HOME, flag);

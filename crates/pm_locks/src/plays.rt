@@ -9,10 +9,10 @@ pub struct Law;
 
 impl TableRule<Option<Lease>, View, Start> for Law {
     ghost use Rattle.std.specs.Prelude.{map};
-    ghost use Rattle.pm_locks.specs.Rule.{Keeps};
+    ghost use Rattle.pm_locks.specs.Rule.{IsLawful};
     ghost use Rattle.pm_locks.specs.Opening.{first_view};
 
-    ghost holds = { λ k s. Keeps k.workers (map (λ y. y.range) k.leases.value.items) s };
+    ghost holds = { λ k s. IsLawful k.workers (map (λ y. y.range) k.leases.value.items) s };
 
     ghost first = { λ k. first_view k.workers k.leases.value.items };
 }
@@ -21,63 +21,63 @@ impl TableRule<Option<Lease>, View, Start> for Law {
 pub struct Load;
 
 impl Play<Option<Lease>, View> for Load {
-    ghost use Rattle.pm_locks.specs.Kinds.{Looks};
+    ghost use Rattle.pm_locks.specs.Kinds.{IsLook};
 
-    ghost then = { λ step m found m'. Looks step m found m' };
+    ghost then = { λ step m found m'. IsLook step m found m' };
 }
 
 /// A frame is taken by its owner or the flusher.
 pub struct Hold;
 
 impl Play<Option<Lease>, View> for Hold {
-    ghost use Rattle.pm_locks.specs.Kinds.{took};
+    ghost use Rattle.pm_locks.specs.Kinds.{IsTake};
 
-    ghost then = { took };
+    ghost then = { IsTake };
 }
 
 /// The slot of a frame that is out is given back, emptied.
 pub struct Leave;
 
 impl Play<Option<Lease>, View> for Leave {
-    ghost use Rattle.pm_locks.specs.Kinds.{leaves};
+    ghost use Rattle.pm_locks.specs.Kinds.{IsSlotLeft};
 
-    ghost then = { leaves };
+    ghost then = { IsSlotLeft };
 }
 
 /// The emptied slot of a frame that is out is carried again.
 pub struct Grab;
 
 impl Play<Option<Lease>, View> for Grab {
-    ghost use Rattle.pm_locks.specs.Kinds.{grabs};
+    ghost use Rattle.pm_locks.specs.Kinds.{IsSlotCarried};
 
-    ghost then = { grabs };
+    ghost then = { IsSlotCarried };
 }
 
 /// A worker puts a frame back.
 pub struct Put;
 
 impl Play<Option<Lease>, View> for Put {
-    ghost use Rattle.pm_locks.specs.Kinds.{puts};
+    ghost use Rattle.pm_locks.specs.Kinds.{IsPut};
 
-    ghost then = { puts };
+    ghost then = { IsPut };
 }
 
 /// A frame is given to another page.
 pub struct Theft;
 
 impl Play<Option<Lease>, View> for Theft {
-    ghost use Rattle.pm_locks.specs.Kinds.{stole};
+    ghost use Rattle.pm_locks.specs.Kinds.{IsSteal};
 
-    ghost then = { stole };
+    ghost then = { IsSteal };
 }
 
 /// The flusher puts a frame back.
 pub struct Flushed;
 
 impl Play<Option<Lease>, View> for Flushed {
-    ghost use Rattle.pm_locks.specs.Kinds.{flushes};
+    ghost use Rattle.pm_locks.specs.Kinds.{IsFlushPut};
 
-    ghost then = { flushes };
+    ghost then = { IsFlushPut };
 }
 
 /// A seat hands its least number to a new one.

@@ -52,7 +52,7 @@ impl PageSeat {
     }
 }
 
-/// The seats of a round: a worker's in place `n` stands for number `n` alone, and the flusher's for
+/// The seats of a round: the worker's at index `n` stands for number `n` alone, and the flusher's for
 /// its own.
 #[derive(Drop)]
 pub struct Seats {

@@ -1,10 +1,10 @@
 //! A seat is shared out among the threads of a round, and put together again.
 
 ghost use Rattle.std.specs.Prelude.{◌≡◌, ℕ, ◌<◌, ◌≤◌, [], Some, length, slice_get, vec_capacity};
-ghost use Rattle.pm_locks.specs.Sight.{Sight, IsSeatOf};
+ghost use Rattle.pm_locks.specs.Sight.{Sight, IsSeatOf, KnowsAll};
 ghost use Rattle.pm_locks.specs.Views.{IsWhole, IsStill, entry_at, due_at, flusher_alone};
-ghost use Rattle.pm_locks.specs.Shares.{what_stays, what_goes, joined, Follow, HasBoth, IsShare};
-ghost use Rattle.pm_locks.specs.Rounds.{HaveAll, ArePartsOf, AreWorkers, Gathers, Rereads, IsEmpty, IsFlushers, IsWorkers};
+ghost use Rattle.pm_locks.specs.Shares.{what_stays, what_goes, joined, AreAdjacent, HasBoth, IsShare};
+ghost use Rattle.pm_locks.specs.Rounds.{HaveAll, ArePartsOf, AreWorkers, HasGathered, HasReread, IsEmpty, IsFlushers, IsWorkers};
 
 use crate::locks::Locks;
 use crate::plays::{Handing, Taking};
@@ -55,10 +55,11 @@ impl Locks {
         ensures seat { IsSeatOf self.now result }
         ensures whole { IsWhole result.view }
         ensures still { IsStill result.view }
-        ensures gathers { Gathers seats.old result.view }
-        // The words stand in `met` behind what the flusher's seat met.
+        ensures knows { KnowsAll self.now result.view }
+        ensures gathered { HasGathered seats.old result.view }
+        // The words stand in `met` after what the flusher's seat met.
         ensures words { (flusher : Sight) → seats.old.flusher ≡ Some flusher
-            → Rereads (length self.now.places) flusher.view.met result.view }
+            → HasReread (length self.now.ranges) flusher.view.met result.view }
         ensures empty { IsEmpty seats.new }
         ensures room { vec_capacity seats.new.workers ≡ vec_capacity seats.old.workers }
     {
@@ -98,7 +99,7 @@ impl Locks {
         requires whole { IsWhole seat.old.view }
         requires still { IsStill seat.old.view }
         ensures seat { IsSeatOf self.now seat.new }
-        ensures words { Rereads (length self.now.places) seat.old.view.met seat.new.view }
+        ensures words { HasReread (length self.now.ranges) seat.old.view.met seat.new.view }
         ensures same { seat.new.view ≡ record seat.old.view {
           words = seat.new.view.words;
           met = seat.new.view.met;
@@ -140,7 +141,7 @@ impl Locks {
     fn join_in(&self, seat: &mut PageSeat, other: PageSeat)
         requires seat { IsSeatOf self.now seat.old }
         requires other { IsSeatOf self.now other }
-        requires follow { Follow other.view.numbers seat.old.view.numbers }
+        requires follow { AreAdjacent other.view.numbers seat.old.view.numbers }
         requires still { IsStill seat.old.view }
         requires other_still { IsStill other.view }
         ensures seat { IsSeatOf self.now seat.new }

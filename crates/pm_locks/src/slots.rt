@@ -1,9 +1,10 @@
 //! The slot of a frame that a seat has out. Between two calls it is at home, and empty.
 
 ghost use Rattle.std.specs.Prelude.{◌≡◌, ◌≢◌, ◌⊎◌, ◌∷◌, Some, None, IfOk, IfErr};
+ghost use Rattle.pm_locks.specs.Rule.{known_range};
 ghost use Rattle.atomic_table.specs.Table.{rest};
 ghost use Rattle.pm_region.specs.Lease.{Leased};
-ghost use Rattle.pm_locks.specs.Sight.{IsSeatOf, IsFrameOf};
+ghost use Rattle.pm_locks.specs.Sight.{IsSeatOf, IsFrameOf, KnowsAll};
 ghost use Rattle.pm_locks.specs.Steps.{taken_out, IsBacked, IsMet};
 ghost use Rattle.pm_locks.specs.Kinds.{carrying};
 ghost use Rattle.pm_locks.specs.Views.{Has, out_at};
@@ -34,10 +35,12 @@ impl Locks {
         requires number { Has seat.old.view number }
         requires who { (number ≡ seen.owner) ⊎ (number ≡ FLUSHER) }
         ensures seat { IsSeatOf self.now seat.new }
-        ensures took { IfOk result (λ y. seat.new.view
+        ensures taken { IfOk result (λ y. seat.new.view
             ≡ taken_out seat.old.view f seen (held_by number seen) y) }
         ensures lease { IfOk result (λ y. (y.number ≡ f)
             × IsBacked seat.old.view f seen y.bytes) }
+        ensures range { IfOk result (λ y. y.range ≡ known_range seat.old.view f) }
+        ensures knows { KnowsAll self.now seat.old.view → KnowsAll self.now seat.new.view }
         ensures met { IfErr result (λ w. IsMet seat.old.view seat.new.view f w) }
         ensures other { IfErr result (λ w. w ≢ seen) }
     {

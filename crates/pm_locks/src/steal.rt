@@ -1,11 +1,12 @@
 //! A frame is given to another page.
 
-ghost use Rattle.std.specs.Prelude.{◌≡◌, ◌≢◌, ◌<◌, Some, IfOk, IfErr};
-ghost use Rattle.pm_locks.specs.Sight.{IsSeatOf, IsFrameOf};
+ghost use Rattle.std.specs.Prelude.{◌≡◌, ◌≢◌, ◌<◌, IfOk, IfErr};
+ghost use Rattle.pm_locks.specs.Rule.{known_range};
+ghost use Rattle.pm_locks.specs.Sight.{IsSeatOf, IsFrameOf, KnowsAll};
 ghost use Rattle.pm_locks.specs.Steps.{stolen_out, IsMet};
-ghost use Rattle.pm_locks.specs.Views.{Has, IsWhole, word_at};
-ghost use Rattle.pm_locks.specs.Words.{LockWord, FLUSHER, CanBeStolen, stolen_as};
-ghost use Rattle.pm_locks.specs.Answers.{Steals, StealsExactly};
+ghost use Rattle.pm_locks.specs.Views.{Has, known_at};
+ghost use Rattle.pm_locks.specs.Words.{FLUSHER, CanBeStolen, stolen_as};
+ghost use Rattle.pm_locks.specs.Answers.{StealAnswer, IsExactSteal};
 
 use crate::locks::Locks;
 use crate::plays::Theft;
@@ -34,9 +35,10 @@ impl Locks {
         requires frame { IsFrameOf self.now f }
         requires number { (number < FLUSHER) × Has seat.old.view number }
         ensures seat { IsSeatOf self.now seat.new }
-        ensures answer { Steals seat.old.view seat.new.view number f result }
-        ensures exact { (known : LockWord) → IsWhole seat.old.view
-            → word_at seat.old.view.words f ≡ Some known → StealsExactly known result }
+        ensures answer { StealAnswer seat.old.view seat.new.view number f result }
+        ensures exact { KnowsAll self.now seat.old.view
+            → IsExactSteal (known_at seat.old.view f) result }
+        ensures knows { KnowsAll self.now seat.old.view → KnowsAll self.now seat.new.view }
     {
         let seen = self.look(seat, f);
         if !seen.can_be_stolen() {
@@ -61,9 +63,11 @@ impl Locks {
         requires number { (number < FLUSHER) × Has seat.old.view number }
         requires free { CanBeStolen seen }
         ensures seat { IsSeatOf self.now seat.new }
-        ensures took { IfOk result (λ y. seat.new.view
+        ensures taken { IfOk result (λ y. seat.new.view
             ≡ stolen_out seat.old.view f seen (stolen_as number seen) y) }
         ensures lease { IfOk result (λ y. y.number ≡ f) }
+        ensures range { IfOk result (λ y. y.range ≡ known_range seat.old.view f) }
+        ensures knows { KnowsAll self.now seat.old.view → KnowsAll self.now seat.new.view }
         ensures met { IfErr result (λ w. IsMet seat.old.view seat.new.view f w) }
         ensures other { IfErr result (λ w. w ≢ seen) }
     {

@@ -9,7 +9,6 @@ use pm_region::{Lease, Region};
 use pm_types::{Flag, FrameNo, Tag};
 use std::alloc::{AllocError, Global};
 use std::test::Fail;
-use std::thread::join_mut;
 
 #[test]
 fn every_flag_and_holder_is_packed_and_unpacked(rt: HostRuntime) {
@@ -33,6 +32,16 @@ fn every_flag_and_holder_is_packed_and_unpacked(rt: HostRuntime) {
     }
 }
 
+// What a call answered: the first of the frame's 7 bytes, where they count up from it.
+#[derive(Clone, Copy, PartialEq, Eq)]
+pub(crate) enum Answer {
+    Got(Option<u8>),
+    Cleaned(Option<u8>),
+    Gone,
+    Moved,
+    Busy(u64),
+}
+
 // The flag of a frame whose bytes were changed.
 fn flag_after(was: Flag, dirty: bool) -> Flag
     ensures either { (result ≡ flag.Clean) ⊎ (result ≡ flag.Dirty) }
@@ -44,16 +53,31 @@ fn flag_after(was: Flag, dirty: bool) -> Flag
     }
 }
 
-fn first_byte(lease: &Lease) -> u8 {
-    match lease.bytes().first() {
-        Some(byte) => *byte,
-        None => 0,
+// Fills a lease with bytes that count up.
+fn count_up(bytes: &mut [u8], from: u8) {
+    let mut next = from;
+    for byte in bytes.iter_mut() {
+        *byte = next;
+        next = next.wrapping_add(1);
     }
 }
 
-// Takes a worker's frame, fills it with a byte and puts it back. Answers the byte that it began
-// with, or 255 where it isn't to be had.
-fn rewrite(
+// The first byte, where there are 7 and they count up from it.
+fn counted_from(bytes: &[u8]) -> Option<u8> {
+    let first = *bytes.first()?;
+    let mut next = first;
+    for byte in bytes {
+        if *byte != next {
+            return None;
+        }
+        next = next.wrapping_add(1);
+    }
+    if bytes.len() == 7 { Some(first) } else { None }
+}
+
+// Takes a worker's frame. One that is Done becomes Clean, and another one's bytes count up from this
+// one then.
+pub(crate) fn rewrite(
     locks: &Locks,
     seat: &mut PageSeat,
     number: u8,
@@ -61,25 +85,41 @@ fn rewrite(
     tag: Tag,
     byte: u8,
     dirty: bool,
-) -> u8
+) -> Answer
     requires seat { IsWorkers locks.now number seat.old }
     requires frame { IsFrameOf locks.now f }
     ensures { IsWorkers locks.now number seat.new }
 {
     match locks.own_take(seat, f, tag) {
         Take::Got(mut lease, flag) => {
-            let was = first_byte(&lease);
-            lease.bytes_mut().fill(byte);
-            locks.own_put(seat, f, lease, flag_after(flag, dirty));
-            was
+            let was = counted_from(lease.bytes());
+            match flag {
+                Flag::Done => {
+                    locks.own_put(seat, f, lease, Flag::Clean);
+                    Answer::Cleaned(was)
+                }
+                _ => {
+                    count_up(lease.bytes_mut(), byte);
+                    locks.own_put(seat, f, lease, flag_after(flag, dirty));
+                    Answer::Got(was)
+                }
+            }
         }
-        Take::Gone | Take::Busy(_) => 255,
+        Take::Gone => Answer::Gone,
+        Take::Busy(word) => Answer::Busy(word.0),
     }
 }
 
-// Steals a frame for a worker, fills it with a byte and puts it back. Answers its new tag, or 0
+// Steals a frame for a worker, whose bytes count up from this one then. Answers its new tag, or 0
 // where it isn't to be had.
-fn replace(locks: &Locks, seat: &mut PageSeat, number: u8, f: FrameNo, byte: u8, dirty: bool) -> Tag
+pub(crate) fn replace(
+    locks: &Locks,
+    seat: &mut PageSeat,
+    number: u8,
+    f: FrameNo,
+    byte: u8,
+    dirty: bool,
+) -> Tag
     requires seat { IsWorkers locks.now number seat.old }
     requires number { number < 8 }
     requires frame { IsFrameOf locks.now f }
@@ -87,7 +127,7 @@ fn replace(locks: &Locks, seat: &mut PageSeat, number: u8, f: FrameNo, byte: u8,
 {
     match locks.steal(seat, number, f) {
         Steal::Got(mut lease, tag) => {
-            lease.bytes_mut().fill(byte);
+            count_up(lease.bytes_mut(), byte);
             locks.own_put(seat, f, lease, flag_after(Flag::Empty, dirty));
             tag
         }
@@ -95,9 +135,15 @@ fn replace(locks: &Locks, seat: &mut PageSeat, number: u8, f: FrameNo, byte: u8,
     }
 }
 
-// Takes a frame for the flusher and puts it back. Answers the byte that it begins with, or 255
-// where it isn't to be had.
-fn flush(locks: &Locks, seat: &mut PageSeat, f: FrameNo, tag: Tag, want: Flag, next: Flag) -> u8
+// Takes a frame for the flusher and puts it back.
+pub(crate) fn flush(
+    locks: &Locks,
+    seat: &mut PageSeat,
+    f: FrameNo,
+    tag: Tag,
+    want: Flag,
+    next: Flag,
+) -> Answer
     requires seat { IsFlushers locks.now seat.old }
     requires frame { IsFrameOf locks.now f }
     requires flags { IsNext want next }
@@ -105,18 +151,45 @@ fn flush(locks: &Locks, seat: &mut PageSeat, f: FrameNo, tag: Tag, want: Flag, n
 {
     match locks.flush_take(seat, f, tag, want) {
         FlushTake::Got(lease) => {
-            let was = first_byte(&lease);
+            let was = counted_from(lease.bytes());
             locks.flush_put(seat, f, lease, next);
-            was
+            Answer::Got(was)
         }
-        FlushTake::Moved | FlushTake::Busy(_) => 255,
+        FlushTake::Moved => Answer::Moved,
+        FlushTake::Busy(word) => Answer::Busy(word.0),
+    }
+}
+
+// What a worker is answered while the flusher has its frame out.
+fn rewrite_beside(
+    locks: &Locks,
+    flusher: &mut PageSeat,
+    seat: &mut PageSeat,
+    number: u8,
+    f: FrameNo,
+    tag: Tag,
+) -> Answer
+    requires flusher { IsFlushers locks.now flusher.old }
+    requires seat { IsWorkers locks.now number seat.old }
+    requires frame { IsFrameOf locks.now f }
+    ensures flusher { IsFlushers locks.now flusher.new }
+    ensures seat { IsWorkers locks.now number seat.new }
+{
+    match locks.flush_take(flusher, f, tag, Flag::Dirty) {
+        FlushTake::Got(lease) => {
+            let answer = rewrite(locks, seat, number, f, tag, 0, true);
+            locks.flush_put(flusher, f, lease, Flag::Due);
+            answer
+        }
+        FlushTake::Moved => Answer::Moved,
+        FlushTake::Busy(_) => Answer::Moved,
     }
 }
 
 // Locks for two workers and so many frames of 7 bytes, the workers' seats and the flusher's.
 fn begin(alloc: Global, frames: u32) -> Result<(Locks, PageSeat, PageSeat, PageSeat), AllocError>
     requires { (1 ≤ frames) × (frames ≤ 8) }
-    ensures frames { IfOk result (λ r. length r.0.places ≡ frames) }
+    ensures frames { IfOk result (λ r. length r.0.ranges ≡ frames) }
     ensures first { IfOk result (λ r. IsWorkers r.0 0 r.1) }
     ensures second { IfOk result (λ r. IsWorkers r.0 1 r.2) }
     ensures flusher { IfOk result (λ r. IsFlushers r.0 r.3) }
@@ -140,78 +213,35 @@ fn begin(alloc: Global, frames: u32) -> Result<(Locks, PageSeat, PageSeat, PageS
 }
 
 #[test]
-fn a_dirty_frame_is_not_stolen_and_another_one_is(rt: HostRuntime) -> Result<(), Fail> {
-    let (locks, mut first, mut second, _flusher) = begin(rt.alloc(), 2)?;
-    assert_eq!(rt; rewrite(&locks, &mut first, 0, 0, 0, 7, true), 0);
+fn two_workers_and_two_frames(rt: HostRuntime) -> Result<(), Fail> {
+    let (locks, mut first, mut second, mut flusher) = begin(rt.alloc(), 2)?;
+    let answer = rewrite(&locks, &mut first, 0, 0, 0, 70, true);
+    assert!(rt; answer == Answer::Got(None));
     let Steal::Not(word) = locks.steal(&mut second, 1, 0) else {
         panic!(rt; "a Dirty frame was stolen");
     };
     assert_eq!(rt; word.0, 0x0000_ff02);
     assert_eq!(rt; replace(&locks, &mut second, 1, 1, 9, false), 1);
-    assert_eq!(rt; rewrite(&locks, &mut first, 0, 0, 1, 8, true), 255);
-    assert_eq!(rt; rewrite(&locks, &mut first, 0, 0, 0, 8, true), 7);
+    let busy = rewrite_beside(&locks, &mut flusher, &mut first, 0, 0, 0);
+    assert!(rt; busy == Answer::Busy(0x0000_0802));
+    let got = rewrite(&locks, &mut first, 0, 0, 0, 80, true);
+    assert!(rt; got == Answer::Got(Some(70)));
+    let gone = rewrite(&locks, &mut first, 0, 0, 1, 90, true);
+    assert!(rt; gone == Answer::Gone);
     Ok(())
 }
 
 #[test]
 fn the_flusher_brings_a_frame_from_dirty_to_done(rt: HostRuntime) -> Result<(), Fail> {
     let (locks, mut first, _second, mut flusher) = begin(rt.alloc(), 1)?;
-    assert_eq!(rt; rewrite(&locks, &mut first, 0, 0, 0, 7, true), 0);
-    assert_eq!(rt;
-        flush(&locks, &mut flusher, 0, 0, Flag::Due, Flag::Done),
-        255
-    );
-    assert_eq!(rt;
-        flush(&locks, &mut flusher, 0, 0, Flag::Dirty, Flag::Due),
-        7
-    );
-    assert_eq!(rt; flush(&locks, &mut flusher, 0, 0, Flag::Due, Flag::Done), 7);
+    let _ = rewrite(&locks, &mut first, 0, 0, 0, 7, true);
+    let early = flush(&locks, &mut flusher, 0, 0, Flag::Due, Flag::Done);
+    assert!(rt; early == Answer::Moved);
+    let due = flush(&locks, &mut flusher, 0, 0, Flag::Dirty, Flag::Due);
+    assert!(rt; due == Answer::Got(Some(7)));
+    let done = flush(&locks, &mut flusher, 0, 0, Flag::Due, Flag::Done);
+    assert!(rt; done == Answer::Got(Some(7)));
     assert_eq!(rt; locks.look(&mut first, 0).0, 0x0000_ff04);
-    Ok(())
-}
-
-// Takes, steals and puts each of three frames so many times. Answers how often a frame held other
-// bytes than it was left with.
-fn churn(locks: &Locks, seat: &mut PageSeat, number: u8) -> u32
-    requires seat { IsWorkers locks.now number seat.old }
-    requires number { number < 8 }
-    requires frames { 3 ≤ length locks.now.places }
-    ensures { IsWorkers locks.now number seat.new }
-{
-    let mut tags = [0; 3];
-    let mut left = [0; 3];
-    let mut wrong = 0;
-    'turns: for turn in 0..9000u32 {
-        let f = turn % 3;
-        let i = f as usize;
-        let byte = (turn % 250) as u8;
-        let was = rewrite(locks, seat, number, f, tags[i], byte, false);
-        if was == 255 {
-            let tag = replace(locks, seat, number, f, byte, false);
-            if tag > 0 {
-                tags[i] = tag;
-                left[i] = byte;
-            }
-        } else {
-            if was != left[i] {
-                wrong += 1;
-            }
-            left[i] = byte;
-        }
-    }
-    wrong
-}
-
-#[test]
-fn two_threads_find_what_they_last_put(rt: HostRuntime) -> Result<(), Fail> {
-    let (locks, mut first, mut second, _flusher) = begin(rt.alloc(), 3)?;
-    let mut wrong = (1, 1);
-    join_mut(
-        &rt,
-        &mut || wrong.0 = churn(&locks, &mut first, 0),
-        &mut || wrong.1 = churn(&locks, &mut second, 1),
-    );
-    assert_eq!(rt; wrong, (0, 0));
     Ok(())
 }
 

@@ -47,6 +47,8 @@ pub struct Due {
 pub struct View {
     /// How many workers the locks have.
     pub workers: u8,
+    /// The leases with which the locks began.
+    pub leases: LinkedList<Lease>,
     /// The numbers that it stands for.
     pub numbers: Numbers,
     /// The puts and steals of these numbers.

@@ -13,7 +13,7 @@ pub const AT_HOME: u8 = 255;
 /// A frame's last tag: it is given to no other page then.
 pub const TAG_LAST: Tag = (1 << 40) - 1;
 
-/// The flusher's number: the one behind the eight workers'.
+/// The flusher's number: the one after the eight workers'.
 pub const FLUSHER: u8 = 8;
 
 /// A lock word, in 64 bits: 0 to 7 the flag, 8 to 15 the holder, 16 to 23 the owner, 24 to 63 the

@@ -4,9 +4,9 @@ use Rattle.std.proofs.lemmas.Bool.{cases_eq, cases_order}
 use Rattle.std.proofs.lemmas.List.Sums.{sum_by-set}
 use Rattle.std.specs.Option.{IsSome}
 use Rattle.pm_ptable.specs.declared.slots.Entry.{Entry}
-use Rattle.pm_ptable.specs.Slots.{slot_at, home_of, filled, count_in, map_of, StandsBut, IsSettledBut, IsSettled, IsSingle}
+use Rattle.pm_ptable.specs.Slots.{slot_at, home_of, filled, count_in, map_of, IsReachableBut, IsSettledBut, IsSettled, IsSingle}
 use Rattle.pm_ptable.proofs.Lookups.{set_here, set_there, after_set, IsSingle-set, no_other, AllIn, map_of-moved}
-use Rattle.pm_ptable.proofs.Places.{not_filled}
+use Rattle.pm_ptable.proofs.Probes.{not_filled}
 
 -- the gap is empty, and no entry between it and the next slot to look at is sought across it
 pub record IsClosing (homes : ℕ) (slots : List (Option Entry)) (gap at : ℕ) : Type 0 where
@@ -26,19 +26,19 @@ IsClosing-none homes slots gap within empty settled single =
 pub IsClosing-all : (homes : ℕ) (slots : List (Option Entry)) (gap at : ℕ) → IsClosing homes slots gap at → slot_at slots at ≡ None → IsSettled homes slots
 IsClosing-all homes slots gap at c none i e there =
     let but = c.settled i e there in record {
-      behind = but.behind;
-      run = λ j h k. ⊎_elim
+      after = but.after;
+      full = λ j h k. ⊎_elim
           (λ (is : j ≡ gap). absurd (⊎_elim
           (λ (w : i ≡ at). not_filled none (subst (λ n. IsSome (slot_at slots n)) w (subst IsSome (sym there) refl)))
           (λ (w : (i < at) ⊎ (at < i)). ⊎_elim
           (λ (x : i < at). let far = c.beyond i e (omega arith) x there in omega arith)
-          (λ (x : at < i). not_filled none (but.run at (omega (arith, c.before)) x (λ s. omega (arith, c.before)))) w)
+          (λ (x : at < i). not_filled none (but.full at (omega (arith, c.before)) x (λ s. omega (arith, c.before)))) w)
           (cases_order i at)))
-          (λ (is : j ≢ gap). but.run j h k is)
+          (λ (is : j ≢ gap). but.full j h k is)
           (cases_eq j gap);
     }
 
--- an entry whose home is behind the gap stays
+-- an entry whose home is after the gap stays
 pub IsClosing-stays : (homes : ℕ) (slots : List (Option Entry)) (gap at : ℕ) (f : Entry) → IsClosing homes slots gap at → slot_at slots at ≡ Some f → gap < home_of homes f.page
     → IsClosing homes slots gap (at + 1)
 IsClosing-stays homes slots gap at f c here far = record {
@@ -107,17 +107,17 @@ module _ (homes : ℕ) (slots : List (Option Entry)) (gap at : ℕ) (f : Entry) 
       ⊎_elim
       (λ (w : (i ≡ gap) × (f ≡ e)).
       let but = c.settled at f here in
-      let at_gap : StandsBut homes moved at gap f.page = record {
-        behind = near;
-        run = λ j a b k. still_filled j (λ s. omega arith) k (but.run j a (omega (arith, c.before)) (λ s. omega arith));
+      let at_gap : IsReachableBut homes moved at gap f.page = record {
+        after = near;
+        full = λ j a b k. still_filled j (λ s. omega arith) k (but.full j a (omega (arith, c.before)) (λ s. omega arith));
       } in
-      subst (λ n. StandsBut homes moved at n e.page) (sym w.0) (subst (λ (x : Entry). StandsBut homes moved at gap x.page) w.1 at_gap))
+      subst (λ n. IsReachableBut homes moved at n e.page) (sym w.0) (subst (λ (x : Entry). IsReachableBut homes moved at gap x.page) w.1 at_gap))
       (λ (w : (i ≢ gap) × (i ≢ at) × (slot_at slots i ≡ Some e)).
       let but = c.settled i e w.2 in record {
-        behind = but.behind;
-        run = λ j a b k. ⊎_elim
+        after = but.after;
+        full = λ j a b k. ⊎_elim
             (λ (s : j ≡ gap). subst (λ n. IsSome (slot_at moved n)) (sym s) (subst IsSome (sym moved_here) refl))
-            (λ (s : j ≢ gap). still_filled j s k (but.run j a b s))
+            (λ (s : j ≢ gap). still_filled j s k (but.full j a b s))
             (cases_eq j gap);
       })
       (came_from i e there)

@@ -1,4 +1,4 @@
 pub mod Gaps
 pub mod Lookups
-pub mod Places
+pub mod Probes
 pub mod Rows

@@ -71,7 +71,7 @@ found-Some q (Some f ∷ slots) v is =
 pub same_maps : (ss ts : List (Option Entry)) → ((q : ℕ) → found q ss ≡ found q ts) → map_of ss ≡ map_of ts
 same_maps ss ts alike = same_map nat_cmp_total nat_cmp-IsAntisymmetric (map_of ss) (map_of ts) (λ q. get-map_of ss q ∙ alike q ∙ sym (get-map_of ts q))
 
--- what a write leaves at each place
+-- what a write leaves at each index
 pub set_here : (slots : List (Option Entry)) (at j : ℕ) (x : Option Entry) → at < length slots → j ≡ at → slot_at (set slots at x) j ≡ x
 set_here slots at j x h e = ap (slot_at (set slots at x)) e ∙ get_or-set_same slots at x None h
 
@@ -99,7 +99,7 @@ after_set slots at i x f h is =
     (λ (e : i ≢ at). inr (e, sym (set_there slots at i x e) ∙ is))
     (cases_eq i at)
 
--- the page has no entry but at this place
+-- the page has no entry but at this index
 abbrev pub NoOther : List (Option Entry) → ℕ → ℕ → Type 0
 NoOther slots at q = (j : ℕ) (f : Entry) → j ≢ at → slot_at slots j ≡ Some f → f.page.0 ≢ q
 
@@ -125,7 +125,7 @@ no_other slots at e single here j f apart there same = apart (single j at f e th
 pub not_found : (slots : List (Option Entry)) (q : ℕ) (i : ℕ) (e : Entry) → IsSingle slots → found q slots ≡ None → slot_at slots i ≡ Some e → e.page.0 ≢ q
 not_found slots q i e single none at same = let there = found-single slots i e single at in absurd (let clash : Some (value_of e) ≡ None = sym there ∙ ap (λ k. found k slots) same ∙ none in cc)
 
--- an entry is written where it has its place: the map has it, and what it had of other pages
+-- an entry is written in the slot that it has: the map has it, and what it had of other pages
 pub map_of-set : (slots : List (Option Entry)) (at : ℕ) (e : Entry) → at < length slots → IsSingle slots
     → ((f : Entry) → slot_at slots at ≡ Some f → f.page.0 ≡ e.page.0) → NoOther slots at e.page.0
     → map_of (set slots at (Some e)) ≡ insert (map_of slots) e.page.0 (value_of e)

@@ -6,7 +6,7 @@ use Rattle.pm_types.specs.declared.page_id.PageId.{PageId}
 use Rattle.pm_ptable.specs.declared.slots.Entry.{Entry}
 use Rattle.pm_ptable.specs.declared.slots.TheConstants.{SPREAD}
 
--- the slot at this place; past the end there is none, as in an empty one
+-- the slot at this index; past the end there is none, as in an empty one
 abbrev pub slot_at : List (Option Entry) → ℕ → Option Entry
 slot_at slots i = slice_index_or slots i None
 
@@ -24,8 +24,8 @@ abbrev pub MayHold : PageId → Option Entry → Type 0
 MayHold page None = Unit {0}
 MayHold page (Some e) = e.page.0 ≡ page.0
 
--- all slots from the first place up to the other hold other pages, and the slot there doesn't
-pub record Seeks (slots : List (Option Entry)) (from : ℕ) (page : PageId) (to : ℕ) : Type 0 where
+-- all slots from the first index up to the other hold other pages, and the slot there doesn't
+pub record IsProbeEnd (slots : List (Option Entry)) (from : ℕ) (page : PageId) (to : ℕ) : Type 0 where
   pub ordered : from ≤ to
   pub within : to ≤ length slots
   pub passed : (j : ℕ) → from ≤ j → j < to → HoldsOther page (slot_at slots j)
@@ -49,34 +49,34 @@ count_in (Some e) = 1
 abbrev pub filled : List (Option Entry) → ℕ
 filled slots = sum_by count_in slots
 
--- the place is the page's home or behind it, and no slot between the two is empty
-pub record Stands (homes : ℕ) (slots : List (Option Entry)) (place : ℕ) (page : PageId)
+-- the index is the page's home or after it, and no slot between the two is empty
+pub record IsReachable (homes : ℕ) (slots : List (Option Entry)) (index : ℕ) (page : PageId)
     : Type 0 where
-  pub behind : home_of homes page ≤ place
-  pub run : (j : ℕ) → home_of homes page ≤ j → j < place → IsSome (slot_at slots j)
+  pub after : home_of homes page ≤ index
+  pub full : (j : ℕ) → home_of homes page ≤ j → j < index → IsSome (slot_at slots j)
 
 -- no entry is sought across an empty slot
 abbrev pub IsSettled : ℕ → List (Option Entry) → Type 0
 IsSettled homes slots =
-    (i : ℕ) (e : Entry) → slot_at slots i ≡ Some e → Stands homes slots i e.page
+    (i : ℕ) (e : Entry) → slot_at slots i ≡ Some e → IsReachable homes slots i e.page
 
 -- the same, where one slot between the two may be empty
-pub record StandsBut (homes : ℕ) (slots : List (Option Entry)) (gap place : ℕ) (page : PageId)
+pub record IsReachableBut (homes : ℕ) (slots : List (Option Entry)) (gap index : ℕ) (page : PageId)
     : Type 0 where
-  pub behind : home_of homes page ≤ place
-  pub run : (j : ℕ) → home_of homes page ≤ j → j < place → j ≢ gap → IsSome (slot_at slots j)
+  pub after : home_of homes page ≤ index
+  pub full : (j : ℕ) → home_of homes page ≤ j → j < index → j ≢ gap → IsSome (slot_at slots j)
 
 -- no entry is sought across an empty slot but the gap
 abbrev pub IsSettledBut : ℕ → List (Option Entry) → ℕ → Type 0
 IsSettledBut homes slots gap =
-    (i : ℕ) (e : Entry) → slot_at slots i ≡ Some e → StandsBut homes slots gap i e.page
+    (i : ℕ) (e : Entry) → slot_at slots i ≡ Some e → IsReachableBut homes slots gap i e.page
 
 -- no page has two entries
 abbrev pub IsSingle : List (Option Entry) → Type 0
 IsSingle slots = (i j : ℕ) (e f : Entry)
     → slot_at slots i ≡ Some e → slot_at slots j ≡ Some f → e.page.0 ≡ f.page.0 → i ≡ j
 
--- each entry is found from its page's home on, and an empty slot behind every home
+-- each entry is found from its page's home on, and an empty slot after every home
 pub record IsRow (homes : ℕ) (slots : List (Option Entry)) : Type 0 where
   pub some : 0 < homes
   pub small : length slots < 2 ^ 32
@@ -94,8 +94,8 @@ abbrev pub HasNone : List (Option Entry) → PageId → Type 0
 HasNone slots page = (i : ℕ) (e : Entry) → slot_at slots i ≡ Some e → e.page.0 ≢ page.0
 
 -- the slot there holds the page, or it is empty, none holds the page, and it may be put there
-pub record IsPlaceOf (homes : ℕ) (slots : List (Option Entry)) (page : PageId) (place : ℕ)
+pub record IsSlotFor (homes : ℕ) (slots : List (Option Entry)) (page : PageId) (index : ℕ)
     : Type 0 where
-  pub within : place < length slots
-  pub stands : Stands homes slots place page
-  pub holds : MatchOption (slot_at slots place) (HasNone slots page) (λ e. e.page.0 ≡ page.0)
+  pub within : index < length slots
+  pub reachable : IsReachable homes slots index page
+  pub holds : MatchOption (slot_at slots index) (HasNone slots page) (λ e. e.page.0 ≡ page.0)

@@ -1,12 +1,12 @@
 //! A row of slots in which entries are found by their page's hash: open addressing with linear
 //! probing.
 //!
-//! An entry stands at its page's home or behind it, and no slot between the two is empty. The row
-//! goes on behind the last home, so that no search has to begin anew at the front.
+//! An entry stands at its page's home or after it, and no slot between the two is empty. The row
+//! goes on after the last home, so that no search has to begin anew at the front.
 
 ghost use Rattle.std.specs.Prelude.{◌≡◌, ◌<◌, ◌≤◌, ◌^◌, ◌+◌, ◌⊎◌, length, not, option_map, IsTrue, Some, None, if◌then◌else◌};
 ghost use Rattle.std.specs.FinMap as map;
-ghost use Rattle.pm_ptable.specs.Slots.{home_of, slot_at, filled, map_of, Seeks, IsPlaceOf, IsRow, IsSettled, IsSettledBut, IsSingle};
+ghost use Rattle.pm_ptable.specs.Slots.{home_of, slot_at, filled, map_of, IsProbeEnd, IsSlotFor, IsRow, IsSettled, IsSettledBut, IsSingle};
 
 use pm_types::{FrameNo, PageId, Tag};
 
@@ -28,7 +28,7 @@ pub(crate) fn look_up(slots: &[Slot], homes: usize, page: PageId) -> Option<(Fra
     requires { IsRow homes slots.now }
     ensures { result ≡ map.get (map_of slots.now) page.0 }
 {
-    let at = place_of(slots, homes, page);
+    let at = slot_for(slots, homes, page);
     match &slots[at] {
         Some(entry) => Some((entry.frame, entry.tag)),
         None => None,
@@ -44,10 +44,10 @@ pub(crate) fn put(slots: &mut [Slot], homes: usize, entry: Entry) -> bool
     ensures row { IsRow homes slots.new }
     ensures entries { map_of slots.new
         ≡ map.insert (map_of slots.old) entry.page.0 (entry.frame, entry.tag) }
-    ensures took { result ≡ not (map.contains_key (map_of slots.old) entry.page.0) }
+    ensures is_new { result ≡ not (map.contains_key (map_of slots.old) entry.page.0) }
     ensures filled { filled slots.new ≡ filled slots.old + (if result then 1 else 0) }
 {
-    let at = place_of(slots, homes, entry.page);
+    let at = slot_for(slots, homes, entry.page);
     let takes = slots[at].is_none();
     slots[at] = Some(entry);
     takes
@@ -61,7 +61,7 @@ pub(crate) fn take_out(slots: &mut [Slot], homes: usize, page: PageId) -> bool
     ensures was_there { result ≡ map.contains_key (map_of slots.old) page.0 }
     ensures filled { filled slots.old ≡ filled slots.new + (if result then 1 else 0) }
 {
-    let at = place_of(slots, homes, page);
+    let at = slot_for(slots, homes, page);
     if slots[at].is_none() {
         return false;
     }
@@ -70,10 +70,10 @@ pub(crate) fn take_out(slots: &mut [Slot], homes: usize, page: PageId) -> bool
     true
 }
 
-// The place of the page's entry, or else of the empty slot where it may be put.
-fn place_of(slots: &[Slot], homes: usize, page: PageId) -> usize
+// The index of the page's entry, or else of the empty slot where it may be put.
+fn slot_for(slots: &[Slot], homes: usize, page: PageId) -> usize
     requires { IsRow homes slots.now }
-    ensures place { IsPlaceOf homes slots.now page result }
+    ensures index { IsSlotFor homes slots.now page result }
     ensures found { map.get (map_of slots.now) page.0
         ≡ option_map (λ e. (e.frame, e.tag)) (slot_at slots.now result) }
 {
@@ -91,10 +91,10 @@ pub(crate) fn home(page: PageId, homes: usize) -> usize
     ((hash * homes as u64) >> 32) as usize
 }
 
-// The first slot from a place on that is empty or holds the page.
+// The first slot from an index on that is empty or holds the page.
 fn seek(slots: &[Slot], from: usize, page: PageId) -> usize
     requires { from ≤ length slots.now }
-    ensures { Seeks slots.now from page result }
+    ensures { IsProbeEnd slots.now from page result }
 {
     'probes: for at in from..slots.len() {
         match &slots[at] {
@@ -109,7 +109,7 @@ fn seek(slots: &[Slot], from: usize, page: PageId) -> usize
     slots.len()
 }
 
-// Moves the entries behind an empty slot up, until no search has to pass an empty one.
+// Moves the entries after an empty slot up, until no search has to pass an empty one.
 fn close_gap(slots: &mut [Slot], homes: usize, gap: usize)
     requires homes { (0 < homes) × (homes ≤ 2 ^ 32) }
     requires gap { (gap < length slots.old) × (slot_at slots.old gap ≡ None) }

@@ -109,8 +109,8 @@ mod tests {
         Ok(pages)
     }
 
-    // What the table has for the page at this place, where the first pages were replaced by those
-    // 64 places on.
+    // What the table has for the page at this index, where the first pages were replaced by those
+    // 64 indices on.
     fn wanted(at: u32, replaced: u32) -> Option<(FrameNo, Tag)> {
         if at < replaced {
             None

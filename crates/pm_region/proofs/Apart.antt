@@ -7,7 +7,7 @@ use Rattle.pm_region.specs.Region.{Extent, IsLeaseOf, AreLeasesOf}
 
 -- a lease with a lower number ends before the other begins
 pub apart_in_order : (region : Extent) (i j : ℕ) (a b : Leased) → i < j → IsLeaseOf region i a → IsLeaseOf region j b → AreApart a b
-apart_in_order region i j a b below of_a of_b block place in_a in_b =
+apart_in_order region i j a b below of_a of_b block offset in_a in_b =
     let size = region.size in
     let from = in_b.from in let upto = in_a.upto in
     let start_a = ap (λ r. r.start) of_a.range in let len_a = ap (λ r. r.len) of_a.range in

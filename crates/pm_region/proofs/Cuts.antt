@@ -20,14 +20,14 @@ slice_get-push [] y = refl
 slice_get-push (x ∷ xs) y = slice_get-push xs y
 
 -- the first n leases are made, and the rest of the block is zero
-pub record IsCut (place : Ptr) (frames size n : ℕ) (leases : List Leased) (behind : Ptr) (bytes : List ℕ) : Type 0 where
+pub record IsCut (origin : Ptr) (frames size n : ℕ) (leases : List Leased) (following : Ptr) (bytes : List ℕ) : Type 0 where
   pub count : length leases ≡ n
-  pub each : (i : ℕ) → i < n → slice_get leases i ≡ Some (fresh_lease (extent_at place frames size) i)
-  pub next : behind ≡ place +ₚ n * size
+  pub each : (i : ℕ) → i < n → slice_get leases i ≡ Some (fresh_lease (extent_at origin frames size) i)
+  pub next : following ≡ origin +ₚ n * size
   pub left : n * size + length bytes ≡ frames * size
   pub zeros : bytes ≡ replicate (length bytes) 0
 
--- a place further on is in the same block
+-- an origin further on is in the same block
 pub moved : (p : Ptr) (n m : ℕ) → (p +ₚ n) +ₚ m ≡ p +ₚ (n + m)
 moved (block_ptr b o) n m = let same : o + n + m ≡ o + (n + m) = omega arith in ap (block_ptr b) same
 moved null_ptr n m = refl
@@ -36,47 +36,47 @@ still : (p : Ptr) (n : ℕ) → n ≡ 0 → p ≡ p +ₚ n
 still (block_ptr b o) n e = let same : o ≡ o + n = omega arith in ap (block_ptr b) same
 still null_ptr n e = refl
 
--- a lease that begins n leases behind the place
+-- a lease that begins n leases after the origin
 lease_there : (p q : Ptr) (frames size n : ℕ) (bytes : List ℕ) → q ≡ p +ₚ n * size → InBlock q → bytes ≡ replicate size 0 → length bytes ≡ size
     → lease_over n q bytes ≡ fresh_lease (extent_at p frames size) n
 lease_there (block_ptr b o) q frames size n bytes at here is len =
     (λ i. lease_over n (at i) bytes) ∙ (λ i. record { number = n; bytes = is i; range = record { block = b; start = o + n * size; len = len i } })
 lease_there null_ptr q frames size n bytes at here is len = absurd (subst InBlock at here)
 
-pub IsCut-none : (place : Ptr) (frames size : ℕ) (bytes : List ℕ) → bytes ≡ replicate (frames * size) 0 → IsCut place frames size 0 [] place bytes
-IsCut-none place frames size bytes is =
+pub IsCut-none : (origin : Ptr) (frames size : ℕ) (bytes : List ℕ) → bytes ≡ replicate (frames * size) 0 → IsCut origin frames size 0 [] origin bytes
+IsCut-none origin frames size bytes is =
     let long : length bytes ≡ frames * size = ap length is ∙ length-replicate (frames * size) 0 in record {
       count = refl;
       each = λ i h. absurd (omega arith);
-      next = still place (0 * size) (omega arith);
+      next = still origin (0 * size) (omega arith);
       left = omega arith;
       zeros = is ∙ ap (λ n. replicate n 0) (sym long);
     }
 
 -- another lease fits
-pub IsCut-room : {place : Ptr} {frames size n : ℕ} {leases : List Leased} {behind : Ptr} {bytes : List ℕ}
-    → IsCut place frames size n leases behind bytes → n < frames → size ≤ length bytes
+pub IsCut-room : {origin : Ptr} {frames size n : ℕ} {leases : List Leased} {following : Ptr} {bytes : List ℕ}
+    → IsCut origin frames size n leases following bytes → n < frames → size ≤ length bytes
 IsCut-room {frames = frames} {size} {n} c more = omega (arith, mul-le (n + 1) size frames size (omega arith) (omega arith), c.left)
 
-pub IsCut-more : (place : Ptr) (frames size n : ℕ) (leases : List Leased) (behind : Ptr) (bytes : List ℕ)
-    → IsCut place frames size n leases behind bytes → n < frames → InBlock behind
-    → IsCut place frames size (n + 1) (leases ++ lease_over n behind (take size bytes) ∷ []) (behind +ₚ size) (drop size bytes)
-IsCut-more place frames size n leases behind bytes c more here =
-    let region = extent_at place frames size in let made = lease_over n behind (take size bytes) in let new = leases ++ made ∷ [] in
+pub IsCut-more : (origin : Ptr) (frames size n : ℕ) (leases : List Leased) (following : Ptr) (bytes : List ℕ)
+    → IsCut origin frames size n leases following bytes → n < frames → InBlock following
+    → IsCut origin frames size (n + 1) (leases ++ lease_over n following (take size bytes) ∷ []) (following +ₚ size) (drop size bytes)
+IsCut-more origin frames size n leases following bytes c more here =
+    let region = extent_at origin frames size in let made = lease_over n following (take size bytes) in let new = leases ++ made ∷ [] in
     let room = IsCut-room c more in
     let zeros : take size bytes ≡ replicate size 0 = ap (take size) c.zeros ∙ take-replicate size (length bytes) 0 room in
     let len = length-take-le size bytes room in
-    let lease : made ≡ fresh_lease region n = lease_there place behind frames size n _ c.next here zeros len in
+    let lease : made ≡ fresh_lease region n = lease_there origin following frames size n _ c.next here zeros len in
     let rest = length-drop size bytes in record {
       count = omega (arith, length-append leases (made ∷ []), c.count);
       each = below_more (λ i. slice_get new i ≡ Some (fresh_lease region i)) n
           (λ i h. slice_get-front leases _ i (omega (arith, c.count)) ∙ c.each i h)
           (subst (λ k. slice_get new k ≡ Some made) c.count (slice_get-push leases made) ∙ ap Some lease);
-      next = ap (λ p. p +ₚ size) c.next ∙ moved place (n * size) size ∙ ap (λ k. place +ₚ k) (omega arith);
+      next = ap (λ p. p +ₚ size) c.next ∙ moved origin (n * size) size ∙ ap (λ k. origin +ₚ k) (omega arith);
       left = omega (arith, c.left);
       zeros = ap (drop size) c.zeros ∙ drop-replicate size (length bytes) 0 ∙ ap (λ k. replicate k 0) (sym rest);
     }
 
-pub IsCut-all : {place : Ptr} {frames size : ℕ} {leases : List Leased} {behind : Ptr} {bytes : List ℕ}
-    → IsCut place frames size frames leases behind bytes → AreFresh (extent_at place frames size) leases
+pub IsCut-all : {origin : Ptr} {frames size : ℕ} {leases : List Leased} {following : Ptr} {bytes : List ℕ}
+    → IsCut origin frames size frames leases following bytes → AreFresh (extent_at origin frames size) leases
 IsCut-all c = record { count = c.count; each = c.each }

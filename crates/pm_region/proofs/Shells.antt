@@ -91,11 +91,11 @@ module _ {M : Type 1} {𝓤 : Ura M} (𝓛 : Logic 𝓤) where
 
   -- with its bytes back, the shell's field is the vector
   pub filled_up : (h : Hollow) (us : List Val) (xs : List ℕ) → length xs ≡ h.len
-      → ent 𝓤 (sep 𝓤 (sem 𝓛 (bytes_lie h.place xs)) (sem 𝓛 (Shell.the_own h us)))
+      → ent 𝓤 (sep 𝓤 (sem 𝓛 (bytes_lie h.origin xs)) (sem 𝓛 (Shell.the_own h us)))
       (ex 𝓤 (λ (v : Full.Denot). guard 𝓤 (v.items ≡ xs) (sem 𝓛 ((fields.the_row).own_val (record { vec = v }) us))))
   filled_up h us xs long =
-      let Back = λ (ys : List ℕ). fsep (feq ℕ (length ys) h.len) (bytes_lie h.place ys) in
-      qed 𝓛 (‵ (bytes_lie h.place xs) ∷ ‵ (Shell.the_own h us) ∷ []) ∵ move ! (1 ∷ []) $ fpick ! (λ i. fsplit ! $ feq_l ! (λ len.
+      let Back = λ (ys : List ℕ). fsep (feq ℕ (length ys) h.len) (bytes_lie h.origin ys) in
+      qed 𝓛 (‵ (bytes_lie h.origin xs) ∷ ‵ (Shell.the_own h us) ∷ []) ∵ move ! (1 ∷ []) $ fpick ! (λ i. fsplit ! $ feq_l ! (λ len.
       let Whole = λ (ys : List ℕ). (fields.the_row).own_val (record { vec = with_items i.vec ys }) us in
       use1 𝓛 (‵ (fwand (Back xs) (Whole xs))) (all_e 𝓤 (λ ys. sem 𝓛 (fwand (Back ys) (Whole ys))) xs) $ move ! (1 ∷ []) $
       feq_i ! ℕ (length xs) h.len long $ fjoin ! $ use2 𝓛 (‵ (Whole xs)) (apply∗ 𝓤 (sem 𝓛 (Back xs)) (sem 𝓛 (Whole xs))) $

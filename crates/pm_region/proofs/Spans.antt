@@ -29,7 +29,7 @@ span_tells = span_laws.lowers.val_is
 
 module _ {M : Type 1} {𝓤 : Ura M} (𝓛 : Logic 𝓤) where
   abbrev lie : Ptr → List ℕ → SProp 𝓤
-  lie place xs = sem 𝓛 (bytes_lie place xs)
+  lie origin xs = sem 𝓛 (bytes_lie origin xs)
 
   whole : (b o : ℕ) (xs : List ℕ) → ent 𝓤 (sem 𝓛 (bytes full_share xs b o)) (lie (block_ptr b o) xs)
   whole b o xs =
@@ -42,8 +42,8 @@ module _ {M : Type 1} {𝓤 : Ura M} (𝓛 : Logic 𝓤) where
       use1 𝓛 (‵ (fsep (feq ℕ (length xs) (length xs)) (bytes full_share xs b o))) (bytes_apart 𝓛 full_share (length xs) xs b o) $
       fsplit ! $ drop ! $ done !
 
-  -- bytes in a row are the first of them, and the others behind these
-  pub cuts : (place : Ptr) (xs ys : List ℕ) → ent 𝓤 (lie place (xs ++ ys)) (sep 𝓤 (lie place xs) (lie (place +ₚ length xs) ys))
+  -- bytes in a row are the first of them, and the others after these
+  pub cuts : (origin : Ptr) (xs ys : List ℕ) → ent 𝓤 (lie origin (xs ++ ys)) (sep 𝓤 (lie origin xs) (lie (origin +ₚ length xs) ys))
   cuts null_ptr xs ys = never_e 𝓤 _
   cuts (block_ptr b o) xs ys =
       qed 𝓛 (‵ (bytes_lie (block_ptr b o) (xs ++ ys)) ∷ []) ∵ use1 𝓛 (‵ (bytes full_share (xs ++ ys) b o)) (apart b o (xs ++ ys)) $
@@ -52,7 +52,7 @@ module _ {M : Type 1} {𝓤 : Ura M} (𝓛 : Logic 𝓤) where
       use1 𝓛 (‵ (bytes_lie (block_ptr b (o + length xs)) ys)) (whole b (o + length xs) ys) $ move ! (1 ∷ 0 ∷ []) $ done !
 
   -- and the other way round
-  pub joins : (place : Ptr) (xs ys : List ℕ) → ent 𝓤 (sep 𝓤 (lie place xs) (lie (place +ₚ length xs) ys)) (lie place (xs ++ ys))
+  pub joins : (origin : Ptr) (xs ys : List ℕ) → ent 𝓤 (sep 𝓤 (lie origin xs) (lie (origin +ₚ length xs) ys)) (lie origin (xs ++ ys))
   joins null_ptr xs ys = via 𝓤 _ (fst∗ 𝓤 (lie null_ptr xs) (lie null_ptr ys)) (never_e 𝓤 _)
   joins (block_ptr b o) xs ys =
       qed 𝓛 (‵ (bytes_lie (block_ptr b o) xs) ∷ ‵ (bytes_lie (block_ptr b (o + length xs)) ys) ∷ []) ∵
@@ -62,15 +62,15 @@ module _ {M : Type 1} {𝓤 : Ura M} (𝓛 : Logic 𝓤) where
       use1 𝓛 (‵ (bytes_lie (block_ptr b o) (xs ++ ys))) (whole b o (xs ++ ys)) $ done !
 
   -- bytes lie somewhere
-  pub placed : (place : Ptr) (xs : List ℕ) → ent 𝓤 (lie place xs) (guard 𝓤 (InBlock place) (lie place xs))
+  pub placed : (origin : Ptr) (xs : List ℕ) → ent 𝓤 (lie origin xs) (guard 𝓤 (InBlock origin) (lie origin xs))
   placed null_ptr xs = never_e 𝓤 _
   placed (block_ptr b o) xs = guard_i 𝓤 (InBlock (block_ptr b o)) (lie (block_ptr b o) xs) tt
 
   -- what a span owns is its bytes
-  pub span_had : (s : (Span.the_row).Denot) → ent 𝓤 (sem 𝓛 ((Span.the_row).own_val s (span_vals s))) (lie s.place s.bytes)
+  pub span_had : (s : (Span.the_row).Denot) → ent 𝓤 (sem 𝓛 ((Span.the_row).own_val s (span_vals s))) (lie s.origin s.bytes)
   span_had s = qed 𝓛 (‵ ((Span.the_row).own_val s (span_vals s)) ∷ []) ∵ fsplit ! $ drop ! $ done !
 
-  pub span_made : (s : (Span.the_row).Denot) → ent 𝓤 (lie s.place s.bytes) (sem 𝓛 ((Span.the_row).own_val s (span_vals s)))
+  pub span_made : (s : (Span.the_row).Denot) → ent 𝓤 (lie s.origin s.bytes) (sem 𝓛 ((Span.the_row).own_val s (span_vals s)))
   span_made s =
-      qed 𝓛 (‵ (bytes_lie s.place s.bytes) ∷ []) ∵ nothing ! $ feq_i ! (List Val) (blank ∷ []) (blank ∷ []) refl $ fjoin ! $
+      qed 𝓛 (‵ (bytes_lie s.origin s.bytes) ∷ []) ∵ nothing ! $ feq_i ! (List Val) (blank ∷ []) (blank ∷ []) refl $ fjoin ! $
       fpack ! (Unit {0}) (within (shape Span.the_type) tt (blank ∷ [])) tt $ fjoin ! $ done !

@@ -8,11 +8,11 @@ pub record Range : Type 0 where
   pub start : ℕ
   pub len : ℕ
 
--- the byte with this place in this block is one of the range's
-pub record Covers (range : Range) (in_block place : ℕ) : Type 0 where
+-- the byte at this offset in this block is one of the range's
+pub record Covers (range : Range) (in_block offset : ℕ) : Type 0 where
   pub here : range.block ≡ in_block
-  pub from : range.start ≤ place
-  pub upto : place < range.start + range.len
+  pub from : range.start ≤ offset
+  pub upto : offset < range.start + range.len
 
 -- a lease: its number, its bytes, and where they lie
 pub record Leased : Type 0 where
@@ -22,7 +22,7 @@ pub record Leased : Type 0 where
 
 -- no byte of memory is in both
 abbrev pub AreApart : Leased → Leased → Type 0
-AreApart a b = (block place : ℕ) → Covers a.range block place → ¬ Covers b.range block place
+AreApart a b = (block offset : ℕ) → Covers a.range block offset → ¬ Covers b.range block offset
 
 -- no byte of memory is in two of the leases
 abbrev pub ShareNoByte : List Leased → Type 0

@@ -18,9 +18,9 @@ range_of region number = record {
 }
 
 -- the region's lease with this number, whatever its bytes
-pub record IsLeaseOf (region : Extent) (place : ℕ) (lease : Leased) : Type 0 where
-  pub number : lease.number ≡ place
-  pub range : lease.range ≡ range_of region place
+pub record IsLeaseOf (region : Extent) (index : ℕ) (lease : Leased) : Type 0 where
+  pub number : lease.number ≡ index
+  pub range : lease.range ≡ range_of region index
 
 -- these are all leases of the region, in order
 pub record AreLeasesOf (region : Extent) (leases : List Leased) : Type 0 where

@@ -51,14 +51,14 @@ impl Lease {
     /// The bytes alone.
     pub(crate) fn into_span(self) -> Span
         ensures some { 0 < length self.bytes }
-        ensures bytes { (self.range ≡ range_at result.place (length result.bytes))
-            × InBlock result.place }
+        ensures bytes { (self.range ≡ range_at result.origin (length result.bytes))
+            × InBlock result.origin }
     {
         let Lease { number: _, memory } = self;
         under(memory)
     }
 
-    /// The lease's number: its place among the leases of its region, from 0.
+    /// The lease's number: its index among the leases of its region, from 0.
     pub fn number(&self) -> FrameNo
         ensures { result ≡ self.now.number }
     {

@@ -12,15 +12,15 @@ use std::marker::{Model, Move, Owns};
 use std::mem::ManuallyDrop;
 use std_alloc::vec::{Lodged, lodge};
 
-/// The bytes at a place, which nothing else can reach. It takes no memory.
+/// The bytes from an origin on, which nothing else can reach. It takes no memory.
 #[derive(Drop)]
 pub(crate) struct Span {
-    ghost place: { Ptr },
+    ghost origin: { Ptr },
     ghost bytes: { List ℕ },
 }
 
 impl Model for Span {
-    ghost also_owns = { λ s. bytes_lie s.place s.bytes };
+    ghost also_owns = { λ s. bytes_lie s.origin s.bytes };
 }
 
 impl Span {
@@ -29,20 +29,20 @@ impl Span {
     /// The first `at` bytes, and the others.
     fn cut(self, at: usize) -> (Span, Span)
         requires { at ≤ length self.bytes }
-        ensures { IsSpan result.0 self.place (take at self.bytes)
-            × IsSpan result.1 (self.place +ₚ at) (drop at self.bytes) }
+        ensures { IsSpan result.0 self.origin (take at self.bytes)
+            × IsSpan result.1 (self.origin +ₚ at) (drop at self.bytes) }
     {
         let Span {} = self;
         (Span {}, Span {})
     }
 
-    /// These bytes, and the ones that lie right behind them.
-    pub(crate) fn join(self, behind: Span) -> Span
-        requires { behind.place ≡ self.place +ₚ length self.bytes }
-        ensures { IsSpan result self.place (self.bytes ++ behind.bytes) }
+    /// These bytes, and the ones that follow right after them.
+    pub(crate) fn join(self, following: Span) -> Span
+        requires { following.origin ≡ self.origin +ₚ length self.bytes }
+        ensures { IsSpan result self.origin (self.bytes ++ following.bytes) }
     {
         let Span {} = self;
-        let Span {} = behind;
+        let Span {} = following;
         Span {}
     }
 }
@@ -61,10 +61,10 @@ impl Owns for Shell {
 }
 
 impl Move for Shell {
-    // Some vector of this length, which any bytes that lie at the place make whole again.
+    // Some vector of this length, which any bytes that lie from the origin on make whole again.
     ghost own_val = { λ h us. fex Inside (λ i. fsep (feq ℕ i.vec.len h.len)
         (fall (List ℕ) (λ xs. fwand
-        (fsep (feq ℕ (length xs) h.len) (bytes_lie h.place xs))
+        (fsep (feq ℕ (length xs) h.len) (bytes_lie h.origin xs))
         (Fields.own_val (record { vec = with_items i.vec xs }) us)))) };
 }
 
@@ -83,7 +83,7 @@ impl Shell {
 /// The vector's bytes, and the vector without them.
 fn open(vec: Vec<u8>) -> (Span, Shell)
     requires { 0 < vec_len vec }
-    ensures { (result.0.place ≡ vec_ptr vec) × (result.0.bytes ≡ vec.items)
+    ensures { (result.0.origin ≡ vec_ptr vec) × (result.0.bytes ≡ vec.items)
         × (result.1 ≡ hollow (vec_ptr vec) (vec_len vec)) × InBlock (vec_ptr vec) }
 {
     (Span {}, Shell { vec })
@@ -91,7 +91,7 @@ fn open(vec: Vec<u8>) -> (Span, Shell)
 
 /// The vector with its bytes back, whatever they are now.
 pub(crate) fn close(span: Span, shell: Shell) -> Vec<u8>
-    requires { (span.place ≡ shell.place) × (length span.bytes ≡ shell.len) }
+    requires { (span.origin ≡ shell.origin) × (length span.bytes ≡ shell.len) }
     ensures { result.items ≡ span.bytes }
 {
     let Span {} = span;
@@ -100,18 +100,18 @@ pub(crate) fn close(span: Span, shell: Shell) -> Vec<u8>
 }
 
 /// A vector over these bytes, which neither grows nor frees them.
-fn over(place: *mut u8, len: usize, span: Span) -> Vec<u8, Lodged>
-    requires { (span.place ≡ place) × (length span.bytes ≡ len) × (0 < len) × (len < 2 ^ 63) }
-    ensures { (vec_ptr result ≡ place) × (vec_len result ≡ len) × (result.items ≡ span.bytes) }
+fn over(origin: *mut u8, len: usize, span: Span) -> Vec<u8, Lodged>
+    requires { (span.origin ≡ origin) × (length span.bytes ≡ len) × (0 < len) × (len < 2 ^ 63) }
+    ensures { (vec_ptr result ≡ origin) × (vec_len result ≡ len) × (result.items ≡ span.bytes) }
 {
     let Span {} = span;
-    unsafe { lodge(place, len, len) }
+    unsafe { lodge(origin, len, len) }
 }
 
 /// The bytes that a vector lies over.
 pub(crate) fn under(vec: Vec<u8, Lodged>) -> Span
     requires { 0 < vec_len vec }
-    ensures { (result.place ≡ vec_ptr vec) × (result.bytes ≡ vec.items) }
+    ensures { (result.origin ≡ vec_ptr vec) × (result.bytes ≡ vec.items) }
 {
     let _len = vec.dislodge();
     Span {}
@@ -120,7 +120,7 @@ pub(crate) fn under(vec: Vec<u8, Lodged>) -> Span
 /// The bytes of a block that are in no vector yet.
 #[derive(Drop)]
 pub(crate) struct Rest {
-    place: *mut u8,
+    origin: *mut u8,
     span: Span,
 }
 
@@ -133,7 +133,7 @@ impl Model for Rest {
 
     ghost view = { λ r. r.span };
 
-    ghost invariant = { λ r. (r.span.place ≡ r.place) × InBlock r.place };
+    ghost invariant = { λ r. (r.span.origin ≡ r.origin) × InBlock r.origin };
 }
 
 impl Rest {
@@ -146,9 +146,9 @@ impl Rest {
         ensures shell { result.1 ≡ hollow (vec_ptr vec) (vec_len vec) }
         ensures placed { InBlock (vec_ptr vec) }
     {
-        let place = vec.as_mut_ptr();
+        let origin = vec.as_mut_ptr();
         let (span, shell) = open(vec);
-        (Rest { place, span }, shell)
+        (Rest { origin, span }, shell)
     }
 
     /// A vector over the first `len` bytes, and the other bytes.
@@ -156,17 +156,17 @@ impl Rest {
         requires some { 0 < len }
         requires within { len ≤ length self.bytes }
         requires small { len < 2 ^ 63 }
-        ensures place { (vec_ptr result.0 ≡ self.place) × InBlock self.place }
+        ensures origin { (vec_ptr result.0 ≡ self.origin) × InBlock self.origin }
         ensures bytes { (result.0.items ≡ take len self.bytes) × (vec_len result.0 ≡ len) }
-        ensures rest { IsSpan result.1 (self.place +ₚ len) (drop len self.bytes) }
+        ensures rest { IsSpan result.1 (self.origin +ₚ len) (drop len self.bytes) }
     {
-        let Rest { place, span } = self;
+        let Rest { origin, span } = self;
         let (front, others) = span.cut(len);
-        let behind = unsafe { place.byte_add(len) };
+        let following = unsafe { origin.byte_add(len) };
         let rest = Rest {
-            place: behind,
+            origin: following,
             span: others,
         };
-        (over(place, len, front), rest)
+        (over(origin, len, front), rest)
     }
 }

@@ -13,7 +13,7 @@ use std::marker::Model;
 /// The most bytes of a region, 1 GiB: 65,536 frames of the largest page.
 pub const REGION_BYTES_MAX: u32 = 1_073_741_824;
 
-/// A block of memory that is cut into leases. Contracts see it as the block, the place where it
+/// A block of memory that is cut into leases. Contracts see it as the block, the origin where it
 /// begins there, and how many leases it has, of so many bytes each. Dropping it gives no memory
 /// back: `close` does.
 pub struct Region {
@@ -30,10 +30,10 @@ impl Model for Region {
 
     ghost Value = { Extent };
 
-    ghost view = { λ r. extent_at r.shell.place r.frames r.size };
+    ghost view = { λ r. extent_at r.shell.origin r.frames r.size };
 
     ghost invariant = { λ r. (r.shell.len ≡ r.frames * r.size) × (0 < r.frames)
-        × InBlock r.shell.place };
+        × InBlock r.shell.origin };
 }
 
 impl Region {
@@ -83,8 +83,8 @@ impl Region {
     // The bytes of all leases.
     fn joined(&self, mut leases: Vec<Lease>) -> Span
         requires { AreLeasesOf self.now leases.items }
-        ensures { (extent_at result.place self.now.frames self.now.size ≡ self.now)
-            × InBlock result.place
+        ensures { (extent_at result.origin self.now.frames self.now.size ≡ self.now)
+            × InBlock result.origin
             × (length result.bytes ≡ self.now.frames * self.now.size) }
     {
         prove!(self.frames > 0);
@@ -116,7 +116,7 @@ fn leases_of(rest: Rest, frames: u32, size: usize, mut leases: Vec<Lease>) -> Ve
     requires leases { (leases.items ≡ []) × (frames ≤ vec_capacity leases) }
     requires size { (0 < size) × (size < 2 ^ 32) }
     requires bytes { rest.bytes ≡ replicate (frames * size) 0 }
-    ensures { AreFresh (extent_at rest.place frames size) result.items }
+    ensures { AreFresh (extent_at rest.origin frames size) result.items }
 {
     let mut rest = rest;
     'cuts: for number in 0..frames {
@@ -150,6 +150,22 @@ mod tests {
             || shared[1].bytes().iter().filter(|byte| **byte == 9).count(),
         );
         assert_eq!(rt; (sevens, nines), (1024, 1024));
+        Ok(())
+    }
+
+    // A region of 1 MiB, made and closed.
+    fn make_and_close(alloc: Global) -> Result<(), AllocError> {
+        let (region, leases) = Region::new(alloc, 256, 4096)?;
+        region.close(leases);
+        Ok(())
+    }
+
+    // Together they take 25 GiB: with blocks that are kept the memory of most machines runs out.
+    #[test]
+    fn regions_in_turns_take_the_memory_of_one(rt: HostRuntime) -> Result<(), Fail> {
+        for _ in 0..25_600 {
+            make_and_close(rt.alloc())?;
+        }
         Ok(())
     }
 

@@ -13,6 +13,7 @@ mod crashes;
 mod forces;
 #[cfg(test)]
 mod hosts;
+pub mod lock_clients;
 #[cfg(test)]
 mod logs;
 #[cfg(test)]

@@ -37,13 +37,13 @@ close_spec 𝓤 𝓛 𝓜 𝓡 wired =
     (Goes-blank 𝓛 0 (plain (λ _. Span.the_row)) yes (λ κs x w. tt), (Goes-blank 𝓛 0 (plain (λ _. Shell.the_row)) yes (λ κs x w. tt), tt))
     f.Key.name code.function (code.unfolded 𝓤 𝓛.H 𝓜 𝓡 wired) (λ z are.
     let s = z.0.3.0 in let h = z.0.3.1.0 in let xs = s.bytes in let us = z.0.4.1.0 in
-    let Fits = (s.place ≡ h.place) × (length xs ≡ h.len) in
+    let Fits = (s.origin ≡ h.origin) × (length xs ≡ h.len) in
     let no_val = span_tells s z.0.4.0 are.0 in
     qed 𝓛 ((‵ ftrue ⊛ ‵ ((Span.the_row).own_val s z.0.4.0) ⊛ ‵ ((Shell.the_row).own_val h us) ⊛ ‵ ftrue) ∷ raw (fact 𝓤 Fits) ∷ []) ∵
     move ! (1 ∷ []) $ heard ! Fits (λ fits. split ! $ move ! (1 ∷ []) $ split3 ! $ keep ! (1 ∷ 0 ∷ []) $
     -- [what the shell owns; what the span owns]
     fsplit ! $ fpick ! (λ typed. drop ! $ move ! (1 ∷ []) $
-    rewrite ! 0 (λ ss. ‵ ((Span.the_row).own_val s ss)) no_val refl $ use1 𝓛 (‵ (bytes_lie s.place xs)) (span_had 𝓛 s) $
+    rewrite ! 0 (λ ss. ‵ ((Span.the_row).own_val s ss)) no_val refl $ use1 𝓛 (‵ (bytes_lie s.origin xs)) (span_had 𝓛 s) $
     rewrite ! 0 (λ p. ‵ (bytes_lie p xs)) fits.0 refl $
     use2 𝓛 (some (λ (v : Full.Denot). given (v.items ≡ xs) (‵ ((fields.the_row).own_val (record { vec = v }) us)))) (filled_up 𝓛 h us xs fits.1) $
     pick ! (λ v. learn ! (λ back.

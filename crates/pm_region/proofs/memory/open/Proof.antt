@@ -39,7 +39,7 @@ open_spec 𝓤 𝓛 𝓜 𝓡 wired =
     proved_at 𝓛 f.ended stayed c 𝓜 𝓡 (Goes-blank 𝓛 0 (plain (λ _. Full)) yes (λ κs x w. tt), tt)
     f.Key.name code.function (code.unfolded 𝓤 𝓛.H 𝓜 𝓡 wired) (λ z are.
     let v = z.0.3.0 in let us = z.0.4.0 in
-    let s : (Span.the_row).Denot = record { place = v.ptr; bytes = v.items } in
+    let s : (Span.the_row).Denot = record { origin = v.ptr; bytes = v.items } in
     let h : (Shell.the_row).Denot = hollow v.ptr v.len in
     let value = one_val (layout Full) us ((full_laws.lawful 𝓛).typed v us are.0) in let u = value.0 in let fine = value.2 in
     let inner = as_fields (layout Full ∷ []) (u ∷ []) (fine, tt) in

@@ -44,10 +44,10 @@ over_spec 𝓤 𝓛 𝓜 𝓡 wired =
     (λ κs. (rawptr_vals, (uint_vals w64, (span_vals, tt)))) (λ κs. (rawptr_Tells, (uint_Tells w64, (span_tells, tt)))) (λ κs qs bounds a _ are.
     let n = a.1.0 in let s = a.1.1.0 in let xs = s.bytes in
     let y : Ptr → W.Ghost = λ p. ((κs, qs, bounds, (p, (n, (s, tt))), (rawptr_vals p, (uint_vals w64 n, (span_vals s, tt)))), tt) in
-    let Fits = λ (p : Ptr). (s.place ≡ p) × (length xs ≡ n) × (0 < n) × (n < 2 ^ 63) in
+    let Fits = λ (p : Ptr). (s.origin ≡ p) × (length xs ≡ n) × (0 < n) × (n < 2 ^ 63) in
     qed 𝓛 ((‵ ftrue ⊛ ‵ (RawPtr.own_val a.0 (rawptr_vals a.0)) ⊛ ‵ (usize.own_val n (uint_vals w64 n)) ⊛ ‵ ((Span.the_row).own_val s (span_vals s)) ⊛ ‵ ftrue) ∷ raw (fact 𝓤 (Fits a.0)) ∷ []) ∵
     move ! (1 ∷ []) $ heard ! (Fits a.0) (λ fits. split ! $ move ! (1 ∷ []) $ split ! $ move ! (1 ∷ []) $ split ! $ move ! (1 ∷ []) $ split ! $ keep ! (0 ∷ []) $
-    use1 𝓛 (‵ (bytes_lie s.place xs)) (span_had 𝓛 s) $ rewrite ! 0 (λ p. ‵ (bytes_lie p xs)) fits.0 refl $
+    use1 𝓛 (‵ (bytes_lie s.origin xs)) (span_had 𝓛 s) $ rewrite ! 0 (λ p. ‵ (bytes_lie p xs)) fits.0 refl $
     in_a_block ! a.0 (λ p. bytes_lie p xs) (id⊢ 𝓤 _) (λ b o at.
     regoal ! (λ p. prop (WpFn 𝓤 𝓛.H 𝓣.C 𝓣.Λ code.function (rawptr_vals p ++ (uint_vals w64 n ++ (span_vals s ++ []))) (W.post (y p)))) at refl $
     use1 𝓛 (raw (Callee.pre (at_lodge 𝓛 𝓜.mem 𝓡.returns b o n xs))) (lodge_pre 𝓛 𝓜.mem 𝓡.returns b o n xs fits.1 fits.2 fits.3) $

@@ -38,7 +38,7 @@ under_spec 𝓤 𝓛 𝓜 𝓡 wired =
     proved_at 𝓛 f.ended stayed c 𝓜 𝓡 (Goes-blank 𝓛 0 (plain (λ _. Lodger)) yes (λ κs x w. tt), tt)
     f.Key.name code.function (code.unfolded 𝓤 𝓛.H 𝓜 𝓡 wired) (λ z are.
     let d = z.0.3.0 in let us = z.0.4.0 in
-    let s : (Span.the_row).Denot = record { place = d.ptr; bytes = d.items } in
+    let s : (Span.the_row).Denot = record { origin = d.ptr; bytes = d.items } in
     let value = one_val (layout Lodger) us ((lodger_laws.lawful 𝓛).typed d us are.0) in let u = value.0 in let fine = value.2 in
     qed 𝓛 ((‵ ftrue ⊛ ‵ (Lodger.own_val d us) ⊛ ‵ ftrue) ∷ raw (fact 𝓤 (0 < d.len)) ∷ []) ∵
     move ! (1 ∷ []) $ heard ! (0 < d.len) (λ filled. split ! $ move ! (1 ∷ []) $ split ! $ keep ! (0 ∷ []) $

@@ -13,7 +13,7 @@ exchange-slot-requires c = (c.requires.table ∙ sym (ap (λ (l : LockTable). l.
 
 pub load-requires : goal.load-requires
 load-requires c =
-    let are = ap (λ (l : LockTable). l.places) c.self.view_is in
+    let are = ap (λ (l : LockTable). l.ranges) c.self.view_is in
     let i = c.self.invariant in
     let ex = c.exchange-slot.ensures.3 in
     let e = ap (λ (m : Seated). m.1) ex in

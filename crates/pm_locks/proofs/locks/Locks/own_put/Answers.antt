@@ -15,7 +15,7 @@ fill_slot-seen-requires-clause-out c = (out_of c.args.seat.now.view c.args.f, ap
 
 pub store-requires : goal.store-requires
 store-requires c =
-    let are = ap (λ (l : LockTable). l.places) c.self.view_is in
+    let are = ap (λ (l : LockTable). l.ranges) c.self.view_is in
     let i = c.self.invariant in
     let e = c.fill_slot-seen.ensures.slot in
     let e1 = ap (λ (m : Seated). m.1) e in

@@ -1,9 +1,9 @@
-use Rattle.std.proofs.Common.{Some, cond, sym, ap, ◌∙◌}
+use Rattle.std.proofs.Common.{Some, cond, sym, ap, ◌∙◌, subst}
 use Rattle.pm_locks.specs.declared.view.View.{View}
 use Rattle.pm_locks.specs.Words.{unpacked}
 use Rattle.pm_locks.specs.Sight.{Sight, LockTable}
 use Rattle.pm_locks.specs.Views.{is_among, out_at}
-use Rattle.pm_locks.specs.Steps.{out_as}
+use Rattle.pm_locks.specs.Steps.{out_as, IsMet}
 use Rattle.pm_locks.proofs.Bounds.{within}
 use Rattle.pm_locks.proofs.Takes.{self_eq}
 use Rattle.pm_locks.proofs.Puts.{steals_it}
@@ -12,7 +12,7 @@ use Rattle.pm_locks.proofs.locks.Locks.steal_from.Goals as goal
 
 pub compare_exchange-found-requires : goal.compare_exchange-found-requires
 compare_exchange-found-requires c =
-    let are = ap (λ (l : LockTable). l.places) c.self.view_is in
+    let are = ap (λ (l : LockTable). l.ranges) c.self.view_is in
     let i = c.self.invariant in (
       ap (λ (x : Sight). x.table) c.seat.view_is ∙ c.requires.seat.of ∙ sym (ap (λ (l : LockTable). l.table) c.self.view_is),
       within _ _ _ _ _ are i.2 i.0 c.requires.frame,
@@ -27,3 +27,8 @@ empty_slot-requires-clause-out c =
     let did = c.compare_exchange-found.ensures.2.0 c.if-found-seen.false in
     let out = out_as (unpacked c.stolen.inside.0) did.0 in
     (out, ap (λ (x : View). out_at x.outs c.args.f) did.2 ∙ ap (λ b. cond b (Some out) (out_at c.seat.inside.seat.me.0.outs c.args.f)) (self_eq c.args.f))
+
+pub returns-then-found-seen-clause-met : goal.returns-then-found-seen-clause-met
+returns-then-found-seen-clause-met c =
+    let looks = c.compare_exchange-found.ensures.2.1 c.if-found-seen.true in
+    subst (λ (x : Sight). IsMet x.view c.compare_exchange-found.new.seat.me.0 c.args.f (unpacked c.compare_exchange-found.result)) c.seat.view_is (record { view = looks.view; told = looks.told })

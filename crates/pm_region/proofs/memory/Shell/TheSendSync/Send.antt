@@ -16,8 +16,8 @@ use Rattle.pm_region.specs.contracts.memory.Shell.TheInside as fields
 byte : IsSend u8
 byte = search sendable
 
-bytes : (place : Ptr) (xs : List ℕ) → Keyless (bytes_lie place xs)
-bytes place xs = lies (Array u8 (length xs)) (array_send u8 (length xs) byte) place xs
+bytes : (origin : Ptr) (xs : List ℕ) → Keyless (bytes_lie origin xs)
+bytes origin xs = lies (Array u8 (length xs)) (array_send u8 (length xs) byte) origin xs
 
 pub send : IsSend Shell.the_row
 send = record {
@@ -25,7 +25,7 @@ send = record {
     λ typed. tt,
     λ i. (
       tt,
-      λ xs. ((tt, bytes h.place xs), (struct_send (shape fields.the_type) (Vec-send u8 byte, tt)).owned (with_items i.vec xs, tt) us),
+      λ xs. ((tt, bytes h.origin xs), (struct_send (shape fields.the_type) (Vec-send u8 byte, tt)).owned (with_items i.vec xs, tt) us),
     ),
   );
   leaving = λ k x w. tt;

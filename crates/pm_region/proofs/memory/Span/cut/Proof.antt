@@ -34,10 +34,10 @@ cut_spec 𝓤 𝓛 𝓜 𝓡 wired =
     (Goes-blank 𝓛 0 (plain (λ _. Span.the_row)) yes (λ κs x w. tt), (Goes-blank 𝓛 0 (plain (λ _. usize)) yes (λ κs x w. tt), tt))
     f.Key.name code.function (code.unfolded 𝓤 𝓛.H 𝓜 𝓡 wired)
     (λ κs. (span_vals, (uint_vals w64, tt))) (λ κs. (span_tells, (uint_Tells w64, tt))) (λ κs qs bounds a _ are.
-    let s = a.0 in let n = a.1.0 in let p = s.place in let xs = take n s.bytes in let ys = drop n s.bytes in
+    let s = a.0 in let n = a.1.0 in let p = s.origin in let xs = take n s.bytes in let ys = drop n s.bytes in
     let y : W.Ghost = ((κs, qs, bounds, a, (span_vals s, (uint_vals w64 n, tt))), tt) in
-    let front : (Span.the_row).Denot = record { place = p; bytes = xs } in
-    let back : (Span.the_row).Denot = record { place = p +ₚ n; bytes = ys } in
+    let front : (Span.the_row).Denot = record { origin = p; bytes = xs } in
+    let back : (Span.the_row).Denot = record { origin = p +ₚ n; bytes = ys } in
     qed 𝓛 ((‵ ftrue ⊛ ‵ ((Span.the_row).own_val s (span_vals s)) ⊛ ‵ (usize.own_val n (uint_vals w64 n)) ⊛ ‵ ftrue) ∷ raw (fact 𝓤 (n ≤ length s.bytes)) ∷ []) ∵
     move ! (1 ∷ []) $ heard ! (n ≤ length s.bytes) (λ within. split ! $ move ! (1 ∷ []) $ split3 ! $
     -- [what the span owns; the number; nothing]

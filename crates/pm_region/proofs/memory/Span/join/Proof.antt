@@ -29,16 +29,16 @@ join_spec 𝓤 𝓛 𝓜 𝓡 wired =
     let goes = Goes-blank 𝓛 0 (plain (λ _. Span.the_row)) yes (λ κs x w. tt) in
     proved 𝓛 f.ended stayed c 𝓜 𝓡 (goes, (goes, tt)) f.Key.name code.function (code.unfolded 𝓤 𝓛.H 𝓜 𝓡 wired)
     (λ κs. (span_vals, (span_vals, tt))) (λ κs. (span_tells, (span_tells, tt))) (λ κs qs bounds a _ are.
-    let front = a.0 in let behind = a.1.0 in let xs = front.bytes in let ys = behind.bytes in
-    let y : W.Ghost = ((κs, qs, bounds, a, (span_vals front, (span_vals behind, tt))), tt) in
-    let whole : (Span.the_row).Denot = record { place = front.place; bytes = xs ++ ys } in
-    let Touch = behind.place ≡ front.place +ₚ length xs in
-    qed 𝓛 ((‵ ftrue ⊛ ‵ ((Span.the_row).own_val front (span_vals front)) ⊛ ‵ ((Span.the_row).own_val behind (span_vals behind)) ⊛ ‵ ftrue) ∷ raw (fact 𝓤 Touch) ∷ []) ∵
+    let front = a.0 in let following = a.1.0 in let xs = front.bytes in let ys = following.bytes in
+    let y : W.Ghost = ((κs, qs, bounds, a, (span_vals front, (span_vals following, tt))), tt) in
+    let whole : (Span.the_row).Denot = record { origin = front.origin; bytes = xs ++ ys } in
+    let Touch = following.origin ≡ front.origin +ₚ length xs in
+    qed 𝓛 ((‵ ftrue ⊛ ‵ ((Span.the_row).own_val front (span_vals front)) ⊛ ‵ ((Span.the_row).own_val following (span_vals following)) ⊛ ‵ ftrue) ∷ raw (fact 𝓤 Touch) ∷ []) ∵
     move ! (1 ∷ []) $ heard ! Touch (λ touch. split ! $ move ! (1 ∷ []) $ split3 ! $
     -- [what the two own; nothing]
-    use1 𝓛 (‵ (bytes_lie front.place xs)) (span_had 𝓛 front) $ move ! (1 ∷ []) $ use1 𝓛 (‵ (bytes_lie behind.place ys)) (span_had 𝓛 behind) $
+    use1 𝓛 (‵ (bytes_lie front.origin xs)) (span_had 𝓛 front) $ move ! (1 ∷ []) $ use1 𝓛 (‵ (bytes_lie following.origin ys)) (span_had 𝓛 following) $
     rewrite ! 0 (λ p. ‵ (bytes_lie p ys)) touch refl $ move ! (1 ∷ []) $
-    use2 𝓛 (‵ (bytes_lie front.place (xs ++ ys))) (joins 𝓛 front.place xs ys) $
+    use2 𝓛 (‵ (bytes_lie front.origin (xs ++ ys))) (joins 𝓛 front.origin xs ys) $
     use1 𝓛 (‵ ((Span.the_row).own_val whole (span_vals whole))) (span_made 𝓛 whole) $
     enter ! _ _ _ _ _ $ alloc_all ! (λ l. pass_all ! refl ((tt, tt), ((tt, tt), tt)) $
     sets ! (agg ! (no_more !)) refl (tt, tt) $ returns ! (look_at ! 0 refl) $ free_all ! refl $
