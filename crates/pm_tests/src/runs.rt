@@ -1,5 +1,7 @@
 //! Runs of the top call over a host in memory.
 
+ghost use Rattle.std.specs.Prelude.{◌≡◌, false};
+
 use pm_disk::Host;
 use pm_disk_mem::{MemDisk, MemHost, Pick};
 use pm_frame::sum;
@@ -57,7 +59,9 @@ pub fn call_with<H: Host>(
     rt: &impl AllocGlobal,
     words: &[&str],
     host: &mut H,
-) -> Result<Report, Fail> {
+) -> Result<Report, Fail>
+    requires { (H.state host.old).access.is_lent ≡ false }
+{
     Ok(top(rt, &owned(rt, words)?, host))
 }
 

@@ -10,7 +10,7 @@ use Rattle.pm_model.specs.declared.line.Line.{Line}
 use Rattle.pm_model.specs.Eval.{Pairs, replies_to, after_all, accepted}
 use Rattle.pm_script.specs.Reading.{OnlyTakes}
 use Rattle.pm_script.specs.Texts.{texts_of}
-use Rattle.pm_segments.specs.Written.{ChangesLog}
+use Rattle.pm_records.specs.LogFiles.{ChangesLog}
 use Rattle.pm_engine.specs.Held.{CrashHoldsPrefix}
 use Rattle.pm_engine.specs.Engines.{Running, running, IsAtRest, HasSegments}
 use Rattle.pm_engine.specs.Batches.{TriesLines}
@@ -38,7 +38,7 @@ both old new P Q one other = record {
 pub said_stands : (wanted : Shape) (engine : Running) (world : World) (bytes : List ℕ) → IsAtRest wanted engine world → IsAtRest wanted engine (with_said bytes world)
 said_stands wanted engine world bytes s = record {
   written = s.written;
-  stands = record { standing = s.stands.standing; ends = s.stands.ends };
+  stands = record { log = s.stands.log; ends = s.stands.ends };
   is_open = s.is_open;
   held = s.held;
   map = s.map;
@@ -51,7 +51,7 @@ said_stands wanted engine world bytes s = record {
 pub taken_stands : (wanted : Shape) (engine : Running) (old new : World) → OnlyTakes old new → IsAtRest wanted engine old → IsAtRest wanted engine new
 taken_stands wanted engine old new takes s = subst (IsAtRest wanted engine) (sym takes.1) record {
   written = s.written;
-  stands = record { standing = s.stands.standing; ends = s.stands.ends };
+  stands = record { log = s.stands.log; ends = s.stands.ends };
   is_open = s.is_open;
   held = s.held;
   map = s.map;

@@ -4,7 +4,7 @@ use Rattle.pm_disk.specs.Worlds.{World, with_said}
 use Rattle.pm_disk.specs.Moments.{History, IsHistory, AllMoments, Does, Says}
 use Rattle.pm_disk.proofs.Chain.{started, does, says, joined, weaker, at_last}
 use Rattle.pm_script.specs.Reading.{OnlyTakes}
-use Rattle.pm_segments.specs.Written.{ChangesLog}
+use Rattle.pm_records.specs.LogFiles.{ChangesLog}
 use Rattle.pm_top.specs.Promises.{SaysPart}
 use Rattle.pm_top.specs.Runs.{SameFiles, OnlyAnswers}
 

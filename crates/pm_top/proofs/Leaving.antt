@@ -7,13 +7,14 @@ use Rattle.pm_disk.specs.Images.{NothingPending}
 use Rattle.pm_disk.specs.Worlds.{World}
 use Rattle.pm_frame.specs.Frames.{Frame}
 use Rattle.pm_model.specs.Eval.{Pairs, after_all}
-use Rattle.pm_segments.specs.Grammars.{place, all_frames}
-use Rattle.pm_segments.specs.Logs.{after_frames}
-use Rattle.pm_segments.specs.Written.{EndIs}
-use Rattle.pm_segments.proofs.Laws.{grammar_laws}
-use Rattle.pm_segments.proofs.LogSteps.{plain_after}
-use Rattle.pm_segments.proofs.HeldLog.{after_frames-append, standing_log}
-use Rattle.pm_engine.specs.Engines.{Running, running, every, frames_of, IsAtRest}
+use Rattle.pm_records.specs.Logs.{place, all_frames}
+use Rattle.pm_records.specs.Logs.{after_frames}
+use Rattle.pm_records.specs.LogFiles.{EndIs}
+use Rattle.pm_records.proofs.FrameGrammar.{frame_laws}
+use Rattle.pm_records.proofs.FileSteps.{plain_after}
+use Rattle.pm_records.proofs.HeldLog.{held_log}
+use Rattle.pm_records.proofs.Runs.{after_frames-append}
+use Rattle.pm_engine.specs.Engines.{Running, running, frames_of, IsAtRest}
 use Rattle.pm_engine.specs.Held.{IsHeld, Holds}
 use Rattle.pm_engine.specs.Openings.{OpensWith}
 use Rattle.pm_top.specs.declared.run.Run.{Run}
@@ -27,7 +28,7 @@ module _ (wanted : Shape) (engine : Running) (world : World) (s : IsAtRest wante
   stands_hold : Holds wanted world engine.shape engine.pairs
   stands_hold = record {
     frames = frames_of s.written;
-    log = standing_log all_frames (grammar_laws every) world.log 1 (place 1 0) s.written.at s.written.lasting s.written.pending s.written.tail s.stands.standing;
+    log = held_log all_frames (frame_laws) world.log 1 (place 1 0) s.written.at s.written.lasting s.written.pending s.written.tail s.stands.log;
     held = s.held;
   }
 
@@ -35,7 +36,7 @@ module _ (wanted : Shape) (engine : Running) (world : World) (s : IsAtRest wante
   stands_segment : (after_frames (place 1 0) (frames_of s.written)).seg ≡ engine.log.end.seg
   stands_segment =
       let w = s.written in
-      let there : after_frames (place 1 0) (w.lasting ++ w.pending) ≡ after_frames w.at w.pending = after_frames-append (place 1 0) w.lasting w.pending ∙ ap (λ (q : Place). after_frames q w.pending) s.stands.standing.leads.to in
+      let there : after_frames (place 1 0) (w.lasting ++ w.pending) ≡ after_frames w.at w.pending = after_frames-append (place 1 0) w.lasting w.pending ∙ ap (λ (q : Place). after_frames q w.pending) s.stands.log.leads.to in
       let end = subst (λ t. EndIs t engine.log.end w.at w.pending) s.is_open.ready s.stands.ends in
       ap (λ (q : Place). q.seg) (there ∙ plain_after w.at.seg w.at.off w.pending s.is_open.plain ∙ sym end)
 

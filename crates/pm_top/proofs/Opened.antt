@@ -1,20 +1,20 @@
 -- What a crash leaves before a store is opened, and meanwhile.
-use Rattle.std.proofs.Common.{◌≡◌, ◌^◌, inl, ℕ, List, [], Result, refl, subst}
+use Rattle.std.proofs.Common.{◌≡◌, ◌^◌, ◌⊎◌, inl, inr, ℕ, List, [], Result, refl, subst, sym}
 use Rattle.std.specs.Prelude.{codes}
 use Rattle.pm_types.specs.declared.shape.Shape.{Shape}
-use Rattle.pm_disk.specs.Worlds.{World}
+use Rattle.pm_disk.specs.Worlds.{World, with_said}
 use Rattle.pm_disk.specs.Images.{NothingPending}
 use Rattle.pm_disk.specs.Moments.{History, IsHistory, AllMoments, Does}
 use Rattle.pm_disk.proofs.Chain.{started, does, weaker}
 use Rattle.pm_model.specs.Eval.{Pairs, after_all}
-use Rattle.pm_segments.specs.Written.{ChangesLog}
+use Rattle.pm_records.specs.LogFiles.{ChangesLog}
 use Rattle.pm_engine.specs.Held.{Holds, HasNumbers, CrashHoldsPrefix}
-use Rattle.pm_engine.proofs.Opening.{cutting_keeps}
+use Rattle.pm_engine.proofs.Opening.{sound_keeps}
 use Rattle.pm_top.specs.declared.shape.TheConstants.{SHAPE}
 use Rattle.pm_top.specs.Crashes.{CrashHoldsAcknowledged}
 use Rattle.pm_top.specs.declared.status.Status.{Status}
-use Rattle.pm_top.specs.declared.status.Status.TheVariants.{Done}
-use Rattle.pm_top.specs.Promises.{IsDamaged, IsLeft, IsStart, OutcomeIs, RunHolds, SaysPart}
+use Rattle.pm_top.specs.declared.status.Status.TheVariants.{Done, Usage, Failed}
+use Rattle.pm_top.specs.Promises.{IsDamaged, IsLeft, IsStart, OutcomeIs, RefusalIs, RunHolds, SaysPart}
 use Rattle.pm_top.specs.Scripts.{PassesLimit}
 use Rattle.pm_top.specs.Served.{script_of}
 use Rattle.pm_top.specs.Runs.{SameConsole}
@@ -32,7 +32,7 @@ same_console old mid only = record { said = only.said; input = only.input }
 
 -- a sound store with nothing pending
 pub rest_keeps : (old : World) (shape : Shape) (pairs : Pairs) (holds : Holds SHAPE old shape pairs) → HasNumbers holds.frames → NothingPending old → CrashHoldsPrefix SHAPE shape pairs [] old
-rest_keeps old shape pairs holds numbers nothing = cutting_keeps SHAPE old shape pairs holds numbers nothing old (inl refl)
+rest_keeps old shape pairs holds numbers nothing = sound_keeps SHAPE old shape pairs holds numbers nothing old refl
 
 -- the words are refused
 pub refused_moments : (old new : History) (shape : Shape) (pairs : Pairs) (order : List ℕ) → CrashHoldsPrefix SHAPE shape pairs [] old.world → AllMoments old new (SaysPart (codes "fault usage\n") old.world) → AllMoments old new (CrashHoldsAcknowledged old.world shape pairs order)
@@ -56,3 +56,11 @@ run_from old mid new status lines order same run = record {
   damaged = λ is. subst (λ (w : World). IsDamaged w new.world lines order) same (run.damaged is);
   long = λ is. subst (λ (w : World). PassesLimit w.input) same (run.long is);
 }
+
+-- what is left where the words are refused
+pub refusal : (status : Status) (old new : World) (lines : ℕ) (order : List ℕ) → (status ≡ Usage) ⊎ (status ≡ Failed) → (status ≡ Usage → new ≡ with_said (codes "fault usage\n") old) → SaysPart (codes "fault usage\n") old new → lines ≡ 0 → order ≡ []
+    → RefusalIs status old new lines order
+refusal status old new lines order cases said part none no_order = elim cases [
+  | inl is ↦ subst (λ s. RefusalIs s old new lines order) (sym is) (record { now = said is; none = none; order_is = no_order })
+  | inr is ↦ subst (λ s. RefusalIs s old new lines order) (sym is) (record { part = part; none = none; order_is = no_order })
+]

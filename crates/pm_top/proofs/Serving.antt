@@ -8,7 +8,7 @@ use Rattle.pm_disk.proofs.Chain.{weaker}
 use Rattle.pm_model.specs.declared.line.Line.{Line}
 use Rattle.pm_model.specs.Eval.{Pairs, after_all}
 use Rattle.pm_script.specs.Reading.{Unread}
-use Rattle.pm_segments.specs.Written.{ChangesLog}
+use Rattle.pm_records.specs.LogFiles.{ChangesLog}
 use Rattle.pm_engine.specs.Held.{CrashHoldsPrefix}
 use Rattle.pm_engine.specs.Engines.{Running, running, IsAtRestWithin, HasSegments}
 use Rattle.pm_top.specs.declared.batch.Continuation.{Continuation}

@@ -11,8 +11,8 @@ use Rattle.pm_model.specs.Eval.{Pairs, replies_to, after_all, accepted}
 use Rattle.pm_script.specs.Reading.{Unread, KnowsEnd}
 use Rattle.pm_script.specs.Texts.{texts_of}
 use Rattle.pm_segments.specs.Ends.{LogEnd, EndsThere}
-use Rattle.pm_segments.specs.Grammars.{place}
-use Rattle.pm_segments.specs.Logs.{after_frames}
+use Rattle.pm_records.specs.Logs.{place}
+use Rattle.pm_records.specs.Logs.{after_frames}
 use Rattle.pm_engine.specs.Engines.{Running, running, IsAtRest, HasSegments}
 use Rattle.pm_engine.specs.Held.{Holds}
 use Rattle.pm_top.specs.declared.batch.Continuation.{Continuation}

@@ -1,6 +1,6 @@
 //! The lines that report faults.
 
-ghost use Rattle.std.specs.Prelude.{◌≡◌, ◌⊎◌, ◌≤◌, [], codes, OnOk};
+ghost use Rattle.std.specs.Prelude.{◌≡◌, ◌≢◌, ◌⊎◌, [], codes, OnOk};
 ghost use Rattle.pm_disk.specs.States.{IsLaterState, Rose};
 ghost use Rattle.pm_disk.specs.Moments.{AllMoments};
 ghost use Rattle.pm_disk.specs.Worlds.{with_said};
@@ -12,63 +12,68 @@ use pm_disk::Host;
 use pm_types::Place;
 use std::alloc::{AllocError, Global};
 
-/// Prints the line that says that the words aren't a command.
+/// Prints the line that says that the words aren't a command. Gives `Usage`, or `Failed` where that fails.
 pub fn print_usage_fault<H: Host>(host: &mut H) -> Status
     ensures usage { H.tells → result ≡ Status.Usage →
         (H.history host.new).world ≡ with_said (codes "fault usage\n") (H.history host.old).world }
-    ensures part { H.tells → result ≡ Status.Failed →
-        SaysPart (codes "fault usage\n") (H.history host.old).world (H.history host.new).world }
     ensures moments { H.tells → AllMoments (H.history host.old) (H.history host.new)
         (SaysPart (codes "fault usage\n") (H.history host.old).world) }
     ensures cases { (result ≡ Status.Usage) ⊎ (result ≡ Status.Failed) }
     ensures failed { result ≡ Status.Failed → Rose (H.state host.old) (H.state host.new) }
     ensures state { IsLaterState (H.state host.old) (H.state host.new) }
 {
-    match host.print(b"fault usage\n") {
-        Ok(()) => Status::Usage,
-        Err(_) => Status::Failed,
-    }
+    print_fault(host, b"fault usage\n", Status::Usage)
 }
 
-/// Prints the line that says that the script passes a limit.
+/// Prints the line that says that the script passes a limit. Gives `Long`, or `Failed` where that fails.
 pub fn print_limit_fault<H: Host>(host: &mut H) -> Status
     ensures long { H.tells → result ≡ Status.Long →
         (H.history host.new).world ≡ with_said (codes "fault long\n") (H.history host.old).world }
-    ensures part { H.tells → result ≡ Status.Failed →
-        SaysPart (codes "fault long\n") (H.history host.old).world (H.history host.new).world }
     ensures moments { H.tells → AllMoments (H.history host.old) (H.history host.new)
         (SaysPart (codes "fault long\n") (H.history host.old).world) }
     ensures cases { (result ≡ Status.Long) ⊎ (result ≡ Status.Failed) }
     ensures failed { result ≡ Status.Failed → Rose (H.state host.old) (H.state host.new) }
     ensures state { IsLaterState (H.state host.old) (H.state host.new) }
 {
-    match host.print(b"fault long\n") {
-        Ok(()) => Status::Long,
-        Err(_) => Status::Failed,
-    }
+    print_fault(host, b"fault long\n", Status::Long)
 }
 
-/// Prints the line that names a record that is bad. Where there is no memory for it nothing is printed.
+/// Prints the line that names a record that is bad. Gives `Damaged`, or `Failed` where that fails. Where there is no memory for
+/// it nothing is printed, and it gives `Memory`.
 pub fn print_record_fault<H: Host>(alloc: Global, host: &mut H, at: Place) -> Status
-    ensures moments { H.tells → AllMoments (H.history host.old) (H.history host.new)
-        (SaysPart (fault_record at) (H.history host.old).world) }
     ensures damaged { H.tells → result ≡ Status.Damaged →
         (H.history host.new).world ≡ with_said (fault_record at) (H.history host.old).world }
+    ensures moments { H.tells → AllMoments (H.history host.old) (H.history host.new)
+        (SaysPart (fault_record at) (H.history host.old).world) }
     ensures cases { (result ≡ Status.Damaged) ⊎ (result ≡ Status.Failed) ⊎ (result ≡ Status.Memory) }
     ensures failed { result ≡ Status.Failed → Rose (H.state host.old) (H.state host.new) }
     ensures state { IsLaterState (H.state host.old) (H.state host.new) }
 {
     let mut text = Vec::new(alloc);
-    if write_record_fault(at, &mut text).is_err() {
-        return Status::Memory;
+    match write_record_fault(at, &mut text) {
+        Ok(()) => print_fault(host, &text, Status::Damaged),
+        Err(_) => Status::Memory,
     }
-    match host.print(&text) {
-        Ok(()) => Status::Damaged,
+}
+
+// Prints a line, and gives this status, or `Failed` where that fails.
+fn print_fault<H: Host>(host: &mut H, text: &[u8], status: Status) -> Status
+    requires { status ≢ Status.Failed }
+    ensures said { H.tells → result ≡ status →
+        (H.history host.new).world ≡ with_said text.now (H.history host.old).world }
+    ensures moments { H.tells → AllMoments (H.history host.old) (H.history host.new)
+        (SaysPart text.now (H.history host.old).world) }
+    ensures cases { (result ≡ status) ⊎ (result ≡ Status.Failed) }
+    ensures failed { result ≡ Status.Failed → Rose (H.state host.old) (H.state host.new) }
+    ensures state { IsLaterState (H.state host.old) (H.state host.new) }
+{
+    match host.print(text) {
+        Ok(()) => status,
         Err(_) => Status::Failed,
     }
 }
 
-// Appends the line that names a record.
+// Writes the line that names a record.
 fn write_record_fault(at: Place, into: &mut Vec<u8>) -> Result<(), AllocError>
     requires { into.old.items ≡ [] }
     ensures { OnOk result (into.new.items ≡ fault_record at) }

@@ -4,12 +4,13 @@ use Rattle.std.proofs.lemmas.List.{length-map}
 use Rattle.pm_types.specs.declared.limits.TheConstants.{LINES_MAX}
 use Rattle.pm_disk.specs.Moments.{AllMoments}
 use Rattle.pm_disk.specs.Worlds.{World}
+use Rattle.pm_disk.proofs.Chain.{at_last}
 use Rattle.pm_script.specs.Lines.{lines_of}
 use Rattle.pm_engine.specs.declared.engine.Engine.{Engine}
 use Rattle.pm_engine.specs.Engines.{running}
 use Rattle.pm_top.specs.declared.status.Status.{Status}
 use Rattle.pm_top.specs.Crashes.{CrashHoldsAcknowledged}
-use Rattle.pm_top.specs.Promises.{OutcomeIs, StopIs, IsDone, IsStopped}
+use Rattle.pm_top.specs.Promises.{OutcomeIs, StopIs, IsDone, IsStopped, SaysPart}
 use Rattle.pm_top.specs.Runs.{CanRun, LeavesStore, SameFiles}
 use Rattle.pm_top.specs.Served.{line_of}
 use Rattle.pm_top.specs.Statuses.{code_of}
@@ -36,7 +37,7 @@ returns-clause-outcome g c t start same =
           let told = w.print_limit_fault-status in
           subst (λ s. OutcomeIs s start new engine.shape engine.map lines order) (sym w.status-is)
           (subst (λ h. OutcomeIs told.result start (g.H.Device.history h).world engine.shape engine.map lines order) (sym w.host-is)
-          (ends_long told.result start mid (g.H.Device.history told.new.host).world engine.shape engine.map lines order stopped (told.ensures.long t) (told.ensures.part t) told.ensures.cases))
+          (ends_long told.result start mid (g.H.Device.history told.new.host).world engine.shape engine.map lines order stopped (told.ensures.long t) (λ failed. at_last (g.H.Device.history c.serve.new.host) (g.H.Device.history told.new.host) (SaysPart (codes "fault long\n") mid) (g.H.Device.sound told.new.host t) (told.ensures.moments t)) told.ensures.cases))
       | in-Err-Failed w ↦
           subst (λ s. OutcomeIs s start new engine.shape engine.map lines order) (sym w.status-is)
           (subst (λ h. OutcomeIs Status.Failed start (g.H.Device.history h).world engine.shape engine.map lines order) (sym w.host-is) ((w.in-Err-Failed.ensures.fault t start same).failed (ap Err w.in-Err-Failed.field-0-is)))

@@ -1,14 +1,12 @@
-use Rattle.std.proofs.Common.{◌≡◌, subst}
+use Rattle.std.proofs.Common.{◌≡◌, subst, sym}
 use Rattle.std.specs.Prelude.{codes}
 use Rattle.pm_disk.specs.Moments.{AllMoments}
 use Rattle.pm_disk.specs.Worlds.{World}
-use Rattle.pm_disk.proofs.Chain.{joined}
-use Rattle.pm_model.specs.Eval.{after_all}
+use Rattle.pm_disk.proofs.Chain.{joined, at_last}
 use Rattle.pm_top.specs.Crashes.{CrashHoldsAcknowledged}
-use Rattle.pm_top.specs.Promises.{HoldsAtEachMoment, IsDamaged, IsLeft, IsStart, OutcomeIs}
-use Rattle.pm_top.specs.Served.{script_of}
+use Rattle.pm_top.specs.Promises.{IsStart, RefusalIs, SaysPart}
 use Rattle.pm_top.proofs.KeptFiles.{bind_call, say_calls, then_calls}
-use Rattle.pm_top.proofs.Opened.{rest_keeps, refused_moments, bound_moments, run_from}
+use Rattle.pm_top.proofs.Opened.{rest_keeps, refused_moments, refusal, bound_moments, run_from}
 use Rattle.pm_top.proofs.call.command.Goals as goal
 
 pub returns-in_default-clause-crash : goal.returns-in_default-clause-crash
@@ -53,3 +51,11 @@ returns-in-Ok-clause-files g c t =
 pub returns-in-Err-clause-files : goal.returns-in-Err-clause-files
 returns-in-Err-clause-files g c t =
     bind_call (g.H.Device.history c.args.host.now) (g.H.Device.history c.bind.new.self) c.bind.result (g.H.Device.sound c.args.host.now t) (c.bind.ensures.does t)
+
+pub returns-in_default-clause-refusal : goal.returns-in_default-clause-refusal
+returns-in_default-clause-refusal g c t is =
+    let old = g.H.Device.history c.args.host.now in
+    let new = g.H.Device.history c.print_usage_fault.new.host in
+    let part = at_last old new (SaysPart (codes "fault usage\n") old.world) (g.H.Device.sound c.print_usage_fault.new.host t) (c.print_usage_fault.ensures.moments t) in
+    subst (λ s. RefusalIs s old.world new.world c.without.result.lines c.without.result.order.items) (sym c.without.ensures.status)
+    (refusal c.print_usage_fault.result old.world new.world c.without.result.lines c.without.result.order.items c.print_usage_fault.ensures.cases (c.print_usage_fault.ensures.usage t) part c.without.ensures.lines c.without.ensures.order)

@@ -4,7 +4,7 @@ use Rattle.pm_disk.specs.Moments.{AllMoments}
 use Rattle.pm_disk.specs.Worlds.{World, with_said}
 use Rattle.pm_disk.proofs.Chain.{at_last, joined}
 use Rattle.pm_model.specs.Eval.{Pairs}
-use Rattle.pm_segments.specs.Written.{ChangesLog}
+use Rattle.pm_records.specs.LogFiles.{ChangesLog}
 use Rattle.pm_engine.specs.Engines.{running, HasSegments}
 use Rattle.pm_top.specs.declared.status.Status.TheVariants.{Damaged}
 use Rattle.pm_top.specs.Crashes.{CrashHoldsAcknowledged}

@@ -5,7 +5,7 @@ use Rattle.pm_disk.specs.Worlds.{World}
 use Rattle.pm_disk.proofs.Chain.{at_last}
 use Rattle.pm_model.specs.Eval.{replies_to, accepted}
 use Rattle.pm_script.specs.Texts.{texts_of}
-use Rattle.pm_segments.specs.Written.{ChangesLog}
+use Rattle.pm_records.specs.LogFiles.{ChangesLog}
 use Rattle.pm_engine.specs.Engines.{running, IsAtRest}
 use Rattle.pm_engine.proofs.Batching.{ok_holds}
 use Rattle.pm_top.specs.declared.shape.TheConstants.{SHAPE}

@@ -5,7 +5,7 @@ use Rattle.pm_disk.specs.Moments.{AllMoments}
 use Rattle.pm_disk.proofs.Chain.{at_last}
 use Rattle.pm_types.specs.Shapes.{IsShape}
 use Rattle.pm_script.specs.Reading.{rest_of, Unread}
-use Rattle.pm_segments.specs.Written.{ChangesLog}
+use Rattle.pm_records.specs.LogFiles.{ChangesLog}
 use Rattle.pm_engine.specs.Engines.{Running}
 use Rattle.pm_top.specs.declared.run.Run.{Run}
 use Rattle.pm_top.specs.Crashes.{CrashHoldsAcknowledged}
