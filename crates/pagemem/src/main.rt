@@ -10,7 +10,9 @@ use std::process::ExitCode;
 
 // The statuses that `main` itself gives, as `top` does.
 const USAGE: u8 = 1;
+
 const FAILED: u8 = 3;
+
 const OUT_OF_MEMORY: u8 = 4;
 
 fn main(rt: HostRuntime) -> ExitCode {
@@ -28,7 +30,13 @@ fn run(rt: &HostRuntime) -> u8 {
     };
     let mut host = FsHost::new(outside);
     let status = top(rt, &words, &mut host).status;
-    explained(rt, status)
+    match host.first_failure() {
+        Some(failure) if status == FAILED => {
+            let _ = eprintln!(rt; "pagemem: {failure}");
+            status
+        }
+        _ => explained(rt, status),
+    }
 }
 
 // The words after the program's name, or the status that ends the program: a word that isn't UTF-8 is no word of a command.
@@ -58,7 +66,9 @@ fn reason(status: u8) -> Option<&'static str> {
         USAGE => Some("call it as `pagemem run DIR < SCRIPT`"),
         FAILED => Some("a call on the disk, the input or the output failed"),
         OUT_OF_MEMORY => Some("memory ran out"),
-        5 => Some("the store's log has a bad record, named on standard output; nothing was changed"),
+        5 => Some(
+            "the store's log has a bad record, named on standard output; nothing was changed",
+        ),
         _ => Some(
             "the script passes 4,000,000 lines or 17,179,869,184 bytes; the lines before that are answered",
         ),

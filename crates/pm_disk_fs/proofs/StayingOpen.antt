@@ -16,10 +16,10 @@ only_one x y at = let none : at.0 ≡ 0 = omega (arith, at.1) in subst (λ k. sl
 others_left : {F : Type 0} (before after : List (Opened F)) (out file : Opened F) (name : StoreFile) → out.name ≡ name → file.name ≢ name → Contains (before ++ out ∷ after) file → Contains (before ++ after) file
 others_left before after out file name named other there =
     elim (Contains-append_cases before (out ∷ after) file there) [
-      inl b ↦ Contains-append_left before after file b
-    | inr rest ↦ elim (Contains-append_cases (out ∷ []) after file rest) [
-        inl o ↦ absurd (other (ap (λ f. f.name) (sym (only_one out file o)) ∙ named))
-      | inr a ↦ Contains-append_right before after file a
+      | inl b ↦ Contains-append_left before after file b
+      | inr rest ↦ elim (Contains-append_cases (out ∷ []) after file rest) [
+        | inl o ↦ absurd (other (ap (λ f. f.name) (sym (only_one out file o)) ∙ named))
+        | inr a ↦ Contains-append_right before after file a
       ]
     ]
 

@@ -40,7 +40,12 @@ fn len_of(host: &mut FsHost<HostRuntime>, seg: u64) -> Result<Option<u64>, Faile
 }
 
 /// What a host answers to `read_log`.
-fn read(host: &mut FsHost<HostRuntime>, seg: u64, at: u64, into: &mut [u8]) -> Result<usize, Failed> {
+fn read(
+    host: &mut FsHost<HostRuntime>,
+    seg: u64,
+    at: u64,
+    into: &mut [u8],
+) -> Result<usize, Failed> {
     host.read_log(seg, at, into)
 }
 
@@ -379,8 +384,7 @@ fn look_at_failure(
 }
 
 /// What the system says of a write to a full disk.
-const NO_SPACE: &str =
-    "write of wal-0000000000000001.seg: No space left on device (os error 28)";
+const NO_SPACE: &str = "write of wal-0000000000000001.seg: No space left on device (os error 28)";
 
 #[test]
 fn a_full_disk_is_reported_by_the_force(rt: HostRuntime) -> Result<(), Fail> {
@@ -406,11 +410,7 @@ fn without_a_folder_each_call_on_the_log_fails(rt: HostRuntime) -> Result<(), Fa
 }
 
 /// Writes one byte to each of so many segments, and forces the first of them.
-fn write_many(
-    rt: &impl Abort,
-    host: &mut FsHost<HostRuntime>,
-    count: u64,
-) -> Result<(), Fail> {
+fn write_many(rt: &impl Abort, host: &mut FsHost<HostRuntime>, count: u64) -> Result<(), Fail> {
     for number in 0..count {
         assert!(rt; write(host, number.saturating_add(1), 0, b"x").is_ok());
     }
@@ -422,7 +422,11 @@ fn more_files_are_changed_than_may_be_open(rt: HostRuntime) -> Result<(), Fail> 
     let mut host = host_in(&rt, "many")?;
     let count = OPEN_MAX as u64 + 2;
     write_many(&rt, &mut host, count)?;
-    make_calls(&rt, &mut host, &[Call::Write(1, 1, "y"), Call::Write(2, 1, "z")])?;
+    make_calls(
+        &rt,
+        &mut host,
+        &[Call::Write(1, 1, "y"), Call::Write(2, 1, "z")],
+    )?;
     look_at_read(&rt, &mut host, 1, 0, 4, "Ok(2) xy........")?;
     look_at_read(&rt, &mut host, 2, 0, 4, "Ok(2) xz........")?;
     look_at_read(&rt, &mut host, count, 0, 4, "Ok(1) x.........")?;

@@ -63,7 +63,11 @@ fn halve_log<L: LogFile>(log: &mut L, seg: u64) -> Result<(), Failed>
 }
 
 /// A count of bytes that were read, and those.
-fn answer_bytes(alloc: Global, count: Result<usize, Failed>, into: &[u8]) -> Result<String, AllocError> {
+fn answer_bytes(
+    alloc: Global,
+    count: Result<usize, Failed>,
+    into: &[u8],
+) -> Result<String, AllocError> {
     let read = &into[..count.unwrap_or(0).min(into.len())];
     format!(in alloc; "{count:?} {read:?}")
 }

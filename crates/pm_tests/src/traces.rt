@@ -72,10 +72,16 @@ const TRACES: [(&str, Option<usize>); 9] = [
     ("synced d\nforced d/f\n", Some(1)),
     ("made d/f\nchanged d/f\nsynced d/f\nforced d/f\n", None),
     ("made d/f\nchanged d/f\nsynced d\nforced d/f\n", None),
-    ("made d/f\nchanged d/f\nsynced d/f\nsynced d\nforced d/f\nforced d/f\n", Some(2)),
+    (
+        "made d/f\nchanged d/f\nsynced d/f\nsynced d\nforced d/f\nforced d/f\n",
+        Some(2),
+    ),
     ("synced d\nsynced d/f\nchanged d/f\nforced d/f\n", None),
     ("synced d\nremoved d/g\nforced d/f\n", None),
-    ("changed d/f\nremoved d/f\nsynced d\nmade e/f\nforced d/f\n", Some(1)),
+    (
+        "changed d/f\nremoved d/f\nsynced d\nmade e/f\nforced d/f\n",
+        Some(1),
+    ),
 ];
 
 #[test]
