@@ -1,4 +1,5 @@
-//! Tests that cross crates: the top call over a host in memory, both hosts call by call, and the log over small segments.
+//! Tests that cross crates: the top call over a host in memory, both hosts call by call, the log over small segments, and
+//! callers that are proved against the contracts of pages and of page locks alone.
 #![tactic(auto)]
 
 #[cfg(test)]
@@ -18,6 +19,7 @@ pub mod lock_clients;
 mod logs;
 #[cfg(test)]
 mod noted;
+pub mod pages;
 #[cfg(test)]
 mod pieces;
 #[cfg(test)]

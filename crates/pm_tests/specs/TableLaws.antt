@@ -7,8 +7,8 @@ use Rattle.pm_pages.specs.Paged.{Paged, with_page, AsksPage, WritesPage, MakesPa
 use Rattle.pm_pages.specs.Asked.{entry_of}
 use Rattle.pm_pages.specs.Plain.{plain_seen, plain_written, ArePlainReady}
 use Rattle.pm_pages.specs.PlainLaws as plain
-use Rattle.pm_page_tests.specs.declared.table.TablePages.{TablePages}
-use Rattle.pm_page_tests.specs.Table.{is_held, held_only, table_seen, IsTableReady, KeepsTable, table_written}
+use Rattle.pm_tests.specs.declared.pages.table.TablePages.{TablePages}
+use Rattle.pm_tests.specs.Table.{is_held, held_only, table_seen, IsTableReady, KeepsTable, table_written}
 
 pub kept_refl : (t : TablePages) → KeepsTable t t
 kept_refl t = record { plain = plain.kept_refl t.plain; later = omega arith; ready = λ is. is }

@@ -4,7 +4,7 @@ ghost use Rattle.std.specs.Prelude.{◌≡◌, ◌≤◌, ℕ};
 ghost use Rattle.pm_types.specs.Counts.{HasRisen};
 ghost use Rattle.pm_pages.specs.Paged.{IsTold, IsThere};
 ghost use Rattle.pm_pages.specs.Plain.{plain_seen, ArePlainReady};
-ghost use Rattle.pm_page_tests.specs.Table.{table_seen, IsTableReady};
+ghost use Rattle.pm_tests.specs.Table.{table_seen, IsTableReady};
 
 use pm_pages::{Pages, PlainPages};
 use pm_types::{PageFault, Patch};
@@ -48,8 +48,8 @@ fn raised(faults: u64) -> u64
 }
 
 impl Pages for TablePages {
-    ghost use Rattle.pm_page_tests.specs.Table.{table_seen, IsTableReady, KeepsTable, table_written};
-    ghost use Rattle.pm_page_tests.specs.TableLaws as laws;
+    ghost use Rattle.pm_tests.specs.Table.{table_seen, IsTableReady, KeepsTable, table_written};
+    ghost use Rattle.pm_tests.specs.TableLaws as laws;
 
     ghost tells = { ⊥ };
 

@@ -1,6 +1,4 @@
 //! Callers that are generic over the pages of a partition, and pages of which only those that a table names are known.
-#![tactic(auto)]
-
 mod callers;
 mod edits;
 mod meta_edits;

@@ -2,7 +2,7 @@
 use Rattle.std.specs.Prelude.{◌≡◌, ℕ, ◌≤◌, Bool, true, false, Option, None, Some, List}
 use Rattle.pm_pages.specs.Paged.{Paged}
 use Rattle.pm_pages.specs.Plain.{plain_seen, plain_written, ArePlainReady, KeepsPlain}
-use Rattle.pm_page_tests.specs.declared.table.TablePages.{TablePages}
+use Rattle.pm_tests.specs.declared.pages.table.TablePages.{TablePages}
 
 abbrev pub is_held : Option (List ℕ) → Bool
 is_held None = false

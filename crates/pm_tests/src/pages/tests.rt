@@ -1,8 +1,8 @@
 ghost use Rattle.std.specs.Prelude.{◌≡◌, ℕ, IfOk};
 ghost use Rattle.pm_pages.specs.Paged.{IsTold, IsThere};
-ghost use Rattle.pm_page_tests.specs.Table.{table_seen, IsTableReady};
+ghost use Rattle.pm_tests.specs.Table.{table_seen, IsTableReady};
 
-use crate::*;
+use crate::pages::*;
 use pm_model::part_of;
 use pm_pages::{Pages, PlainPages, is_well_formed};
 use pm_types::{Page, PageFault, PageId, Shape};

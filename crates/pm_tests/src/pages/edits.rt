@@ -5,7 +5,7 @@ ghost use Rattle.pm_types.specs.Counts.{HasRisen};
 ghost use Rattle.pm_types.specs.PageSizes.{IsPageSize};
 ghost use Rattle.pm_types.specs.Spans.{Coverage, Covers};
 ghost use Rattle.pm_pages.specs.Paged.{Paged, IsTold, IsThere, HasRoomFor, AsksPage, IsLent, WritesPage, NotesPatch, HasPageCause};
-ghost use Rattle.pm_page_tests.specs.Edits.{SetsByte, SetsTwoBytes, HasTwoCauses};
+ghost use Rattle.pm_tests.specs.Edits.{SetsByte, SetsTwoBytes, HasTwoCauses};
 
 use pm_pages::Pages;
 use pm_types::{PageFault, Patch};

@@ -4,12 +4,12 @@ ghost use Rattle.std.specs.Prelude.{◌≡◌, ◌≢◌, ◌<◌, ◌≤◌, Is
 ghost use Rattle.pm_types.specs.declared.limits.TheConstants.{CACHES};
 ghost use Rattle.pm_pages.specs.Paged.{AllReadable, IsTold, IsThere};
 ghost use Rattle.pm_pages.specs.Plain.{plain_seen, ArePlainReady, KeepsPlain};
-ghost use Rattle.pm_page_tests.specs.Edits.{SetsTwoBytes, HasTwoCauses};
-ghost use Rattle.pm_page_tests.specs.Table.{table_seen, IsTableReady, KeepsTable};
+ghost use Rattle.pm_tests.specs.Edits.{SetsTwoBytes, HasTwoCauses};
+ghost use Rattle.pm_tests.specs.Table.{table_seen, IsTableReady, KeepsTable};
 
-use crate::edits::set_byte_twice;
-use crate::searches::find_in_leaf;
-use crate::table::TablePages;
+use crate::pages::edits::set_byte_twice;
+use crate::pages::searches::find_in_leaf;
+use crate::pages::table::TablePages;
 use pm_btpage::Found;
 use pm_pages::PlainPages;
 use pm_types::PageFault;
