@@ -74,12 +74,14 @@ keeps_read was now i registers is =
 -- a page was asked for to be written
 pub keeps_lent : (was now : List Asked) (i : ℕ) → RegistersPage was now i → entry_of now i ≡ Some (record (entry_or_new was i) { is_lent = true }) → KeepsEntries was now i × ((j : ℕ) → SamePatch (entry_of was j) (entry_of now j))
 keeps_lent was now i registers is =
-    let patches = each_entry SamePatch (λ o. refl) was now i registers (ap patch_of is ∙ same_patch (entry_of was i) i) in
-    (record {
-      registers = registers;
-      lent = each_entry StaysLent (λ o h. h) was now i registers (λ h. ap is_lent_in is);
-      patches = λ size sizes j patch e. sizes j patch (sym (patches j) ∙ e);
-    }, patches)
+    let patches = each_entry SamePatch (λ o. refl) was now i registers (ap patch_of is ∙ same_patch (entry_of was i) i) in (
+      record {
+        registers = registers;
+        lent = each_entry StaysLent (λ o h. h) was now i registers (λ h. ap is_lent_in is);
+        patches = λ size sizes j patch e. sizes j patch (sym (patches j) ∙ e);
+      },
+      patches,
+    )
 
 -- the patches of all are of one size where that of the page is
 sizes_kept : (size i : ℕ) (was now : List Asked) → RegistersPage was now i → HaveSize size was → ((patch : Coverage) → patch_of (entry_of now i) ≡ Some patch → patch.page_size ≡ size) → HaveSize size now
@@ -103,9 +105,10 @@ whole_size size (Some p) whole patch e = (let same : p ≡ patch = cc e in ap (�
 
 -- a page was made
 pub keeps_made : (was now : List Asked) (i size : ℕ) → RegistersPage was now i → IsSomeAnd (entry_of now i) (MakesEntry size) → HaveSize size was → HaveSize size now × ((j : ℕ) → StaysLent (entry_of was j) (entry_of now j))
-keeps_made was now i size registers made sizes =
-    (sizes_kept size i was now registers sizes (whole_size size (patch_of (entry_of now i)) (made_whole size (entry_of now i) made)),
-    each_entry StaysLent (λ o h. h) was now i registers (λ h. made_lent size (entry_of now i) made))
+keeps_made was now i size registers made sizes = (
+  sizes_kept size i was now registers sizes (whole_size size (patch_of (entry_of now i)) (made_whole size (entry_of now i) made)),
+  each_entry StaysLent (λ o h. h) was now i registers (λ h. made_lent size (entry_of now i) made),
+)
 
 joined_size : (size : ℕ) (old : Option Coverage) (patch joined : Coverage) → patch.page_size ≡ size → ((p : Coverage) → old ≡ Some p → p.page_size ≡ size) → JoinsPatch old patch joined → joined.page_size ≡ size
 joined_size size None patch joined same sizes joins = ap (λ (p : Coverage). p.page_size) joins ∙ same
@@ -125,9 +128,10 @@ noted_lent was patch (Some entry) notes = notes.lent
 
 -- a patch was noted
 pub keeps_noted : (was now : List Asked) (i size : ℕ) (patch : Coverage) → RegistersPage was now i → IsSomeAnd (entry_of now i) (NotesEntry (entry_or_new was i) patch) → HaveSize size was → patch.page_size ≡ size → HaveSize size now × ((j : ℕ) → is_lent_in (entry_of now j) ≡ is_lent_in (entry_of was j))
-keeps_noted was now i size patch registers notes sizes same =
-    (sizes_kept size i was now registers sizes (noted_size size (entry_or_new was i) patch (entry_of now i) same (λ p e. sizes i p (sym (same_patch (entry_of was i) i) ∙ e)) notes),
-    each_entry (λ a b. is_lent_in b ≡ is_lent_in a) (λ o. refl) was now i registers (noted_lent (entry_or_new was i) patch (entry_of now i) notes ∙ same_lent (entry_of was i) i))
+keeps_noted was now i size patch registers notes sizes same = (
+  sizes_kept size i was now registers sizes (noted_size size (entry_or_new was i) patch (entry_of now i) same (λ p e. sizes i p (sym (same_patch (entry_of was i) i) ∙ e)) notes),
+  each_entry (λ a b. is_lent_in b ≡ is_lent_in a) (λ o. refl) was now i registers (noted_lent (entry_or_new was i) patch (entry_of now i) notes ∙ same_lent (entry_of was i) i),
+)
 
 -- not too many pages were asked for
 pub few_kept : (i : ℕ) (was now : List Asked) → RegistersPage was now i → length was ≤ 32 → IsTrue (is_asked (entry_of was i)) ⊎ (0 < 32 - length was) → length now ≤ 32

@@ -17,7 +17,9 @@ needs_whole size is = record {
   where
     bounds : (1024 ≤ size) × (size ≤ 16384)
     bounds = page_size_bounds size is
+
     of_set : (k : ℕ) → Covers (no_coverage size) k ⊎ IsInSpan (span_of 0 size) k → IsInSpan (span_of 0 size) k
     of_set k h = elim h [ inl (inl w) ↦ (let f = w.0 in absurd (cc f)) | inl (inr n) ↦ absurd n | inr h ↦ h ]
+
     of_any : (k : ℕ) → IsInSpans (span_of 0 size ∷ []) k → IsInSpan (span_of 0 size) k
     of_any k h = elim h [ inl h ↦ h | inr n ↦ absurd n ]

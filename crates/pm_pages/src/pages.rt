@@ -99,10 +99,14 @@ pub trait Pages {
         ensures gives_up { GivesUpPages tells (seen self.old) (seen self.new) };
 
     ghost kept_refl: { (s : Self) → kept s s };
+
     ghost kept_then: { (s t u : Self) → kept s t → kept t u → kept s u };
+
     ghost kept_ready: { (s t : Self) → kept s t → ready s → ready t };
+
     ghost writes: { (s : Self) (i : ℕ) (bytes : List ℕ) → ready s → IsTrue ((seen s).lent i)
         → length bytes ≡ (seen s).page_size → WritesPage (seen s) (seen (written s i bytes)) i bytes };
+
     ghost kept_written: { (s : Self) (i : ℕ) (bytes : List ℕ) → ready s → IsTrue ((seen s).lent i)
         → length bytes ≡ (seen s).page_size → kept s (written s i bytes) };
 }

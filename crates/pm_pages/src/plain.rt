@@ -35,8 +35,13 @@ impl PlainPages {
     pub fn new(alloc: Global, shape: &Shape, part: u16) -> Result<PlainPages, AllocError>
         requires { IsPageSize shape.now.page_size }
         ensures plain { IfOk result ArePlain }
-        ensures shows { IfOk result (λ made. shown made ≡ record { page_size = shape.now.page_size;
-            max_rows = shape.now.max_rows; part = part; pages = []; asked = [] }) }
+        ensures shows { IfOk result (λ made. shown made ≡ record {
+          page_size = shape.now.page_size;
+          max_rows = shape.now.max_rows;
+          part = part;
+          pages = [];
+          asked = [];
+        }) }
     {
         PlainPages::of(alloc, shape, part, Vec::new(alloc))
     }
@@ -51,8 +56,13 @@ impl PlainPages {
         requires size { IsPageSize shape.now.page_size }
         requires sized { All (IsOfSize shape.now.page_size) pages.items }
         ensures plain { IfOk result ArePlain }
-        ensures shows { IfOk result (λ made. shown made ≡ record { page_size = shape.now.page_size;
-            max_rows = shape.now.max_rows; part = part; pages = pages.items; asked = [] }) }
+        ensures shows { IfOk result (λ made. shown made ≡ record {
+          page_size = shape.now.page_size;
+          max_rows = shape.now.max_rows;
+          part = part;
+          pages = pages.items;
+          asked = [];
+        }) }
     {
         let asked = Vec::with_capacity(alloc, OP_PAGES as usize)?;
         Ok(PlainPages {

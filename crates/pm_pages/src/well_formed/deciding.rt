@@ -9,9 +9,9 @@ ghost use Rattle.pm_pages.specs.Chains.{HasChain};
 ghost use Rattle.pm_pages.specs.WellFormed.{IsWellFormed};
 
 use crate::well_formed::chains::{has_chain, has_reuse_chain, reuse_chain};
-use crate::well_formed::passing::all_pass;
 use crate::well_formed::forest::has_forest;
 use crate::well_formed::keys::has_keys_once;
+use crate::well_formed::passing::all_pass;
 use crate::well_formed::placed::each_once;
 use crate::well_formed::rows::rows_of;
 use pm_meta::BUCKETS;

@@ -7,10 +7,10 @@ ghost use Rattle.pm_pages.specs.PageLists.{pages_in, AreReadable};
 ghost use Rattle.pm_pages.specs.Trees.{IsTreeOf, HasTree};
 
 use crate::limits::LEVELS_MAX;
+use crate::row::Row;
 use crate::well_formed::listed::number;
 use crate::well_formed::listing::{are_linked, items_in, lists_rows};
 use crate::well_formed::placed::{add_leaves, levels_from};
-use crate::row::Row;
 use crate::well_formed::trees::is_tree;
 use pm_meta::MetaSlot;
 use pm_types::{CACHES, Page};

@@ -9,8 +9,8 @@ ghost use Rattle.pm_pages.specs.PageLists.{pages_in, AreReadable};
 ghost use Rattle.pm_pages.specs.Rows.{rows_of};
 ghost use Rattle.pm_pages.specs.WellFormed.{AreDifferent, HasKeysOnce};
 
-use crate::well_formed::listed::number;
 use crate::row::Row;
+use crate::well_formed::listed::number;
 use pm_meta::MetaSlot;
 use pm_model::part_of;
 use pm_types::{Page, Shape};

@@ -9,8 +9,8 @@ ghost use Rattle.pm_pages.specs.Rows.{page_at, kind_of};
 ghost use Rattle.pm_pages.specs.TreeItems.{as_item, as_items};
 ghost use Rattle.pm_pages.specs.Trees.{items_in, IsItemOf, ListsRows, AreLinked};
 
-use crate::well_formed::listed::page;
 use crate::row::Row;
+use crate::well_formed::listed::page;
 use pm_btpage::{count, is_below, key_at, next, word_at};
 use pm_types::{Key, Page};
 use std::alloc::{AllocError, Global};

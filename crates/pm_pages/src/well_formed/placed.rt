@@ -9,9 +9,9 @@ ghost use Rattle.pm_pages.specs.WellFormed.{EachOnce};
 ghost use Rattle.pm_pages.specs.PageLists.{pages_in, AreReadable};
 ghost use Rattle.pm_pages.specs.Trees.{leaves_below, nodes_below, nodes_of, levels_from, IsSomeTree, AreTrees};
 
+use crate::limits::LEVELS_MAX;
 use crate::well_formed::chains::{bucket_chain, reuse_chain};
 use crate::well_formed::exact::is_exactly;
-use crate::limits::LEVELS_MAX;
 use crate::well_formed::listed::{is_of, number, page, page_count};
 use crate::well_formed::trees::{child, children};
 use pm_btpage::INNER_KIND;

@@ -8,8 +8,8 @@ ghost use Rattle.pm_data.specs.DataPages.{IsDataPage};
 ghost use Rattle.pm_pages.specs.PageLists.{pages_in, IsReadable, AreReadable};
 ghost use Rattle.pm_pages.specs.Rows.{page_at, page_count, row_of, rows_on, rows_of};
 
-use crate::well_formed::listed::{is_of, page, page_count};
 use crate::row::Row;
+use crate::well_formed::listed::{is_of, page, page_count};
 use pm_data::{DATA_KIND, SLOTS_MAX, cache_in, key_in, value_in};
 use pm_types::{Key, Link, Page, PageId, Value};
 use std::alloc::{AllocError, Global};
