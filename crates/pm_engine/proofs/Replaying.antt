@@ -79,7 +79,7 @@ replay_bad wanted [] old new f found takes = takes.0 found.begun
 replay_bad wanted (g ∷ gs) old new f found takes =
     let shape : old.shape ≡ log_shape wanted (g ∷ gs) = found.held.told in (
       old.map,
-      ap (λ s. all_replayed s (g ∷ gs) (Some empty)) (sym shape) ∙ found.held.map,
+      subst (λ s. IsHeld wanted (g ∷ gs) s old.map) shape found.held,
       ap (λ s. replayed s (record_in f) old.map) (sym shape) ∙ takes.1 found.begun,
     )
 
@@ -96,7 +96,7 @@ bad_unsound wanted (g ∷ gs) f rest shape pairs bad held =
     let all : all_replayed shape ((g ∷ gs) ++ f ∷ rest) (Some empty) ≡ None =
     ap (λ s. all_replayed s ((g ∷ gs) ++ f ∷ rest) (Some empty)) held.told
     ∙ all_replayed-append (log_shape wanted (g ∷ gs)) (g ∷ gs) (f ∷ rest) (Some empty)
-    ∙ ap (λ o. all_replayed (log_shape wanted (g ∷ gs)) rest (then_replayed (log_shape wanted (g ∷ gs)) f o)) bad.1
+    ∙ ap (λ o. all_replayed (log_shape wanted (g ∷ gs)) rest (then_replayed (log_shape wanted (g ∷ gs)) f o)) bad.1.map
     ∙ ap (all_replayed (log_shape wanted (g ∷ gs)) rest) bad.2
     ∙ none_stays (log_shape wanted (g ∷ gs)) rest in
     let both : Some pairs ≡ None = sym held.map ∙ all in absurd cc
