@@ -1,7 +1,7 @@
 -- How a batch goes on, line after line.
 use Rattle.std.proofs.Common.{◌≡◌, ℕ, ◌+◌, ◌<◌, ◌≤◌, List, [], ◌∷◌, ◌++◌, length, take, get_or, Result, Ok, refl, sym, ◌∙◌, ap, subst, arith, append_assoc, append-nil, add-one, length-append}
 use Rattle.std.specs.Prelude.{OnOk, if◌then◌else◌}
-use Rattle.std.proofs.lemmas.List.{length-take, take-take, take_all}
+use Rattle.std.proofs.lemmas.List.{length-take, take-take}
 use Rattle.std.proofs.lemmas.Result.{on_ok_weaker}
 use Rattle.std.proofs.Math.Seq.{take-suc, take-length, take-append-add}
 use Rattle.pm_frame.specs.Frames.{Frame}

@@ -1,7 +1,6 @@
 -- A batch ends with a force of the log.
-use Rattle.std.proofs.Common.{◌≡◌, ℕ, List, [], length, take, Result, Ok, Err, refl, sym, ◌∙◌, ap, subst, arith, append-nil, ◌++◌}
+use Rattle.std.proofs.Common.{ℕ, List, [], length, Result, refl, sym, ◌∙◌, ap, subst, arith, append-nil}
 use Rattle.std.specs.Prelude.{OnOk}
-use Rattle.std.proofs.lemmas.List.{take_all}
 use Rattle.std.proofs.lemmas.Result.{on_ok_weaker}
 use Rattle.pm_types.specs.declared.shape.Shape.{Shape}
 use Rattle.pm_disk.specs.Files.{bytes_of}
@@ -15,9 +14,9 @@ use Rattle.pm_segments.proofs.Emptied.{forced_reads}
 use Rattle.pm_model.specs.declared.line.Line.{Line}
 use Rattle.pm_model.specs.Eval.{Pairs}
 use Rattle.pm_engine.specs.Batches.{RunsLines}
-use Rattle.pm_engine.specs.Engines.{Running, HasDone, IsAtRestWithin, HasSegments}
+use Rattle.pm_engine.specs.Engines.{Running, HasDone, IsAtRestWithin}
 use Rattle.pm_engine.specs.Held.{CrashHoldsPrefix}
-use Rattle.pm_engine.proofs.DoneLines.{done_keeps, keeps_more_lines, force_at_rest, force_quiet, forced_keeps, force_grows}
+use Rattle.pm_engine.proofs.DoneLines.{done_keeps, force_at_rest, force_quiet, forced_keeps, force_grows}
 use Rattle.pm_engine.proofs.Results.{ok_anyway}
 
 module _ {T E : Type 0} (old new : History) (engine : Running) (result : Result T E) (call : Does {T = T} {E = E} old new result (log_forced engine.log.end.seg old.world)) where

@@ -1,8 +1,8 @@
 -- How a sound store is opened: its tail is cut, and a RESTART is appended. A crash meanwhile leaves what it held.
-use Rattle.std.proofs.Common.{◌≡◌, ◌⊎◌, inl, inr, ℕ, ◌+◌, ◌-◌, ◌^◌, ◌<◌, ◌≤◌, List, [], ◌∷◌, ◌++◌, length, take, drop, Some, refl, sym, ◌∙◌, ap, subst, arith, Bool, true, false, append_assoc, append-nil, length-append}
-use Rattle.std.specs.Prelude.{◌&&◌, not, if◌then◌else◌}
+use Rattle.std.proofs.Common.{◌≡◌, ◌⊎◌, inl, inr, ℕ, ◌+◌, ◌<◌, ◌≤◌, List, [], ◌∷◌, ◌++◌, length, take, drop, Some, refl, sym, ◌∙◌, ap, subst, arith, Bool, true, false, append_assoc, append-nil, length-append}
+use Rattle.std.specs.Prelude.{◌&&◌, if◌then◌else◌}
 use Rattle.std.specs.FinMap.{empty}
-use Rattle.std.proofs.lemmas.Bool.{eqb-true, le-leb}
+use Rattle.std.proofs.lemmas.Bool.{le-leb}
 use Rattle.std.proofs.lemmas.List.{take_all, nil_from_length}
 use Rattle.std.proofs.lemmas.Option.{same_Some}
 use Rattle.pm_types.specs.declared.place.Place.{Place}
@@ -14,7 +14,6 @@ use Rattle.pm_frame.proofs.FrameAt.{frame_at-some}
 use Rattle.pm_records.proofs.HeldLog.{held_log}
 use Rattle.pm_records.proofs.FrameGrammar.{frame_laws}
 use Rattle.pm_records.proofs.Tracing.{world_after-append}
-use Rattle.pm_segments.specs.Scans.{sealed}
 use Rattle.pm_records.specs.Records.{Restart, payload_of}
 use Rattle.pm_types.specs.Shapes.{IsShape}
 use Rattle.pm_records.proofs.RecordOf.{record_of-payload, payload_of-short}
@@ -25,9 +24,9 @@ use Rattle.pm_disk.proofs.Families.{file_there}
 use Rattle.pm_records.specs.FirstRecords.{restart_frame, is_restart, shape_in}
 use Rattle.pm_records.specs.LogFiles.{LogGrowsBy, Ready, contents, Written, IsWritten, IsRecordFrame, IsQuietBut}
 use Rattle.pm_records.specs.LogSteps.{end_after, cut_steps, cut_at, world_after, DoesPrefix, written_after, frames_in}
-use Rattle.pm_records.specs.Logs.{IsLogFrom, without_seals, ends_log, next_place, is_over, record_in, place_after, place, all_frames, HasFrames, after_frames, is_seal, is_last, seal_frame, IsLogWithNothingAbove}
+use Rattle.pm_records.specs.Logs.{IsLogFrom, without_seals, ends_log, next_place, is_over, record_in, place, all_frames, HasFrames, after_frames, is_seal, is_last, seal_frame, IsLogWithNothingAbove}
 use Rattle.pm_records.proofs.OpeningLaw.{run_within, opened, opening_image}
-use Rattle.pm_records.proofs.Runs.{rises_from, few_go_on, one_log, neither, bool_cases, rises, next-plain, next-seal}
+use Rattle.pm_records.proofs.Runs.{rises_from, few_go_on, one_log, neither, bool_cases, next-plain, next-seal}
 use Rattle.pm_records.proofs.Writing.{frames_after, lasting_after}
 use Rattle.pm_segments.specs.Appends.{room_steps, roll_steps, append_steps, steps_of, grown}
 use Rattle.pm_segments.specs.Ends.{LogEnd, fresh_log, has_room, LogIsOpen}
@@ -150,7 +149,7 @@ module _ (wanted : Shape) (old : World) (shape : Shape) (pairs : Pairs) (holds :
       f = restart_frame shape
 
       is_record : IsRecordFrame f
-      is_record = record { known_from = omega arith; known_to = omega arith; short = payload_of-short (Restart shape) sound}
+      is_record = record { known_from = omega arith; known_to = omega arith; short = payload_of-short (Restart shape) sound }
 
       first_kept : 1 ≤ end.seg
       first_kept = rises_from (place 1 0) frames

@@ -1,16 +1,15 @@
 -- What one line does, by how far it came.
-use Rattle.std.proofs.Common.{◌≡◌, ℕ, ◌≤◌, List, [], ◌∷◌, ◌++◌, length, take, Result, refl, sym, ◌∙◌, ap, subst, arith, Bool, true, false, append-nil}
+use Rattle.std.proofs.Common.{◌≡◌, ℕ, ◌≤◌, List, [], ◌∷◌, ◌++◌, take, Result, refl, sym, ◌∙◌, ap, subst, arith, Bool, true, false, append-nil}
 use Rattle.std.specs.Prelude.{not, OnOk, if◌then◌else◌}
 use Rattle.std.proofs.lemmas.Result.{on_ok_weaker}
 use Rattle.pm_frame.specs.Frames.{Frame}
 use Rattle.pm_types.specs.declared.shape.Shape.{Shape}
 use Rattle.pm_disk.specs.Moments.{History, IsHistory, AllMoments}
-use Rattle.pm_disk.specs.Worlds.{World}
 use Rattle.pm_disk.proofs.Chain.{started, weaker}
 use Rattle.pm_records.specs.LogFiles.{ChangesLog, LogGrowsBy}
 use Rattle.pm_records.specs.LogSteps.{DoesPrefix, world_after}
 use Rattle.pm_records.proofs.QuietLog.{log_same, prefix_changes}
-use Rattle.pm_segments.specs.Appends.{grown, steps_of}
+use Rattle.pm_segments.specs.Appends.{steps_of}
 use Rattle.pm_segments.specs.Ends.{EndsThere}
 use Rattle.pm_model.specs.declared.line.Line.{Line}
 use Rattle.pm_model.specs.Eval.{Pairs, is_accepted, accepted, after}

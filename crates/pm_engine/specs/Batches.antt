@@ -48,17 +48,14 @@ pub record RunsLines {T E : Type 0} (tells : Type 0) (old new : History) (before
   pub shape : now.shape ≡ before.shape
   pub map : OnOk result (now.map ≡ after_all before.shape lines before.map)
   pub end : tells → OnOk result (EndsThere now.log new.world)
-
   -- The records of so many lines were handed to the log, and the order has the numbers of those that were accepted.
   pub tried : ℕ
   pub within : tried ≤ length lines
   pub all : OnOk result (tried ≡ length lines)
   pub order : now.order ≡ before.order ++ accepted before.shape first (take tried lines) before.map
-
   -- At `Ok` the log has one frame more for each accepted line, in order.
   pub grows : tells → (wanted : Shape) (start : Pairs) (done : List Line) → HasDone wanted start done before old.world → HasSegments before (length lines)
       → OnOk result (LogGrowsBy old.world new.world (logged before.shape lines before.map))
-
   -- A crash meanwhile leaves the map after a prefix of the lines done before and of those whose records were handed on.
   pub crash : tells → (wanted : Shape) (start : Pairs) (done : List Line) → HasDone wanted start done before old.world → HasSegments before (length lines)
       → AllMoments old new (CrashHoldsPrefix wanted before.shape start (done ++ take tried lines))

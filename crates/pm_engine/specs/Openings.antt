@@ -1,6 +1,5 @@
 -- How a store is opened.
 use Rattle.std.specs.Prelude.{◌≡◌, ◌⊎◌, ◌+◌, ◌<◌, ◌≤◌, List, [], ◌∷◌, ◌++◌, Bool, true, false, Option, Some, None}
-use Rattle.std.specs.FinMap.{empty}
 use Rattle.pm_types.specs.declared.place.Place.{Place}
 use Rattle.pm_types.specs.declared.shape.Shape.{Shape}
 use Rattle.pm_frame.specs.Frames.{Frame}
@@ -10,13 +9,13 @@ use Rattle.pm_records.specs.LogSteps.{Step, world_after, cut_steps}
 use Rattle.pm_records.specs.Records.{Record}
 use Rattle.pm_disk.specs.Worlds.{World}
 use Rattle.pm_records.specs.FirstRecords.{restart_frame, is_restart, shape_in, log_shape}
-use Rattle.pm_records.specs.LogFiles.{contents}
+use Rattle.pm_records.specs.LogFiles.{contents, LogGrowsBy}
 use Rattle.pm_records.specs.Logs.{record_in, place, all_frames, HasFrames, after_frames, IsLogFrom}
 use Rattle.pm_segments.specs.Read.{HasScanned}
 use Rattle.pm_segments.specs.Scans.{Scanned, frame_ahead, Advances}
 use Rattle.pm_model.specs.declared.line.Line.{Line}
 use Rattle.pm_model.specs.Eval.{Pairs}
-use Rattle.pm_engine.specs.Held.{put_replayed, replayed, then_replayed, all_replayed, IsHeld, Holds}
+use Rattle.pm_engine.specs.Held.{put_replayed, replayed, IsHeld, Holds}
 use Rattle.pm_engine.specs.Engines.{Running, IsAtRest}
 use Rattle.pm_engine.specs.declared.replay.Replay.{Replay}
 use Rattle.pm_engine.specs.declared.replay.ReplayStep.{ReplayStep}

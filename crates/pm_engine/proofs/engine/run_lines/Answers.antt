@@ -3,7 +3,6 @@ use Rattle.std.proofs.lemmas.List.{length-take, take_all}
 use Rattle.pm_types.specs.declared.fault.StoreFault.{StoreFault}
 use Rattle.pm_model.specs.Eval.{replies_to}
 use Rattle.pm_engine.specs.Batches.{RunsLines}
-use Rattle.pm_engine.specs.Engines.{HasDoneWithin}
 use Rattle.pm_engine.proofs.Batching.{DoneAfter, take_none, take_one_more, replied_more, runs_none, done_none, done_more, runs_more, runs_part}
 use Rattle.pm_engine.proofs.Results.{on_err, ok_holds}
 use Rattle.pm_engine.proofs.engine.run_lines.Goals as goal

@@ -1,6 +1,5 @@
-use Rattle.std.proofs.Common.{◌≡◌, ◌∙◌, ◌+◌, ◌++◌, [], length, Ok, refl, sym, ap, subst, arith, append-nil}
+use Rattle.std.proofs.Common.{◌+◌, ◌++◌, [], length, Ok, refl, sym, subst, arith, append-nil}
 use Rattle.pm_types.specs.declared.fault.StoreFault.{StoreFault}
-use Rattle.pm_segments.specs.Ends.{EndsThere}
 use Rattle.pm_engine.specs.Batches.{RunsLines}
 use Rattle.pm_engine.specs.Engines.{HasDoneWithin, IsAtRestWithin}
 use Rattle.pm_engine.proofs.Batching.{DoneAfter, runs_more}

@@ -1,12 +1,11 @@
-use Rattle.std.proofs.Common.{◌≡◌, ◌∙◌, ◌++◌, [], ◌∷◌, ap, sym, subst, refl, Bool, true, false}
-use Rattle.std.specs.Prelude.{OnOk}
+use Rattle.std.proofs.Common.{◌≡◌, ◌∙◌, ◌++◌, ap, sym, subst, Bool, true, false}
 use Rattle.pm_disk.specs.Moments.{AllMoments}
 use Rattle.pm_records.specs.LogSteps.{DoesPrefix, world_after}
 use Rattle.pm_segments.specs.Appends.{steps_of, grown}
 use Rattle.pm_segments.specs.Ends.{EndsThere}
-use Rattle.pm_model.specs.Eval.{is_accepted, reply_to, after}
+use Rattle.pm_model.specs.Eval.{is_accepted, after}
 use Rattle.pm_engine.specs.Batches.{noted}
-use Rattle.pm_engine.specs.Engines.{Running, HasDone, HasSegments}
+use Rattle.pm_engine.specs.Engines.{Running}
 use Rattle.pm_engine.specs.Records.{record_of_line, IsPayloadOf, logical_frame}
 use Rattle.pm_engine.proofs.DoneLines.{LogsLine, logs_line, done_unlogged, append_done}
 use Rattle.pm_engine.proofs.Results.{on_err}
