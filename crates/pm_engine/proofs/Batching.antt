@@ -1,22 +1,30 @@
 -- How a batch goes on, line after line.
-use Rattle.std.proofs.Common.{◌≡◌, ℕ, ◌+◌, ◌<◌, ◌≤◌, List, [], ◌∷◌, ◌++◌, length, take, get_or, Result, Ok, refl, sym, ◌∙◌, ap, subst, arith, Bool, true, false, append_assoc, append-nil, add-one}
+use Rattle.std.proofs.Common.{◌≡◌, ℕ, ◌+◌, ◌<◌, ◌≤◌, List, [], ◌∷◌, ◌++◌, length, take, get_or, Result, Ok, refl, sym, ◌∙◌, ap, subst, arith, append_assoc, append-nil, add-one, length-append}
 use Rattle.std.specs.Prelude.{OnOk, if◌then◌else◌}
-use Rattle.std.proofs.lemmas.List.{length-take}
-use Rattle.std.proofs.Math.Seq.{take-suc}
+use Rattle.std.proofs.lemmas.List.{length-take, take-take}
+use Rattle.std.proofs.lemmas.Result.{on_ok_weaker}
+use Rattle.std.proofs.Math.Seq.{take-suc, take-length, take-append-add}
+use Rattle.pm_frame.specs.Frames.{Frame}
+use Rattle.pm_types.specs.declared.fault.StoreFault.{StoreFault}
 use Rattle.pm_types.specs.declared.shape.Shape.{Shape}
-use Rattle.pm_disk.specs.Worlds.{World}
 use Rattle.pm_disk.specs.Moments.{History, IsHistory, AllMoments}
-use Rattle.pm_disk.proofs.Chain.{started, weaker, joined}
+use Rattle.pm_disk.specs.Worlds.{World}
+use Rattle.pm_disk.proofs.Chain.{started, weaker, joined, at_last}
+use Rattle.pm_records.specs.LogFiles.{ChangesLog, LogGrowsBy}
+use Rattle.pm_records.proofs.Growing.{grows_twice}
+use Rattle.pm_records.proofs.QuietLog.{log_then}
+use Rattle.pm_segments.specs.Ends.{EndsThere}
 use Rattle.pm_model.specs.declared.line.Line.{Line}
 use Rattle.pm_model.specs.declared.reply.Reply.{Reply}
-use Rattle.pm_model.specs.Eval.{Pairs, after, after_all, replies_to, reply_to, accepted}
+use Rattle.pm_model.specs.Eval.{Pairs, is_accepted, after, after_all, replies_to, reply_to, accepted}
 use Rattle.pm_model.proofs.Runs.{after_all-append, replies_to-append, accepted-append}
-use Rattle.pm_records.specs.LogFiles.{ChangesLog}
-use Rattle.pm_records.proofs.QuietLog.{log_then}
+use Rattle.pm_engine.specs.Batches.{RunsLines}
+use Rattle.pm_engine.specs.Engines.{Running, HasDone, HasDoneWithin, HasSegments}
 use Rattle.pm_engine.specs.Held.{CrashHoldsPrefix}
-use Rattle.pm_engine.specs.Engines.{Running, HasDone, HasDoneWithin, IsAtRest, HasSegments}
-use Rattle.pm_engine.specs.Batches.{tried_line, TriesLine, TriesLines}
-use Rattle.pm_engine.proofs.DoneLines.{done_keeps, keeps_more_lines}
+use Rattle.pm_engine.specs.Records.{line_frames, logged}
+use Rattle.pm_engine.proofs.DoneLines.{done_keeps, keeps_more_lines, rest_grows}
+use Rattle.pm_engine.proofs.Results.{ok_holds}
+use Rattle.pm_engine.proofs.Trying.{log_still}
 
 -- the first none of a list
 pub take_none : {A : Type 0} (xs : List A) → take 0 xs ≡ []
@@ -28,10 +36,10 @@ pub take_one_more : (lines : List Line) (i : ℕ) (line : Line) → line ≡ get
 take_one_more lines i line is within = ap (λ n. take n lines) (add-one i) ∙ take-suc lines i line within ∙ ap (λ x. take i lines ++ x ∷ []) (sym is)
 
 -- one reply more
-pub told_more : (shape : Shape) (lines : List Line) (i : ℕ) (line : Line) (pairs : Pairs) (first before now : List Reply) (reply : Reply) (its : Shape) (mid : Pairs) → line ≡ get_or lines i line → i < length lines
+pub replied_more : (shape : Shape) (lines : List Line) (i : ℕ) (line : Line) (pairs : Pairs) (first before now : List Reply) (reply : Reply) (its : Shape) (mid : Pairs) → line ≡ get_or lines i line → i < length lines
     → its ≡ shape → mid ≡ after_all shape (take i lines) pairs → before ≡ first ++ replies_to shape (take i lines) pairs → reply ≡ reply_to its line mid → now ≡ before ++ reply ∷ []
     → now ≡ first ++ replies_to shape (take (i + 1) lines) pairs
-told_more shape lines i line pairs first before now reply its mid item within shapes maps told answers is =
+replied_more shape lines i line pairs first before now reply its mid item within shapes maps told answers is =
     let one : reply ≡ reply_to shape line (after_all shape (take i lines) pairs) = answers ∙ ap (λ s. reply_to s line mid) shapes ∙ ap (reply_to shape line) maps in
     is
     ∙ ap (λ rs. rs ++ reply ∷ []) told
@@ -40,115 +48,129 @@ told_more shape lines i line pairs first before now reply its mid item within sh
     ∙ ap (λ rs. first ++ rs) (sym (replies_to-append shape (take i lines) (line ∷ []) pairs))
     ∙ ap (λ ls. first ++ replies_to shape ls pairs) (sym (take_one_more lines i line item within))
 
--- what an `Ok` promises
-pub ok_holds : {T E : Type 0} (r : Result T E) (x : T) (P : Type 0) → r ≡ Ok x → OnOk r P → P
-ok_holds r x P is holds = subst (λ q. OnOk q P) is holds
+-- what lines log, and more lines after them
+pub logged-append : (shape : Shape) (xs ys : List Line) (pairs : Pairs) → logged shape (xs ++ ys) pairs ≡ logged shape xs pairs ++ logged shape ys (after_all shape xs pairs)
+logged-append shape [] ys pairs = refl
+logged-append shape (x ∷ xs) ys pairs =
+    let one : List Frame = if is_accepted shape x pairs then line_frames x else [] in
+    ap (λ l. one ++ l) (logged-append shape xs ys (after shape x pairs))
+    ∙ sym (append_assoc one (logged shape xs (after shape x pairs)) (logged shape ys (after_all shape xs (after shape x pairs))))
 
 -- only the log changes, one call after another
 pub log_joined : (old mid new : History) → AllMoments old mid (ChangesLog old.world) → ChangesLog old.world mid.world → AllMoments mid new (ChangesLog mid.world) → AllMoments old new (ChangesLog old.world)
 log_joined old mid new before here more =
     joined old mid new (ChangesLog old.world) before (weaker mid new (ChangesLog mid.world) (ChangesLog old.world) (λ w only. log_then old.world mid.world w here only) more)
 
--- how many lines were tried, where so many were done
-abbrev many : Bool → ℕ → ℕ
-many tried i = if tried then i + 1 else i
+-- what holds of an engine after lines
+abbrev pub DoneAfter : Type 0 → World → World → Running → Running → List Line → Type 0
+DoneAfter tells old new before now lines = tells → (wanted : Shape) (start : Pairs) (done : List Line) → HasDone wanted start done before old → HasSegments before (length lines)
+    → HasDoneWithin wanted start (done ++ lines) (length lines) before now new
 
-take_many : (tried : Bool) (lines : List Line) (i : ℕ) (line : Line) → line ≡ get_or lines i line → i < length lines → take (many tried i) lines ≡ take i lines ++ tried_line tried line
-take_many true lines i line is within = take_one_more lines i line is within
-take_many false lines i line is within = sym (append-nil (take i lines))
+-- no lines
+pub runs_none : (tells : Type 0) (old : History) (start : Running) (first : ℕ) → (tells → IsHistory old) → (tells → EndsThere start.log old.world) → RunsLines {T = Unit {0}} {E = StoreFault} tells old old start start first [] (Ok tt)
+runs_none tells old start first sound ends = record {
+  shape = refl;
+  map = refl;
+  end = ends;
+  tried = 0;
+  within = omega arith;
+  all = refl;
+  order = sym (append-nil start.order);
+  grows = λ t wanted from done goes segments. rest_grows wanted from done start old.world goes;
+  crash = λ t wanted from done goes segments.
+      started old (CrashHoldsPrefix wanted start.shape from (done ++ [])) (sound t) (keeps_more_lines wanted start.shape from done [] old.world (done_keeps wanted from done start old.world goes));
+  log_only = λ t. log_still old (sound t);
+}
 
-many_within : (tried : Bool) (i n : ℕ) → i < n → many tried i ≤ n
-many_within true i n lt = omega (arith, lt)
-many_within false i n lt = omega (arith, lt)
+pub done_none : (tells : Type 0) (old : History) (start : Running) → DoneAfter tells old.world old.world start start []
+done_none tells old start t wanted from done goes segments = (subst (λ ls. HasDone wanted from ls start old.world) (sym (append-nil done)) goes, omega arith)
 
-module _ (tells : Type 0) (old : History) (start : Running) (first : ℕ) (lines : List Line) where
-  -- so many lines were done
-  pub record HasRun (i : ℕ) (now : History) (engine : Running) : Type 0 where
-    pub shape : engine.shape ≡ start.shape
-    pub map : engine.pairs ≡ after_all start.shape (take i lines) start.pairs
-    pub order : engine.order ≡ start.order ++ accepted start.shape first (take i lines) start.pairs
-    pub goes : tells → (wanted : Shape) → IsAtRest wanted start old.world → HasSegments start (length lines)
-        → HasDoneWithin wanted start.pairs (take i lines) i start engine now.world × AllMoments old now (CrashHoldsPrefix wanted start.shape start.pairs (take i lines))
-    pub log_only : tells → AllMoments old now (ChangesLog old.world)
+-- lines, and more lines after them
+module _ (tells : Type 0) (old mid new : History) (start engine now : Running) (first : ℕ) (xs ys : List Line) (number : ℕ)
+    (before : RunsLines {T = Unit {0}} {E = StoreFault} tells old mid start engine first xs (Ok tt)) (done_before : DoneAfter tells old.world mid.world start engine xs) (sound : tells → IsHistory mid) where
+  few_more : HasSegments start (length (xs ++ ys)) → engine.log.end.seg ≤ start.log.end.seg + length xs → HasSegments engine (length ys)
+  few_more segments rises = omega (arith, segments, rises, length-append xs ys)
 
-  -- none yet
-  pub has_run_none : (tells → IsHistory old) → (tells → AllMoments old old (ChangesLog old.world)) → HasRun 0 old start
-  has_run_none sound still = record {
-    shape = refl;
-    map = ap (λ ls. after_all start.shape ls start.pairs) (sym (take_none lines));
-    order = sym (append-nil start.order) ∙ ap (λ ls. start.order ++ accepted start.shape first ls start.pairs) (sym (take_none lines));
-    goes = λ t wanted stands segments. subst (λ ls. HasDoneWithin wanted start.pairs ls 0 start start old.world × AllMoments old old (CrashHoldsPrefix wanted start.shape start.pairs ls)) (sym (take_none lines))
-        ((stands, omega arith), started old (CrashHoldsPrefix wanted start.shape start.pairs []) (sound t) (done_keeps wanted start.pairs [] start old.world stands));
-    log_only = still;
-  }
+  few_first : HasSegments start (length (xs ++ ys)) → HasSegments start (length xs)
+  few_first segments = omega (arith, segments, length-append xs ys)
 
-  -- so many were tried
-  pub tries_some : {T E : Type 0} (i : ℕ) (now : History) (engine : Running) (result : Result T E) → HasRun i now engine → i ≤ length lines → OnOk result (i ≡ length lines) → TriesLines {T = T} {E = E} tells old now start engine first lines result
-  tries_some i now engine result comes within all = record {
-    count = i;
-    within = within;
-    order = comes.order;
-    all = all;
-    moments = λ t wanted stands segments. (comes.goes t wanted stands segments).1;
-  }
+  pub done_more : {T E : Type 0} (r : Result T E) (x : T) → r ≡ Ok x → engine.shape ≡ start.shape
+      → (tells → (wanted : Shape) (from : Pairs) (done : List Line) → HasDone wanted from done engine mid.world → HasSegments engine (length ys) → OnOk r (HasDoneWithin wanted from (done ++ ys) (length ys) engine now new.world))
+      → DoneAfter tells old.world new.world start now (xs ++ ys)
+  done_more r x is shapes more t wanted from done goes segments =
+      let first_done = done_before t wanted from done goes (few_first segments) in
+      let second = ok_holds r x (HasDoneWithin wanted from ((done ++ xs) ++ ys) (length ys) engine now new.world) is (more t wanted from (done ++ xs) first_done.0 (few_more segments first_done.1)) in
+      (subst (λ ls. HasDone wanted from ls now new.world) (append_assoc done xs ys) second.0, omega (arith, second.1, first_done.1, length-append xs ys))
 
-  module _ (i : ℕ) (mid new : History) (engine now : Running) (number : ℕ) (line : Line) (comes : HasRun i mid engine) (item : line ≡ get_or lines i line) (within : i < length lines) (numbered : number ≡ first + i) where
-    order_more : (more : List Line) → now.order ≡ engine.order ++ accepted engine.shape number more engine.pairs → now.order ≡ start.order ++ accepted start.shape first (take i lines ++ more) start.pairs
-    order_more more is =
-        let count : number ≡ first + length (take i lines) = omega (arith, numbered, length-take i lines, within) in
-        is
-        ∙ ap (λ o. o ++ accepted engine.shape number more engine.pairs) comes.order
-        ∙ append_assoc start.order (accepted start.shape first (take i lines) start.pairs) (accepted engine.shape number more engine.pairs)
-        ∙ ap (λ s. start.order ++ (accepted start.shape first (take i lines) start.pairs ++ accepted s number more engine.pairs)) comes.shape
-        ∙ ap (λ n. start.order ++ (accepted start.shape first (take i lines) start.pairs ++ accepted start.shape n more engine.pairs)) count
-        ∙ ap (λ p. start.order ++ (accepted start.shape first (take i lines) start.pairs ++ accepted start.shape (first + length (take i lines)) more p)) comes.map
-        ∙ ap (λ o. start.order ++ o) (sym (accepted-append start.shape first (take i lines) more start.pairs))
+  module _ {T E S F : Type 0} (r : Result T E) (answer : Result S F) (more : RunsLines {T = T} {E = E} tells mid new engine now number ys r) (numbered : number ≡ first + length xs) (so : (P : Type 0) → OnOk r P → OnOk answer P) where
+    all_tried : take before.tried xs ≡ xs
+    all_tried = ap (λ n. take n xs) before.all ∙ take-length xs
 
-    one_more : HasSegments start (length lines) → engine.log.end.seg ≤ start.log.end.seg + i → HasSegments engine 1
-    one_more segments rises = omega (arith, segments, rises, within)
+    both_tried : take (length xs + more.tried) (xs ++ ys) ≡ xs ++ take more.tried ys
+    both_tried = take-append-add xs ys more.tried
 
-    module _ {T E : Type 0} (result : Result T E) (tries : TriesLine {T = T} {E = E} tells mid new engine now number line result) where
-      moments_more : tells → (wanted : Shape) → IsAtRest wanted start old.world → HasSegments start (length lines) → AllMoments old new (CrashHoldsPrefix wanted start.shape start.pairs (take i lines ++ tried_line tries.tried line))
-      moments_more t wanted stands segments =
-          let so_far = comes.goes t wanted stands segments in
-          let more = tried_line tries.tried line in
-          let P : World → Type 0 = CrashHoldsPrefix wanted start.shape start.pairs (take i lines ++ more) in
-          joined old mid new P
-          (weaker old mid (CrashHoldsPrefix wanted start.shape start.pairs (take i lines)) P (λ w keeps. keeps_more_lines wanted start.shape start.pairs (take i lines) more w keeps) so_far.1)
-          (subst (λ s. AllMoments mid new (CrashHoldsPrefix wanted s start.pairs (take i lines ++ more))) comes.shape
-          (tries.moments t wanted start.pairs (take i lines) so_far.0.0 (one_more segments so_far.0.1)))
+    orders : now.order ≡ start.order ++ accepted start.shape first (take (length xs + more.tried) (xs ++ ys)) start.map
+    orders =
+        more.order
+        ∙ ap (λ o. o ++ accepted engine.shape number (take more.tried ys) engine.map) before.order
+        ∙ append_assoc start.order (accepted start.shape first (take before.tried xs) start.map) (accepted engine.shape number (take more.tried ys) engine.map)
+        ∙ ap (λ ls. start.order ++ (accepted start.shape first ls start.map ++ accepted engine.shape number (take more.tried ys) engine.map)) all_tried
+        ∙ ap (λ s. start.order ++ (accepted start.shape first xs start.map ++ accepted s number (take more.tried ys) engine.map)) before.shape
+        ∙ ap (λ n. start.order ++ (accepted start.shape first xs start.map ++ accepted start.shape n (take more.tried ys) engine.map)) numbered
+        ∙ ap (λ p. start.order ++ (accepted start.shape first xs start.map ++ accepted start.shape (first + length xs) (take more.tried ys) p)) before.map
+        ∙ ap (λ o. start.order ++ o) (sym (accepted-append start.shape first xs (take more.tried ys) start.map))
+        ∙ ap (λ ls. start.order ++ accepted start.shape first ls start.map) (sym both_tried)
 
-      -- a fault came on the way
-      pub tries_line : {S F : Type 0} (answer : Result S F) → OnOk answer (many tries.tried i ≡ length lines) → TriesLines {T = S} {E = F} tells old new start now first lines answer
-      tries_line answer all =
-          let taken = take_many tries.tried lines i line item within in
-          record {
-            count = many tries.tried i;
-            within = many_within tries.tried i (length lines) within;
-            order = order_more (tried_line tries.tried line) tries.order ∙ ap (λ ls. start.order ++ accepted start.shape first ls start.pairs) (sym taken);
-            all = all;
-            moments = λ t wanted stands segments. subst (λ ls. AllMoments old new (CrashHoldsPrefix wanted start.shape start.pairs ls)) (sym taken) (moments_more t wanted stands segments);
-          }
+    crashes : tells → (wanted : Shape) (from : Pairs) (done : List Line) → HasDone wanted from done start old.world → HasSegments start (length (xs ++ ys)) → AllMoments old new (CrashHoldsPrefix wanted start.shape from (done ++ take (length xs + more.tried) (xs ++ ys)))
+    crashes t wanted from done goes segments =
+        let first_done = done_before t wanted from done goes (few_first segments) in
+        let rest = take more.tried ys in
+        let lines_are : (done ++ xs) ++ rest ≡ done ++ take (length xs + more.tried) (xs ++ ys) = append_assoc done xs rest ∙ ap (λ l. done ++ l) (sym both_tried) in
+        let P : World → Type 0 = CrashHoldsPrefix wanted start.shape from ((done ++ xs) ++ rest) in
+        let first_keeps : AllMoments old mid (CrashHoldsPrefix wanted start.shape from (done ++ xs)) =
+        subst (λ ls. AllMoments old mid (CrashHoldsPrefix wanted start.shape from (done ++ ls))) all_tried (before.crash t wanted from done goes (few_first segments)) in
+        let second_keeps : AllMoments mid new P = subst (λ s. AllMoments mid new (CrashHoldsPrefix wanted s from ((done ++ xs) ++ rest))) before.shape
+        (more.crash t wanted from (done ++ xs) first_done.0 (few_more segments first_done.1)) in
+        subst (λ ls. AllMoments old new (CrashHoldsPrefix wanted start.shape from ls)) lines_are
+        (joined old mid new P (weaker old mid (CrashHoldsPrefix wanted start.shape from (done ++ xs)) P (λ w keeps. keeps_more_lines wanted start.shape from (done ++ xs) rest w keeps) first_keeps) second_keeps)
 
-      -- the line was done
-      pub has_run_more : (x : T) → result ≡ Ok x → now.shape ≡ engine.shape → now.pairs ≡ after engine.shape line engine.pairs
-          → (tells → (wanted : Shape) (from : Pairs) (done : List Line) → HasDone wanted from done engine mid.world → HasSegments engine 1 → OnOk result (HasDoneWithin wanted from (done ++ line ∷ []) 1 engine now new.world))
-          → (tells → AllMoments mid new (ChangesLog mid.world)) → (tells → ChangesLog old.world mid.world) → HasRun (i + 1) new now
-      has_run_more x is shapes maps goes_on only mid_only =
-          let tried : tries.tried ≡ true = ok_holds result x (tries.tried ≡ true) is tries.all in
-          let taken = take_one_more lines i line item within in
-          record {
-            shape = shapes ∙ comes.shape;
-            map = maps ∙ ap (λ s. after s line engine.pairs) comes.shape ∙ ap (after start.shape line) comes.map
-                ∙ sym (after_all-append start.shape (take i lines) (line ∷ []) start.pairs) ∙ ap (λ ls. after_all start.shape ls start.pairs) (sym taken);
-            order = order_more (line ∷ []) (subst (λ b. now.order ≡ engine.order ++ accepted engine.shape number (tried_line b line) engine.pairs) tried tries.order)
-                ∙ ap (λ ls. start.order ++ accepted start.shape first ls start.pairs) (sym taken);
-            goes = λ t wanted stands segments.
-                let so_far = comes.goes t wanted stands segments in
-                let next = ok_holds result x (HasDoneWithin wanted start.pairs (take i lines ++ line ∷ []) 1 engine now new.world) is (goes_on t wanted start.pairs (take i lines) so_far.0.0 (one_more segments so_far.0.1)) in (
-                  (subst (λ ls. HasDone wanted start.pairs ls now new.world) (sym taken) next.0, omega (arith, next.1, so_far.0.1)),
-                  subst (λ ls. AllMoments old new (CrashHoldsPrefix wanted start.shape start.pairs ls)) (sym taken)
-                      (subst (λ b. AllMoments old new (CrashHoldsPrefix wanted start.shape start.pairs (take i lines ++ tried_line b line))) tried (moments_more t wanted stands segments)),
-                );
-            log_only = λ t. log_joined old mid new (comes.log_only t) (mid_only t) (only t);
-          }
+    pub runs_more : RunsLines {T = S} {E = F} tells old new start now first (xs ++ ys) answer
+    runs_more = record {
+      shape = more.shape ∙ before.shape;
+      map = so _ (on_ok_weaker r (λ is. is ∙ ap (λ s. after_all s ys engine.map) before.shape ∙ ap (after_all start.shape ys) before.map ∙ sym (after_all-append start.shape xs ys start.map)) more.map);
+      end = λ t. so _ (more.end t);
+      tried = length xs + more.tried;
+      within = omega (arith, more.within, length-append xs ys);
+      all = so _ (on_ok_weaker r (λ is. let e = ap (λ n. length xs + n) is in e ∙ sym (length-append xs ys)) more.all);
+      order = orders;
+      grows = λ t wanted from done goes segments.
+          let first_done = done_before t wanted from done goes (few_first segments) in
+          let first_grows = before.grows t wanted from done goes (few_first segments) in
+          so _ (on_ok_weaker r (λ second.
+          let its : logged engine.shape ys engine.map ≡ logged start.shape ys (after_all start.shape xs start.map) = ap (λ s. logged s ys engine.map) before.shape ∙ ap (logged start.shape ys) before.map in
+          subst (λ fs. LogGrowsBy old.world new.world fs) (ap (λ l. logged start.shape xs start.map ++ l) its ∙ sym (logged-append start.shape xs ys start.map))
+          (grows_twice old.world mid.world new.world (logged start.shape xs start.map) (logged engine.shape ys engine.map) first_grows second))
+          (more.grows t wanted from (done ++ xs) first_done.0 (few_more segments first_done.1)));
+      crash = crashes;
+      log_only = λ t. log_joined old mid new (before.log_only t) (at_last old mid (ChangesLog old.world) (sound t) (before.log_only t)) (more.log_only t);
+    }
+
+-- a fault came before the last line
+pub runs_part : {T E : Type 0} (tells : Type 0) (old new : History) (start now : Running) (first : ℕ) (lines : List Line) (m : ℕ) (answer : Result T E) → ((P : Type 0) → OnOk answer P) → m ≤ length lines
+    → RunsLines {T = T} {E = E} tells old new start now first (take m lines) answer → RunsLines {T = T} {E = E} tells old new start now first lines answer
+runs_part tells old new start now first lines m answer failed le runs =
+    let long : length (take m lines) ≡ m = omega (arith, length-take m lines, le) in
+    let few : runs.tried ≤ m = omega (arith, runs.within, long) in
+    let same : take runs.tried (take m lines) ≡ take runs.tried lines = take-take runs.tried m lines few in
+    record {
+      shape = runs.shape;
+      map = failed _;
+      end = λ t. failed _;
+      tried = runs.tried;
+      within = omega (arith, few, le);
+      all = failed _;
+      order = runs.order ∙ ap (λ ls. start.order ++ accepted start.shape first ls start.map) same;
+      grows = λ t wanted from done goes segments. failed _;
+      crash = λ t wanted from done goes segments. subst (λ ls. AllMoments old new (CrashHoldsPrefix wanted start.shape from (done ++ ls))) same (runs.crash t wanted from done goes (omega (arith, segments, long, le)));
+      log_only = runs.log_only;
+    }

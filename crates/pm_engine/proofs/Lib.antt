@@ -1,7 +1,8 @@
-pub mod Batching
-pub mod Replaying
-pub mod Forcing
-pub mod DoneLines
-pub mod Opening
 pub mod Applying
+pub mod Batching
+pub mod DoneLines
+pub mod Forcing
+pub mod Opening
+pub mod Replaying
+pub mod Results
 pub mod Trying

@@ -1,8 +1,8 @@
 -- How a sound store is opened: its tail is cut, and a RESTART is appended. A crash meanwhile leaves what it held.
-use Rattle.std.proofs.Common.{◌≡◌, ◌⊎◌, inl, inr, ℕ, ◌+◌, ◌-◌, ◌^◌, ◌<◌, ◌≤◌, List, [], ◌∷◌, ◌++◌, length, take, drop, Some, refl, sym, ◌∙◌, ap, subst, arith, Bool, true, false, append_assoc, append-nil, length-append}
-use Rattle.std.specs.Prelude.{◌&&◌, not, if◌then◌else◌}
+use Rattle.std.proofs.Common.{◌≡◌, ◌⊎◌, inl, inr, ℕ, ◌+◌, ◌<◌, ◌≤◌, List, [], ◌∷◌, ◌++◌, length, take, drop, Some, refl, sym, ◌∙◌, ap, subst, arith, Bool, true, false, append_assoc, append-nil, length-append}
+use Rattle.std.specs.Prelude.{◌&&◌, if◌then◌else◌}
 use Rattle.std.specs.FinMap.{empty}
-use Rattle.std.proofs.lemmas.Bool.{eqb-true, le-leb}
+use Rattle.std.proofs.lemmas.Bool.{le-leb}
 use Rattle.std.proofs.lemmas.List.{take_all, nil_from_length}
 use Rattle.std.proofs.lemmas.Option.{same_Some}
 use Rattle.pm_types.specs.declared.place.Place.{Place}
@@ -11,6 +11,9 @@ use Rattle.pm_frame.specs.declared.kinds.TheConstants.{RESTART}
 use Rattle.pm_frame.specs.declared.limits.TheConstants.{FRAME_END_MAX, SEGMENT_END_MAX}
 use Rattle.pm_frame.specs.Frames.{Frame, end_max}
 use Rattle.pm_frame.proofs.FrameAt.{frame_at-some}
+use Rattle.pm_records.proofs.HeldLog.{held_log}
+use Rattle.pm_records.proofs.FrameGrammar.{frame_laws}
+use Rattle.pm_records.proofs.Tracing.{world_after-append}
 use Rattle.pm_records.specs.Records.{Restart, payload_of}
 use Rattle.pm_types.specs.Shapes.{IsShape}
 use Rattle.pm_records.proofs.RecordOf.{record_of-payload, payload_of-short}
@@ -19,11 +22,11 @@ use Rattle.pm_disk.specs.Worlds.{World, log_forced, segment_in}
 use Rattle.pm_disk.specs.Images.{NothingPending}
 use Rattle.pm_disk.proofs.Families.{file_there}
 use Rattle.pm_records.specs.FirstRecords.{restart_frame, is_restart, shape_in}
-use Rattle.pm_records.specs.LogFiles.{Ready, contents, Written, IsWritten, IsRecordFrame, IsQuietBut}
-use Rattle.pm_records.specs.LogSteps.{cut_steps, cut_at, world_after, DoesPrefix, written_after, frames_in}
-use Rattle.pm_records.specs.Logs.{ends_log, next_place, is_over, record_in, place_after, place, all_frames, HasFrames, after_frames, is_seal, is_last, seal_frame, IsLogWithNothingAbove}
+use Rattle.pm_records.specs.LogFiles.{LogGrowsBy, Ready, contents, Written, IsWritten, IsRecordFrame, IsQuietBut}
+use Rattle.pm_records.specs.LogSteps.{end_after, cut_steps, cut_at, world_after, DoesPrefix, written_after, frames_in}
+use Rattle.pm_records.specs.Logs.{IsLogFrom, without_seals, ends_log, next_place, is_over, record_in, place, all_frames, HasFrames, after_frames, is_seal, is_last, seal_frame, IsLogWithNothingAbove}
 use Rattle.pm_records.proofs.OpeningLaw.{run_within, opened, opening_image}
-use Rattle.pm_records.proofs.Runs.{rises_from, few_go_on, one_log, neither, bool_cases, rises, next-plain, next-seal}
+use Rattle.pm_records.proofs.Runs.{rises_from, few_go_on, one_log, neither, bool_cases, next-plain, next-seal}
 use Rattle.pm_records.proofs.Writing.{frames_after, lasting_after}
 use Rattle.pm_segments.specs.Appends.{room_steps, roll_steps, append_steps, steps_of, grown}
 use Rattle.pm_segments.specs.Ends.{LogEnd, fresh_log, has_room, LogIsOpen}
@@ -33,7 +36,7 @@ use Rattle.pm_segments.proofs.Quiet.{append_quiet}
 use Rattle.pm_model.specs.Eval.{Pairs}
 use Rattle.pm_engine.specs.Held.{replayed, all_replayed, IsHeld, Holds, HasNumbers, CrashHoldsPrefix}
 use Rattle.pm_engine.specs.Engines.{Running, frames_of, HeldAfterPrefix, IsAtRest}
-use Rattle.pm_engine.specs.Openings.{ReadsAll}
+use Rattle.pm_engine.specs.Openings.{ReadsAll, OpensWith, OpensAtRest}
 use Rattle.pm_engine.specs.declared.replay.Replay.{Replay}
 use Rattle.pm_engine.proofs.Replaying.{holds_log}
 use Rattle.pm_engine.proofs.DoneLines.{held_push, held_seal, before_push}
@@ -146,7 +149,7 @@ module _ (wanted : Shape) (old : World) (shape : Shape) (pairs : Pairs) (holds :
       f = restart_frame shape
 
       is_record : IsRecordFrame f
-      is_record = record { known_from = omega arith; known_to = omega arith; short = payload_of-short (Restart shape) sound}
+      is_record = record { known_from = omega arith; known_to = omega arith; short = payload_of-short (Restart shape) sound }
 
       first_kept : 1 ≤ end.seg
       first_kept = rises_from (place 1 0) frames
@@ -227,17 +230,17 @@ module _ (wanted : Shape) (old : World) (shape : Shape) (pairs : Pairs) (holds :
 
       -- once it is
       pub restart_at_rest : (order : List ℕ) (world : World) → world ≡ world_after (append_steps log f) end cut
-          → IsAtRest wanted (record { shape = shape; pairs = pairs; log = grown log f; order = order }) world × ((grown log f).end.seg ≤ end.seg + 1)
+          → IsAtRest wanted (record { shape = shape; map = pairs; log = grown log f; order = order }) world × ((grown log f).end.seg ≤ end.seg + 1)
       restart_at_rest order world is =
           let steps = append_steps log f in
           let t = written_after steps s in
           let to = grown_end log f is_record s is_open in
           let pieces : frames_of t ≡ frames ++ whole = frames_after steps s ∙ ap (λ fs. fs ++ whole) nothing_pending in
           let frames_are : frames_of t ≡ (frames ++ first) ++ f ∷ [] = pieces ∙ sym regrouped in
-          let engine : Running = record { shape = shape; pairs = pairs; log = grown log f; order = order } in (
+          let engine : Running = record { shape = shape; map = pairs; log = grown log f; order = order } in (
             subst (IsAtRest wanted engine) (sym is) record {
               written = t;
-              stands = subst (λ p. IsWritten (world_after steps end cut) 1 (place 1 0) p t) to (append_written log f is_record s is_open cut 1 (place 1 0) written);
+              log = subst (λ p. IsWritten (world_after steps end cut) 1 (place 1 0) p t) to (append_written log f is_record s is_open cut 1 (place 1 0) written);
               is_open = append_open log f is_record s is_open (omega (arith, numbered));
               held = subst (λ fs. IsHeld wanted fs shape pairs) (sym frames_are) held_whole;
               map = refl;
@@ -247,6 +250,46 @@ module _ (wanted : Shape) (old : World) (shape : Shape) (pairs : Pairs) (holds :
             },
             grown_seg log f is_record s is_open,
           )
+
+      -- and the log has grown by it
+      pub restart_grows : (world : World) → world ≡ world_after (append_steps log f) end cut → LogGrowsBy old world (f ∷ [])
+      restart_grows world is = subst (λ w. LogGrowsBy old w (f ∷ [])) (sym is) record {
+        before = frames;
+        was = holds.log.log;
+        added = whole;
+        now_is = by (written_after (append_steps log f) s) (append_written log f is_record s is_open cut 1 (place 1 0) written) (frames_after (append_steps log f) s ∙ ap (λ fs. fs ++ whole) nothing_pending);
+        added_are = ap without_seals (append_frames log f is_record s is_open) ∙ alone;
+      }
+        where
+          by : (t : Written) → IsWritten (world_after (append_steps log f) end cut) 1 (place 1 0) (end_after (append_steps log f) end) t → frames_of t ≡ frames ++ whole
+              → IsLogFrom all_frames (contents (world_after (append_steps log f) end cut).log) (place 1 0) (frames ++ whole)
+          by t is_written are = subst (IsLogFrom all_frames (contents (world_after (append_steps log f) end cut).log) (place 1 0)) are
+              (held_log all_frames frame_laws (world_after (append_steps log f) end cut).log 1 (place 1 0) t.at t.lasting t.pending t.tail is_written.log).log
+
+          alone : without_seals (first ++ f ∷ []) ≡ f ∷ []
+          alone = elim (room_frames log f is_record s is_open) [
+            | inl none ↦ ap (λ l. without_seals (l ++ f ∷ [])) none
+            | inr one ↦ ap (λ l. without_seals (l ++ f ∷ [])) one
+          ]
+
+-- ---- a store that was opened, sound or not
+
+pub opens_with : (wanted : Shape) (old mid cut now : World) (at : Place) (replay : Replay) → ReadsAll wanted old at replay → mid ≡ old → (log : LogEnd) → log ≡ fresh_log 1 at replay.shape.segment_bytes → cut ≡ world_after cut_steps at mid
+    → (payload : List ℕ) → payload ≡ payload_of (Restart replay.shape) → (end : LogEnd) → end ≡ grown log (record { kind = RESTART; payload = payload }) → now ≡ world_after (append_steps log (record { kind = RESTART; payload = payload })) log.end cut
+    → OpensWith wanted old now (record { shape = replay.shape; map = replay.map; log = end; order = [] })
+opens_with wanted old mid cut now at replay all same log is_log is_cut payload is_payload end is_end is =
+    let to : at ≡ after_frames (place 1 0) all.frames = all.ends in
+    let frame_is : record { kind = RESTART; payload = payload } ≡ restart_frame replay.shape = ap (λ p. let f : Frame = record { kind = RESTART; payload = p } in f) is_payload in
+    let log_is : log ≡ fresh_log 1 (after_frames (place 1 0) all.frames) replay.shape.segment_bytes = is_log ∙ ap (λ p. fresh_log 1 p replay.shape.segment_bytes) to in
+    let cut_is : cut ≡ world_after cut_steps (after_frames (place 1 0) all.frames) old = is_cut ∙ ap (world_after cut_steps at) same ∙ ap (λ p. world_after cut_steps p old) to in
+    record {
+      frames = all.frames;
+      log = all.log;
+      held = all.held;
+      end = is_end ∙ (λ i. grown (log_is i) (frame_is i));
+      steps = is ∙ (λ i. world_after (append_steps (log_is i) (frame_is i)) (log_is i).end (cut_is i))
+          ∙ sym (world_after-append cut_steps (append_steps (fresh_log 1 (after_frames (place 1 0) all.frames) replay.shape.segment_bytes) (restart_frame replay.shape)) (after_frames (place 1 0) all.frames) old);
+    }
 
 -- ---- the calls of opening
 
@@ -287,15 +330,16 @@ module _ (wanted : Shape) (old : World) (shape : Shape) (pairs : Pairs) (holds :
         restart_keeps wanted old shape pairs holds numbered quiet its_shape tried now
         (subst (λ (x : LogEnd × (Frame × World)). DoesPrefix (steps_of tried x.0 x.1.0) x.0.end x.1.1 now) (λ i. (log_is i, (frame_is i, cut_is i))) some)
 
-    pub opened_at_rest : (engine : Running) (now : World) → engine.shape ≡ found.shape → engine.pairs ≡ found.map → engine.log ≡ grown log frame → now ≡ world_after (append_steps log frame) log.end cut_world
-        → IsAtRest wanted engine now × (engine.log.end.seg ≤ (after_frames (place 1 0) holds.frames).seg + 1)
+    pub opened_at_rest : (engine : Running) (now : World) → engine.shape ≡ found.shape → engine.map ≡ found.map → engine.log ≡ grown log frame → now ≡ world_after (append_steps log frame) log.end cut_world
+        → OpensAtRest wanted holds.frames old now engine
     opened_at_rest engine now its maps logs is =
         let held = reads_held wanted old shape pairs holds at found all in
         let log_now : engine.log ≡ grown (fresh_log 1 (after_frames (place 1 0) holds.frames) shape.segment_bytes) (restart_frame shape) = logs ∙ (λ i. grown (log_is i) (frame_is i)) in
         let world_now : now ≡ world_after (append_steps (fresh_log 1 (after_frames (place 1 0) holds.frames) shape.segment_bytes) (restart_frame shape)) (after_frames (place 1 0) holds.frames) (log_forced (after_frames (place 1 0) holds.frames).seg (cut_at (after_frames (place 1 0) holds.frames) old)) =
         is ∙ (λ i. world_after (append_steps (log_is i) (frame_is i)) (log_is i).end (cut_is i)) in
         let done = restart_at_rest wanted old shape pairs holds numbered quiet its_shape engine.order now world_now in
-        let maps_to : engine.pairs ≡ pairs = maps ∙ held.1 in
+        let grows = restart_grows wanted old shape pairs holds numbered quiet its_shape now world_now in
+        let maps_to : engine.map ≡ pairs = maps ∙ held.1 in
         let shapes_to : engine.shape ≡ shape = its ∙ held.0 in
-        subst (λ (e : Running). IsAtRest wanted e now × (e.log.end.seg ≤ (after_frames (place 1 0) holds.frames).seg + 1))
-        (λ i. record { shape = sym shapes_to i; pairs = sym maps_to i; log = sym log_now i; order = engine.order }) done
+        subst (λ (e : Running). OpensAtRest wanted holds.frames old now e)
+        (λ i. record { shape = sym shapes_to i; map = sym maps_to i; log = sym log_now i; order = engine.order }) record { at_rest = done.0; rises = done.1; grows = grows }

@@ -1,9 +1,8 @@
 -- The replay of a log, frame after frame.
-use Rattle.std.proofs.Common.{◌≡◌, ◌⊎◌, inl, inr, ◌+◌, ◌<◌, List, [], ◌∷◌, ◌++◌, Option, Some, None, refl, sym, ◌∙◌, ap, subst, arith, Bool, true, false, append_assoc}
-use Rattle.std.specs.Prelude.{◌&&◌, not, if◌then◌else◌, Err, IsErrOf}
+use Rattle.std.proofs.Common.{◌≡◌, ◌⊎◌, inl, inr, ◌<◌, List, [], ◌∷◌, ◌++◌, Option, Some, None, refl, sym, ◌∙◌, ap, subst, arith, true, false, append_assoc}
+use Rattle.std.specs.Prelude.{Err, IsErrOf}
 use Rattle.pm_types.specs.declared.fault.StoreFault.{StoreFault}
 use Rattle.pm_types.specs.declared.fault.StoreFault.TheVariants.{BadRecord}
-use Rattle.std.proofs.lemmas.Option.{same_Some}
 use Rattle.std.specs.FinMap.{empty}
 use Rattle.pm_types.specs.declared.place.Place.{Place}
 use Rattle.pm_types.specs.declared.shape.Shape.{Shape}
@@ -12,10 +11,10 @@ use Rattle.pm_records.specs.Records.{Record, Logical, Snapshot, Delta, CpBegin, 
 use Rattle.pm_disk.specs.Worlds.{World}
 use Rattle.pm_records.specs.FirstRecords.{is_restart, shape_in, log_shape}
 use Rattle.pm_records.specs.LogFiles.{contents}
-use Rattle.pm_records.specs.Logs.{enters_next, record_in, place_after, place, all_frames, HasFrames, after_frames, is_seal, is_last, IsLogFrom}
+use Rattle.pm_records.specs.Logs.{enters_next, record_in, place, all_frames, after_frames, IsLogFrom}
 use Rattle.pm_records.proofs.Runs.{next-enters, next-stays, run_begins, run_last, bool_cases}
 use Rattle.pm_segments.specs.Scans.{Scanned, frame_ahead, Advances}
-use Rattle.pm_segments.proofs.Reading.{scan_goes, scan_ends, going_on}
+use Rattle.pm_segments.proofs.Reading.{scan_goes, scan_ends}
 use Rattle.pm_model.specs.Eval.{Pairs}
 use Rattle.pm_engine.specs.Held.{replayed, then_replayed, all_replayed, IsHeld, Holds}
 use Rattle.pm_engine.specs.Openings.{IsBadAfter, IsBadRecord, AppliesFrame, IsReplayOf, ReadsPrefix, ReadsAll}
@@ -79,7 +78,7 @@ replay_bad wanted [] old new f found takes = takes.0 found.begun
 replay_bad wanted (g ∷ gs) old new f found takes =
     let shape : old.shape ≡ log_shape wanted (g ∷ gs) = found.held.told in (
       old.map,
-      ap (λ s. all_replayed s (g ∷ gs) (Some empty)) (sym shape) ∙ found.held.map,
+      subst (λ s. IsHeld wanted (g ∷ gs) s old.map) shape found.held,
       ap (λ s. replayed s (record_in f) old.map) (sym shape) ∙ takes.1 found.begun,
     )
 
@@ -96,7 +95,7 @@ bad_unsound wanted (g ∷ gs) f rest shape pairs bad held =
     let all : all_replayed shape ((g ∷ gs) ++ f ∷ rest) (Some empty) ≡ None =
     ap (λ s. all_replayed s ((g ∷ gs) ++ f ∷ rest) (Some empty)) held.told
     ∙ all_replayed-append (log_shape wanted (g ∷ gs)) (g ∷ gs) (f ∷ rest) (Some empty)
-    ∙ ap (λ o. all_replayed (log_shape wanted (g ∷ gs)) rest (then_replayed (log_shape wanted (g ∷ gs)) f o)) bad.1
+    ∙ ap (λ o. all_replayed (log_shape wanted (g ∷ gs)) rest (then_replayed (log_shape wanted (g ∷ gs)) f o)) bad.1.map
     ∙ ap (all_replayed (log_shape wanted (g ∷ gs)) rest) bad.2
     ∙ none_stays (log_shape wanted (g ∷ gs)) rest in
     let both : Some pairs ≡ None = sym held.map ∙ all in absurd cc

@@ -1,15 +1,20 @@
 -- What a batch of lines does.
-use Rattle.std.specs.Prelude.{◌≡◌, ◌≤◌, ℕ, List, [], ◌∷◌, ◌++◌, length, take, Bool, true, if◌then◌else◌, Result, OnOk, IsErrOf, IfErr}
-use Rattle.pm_types.specs.declared.shape.Shape.{Shape}
-use Rattle.pm_disk.specs.States.{DeviceState, IsUsable, Rose}
+use Rattle.std.specs.Prelude.{◌≡◌, ◌≤◌, ℕ, List, [], ◌∷◌, ◌++◌, length, take, Bool, if◌then◌else◌, Result, OnOk, IsErrOf, IfErr}
 use Rattle.pm_types.specs.declared.fault.StoreFault.{StoreFault}
 use Rattle.pm_types.specs.declared.fault.StoreFault.TheVariants.{Failed, Memory, BadPage, BadRecord}
+use Rattle.pm_types.specs.declared.page_id.PageId.{PageId}
+use Rattle.pm_types.specs.declared.shape.Shape.{Shape}
 use Rattle.pm_disk.specs.Moments.{History, AllMoments}
+use Rattle.pm_disk.specs.States.{DeviceState, IsUsable, Rose}
 use Rattle.pm_records.specs.Logs.{place}
+use Rattle.pm_records.specs.LogFiles.{ChangesLog, LogGrowsBy}
+use Rattle.pm_segments.specs.Ends.{EndsThere}
 use Rattle.pm_model.specs.declared.line.Line.{Line}
-use Rattle.pm_model.specs.Eval.{Pairs, accepted}
-use Rattle.pm_engine.specs.Engines.{Running, HasDone, IsAtRest, HasSegments}
+use Rattle.pm_model.specs.declared.reply.Reply.{Reply}
+use Rattle.pm_model.specs.Eval.{Pairs, accepted, after_all, replies_to}
+use Rattle.pm_engine.specs.Engines.{Running, HasDone, HasSegments}
 use Rattle.pm_engine.specs.Held.{CrashHoldsPrefix}
+use Rattle.pm_engine.specs.Records.{logged}
 
 -- a fault that a call on a host or out of memory gives: no record and no page is bad
 abbrev pub IsPlainFault : StoreFault → Type 0
@@ -18,12 +23,13 @@ IsPlainFault Memory = Unit {0}
 IsPlainFault (BadPage page) = ⊥
 IsPlainFault (BadRecord place) = ⊥
 
--- the count of faults doesn't fall, and `Failed` comes only where it rose
+-- the count of faults doesn't fall, `Failed` comes only where it rose, and no page is bad
 pub record HasStoreFault {T : Type 0} (before now : DeviceState) (result : Result T StoreFault) : Type 0 where
   pub later : before.faults ≤ now.faults
   pub failed : IsErrOf result Failed → Rose before now
   pub access : now.access ≡ before.access
   pub usable : IsUsable before → IsUsable now
+  pub no_page : (page : PageId) → IsErrOf result (BadPage page) → ⊥
 
 -- the count of faults doesn't fall, and `Failed` comes only where it rose; no other fault than that and out of memory comes
 pub record HasPlainFault {T : Type 0} (before now : DeviceState) (result : Result T StoreFault) : Type 0 where
@@ -37,25 +43,27 @@ pub record HasPlainFault {T : Type 0} (before now : DeviceState) (result : Resul
 abbrev pub noted : Bool → ℕ → List ℕ
 noted tried number = if tried then number ∷ [] else []
 
--- the lines whose record was handed to the log: none, or this one
-abbrev pub tried_line : Bool → Line → List Line
-tried_line tried line = if tried then line ∷ [] else []
+-- The engine runs lines, of which the first has this number: at `Ok` all of them, and at an `Err` a prefix.
+pub record RunsLines {T E : Type 0} (tells : Type 0) (old new : History) (before now : Running) (first : ℕ) (lines : List Line) (result : Result T E) : Type 0 where
+  pub shape : now.shape ≡ before.shape
+  pub map : OnOk result (now.map ≡ after_all before.shape lines before.map)
+  pub end : tells → OnOk result (EndsThere now.log new.world)
+  -- The records of so many lines were handed to the log, and the order has the numbers of those that were accepted.
+  pub tried : ℕ
+  pub within : tried ≤ length lines
+  pub all : OnOk result (tried ≡ length lines)
+  pub order : now.order ≡ before.order ++ accepted before.shape first (take tried lines) before.map
+  -- At `Ok` the log has one frame more for each accepted line, in order.
+  pub grows : tells → (wanted : Shape) (start : Pairs) (done : List Line) → HasDone wanted start done before old.world → HasSegments before (length lines)
+      → OnOk result (LogGrowsBy old.world new.world (logged before.shape lines before.map))
+  -- A crash meanwhile leaves the map after a prefix of the lines done before and of those whose records were handed on.
+  pub crash : tells → (wanted : Shape) (start : Pairs) (done : List Line) → HasDone wanted start done before old.world → HasSegments before (length lines)
+      → AllMoments old new (CrashHoldsPrefix wanted before.shape start (done ++ take tried lines))
+  pub log_only : tells → AllMoments old new (ChangesLog old.world)
 
--- A line was done, or a fault came before its record was handed to the log or while it was. A crash meanwhile leaves the map
--- after a prefix of the lines done so far, this one among them where its record was handed on.
-pub record TriesLine {T E : Type 0} (tells : Type 0) (old new : History) (before now : Running) (number : ℕ) (line : Line) (result : Result T E) : Type 0 where
-  pub tried : Bool
-  pub order : now.order ≡ before.order ++ accepted before.shape number (tried_line tried line) before.pairs
-  pub all : OnOk result (tried ≡ true)
-  pub moments : tells → (wanted : Shape) (start : Pairs) (done : List Line) → HasDone wanted start done before old.world → HasSegments before 1
-      → AllMoments old new (CrashHoldsPrefix wanted before.shape start (done ++ tried_line tried line))
-
--- The lines were done, or a fault came after the records of the first so many were handed to the log. A crash meanwhile leaves
--- the map after a prefix of these.
-pub record TriesLines {T E : Type 0} (tells : Type 0) (old new : History) (before now : Running) (first : ℕ) (lines : List Line) (result : Result T E) : Type 0 where
+-- The replies to lines over a map were appended: at `Ok` to all of them, and at an `Err` to a prefix.
+pub record HasReplied {T E : Type 0} (shape : Shape) (pairs : Pairs) (lines : List Line) (before now : List Reply) (result : Result T E) : Type 0 where
   pub count : ℕ
   pub within : count ≤ length lines
-  pub order : now.order ≡ before.order ++ accepted before.shape first (take count lines) before.pairs
   pub all : OnOk result (count ≡ length lines)
-  pub moments : tells → (wanted : Shape) → IsAtRest wanted before old.world → HasSegments before (length lines)
-      → AllMoments old new (CrashHoldsPrefix wanted before.shape before.pairs (take count lines))
+  pub replies : now ≡ before ++ replies_to shape (take count lines) pairs

@@ -2,7 +2,7 @@
 --
 -- A store is sound where its log is empty or begins with a RESTART, each frame is in its grammar, no put meets a full
 -- partition, and no segment above the log's last has bytes.
-use Rattle.std.specs.Prelude.{◌≡◌, ◌==◌, ◌≤◌, ◌<◌, ◌^◌, if◌then◌else◌, ℕ, List, [], ◌∷◌, length, take, Bool, true, false, Option, Some, None}
+use Rattle.std.specs.Prelude.{◌≡◌, ◌==◌, ◌≤◌, ◌<◌, ◌^◌, if◌then◌else◌, ℕ, List, [], ◌∷◌, length, take, true, Option, Some, None}
 use Rattle.std.specs.FinMap.{empty}
 use Rattle.pm_types.specs.declared.shape.Shape.{Shape}
 use Rattle.pm_frame.specs.Frames.{Frame}

@@ -1,31 +1,33 @@
 -- How a store is opened.
-use Rattle.std.specs.Prelude.{◌≡◌, ◌⊎◌, ◌<◌, List, [], ◌∷◌, Bool, true, false, Option, Some, None}
-use Rattle.std.specs.FinMap.{empty}
+use Rattle.std.specs.Prelude.{◌≡◌, ◌⊎◌, ◌+◌, ◌<◌, ◌≤◌, List, [], ◌∷◌, ◌++◌, Bool, true, false, Option, Some, None}
 use Rattle.pm_types.specs.declared.place.Place.{Place}
 use Rattle.pm_types.specs.declared.shape.Shape.{Shape}
 use Rattle.pm_frame.specs.Frames.{Frame}
+use Rattle.pm_segments.specs.Appends.{append_steps, grown}
+use Rattle.pm_segments.specs.Ends.{fresh_log}
+use Rattle.pm_records.specs.LogSteps.{Step, world_after, cut_steps}
 use Rattle.pm_records.specs.Records.{Record}
 use Rattle.pm_disk.specs.Worlds.{World}
-use Rattle.pm_records.specs.FirstRecords.{is_restart, shape_in, log_shape}
-use Rattle.pm_records.specs.LogFiles.{contents}
+use Rattle.pm_records.specs.FirstRecords.{restart_frame, is_restart, shape_in, log_shape}
+use Rattle.pm_records.specs.LogFiles.{contents, LogGrowsBy}
 use Rattle.pm_records.specs.Logs.{record_in, place, all_frames, HasFrames, after_frames, IsLogFrom}
 use Rattle.pm_segments.specs.Read.{HasScanned}
 use Rattle.pm_segments.specs.Scans.{Scanned, frame_ahead, Advances}
 use Rattle.pm_model.specs.declared.line.Line.{Line}
 use Rattle.pm_model.specs.Eval.{Pairs}
-use Rattle.pm_engine.specs.Held.{put_replayed, replayed, then_replayed, all_replayed, IsHeld, Holds}
-use Rattle.pm_engine.specs.Engines.{Running}
+use Rattle.pm_engine.specs.Held.{put_replayed, replayed, IsHeld, Holds}
+use Rattle.pm_engine.specs.Engines.{Running, IsAtRest}
 use Rattle.pm_engine.specs.declared.replay.Replay.{Replay}
 use Rattle.pm_engine.specs.declared.replay.ReplayStep.{ReplayStep}
-use Rattle.pm_engine.specs.declared.replay.ReplayStep.TheVariants as steps
+use Rattle.pm_engine.specs.declared.replay.ReplayStep.TheVariants as replay_step
 
--- A frame can't stand after these others: it is the first one and no RESTART, its payload is in no grammar, or it is a put that
--- meets a full partition.
+-- A frame can't stand after these others, which are well: it is the first one and no RESTART, its payload is in no grammar, or it
+-- is a put that meets a full partition.
 abbrev pub IsBadAfter : Shape → List Frame → Frame → Type 0
 IsBadAfter wanted [] frame = is_restart (record_in frame) ≡ false
 IsBadAfter wanted (first ∷ frames) frame =
-    (pairs : Pairs) × (all_replayed (log_shape wanted (first ∷ frames)) (first ∷ frames) (Some empty) ≡ Some pairs)
-    × (then_replayed (log_shape wanted (first ∷ frames)) frame (Some pairs) ≡ None)
+    (pairs : Pairs) × IsHeld wanted (first ∷ frames) (log_shape wanted (first ∷ frames)) pairs
+    × (replayed (log_shape wanted (first ∷ frames)) (record_in frame) pairs ≡ None)
 
 -- the record at this place of the log is bad, and none before it is
 pub record IsBadRecord (wanted : Shape) (world : World) (at : Place) : Type 0 where
@@ -68,17 +70,17 @@ AppliesFrame can old new found =
 
 -- the frame that stands next was replayed, or can't stand there, or none stands there
 abbrev pub ReplaysNext : ReplayStep → Scanned → Scanned → Replay → Replay → World → Type 0
-ReplaysNext steps.Frame scan later old new world =
+ReplaysNext replay_step.Frame scan later old new world =
     (frame : Frame) × (frame_ahead scan world ≡ Some frame) × Advances scan later (Some frame) × AppliesFrame true old new (record_in frame)
-ReplaysNext steps.Bad scan later old new world =
+ReplaysNext replay_step.Bad scan later old new world =
     (frame : Frame) × (frame_ahead scan world ≡ Some frame) × Advances scan later (Some frame) × AppliesFrame false old new (record_in frame)
-ReplaysNext steps.End scan later old new world = (frame_ahead scan world ≡ None) × Advances scan later None × (new ≡ old)
+ReplaysNext replay_step.End scan later old new world = (frame_ahead scan world ≡ None) × Advances scan later None × (new ≡ old)
 
 -- the second place is after the first one, where a frame was replayed
 abbrev pub IsAfterPlace : ReplayStep → Place → Place → Type 0
-IsAfterPlace steps.Frame at next = (at.seg < next.seg) ⊎ ((at.seg ≡ next.seg) × (at.off < next.off))
-IsAfterPlace steps.Bad at next = Unit {0}
-IsAfterPlace steps.End at next = Unit {0}
+IsAfterPlace replay_step.Frame at next = (at.seg < next.seg) ⊎ ((at.seg ≡ next.seg) × (at.off < next.off))
+IsAfterPlace replay_step.Bad at next = Unit {0}
+IsAfterPlace replay_step.End at next = Unit {0}
 
 -- a scan gives the place from which it went on, and goes on after it
 pub record IsFurther (step : ReplayStep) (scan later : Scanned) : Type 0 where
@@ -113,6 +115,25 @@ pub record IsBadStore (wanted : Shape) (at : Place) (old now : World) : Type 0 w
   pub unsound : (shape : Shape) (pairs : Pairs) → Holds wanted old shape pairs → ⊥
   pub same : now ≡ old
 
+-- what is written to the log at opening, from where it ends on: the tail is cut and forced, and a RESTART is appended
+abbrev pub opening_steps : Place → Shape → List Step
+opening_steps end shape = cut_steps ++ append_steps (fresh_log 1 end shape.segment_bytes) (restart_frame shape)
+
+-- A store was opened, whether it is sound or not: these are the frames of its log, the engine has the shape and the map that they
+-- hold, and the opening's steps were done where they end.
+pub record OpensWith (wanted : Shape) (old now : World) (engine : Running) : Type 0 where
+  pub frames : List Frame
+  pub log : IsLogFrom all_frames (contents old.log) (place 1 0) frames
+  pub held : IsHeld wanted frames engine.shape engine.map
+  pub end : engine.log ≡ grown (fresh_log 1 (after_frames (place 1 0) frames) engine.shape.segment_bytes) (restart_frame engine.shape)
+  pub steps : now ≡ world_after (opening_steps (after_frames (place 1 0) frames) engine.shape) (after_frames (place 1 0) frames) old
+
+-- A sound store was opened: the engine is at rest, and the log is in the same segment or in the next one and has one frame more.
+pub record OpensAtRest (wanted : Shape) (frames : List Frame) (old now : World) (engine : Running) : Type 0 where
+  pub at_rest : IsAtRest wanted engine now
+  pub rises : engine.log.end.seg ≤ (after_frames (place 1 0) frames).seg + 1
+  pub grows : LogGrowsBy old now (restart_frame engine.shape ∷ [])
+
 -- the engine has this shape and this map
-abbrev pub OpensWith : Shape → Pairs → Running → Type 0
-OpensWith shape pairs engine = (engine.shape ≡ shape) × (engine.pairs ≡ pairs)
+abbrev pub HasMap : Shape → Pairs → Running → Type 0
+HasMap shape pairs engine = (engine.shape ≡ shape) × (engine.map ≡ pairs)

@@ -1,50 +1,87 @@
 //! The engine, and how it runs lines.
 
-ghost use Rattle.std.specs.Prelude.{◌≡◌, ◌≤◌, ◌<◌, ◌+◌, ◌^◌, ℕ, List, [], ◌∷◌, ◌++◌, length, true, IfOk, OnOk, OnErr, vec_capacity};
+ghost use Rattle.std.specs.Prelude.{◌≡◌, ◌≤◌, ◌<◌, ◌+◌, ◌^◌, ℕ, List, [], ◌∷◌, ◌++◌, length, true, IfOk, IfErr, OnOk, OnErr, vec_capacity};
 ghost use Rattle.std.specs.List.{All};
-ghost use Rattle.pm_disk.specs.States.{HasCause, IsUsable};
 ghost use Rattle.pm_types.specs.declared.shape.Shape.{Shape};
-ghost use Rattle.pm_frame.specs.declared.limits.TheConstants.{PAYLOAD_MAX as longest};
 ghost use Rattle.pm_types.specs.Shapes.{IsShape};
-ghost use Rattle.pm_disk.specs.Moments.{AllMoments};
-ghost use Rattle.pm_model.specs.declared.line.Line.{Line};
-ghost use Rattle.pm_model.specs.Batches.{HasCache};
-ghost use Rattle.pm_model.specs.Eval.{Pairs, reply_to, after, is_accepted, replies_to, after_all};
-ghost use Rattle.pm_model.specs.Partitions.{ArePartitions};
+ghost use Rattle.pm_frame.specs.declared.limits.TheConstants.{PAYLOAD_MAX as longest};
+ghost use Rattle.pm_disk.specs.Moments.{Does, AllMoments};
+ghost use Rattle.pm_disk.specs.States.{HasCause, IsUsable};
+ghost use Rattle.pm_disk.specs.Worlds.{log_forced};
 ghost use Rattle.pm_records.specs.LogFiles.{ChangesLog};
 ghost use Rattle.pm_records.specs.LogSteps.{DoesSteps};
 ghost use Rattle.pm_segments.specs.Appends.{grown, steps_of};
 ghost use Rattle.pm_segments.specs.Ends.{EndsThere};
-ghost use Rattle.pm_engine.specs.Records.{record_of_line, IsPayloadOf, logical_frame};
+ghost use Rattle.pm_model.specs.declared.line.Line.{Line};
+ghost use Rattle.pm_model.specs.Batches.{HasCache};
+ghost use Rattle.pm_model.specs.Eval.{Pairs, reply_to, after, is_accepted};
+ghost use Rattle.pm_model.specs.Partitions.{ArePartitions};
+ghost use Rattle.pm_engine.specs.Batches.{HasPlainFault, RunsLines, HasReplied, noted};
+ghost use Rattle.pm_engine.specs.Engines.{HasDone, HasDoneWithin, IsAtRest, IsAtRestWithin, HasSegments};
 ghost use Rattle.pm_engine.specs.Held.{CrashHoldsPrefix};
-ghost use Rattle.pm_engine.specs.Engines.{running, HasDone, HasDoneWithin, IsAtRest, IsAtRestWithin, HasSegments};
-ghost use Rattle.pm_engine.specs.Batches.{HasPlainFault, TriesLine, TriesLines, noted};
+ghost use Rattle.pm_engine.specs.Records.{record_of_line, IsPayloadOf, logical_frame};
 
 use crate::record::write_record;
+use crate::replay::Replay;
 use pm_disk::{Failed, Host};
 use pm_frame::LOGICAL;
 use pm_model::{Answer, Line, PlainMap, Reply};
 use pm_segments::Log;
 use pm_types::{Place, Shape, StoreFault};
 use std::alloc::{AllocError, Global};
+use std::marker::Model;
 
 /// A store that is open: its map in memory, and its log, to which each accepted line is appended.
 ///
 /// After an error no call but `into_order` is made on it: the store on the disk is then as a crash would leave it.
 #[derive(Drop)]
 pub struct Engine {
-    pub(crate) shape: Shape,
-    pub(crate) map: PlainMap,
-    pub(crate) log: Log,
-    pub(crate) order: Vec<u32>,
+    shape: Shape,
+    map: PlainMap,
+    log: Log,
+    order: Vec<u32>,
     // The payload of the record at hand: its memory serves all lines.
-    pub(crate) payload: Vec<u8>,
+    payload: Vec<u8>,
+}
+
+impl Model for Engine {
+    ghost use Rattle.std.specs.Coded.{codes};
+    ghost use Rattle.pm_types.specs.Shapes.{IsShape};
+    ghost use Rattle.pm_model.specs.Eval.{coded_pairs};
+    ghost use Rattle.pm_engine.specs.Engines.{Running};
+
+    ghost Value = { Running };
+
+    ghost coded = { Prim.hlevel (codes, coded_pairs) };
+
+    ghost view = { λ engine. record {
+      shape = engine.shape;
+      map = engine.map;
+      log = engine.log;
+      order = engine.order.items;
+    } };
+
+    ghost invariant = { λ engine. IsShape engine.shape };
 }
 
 impl Engine {
-    /// Does a batch of lines, of which the first has the number `first`, appends their replies, and forces the log.
+    // An engine whose map is what a replay left, over the log that was opened after it.
+    pub(crate) fn opened(alloc: Global, replay: Replay, log: Log) -> Engine
+        requires { IsShape replay.shape }
+        ensures { result ≡ record { shape = replay.shape; map = replay.map; log = log; order = [] } }
+    {
+        Engine {
+            shape: replay.shape,
+            map: replay.map,
+            log,
+            order: Vec::new(alloc),
+            payload: Vec::new(alloc),
+        }
+    }
+
+    /// Runs a batch of lines, of which the first has the number `first`, appends their replies, and forces the log.
     ///
-    /// `Failed` and `Memory` leave a prefix of the lines of the batch done and their replies appended; no line is done in part.
+    /// `Failed` and `Memory` leave a prefix of the lines of the batch done, no line in part, and a prefix of their replies appended.
     pub fn batch<H: Host>(
         &mut self,
         alloc: Global,
@@ -54,28 +91,17 @@ impl Engine {
         replies: &mut Vec<Reply>,
     ) -> Result<(), StoreFault>
         requires usable { IsUsable (H.state host.old) }
-        requires shape { IsShape self.old.shape }
         requires caches { All HasCache lines.now }
         requires numbers { first + length lines.now ≤ 2 ^ 32 }
         requires end { H.tells → EndsThere self.old.log (H.history host.old).world }
-
-        // What is answered, and what is left.
-        ensures shape { self.new.shape ≡ self.old.shape }
-        ensures replies { OnOk result (replies.new.items
-            ≡ replies.old.items ++ replies_to self.old.shape lines.now self.old.map) }
-        ensures map { OnOk result
-            (self.new.map ≡ after_all self.old.shape lines.now self.old.map) }
-        ensures end { H.tells → OnOk result (EndsThere self.new.log (H.history host.new).world) }
-
-        // What a crash leaves, meanwhile and from then on.
-        ensures tries { TriesLines H.tells (H.history host.old) (H.history host.new)
-            (running self.old) (running self.new) first lines.now result }
-        ensures stands { H.tells → (wanted : Shape) →
-            IsAtRest wanted (running self.old) (H.history host.old).world →
-            HasSegments (running self.old) (length lines.now) → OnOk result (IsAtRestWithin wanted
-            (length lines.now) (running self.old) (running self.new) (H.history host.new).world) }
-        ensures log_only { H.tells → AllMoments (H.history host.old) (H.history host.new)
-            (ChangesLog (H.history host.old).world) }
+        ensures runs { RunsLines H.tells (H.history host.old) (H.history host.new)
+            self.old self.new first lines.now result }
+        ensures replied { HasReplied self.old.shape self.old.map lines.now
+            replies.old.items replies.new.items result }
+        ensures at_rest { H.tells → (wanted : Shape) →
+            IsAtRest wanted self.old (H.history host.old).world →
+            HasSegments self.old (length lines.now) → OnOk result (IsAtRestWithin wanted
+            (length lines.now) self.old self.new (H.history host.new).world) }
         ensures cause { HasPlainFault (H.state host.old) (H.state host.new) result }
     {
         run_lines(self, alloc, host, lines, first, replies)?;
@@ -83,20 +109,22 @@ impl Engine {
         Ok(())
     }
 
-    /// Forces the log up to its end, which is the last thing that is done with a store.
+    /// Forces the log up to its end, which is the last thing that is done with a store. It takes no memory, so that no other
+    /// error than `Failed` comes.
     pub fn close<H: Host>(&mut self, host: &mut H) -> Result<(), StoreFault>
         requires usable { IsUsable (H.state host.old) }
-        ensures same { running self.new ≡ running self.old }
-        ensures stands { H.tells → (wanted : Shape) →
-            IsAtRest wanted (running self.old) (H.history host.old).world →
-            OnOk result (IsAtRestWithin wanted 0 (running self.old) (running self.new) (H.history host.new).world) }
-        ensures moments { H.tells → (wanted : Shape) →
-            IsAtRest wanted (running self.old) (H.history host.old).world →
+        ensures same { self.new ≡ self.old }
+        ensures at_rest { H.tells → (wanted : Shape) →
+            IsAtRest wanted self.old (H.history host.old).world →
+            OnOk result (IsAtRestWithin wanted 0 self.old self.new (H.history host.new).world) }
+        ensures crash { H.tells → (wanted : Shape) →
+            IsAtRest wanted self.old (H.history host.old).world →
             AllMoments (H.history host.old) (H.history host.new)
             (CrashHoldsPrefix wanted self.old.shape self.old.map []) }
         ensures log_only { H.tells → AllMoments (H.history host.old) (H.history host.new)
             (ChangesLog (H.history host.old).world) }
-        ensures cause { HasPlainFault (H.state host.old) (H.state host.new) result }
+        ensures only_failed { IfErr result (λ fault. fault ≡ StoreFault.Failed) }
+        ensures cause { HasCause (H.state host.old) (H.state host.new) result }
     {
         Ok(self.force(host)?)
     }
@@ -104,7 +132,7 @@ impl Engine {
     /// The numbers of the accepted lines whose records were handed to the log, in the order in which they were, once nothing
     /// more is done.
     pub fn into_order(self) -> Vec<u32>
-        ensures { result.items ≡ (running self).order }
+        ensures { result.items ≡ self.order }
     {
         self.order
     }
@@ -112,24 +140,15 @@ impl Engine {
     // Forces the log up to its end.
     fn force<H: Host>(&mut self, host: &mut H) -> Result<(), Failed>
         requires usable { IsUsable (H.state host.old) }
-        ensures same { running self.new ≡ running self.old }
-        ensures end { H.tells → EndsThere self.old.log (H.history host.old).world →
-            OnOk result (EndsThere self.new.log (H.history host.new).world) }
-        ensures stands { H.tells → (wanted : Shape) (start : Pairs) (done : List Line) →
-            HasDone wanted start done (running self.old) (H.history host.old).world →
-            OnOk result (IsAtRestWithin wanted 0 (running self.old) (running self.new) (H.history host.new).world) }
-        ensures moments { H.tells → (wanted : Shape) (start : Pairs) (done : List Line) →
-            HasDone wanted start done (running self.old) (H.history host.old).world →
-            AllMoments (H.history host.old) (H.history host.new)
-            (CrashHoldsPrefix wanted self.old.shape start done) }
-        ensures log_only { H.tells → AllMoments (H.history host.old) (H.history host.new)
-            (ChangesLog (H.history host.old).world) }
+        ensures same { self.new ≡ self.old }
+        ensures does { H.tells → Does (H.history host.old) (H.history host.new) result
+            (log_forced self.old.log.end.seg (H.history host.old).world) }
         ensures cause { HasCause (H.state host.old) (H.state host.new) result }
     {
         self.log.force(host)
     }
 
-    // Does a line, and answers it. Where memory runs out nothing is done.
+    // Runs a line, and answers it. Where memory runs out nothing is done.
     fn run_line<H: Host>(
         &mut self,
         alloc: Global,
@@ -138,25 +157,17 @@ impl Engine {
         number: u64,
     ) -> Result<Reply, StoreFault>
         requires usable { IsUsable (H.state host.old) }
-        requires shape { IsShape self.old.shape }
         requires cache { HasCache line.now }
         requires numbered { number < 2 ^ 32 }
         requires end { H.tells → EndsThere self.old.log (H.history host.old).world }
-        ensures shape { self.new.shape ≡ self.old.shape }
         ensures reply { IfOk result
             (λ reply. reply ≡ reply_to self.old.shape line.now self.old.map) }
-        ensures map { OnOk result (self.new.map ≡ after self.old.shape line.now self.old.map) }
-        ensures end { H.tells → OnOk result (EndsThere self.new.log (H.history host.new).world) }
-
-        // What a crash leaves.
-        ensures tries { TriesLine H.tells (H.history host.old) (H.history host.new)
-            (running self.old) (running self.new) number line.now result }
-        ensures goes { H.tells → (wanted : Shape) (start : Pairs) (done : List Line) →
-            HasDone wanted start done (running self.old) (H.history host.old).world →
-            HasSegments (running self.old) 1 → OnOk result (HasDoneWithin wanted start
-            (done ++ line.now ∷ []) 1 (running self.old) (running self.new) (H.history host.new).world) }
-        ensures log_only { H.tells → AllMoments (H.history host.old) (H.history host.new)
-            (ChangesLog (H.history host.old).world) }
+        ensures runs { RunsLines H.tells (H.history host.old) (H.history host.new)
+            self.old self.new number (line.now ∷ []) result }
+        ensures done { H.tells → (wanted : Shape) (start : Pairs) (done : List Line) →
+            HasDone wanted start done self.old (H.history host.old).world →
+            HasSegments self.old 1 → OnOk result (HasDoneWithin wanted start
+            (done ++ line.now ∷ []) 1 self.old self.new (H.history host.new).world) }
         ensures cause { HasPlainFault (H.state host.old) (H.state host.new) result }
     {
         let answer = prepare(
@@ -175,7 +186,7 @@ impl Engine {
     }
 }
 
-// Does lines one after the other, and appends their replies.
+// Runs lines one after the other, and appends their replies.
 fn run_lines<H: Host>(
     engine: &mut Engine,
     alloc: Global,
@@ -185,25 +196,17 @@ fn run_lines<H: Host>(
     replies: &mut Vec<Reply>,
 ) -> Result<(), StoreFault>
     requires usable { IsUsable (H.state host.old) }
-    requires shape { IsShape engine.old.shape }
     requires caches { All HasCache lines.now }
     requires numbers { first + length lines.now ≤ 2 ^ 32 }
     requires end { H.tells → EndsThere engine.old.log (H.history host.old).world }
-    ensures shape { engine.new.shape ≡ engine.old.shape }
-    ensures replies { OnOk result (replies.new.items
-        ≡ replies.old.items ++ replies_to engine.old.shape lines.now engine.old.map) }
-    ensures map { OnOk result
-        (engine.new.map ≡ after_all engine.old.shape lines.now engine.old.map) }
-    ensures end { H.tells → OnOk result (EndsThere engine.new.log (H.history host.new).world) }
-    ensures tries { TriesLines H.tells (H.history host.old) (H.history host.new)
-        (running engine.old) (running engine.new) first lines.now result }
-    ensures goes { H.tells → (wanted : Shape) →
-        IsAtRest wanted (running engine.old) (H.history host.old).world →
-        HasSegments (running engine.old) (length lines.now) → OnOk result (HasDoneWithin wanted
-        engine.old.map lines.now (length lines.now) (running engine.old) (running engine.new)
-        (H.history host.new).world) }
-    ensures log_only { H.tells → AllMoments (H.history host.old) (H.history host.new)
-        (ChangesLog (H.history host.old).world) }
+    ensures runs { RunsLines H.tells (H.history host.old) (H.history host.new)
+        engine.old engine.new first lines.now result }
+    ensures replied { HasReplied engine.old.shape engine.old.map lines.now
+        replies.old.items replies.new.items result }
+    ensures done { H.tells → (wanted : Shape) (start : Pairs) (done : List Line) →
+        HasDone wanted start done engine.old (H.history host.old).world →
+        HasSegments engine.old (length lines.now) → OnOk result (HasDoneWithin wanted start
+        (done ++ lines.now) (length lines.now) engine.old engine.new (H.history host.new).world) }
     ensures cause { HasPlainFault (H.state host.old) (H.state host.new) result }
 {
     let mut number = u64::from(first);

@@ -3,7 +3,6 @@
 ghost use Rattle.pm_disk.specs.States.{IsUsable};
 ghost use Rattle.std.specs.Prelude.{◌≡◌, ◌+◌, ◌<◌, ◌≤◌, [], false, IfOk, OnOk, IsErrOf};
 ghost use Rattle.std.specs.FinMap.{empty};
-ghost use Rattle.pm_types.specs.declared.page_id.PageId.{PageId};
 ghost use Rattle.pm_types.specs.declared.place.Place.{Place};
 ghost use Rattle.pm_types.specs.declared.shape.Shape.{Shape};
 ghost use Rattle.pm_frame.specs.declared.limits.TheConstants.{SEGMENT_END_MAX as last_end};
@@ -17,8 +16,7 @@ ghost use Rattle.pm_segments.specs.Ends.{EndsThere};
 ghost use Rattle.pm_segments.specs.Scans.{IsAhead};
 ghost use Rattle.pm_engine.specs.Batches.{HasStoreFault};
 ghost use Rattle.pm_engine.specs.Held.{Holds, HasNumbers, CrashHoldsPrefix};
-ghost use Rattle.pm_engine.specs.Engines.{running, IsAtRest};
-ghost use Rattle.pm_engine.specs.Openings.{ReplaysNext, IsFurther, ReadsAll, IsSame, IsBadStore, OpensWith};
+ghost use Rattle.pm_engine.specs.Openings.{ReplaysNext, IsFurther, ReadsAll, IsSame, IsBadStore, OpensWith, OpensAtRest, HasMap};
 
 use crate::engine::Engine;
 use crate::record::restart_payload;
@@ -43,25 +41,24 @@ impl Engine {
     ) -> Result<Engine, StoreFault>
         requires usable { IsUsable (H.state host.old) }
         requires wanted { IsShape wanted }
-        ensures shape { IfOk result (λ engine. IsShape engine.shape) }
-        ensures order { IfOk result (λ engine. (running engine).order ≡ []) }
+        ensures fresh { IfOk result (λ engine. IsShape engine.shape × (engine.order ≡ [])) }
         ensures end { H.tells → IfOk result (λ engine. EndsThere engine.log (H.history host.new).world) }
 
-        // What is found: what a sound store holds, or the first record that is bad.
+        // What is found, whether the store is sound or not, and which record is bad.
+        ensures opens { H.tells → IfOk result (λ engine. OpensWith wanted
+            (H.history host.old).world (H.history host.new).world engine) }
         ensures holds { H.tells → (shape : Shape) (pairs : Pairs) →
             Holds wanted (H.history host.old).world shape pairs →
-            IfOk result (λ engine. OpensWith shape pairs (running engine)) }
+            IfOk result (λ engine. HasMap shape pairs engine) }
         ensures bad { H.tells → (at : Place) → IsErrOf result (StoreFault.BadRecord at) →
             IsBadStore wanted at (H.history host.old).world (H.history host.new).world }
-        ensures page { (page : PageId) → IsErrOf result (StoreFault.BadPage page) → ⊥ }
 
         // What a crash leaves, meanwhile and from then on.
-        ensures stands { H.tells → (shape : Shape) (pairs : Pairs) →
+        ensures at_rest { H.tells → (shape : Shape) (pairs : Pairs) →
             (holds : Holds wanted (H.history host.old).world shape pairs) → HasNumbers holds.frames →
-            NothingPending (H.history host.old).world → IfOk result (λ engine.
-            IsAtRest wanted (running engine) (H.history host.new).world
-            × (engine.log.end.seg ≤ (after_frames (place 1 0) holds.frames).seg + 1)) }
-        ensures moments { H.tells → (shape : Shape) (pairs : Pairs) →
+            NothingPending (H.history host.old).world → IfOk result (λ engine. OpensAtRest wanted
+            holds.frames (H.history host.old).world (H.history host.new).world engine) }
+        ensures crash { H.tells → (shape : Shape) (pairs : Pairs) →
             (holds : Holds wanted (H.history host.old).world shape pairs) → HasNumbers holds.frames →
             NothingPending (H.history host.old).world →
             AllMoments (H.history host.old) (H.history host.new) (CrashHoldsPrefix wanted shape pairs []) }
@@ -73,13 +70,7 @@ impl Engine {
         let end = read_log(alloc, host, &mut replay)?;
         let mut log = Log::cut_tail(host, 1, end, replay.shape.segment_bytes)?;
         log.append(host, RESTART, &restart_payload(replay.shape))?;
-        Ok(Engine {
-            shape: replay.shape,
-            map: replay.map,
-            log,
-            order: Vec::new(alloc),
-            payload: Vec::new(alloc),
-        })
+        Ok(Engine::opened(alloc, replay, log))
     }
 }
 
@@ -96,7 +87,6 @@ fn read_log<H: Host>(alloc: Global, host: &mut H, replay: &mut Replay) -> Result
     ensures kept { IfOk result (λ end. 1 ≤ end.seg) }
     ensures bad { H.tells → (at : Place) → IsErrOf result (StoreFault.BadRecord at) →
         IsBadStore replay.old.shape at (H.history host.old).world (H.history host.new).world }
-    ensures page { (page : PageId) → IsErrOf result (StoreFault.BadPage page) → ⊥ }
     ensures same { H.tells → AllMoments (H.history host.old) (H.history host.new) (IsSame
         (H.history host.old).world) }
     ensures cause { HasStoreFault (H.state host.old) (H.state host.new) result }
@@ -133,7 +123,6 @@ fn replay_next<H: Host>(
     ensures does { H.tells →
         Does (H.history host.old) (H.history host.new) result (H.history host.old).world }
     ensures known { (at : Place) → IsErrOf result (StoreFault.BadRecord at) → ⊥ }
-    ensures page { (page : PageId) → IsErrOf result (StoreFault.BadPage page) → ⊥ }
     ensures cause { HasStoreFault (H.state host.old) (H.state host.new) result }
 {
     match scan.next(host)? {

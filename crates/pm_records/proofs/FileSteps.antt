@@ -1,6 +1,6 @@
 -- What each call on the log's files makes of the log.
 use Rattle.std.proofs.Common.{◌≡◌, ℕ, ◌+◌, ◌<◌, ◌≤◌, List, [], ◌∷◌, ◌++◌, length, take, drop, Option, Some, None, refl, sym, ◌∙◌, ap, subst, arith, true, false, length-append}
-use Rattle.std.specs.Prelude.{slice_get, ◌&&◌}
+use Rattle.std.specs.Prelude.{slice_get}
 use Rattle.std.proofs.lemmas.List.{take_all, drop_all, append-nil, length-take}
 use Rattle.pm_disk.specs.Files.{File, Change, Write, Cut, changed, at_change, content, bytes_of, with_change, all_forced}
 use Rattle.pm_disk.specs.Worlds.{with_file}
@@ -10,10 +10,10 @@ use Rattle.pm_disk.proofs.Files.{quiet_below, each_change, content_change, below
 use Rattle.pm_disk.proofs.Writes.{slice_get-take, slice_get-append_left}
 use Rattle.pm_frame.specs.Frames.{Frame, frame_len}
 use Rattle.pm_types.specs.declared.place.Place.{Place}
-use Rattle.pm_records.specs.LogFiles.{contents, OnlyTheseStood, Tail, Uncut, AfterSeal, Cutting, Ready, TailIs, FilesHoldLog}
-use Rattle.pm_records.specs.Logs.{Grammar, place, is_seal, is_last, ends_log, next_place, after_frames, HasFrames, SegmentHasFrames, HasNoSeal, frames_len}
+use Rattle.pm_records.specs.LogFiles.{OnlyTheseStood, Tail, Uncut, AfterSeal, Cutting, Ready, TailIs, FilesHoldLog}
+use Rattle.pm_records.specs.Logs.{Grammar, place, is_seal, is_last, after_frames, SegmentHasFrames, HasNoSeal, frames_len}
 use Rattle.pm_records.proofs.GrammarLaws.{IsGrammar}
-use Rattle.pm_records.proofs.Runs.{next-plain, plain_goes_on, none_past}
+use Rattle.pm_records.proofs.Runs.{next-plain, none_past}
 
 pub at_end-write : (bytes more : List ℕ) (end : ℕ) → length bytes ≡ end → take end bytes ++ more ++ drop (end + length more) bytes ≡ bytes ++ more
 at_end-write bytes more end is =

@@ -1,17 +1,17 @@
 -- The log over its segments' files, from a place on: what of it is lasting, what was written after that, and what a
 -- crash leaves.
-use Rattle.std.proofs.Common.{◌≡◌, ◌⊎◌, inl, inr, ℕ, ◌+◌, ◌<◌, ◌≤◌, List, [], ◌∷◌, ◌++◌, length, take, Option, None, refl, sym, ◌∙◌, ap, subst, arith, Bool, true, false}
-use Rattle.std.specs.Prelude.{slice_get, ◌&&◌, ◌||◌}
+use Rattle.std.proofs.Common.{◌≡◌, ◌⊎◌, inl, inr, ℕ, ◌+◌, ◌<◌, ◌≤◌, List, [], ◌∷◌, ◌++◌, length, take, Option, None, refl, sym, ◌∙◌, ap, subst, arith, true, false}
+use Rattle.std.specs.Prelude.{slice_get, ◌||◌}
 use Rattle.std.proofs.lemmas.List.{nil_from_length, append-nil}
 use Rattle.pm_types.specs.declared.place.Place.{Place}
 use Rattle.pm_frame.specs.Frames.{Frame, frame_len}
 use Rattle.pm_disk.specs.Files.{File, Change, Write, Cut, bytes_of, with_change, all_forced}
 use Rattle.pm_disk.specs.Worlds.{with_file}
-use Rattle.pm_disk.specs.Images.{Below, Leaves, IsTrueOf}
+use Rattle.pm_disk.specs.Images.{Leaves, IsTrueOf}
 use Rattle.pm_disk.proofs.Files.{quiet_content, at_change-last, content_same, content_long, quiet_below, below_less}
 use Rattle.pm_disk.proofs.Families.{file_here, file_there, file_cases}
 use Rattle.pm_records.specs.LogFiles.{contents, forced_contents, OnlyTheseStood, Tail, Uncut, AfterSeal, Cutting, Ready, FilesHoldLog, HasLasting, HoldsLog}
-use Rattle.pm_records.specs.Logs.{Grammar, place, is_seal, is_last, is_sealed, is_over, ends_log, next_place, after_frames, frames_len, HasFrames, HasNoSeal, SegmentHasFrames, IsLogFrom, IsLogWithNothingAbove}
+use Rattle.pm_records.specs.Logs.{Grammar, place, is_seal, is_last, is_sealed, is_over, next_place, after_frames, frames_len, HasFrames, HasNoSeal, SegmentHasFrames, IsLogWithNothingAbove}
 use Rattle.pm_records.proofs.FileSteps.{log_append, log_cut, log_force, log_force_sealed, log_force_cut, log_below}
 use Rattle.pm_records.proofs.GrammarLaws.{IsGrammar}
 use Rattle.pm_records.proofs.Runs.{Same, rises_from, bool_cases, next-plain, next-seal, plain_goes_on, seal_goes_on, goes_on-append, after_frames-append, none_past, keeps_run, log_none, log_cons, log_join, log_image}

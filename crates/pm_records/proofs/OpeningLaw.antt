@@ -1,13 +1,13 @@
 -- A log with nothing pending is made ready for more by cutting its tail: a crash meanwhile leaves all its frames.
-use Rattle.std.proofs.Common.{◌≡◌, inl, inr, ℕ, ◌+◌, ◌≤◌, List, [], ◌∷◌, ◌++◌, length, take, Option, refl, sym, ◌∙◌, ap, subst, arith, false, append-nil}
+use Rattle.std.proofs.Common.{◌≡◌, inl, inr, ℕ, ◌≤◌, List, [], ◌∷◌, ◌++◌, length, take, Option, refl, sym, ◌∙◌, ap, subst, arith, false, append-nil}
 use Rattle.std.proofs.lemmas.List.{take_all}
 use Rattle.pm_types.specs.declared.place.Place.{Place}
 use Rattle.pm_frame.specs.Frames.{Frame}
 use Rattle.pm_disk.specs.Files.{bytes_of}
-use Rattle.pm_disk.specs.Worlds.{World, log_forced}
+use Rattle.pm_disk.specs.Worlds.{World}
 use Rattle.pm_disk.specs.Images.{Leaves, IsTrueOf}
 use Rattle.pm_records.specs.LogFiles.{contents, Uncut, Ready, Written, IsWritten}
-use Rattle.pm_records.specs.LogSteps.{cut_at, cut_steps, world_after, DoesPrefix}
+use Rattle.pm_records.specs.LogSteps.{cut_steps, world_after, DoesPrefix}
 use Rattle.pm_records.specs.Logs.{all_frames, next_place, enters_next, is_over, after_frames, HasFrames, IsLogWithNothingAbove}
 use Rattle.pm_records.proofs.FrameGrammar.{frame_laws}
 use Rattle.pm_records.proofs.HeldLog.{quiet_held}

@@ -6,12 +6,12 @@ use Rattle.std.proofs.lemmas.List.{append-nil, take-append-le, take-append-drop}
 use Rattle.std.proofs.Math.Seq.{take-append-add}
 use Rattle.pm_types.specs.declared.place.Place.{Place}
 use Rattle.pm_frame.specs.Frames.{Frame, frame_len}
-use Rattle.pm_disk.specs.Files.{File, Cut, Drop, bytes_of, with_change, all_forced}
+use Rattle.pm_disk.specs.Files.{Cut, Drop, bytes_of, with_change, all_forced}
 use Rattle.pm_disk.specs.Worlds.{World, log_changed, log_forced}
 use Rattle.pm_disk.specs.Images.{Leaves, IsTrueOf}
 use Rattle.pm_records.specs.LogFiles.{Tail, Uncut, AfterSeal, Cutting, Ready, HoldsLog, Written, IsWritten}
 use Rattle.pm_records.specs.LogSteps.{Step, CutTail, Append, Force, NextSegment, DropSegment, ForceSegment, next_segment, next_begin, step_end, cut_at, written, step_world, end_after, world_after, DoesPrefix, frames_in, tail_forced, next_written, written_after}
-use Rattle.pm_records.specs.Logs.{Grammar, all_frames, place, is_seal, is_last, after_frames, frames_len, HasNoSeal, IsLogWithNothingAbove}
+use Rattle.pm_records.specs.Logs.{Grammar, all_frames, is_seal, is_last, after_frames, frames_len, HasNoSeal, IsLogWithNothingAbove}
 use Rattle.pm_records.proofs.FileSteps.{frames_len-append}
 use Rattle.pm_records.proofs.FrameGrammar.{frame_laws}
 use Rattle.pm_records.proofs.HeldLog.{Open, Sealed, pending_cases, held_append, held_force, held_force_sealed, held_cut, held_force_cut, held_below, held_image}
@@ -121,7 +121,6 @@ module _ (low : ℕ) where
   ]
   step_keeps NextSegment world from end s is can =
       keeps_next world from end s.at s.lasting s.pending (subst (λ tail. IsWritten world low from end (record s { tail = tail })) can.0 is) can.1
-
   step_keeps (DropSegment seg) world from end s is can =
       record { log = held_below g frame_laws world.log low from s.at s.lasting s.pending s.tail seg (with_change (world.log seg) Drop) can is.log; ends = is.ends }
   step_keeps (ForceSegment seg) world from end s is can =

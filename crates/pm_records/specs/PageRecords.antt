@@ -8,7 +8,6 @@ use Rattle.pm_types.specs.DeltaRanges.{start_of, len_of, end_of, after_front, nu
 use Rattle.pm_types.specs.PageSizes.{IsPageSize, is_page_size}
 use Rattle.pm_records.specs.PageNames.{IsPageName, is_page_name}
 
-
 -- a page as a whole, of one of the five page sizes
 pub record IsSnapshot (page : PageId) (bytes : List ℕ) : Type 0 where
   pub named : IsPageName page

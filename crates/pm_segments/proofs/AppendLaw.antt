@@ -1,6 +1,6 @@
 -- An append may be made wherever the tail was cut, and leaves the log ready for the next one.
-use Rattle.std.proofs.Common.{◌≡◌, inl, inr, ℕ, ◌+◌, ◌^◌, ◌<◌, ◌≤◌, List, [], ◌∷◌, ◌++◌, length, take, Option, refl, sym, ◌∙◌, ap, subst, arith, Bool, true, false}
-use Rattle.std.specs.Prelude.{◌&&◌, if◌then◌else◌}
+use Rattle.std.proofs.Common.{◌≡◌, inl, inr, ℕ, ◌+◌, ◌^◌, ◌<◌, ◌≤◌, List, [], ◌∷◌, ◌++◌, length, refl, sym, ◌∙◌, ap, subst, arith, Bool, true, false}
+use Rattle.std.specs.Prelude.{if◌then◌else◌}
 use Rattle.std.proofs.lemmas.Bool.{leb-true}
 use Rattle.std.proofs.lemmas.Bool.Decides.{nat_tests}
 use Rattle.pm_types.specs.declared.place.Place.{Place}
@@ -8,15 +8,12 @@ use Rattle.pm_frame.specs.declared.limits.TheConstants.{FRAME_EXTRA, FRAME_END_M
 use Rattle.pm_frame.specs.Frames.{Frame, IsFrame, end_max}
 use Rattle.pm_frame.proofs.FrameAt.{is_frame-from}
 use Rattle.pm_disk.specs.Worlds.{World}
-use Rattle.pm_disk.specs.Files.{bytes_of}
-use Rattle.pm_disk.specs.Images.{Leaves, IsTrueOf}
 use Rattle.pm_records.specs.LogFiles.{Ready, Written, IsWritten, IsRecordFrame, AfterSeal}
-use Rattle.pm_records.specs.LogSteps.{Step, Append, Force, NextSegment, next_segment, end_after, world_after, DoesPrefix, tail_forced, written_after, frames_in}
-use Rattle.pm_records.specs.Logs.{all_frames, is_last, place, HasNoSeal, is_seal, seal_frame, is_sealed, IsLogWithNothingAbove}
+use Rattle.pm_records.specs.LogSteps.{Step, Append, Force, NextSegment, next_segment, end_after, world_after, tail_forced, written_after}
+use Rattle.pm_records.specs.Logs.{all_frames, is_last, place, HasNoSeal, is_seal, seal_frame, is_sealed}
 use Rattle.pm_records.proofs.Runs.{bool_cases}
-use Rattle.pm_records.proofs.Tracing.{prefix_first}
-use Rattle.pm_records.proofs.Writing.{CanAll, steps_keep, crash_law}
-use Rattle.pm_segments.specs.Appends.{enter_steps, roll_steps, room_steps, append_steps, steps_of}
+use Rattle.pm_records.proofs.Writing.{CanAll, steps_keep}
+use Rattle.pm_segments.specs.Appends.{enter_steps, roll_steps, append_steps}
 use Rattle.pm_segments.specs.Ends.{LogEnd, HasRoom, has_room, LogIsOpen}
 use Rattle.pm_segments.proofs.Sealing.{fits_seal}
 

@@ -127,8 +127,8 @@ fn the_line_after_1024_waits_for_a_force_of_its_own(rt: HostRuntime) -> Result<(
     for (refused, lines, lasting) in [
         (1_030, 0, 0),
         (1_031, 0, 30_757),
-        (1_034, 1_024, 30_757),
-        (1_035, 1_024, 30_787),
+        (1_033, 1_024, 30_757),
+        (1_034, 1_024, 30_787),
     ] {
         let run = run_refusing(&rt, &script, refused)?;
         look_at_answered(&rt, &run, refused, lines)?;

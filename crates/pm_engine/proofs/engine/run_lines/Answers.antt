@@ -1,113 +1,107 @@
-use Rattle.std.proofs.Common.{rules, ◌≡◌, ◌∙◌, ◌+◌, ◌++◌, take, refl, sym, ap, subst, arith, append-nil}
-use Rattle.std.proofs.lemmas.List.{take_all}
+use Rattle.std.proofs.Common.{rules, ◌≡◌, ◌∙◌, ◌+◌, ◌++◌, [], ◌∷◌, Ok, length, take, refl, sym, ap, subst, arith, append-nil}
+use Rattle.std.proofs.lemmas.List.{length-take, take_all}
+use Rattle.pm_types.specs.declared.fault.StoreFault.{StoreFault}
 use Rattle.pm_model.specs.Eval.{replies_to}
-use Rattle.pm_disk.proofs.Chain.{at_last}
-use Rattle.pm_records.specs.LogFiles.{ChangesLog}
-use Rattle.pm_engine.specs.Engines.{running, HasDone}
-use Rattle.pm_engine.proofs.Trying.{log_still}
-use Rattle.pm_engine.proofs.Batching.{HasRun, has_run_none, has_run_more, tries_some, tries_line, log_joined, told_more, take_none}
+use Rattle.pm_engine.specs.Batches.{RunsLines}
+use Rattle.pm_engine.proofs.Batching.{DoneAfter, take_none, take_one_more, replied_more, runs_none, done_none, done_more, runs_more, runs_part}
+use Rattle.pm_engine.proofs.Results.{on_err, ok_holds}
 use Rattle.pm_engine.proofs.engine.run_lines.Goals as goal
 
 pub each-init : goal.each-init
 each-init g c =
+    let tells = g.H.Device.tells in
     let old = g.H.Device.history c.args.host.now in
     let lines = c.args.lines.now in
-    let start = running c.args.engine.now in
-    let first = has_run_none g.H.Device.tells old start c.args.first lines (g.H.Device.sound c.args.host.now) (λ t. log_still old (g.H.Device.sound c.args.host.now t)) in
+    let start = c.args.engine.now in
     record {
-      shape = first.shape;
-      told = sym (append-nil c.args.replies.now.items) ∙ ap (λ ls. c.args.replies.now.items ++ replies_to start.shape ls start.pairs) (sym (take_none lines));
-      map = first.map;
-      order = first.order;
+      told = sym (append-nil c.args.replies.now.items) ∙ ap (λ ls. c.args.replies.now.items ++ replies_to start.shape ls start.map) (sym (take_none lines));
       number = search rules;
       state = record { later = omega arith; access = refl; usable = λ usable. usable };
-      end = c.requires.end;
-      goes = first.goes;
-      log_only = first.log_only;
+      runs = subst (λ ls. RunsLines {T = Unit {0}} {E = StoreFault} tells old old start start c.args.first ls (Ok tt)) (sym (take_none lines)) (runs_none tells old start c.args.first (g.H.Device.sound c.args.host.now) c.requires.end);
+      after = subst (λ ls. DoneAfter tells old.world old.world start start ls) (sym (take_none lines)) (done_none tells old start);
     }
 
 pub each-preserved : goal.each-preserved
 each-preserved g c =
+    let tells = g.H.Device.tells in
     let old = g.H.Device.history c.args.host.now in
     let mid = g.H.Device.history c.each.host in
     let new = g.H.Device.history c.run_line.new.host in
     let lines = c.args.lines.now in
-    let start = running c.args.engine.now in
+    let start = c.args.engine.now in
+    let now = c.run_line.new.self in
     let v = c.each.invariant in
-    let so_far : HasRun g.H.Device.tells old start c.args.first lines c.each.line-index mid (running c.each.engine) =
-    record { shape = v.shape; map = v.map; order = v.order; goes = v.goes; log_only = v.log_only } in
-    let next : HasRun g.H.Device.tells old start c.args.first lines (c.each.line-index + 1) new (running c.run_line.new.self) =
-    has_run_more g.H.Device.tells old start c.args.first lines c.each.line-index mid new (running c.each.engine) (running c.run_line.new.self) c.each.number c.line-item.result so_far c.line-item.is (omega arith) v.number
-    c.run_line.result c.run_line.ensures.tries c.in_ok-reply.reply c.in_ok-reply.was c.run_line.ensures.shape c.in_ok-reply.ensures.map c.run_line.ensures.goes c.run_line.ensures.log_only
-    (λ t. at_last old mid (ChangesLog old.world) (g.H.Device.sound c.each.host t) (v.log_only t)) in
+    let line = c.line-item.result in
+    let so_far = take c.each.line-index lines in
+    let long : length so_far ≡ c.each.line-index = omega (arith, length-take c.each.line-index lines) in
+    let more = take_one_more lines c.each.line-index line c.line-item.is (omega arith) in
+    let was = c.in_ok-reply.was in
+    let runs : RunsLines {T = Unit {0}} {E = StoreFault} tells old new start now c.args.first (so_far ++ line ∷ []) (Ok tt) =
+    runs_more tells old mid new start c.each.engine now c.args.first so_far (line ∷ []) c.each.number v.runs v.after (g.H.Device.sound c.each.host)
+    c.run_line.result (Ok tt) c.run_line.ensures.runs (omega (arith, v.number, long)) (λ P holds. ok_holds c.run_line.result c.in_ok-reply.reply P was holds) in
+    let after = done_more tells old mid new start c.each.engine now c.args.first so_far (line ∷ []) c.each.number v.runs v.after (g.H.Device.sound c.each.host)
+    c.run_line.result c.in_ok-reply.reply was v.runs.shape c.run_line.ensures.done in
     record {
-      shape = next.shape;
-      told = told_more c.args.engine.now.shape lines c.each.line-index c.line-item.result c.args.engine.now.map c.args.replies.now.items c.each.replies.items c.push.new.self.items c.in_ok-reply.reply c.each.engine.shape c.each.engine.map
-          c.line-item.is (omega arith) v.shape v.map v.told c.in_ok-reply.ensures.reply c.in_ok-push.ensures.items;
-      map = next.map;
-      order = next.order;
+      told = replied_more start.shape lines c.each.line-index line start.map c.args.replies.now.items c.each.replies.items c.push.new.self.items c.in_ok-reply.reply c.each.engine.shape c.each.engine.map
+          c.line-item.is (omega arith) v.runs.shape v.runs.map v.told c.in_ok-reply.ensures.reply c.in_ok-push.ensures.items;
       number = omega (arith, v.number);
       state = record {
         later = omega (arith, v.state.later, c.run_line.ensures.cause.later);
         access = c.run_line.ensures.cause.access ∙ v.state.access;
         usable = λ usable. c.run_line.ensures.cause.usable (v.state.usable usable);
       };
-      end = λ t. c.in_ok-reply.ensures.end t;
-      goes = next.goes;
-      log_only = next.log_only;
+      runs = subst (λ ls. RunsLines {T = Unit {0}} {E = StoreFault} tells old new start now c.args.first ls (Ok tt)) (sym more) runs;
+      after = subst (λ ls. DoneAfter tells old.world new.world start now ls) (sym more) after;
     }
 
-pub returns-in_err-reply-clause-tries : goal.returns-in_err-reply-clause-tries
-returns-in_err-reply-clause-tries g c =
-    let old = g.H.Device.history c.args.host.now in
-    let mid = g.H.Device.history c.each.host in
-    let v = c.each.invariant in
-    let so_far : HasRun g.H.Device.tells old (running c.args.engine.now) c.args.first c.args.lines.now c.each.line-index mid (running c.each.engine) =
-    record { shape = v.shape; map = v.map; order = v.order; goes = v.goes; log_only = v.log_only } in
-    tries_line g.H.Device.tells old (running c.args.engine.now) c.args.first c.args.lines.now c.each.line-index mid (g.H.Device.history c.run_line.new.host) (running c.each.engine) (running c.run_line.new.self)
-    c.each.number c.line-item.result so_far c.line-item.is (omega arith) v.number c.run_line.result c.run_line.ensures.tries c.from_residual.result (search rules)
-
-pub returns-in_err-reply-clause-log_only : goal.returns-in_err-reply-clause-log_only
-returns-in_err-reply-clause-log_only g c t =
-    let old = g.H.Device.history c.args.host.now in
-    let mid = g.H.Device.history c.each.host in
-    log_joined old mid (g.H.Device.history c.run_line.new.host) (c.each.invariant.log_only t)
-    (at_last old mid (ChangesLog old.world) (g.H.Device.sound c.each.host t) (c.each.invariant.log_only t)) (c.run_line.ensures.log_only t)
-
-pub returns-in_err-push-clause-tries : goal.returns-in_err-push-clause-tries
-returns-in_err-push-clause-tries g c =
+pub returns-in_err-reply-clause-runs : goal.returns-in_err-reply-clause-runs
+returns-in_err-reply-clause-runs g c =
+    let tells = g.H.Device.tells in
     let old = g.H.Device.history c.args.host.now in
     let mid = g.H.Device.history c.each.host in
     let new = g.H.Device.history c.run_line.new.host in
     let lines = c.args.lines.now in
-    let start = running c.args.engine.now in
+    let start = c.args.engine.now in
+    let now = c.run_line.new.self in
     let v = c.each.invariant in
-    let so_far : HasRun g.H.Device.tells old start c.args.first lines c.each.line-index mid (running c.each.engine) =
-    record { shape = v.shape; map = v.map; order = v.order; goes = v.goes; log_only = v.log_only } in
-    let next : HasRun g.H.Device.tells old start c.args.first lines (c.each.line-index + 1) new (running c.run_line.new.self) =
-    has_run_more g.H.Device.tells old start c.args.first lines c.each.line-index mid new (running c.each.engine) (running c.run_line.new.self) c.each.number c.line-item.result so_far c.line-item.is (omega arith) v.number
-    c.run_line.result c.run_line.ensures.tries c.in_ok-reply.reply c.in_ok-reply.was c.run_line.ensures.shape c.in_ok-reply.ensures.map c.run_line.ensures.goes c.run_line.ensures.log_only
-    (λ t. at_last old mid (ChangesLog old.world) (g.H.Device.sound c.each.host t) (v.log_only t)) in
-    tries_some g.H.Device.tells old start c.args.first lines (c.each.line-index + 1) new (running c.run_line.new.self) c.from_residual-in_err-push.result next (omega arith) (search rules)
+    let line = c.line-item.result in
+    let so_far = take c.each.line-index lines in
+    let long : length so_far ≡ c.each.line-index = omega (arith, length-take c.each.line-index lines) in
+    let more = take_one_more lines c.each.line-index line c.line-item.is (omega arith) in
+    let failed = on_err c.from_residual.result c.from_residual.ensures.0 in
+    let runs = runs_more tells old mid new start c.each.engine now c.args.first so_far (line ∷ []) c.each.number v.runs v.after (g.H.Device.sound c.each.host)
+    c.run_line.result c.from_residual.result c.run_line.ensures.runs (omega (arith, v.number, long)) (λ P holds. failed P) in
+    runs_part tells old new start now c.args.first lines (c.each.line-index + 1) c.from_residual.result failed (omega arith)
+    (subst (λ ls. RunsLines {T = Unit {0}} {E = StoreFault} tells old new start now c.args.first ls c.from_residual.result) (sym more) runs)
 
-pub returns-in_err-push-clause-log_only : goal.returns-in_err-push-clause-log_only
-returns-in_err-push-clause-log_only g c t =
+pub returns-in_err-push-clause-runs : goal.returns-in_err-push-clause-runs
+returns-in_err-push-clause-runs g c =
+    let tells = g.H.Device.tells in
     let old = g.H.Device.history c.args.host.now in
     let mid = g.H.Device.history c.each.host in
-    log_joined old mid (g.H.Device.history c.run_line.new.host) (c.each.invariant.log_only t)
-    (at_last old mid (ChangesLog old.world) (g.H.Device.sound c.each.host t) (c.each.invariant.log_only t)) (c.run_line.ensures.log_only t)
-
-pub returns-clause-tries : goal.returns-clause-tries
-returns-clause-tries g c =
-    let old = g.H.Device.history c.args.host.now in
-    let v = c.each.invariant in
-    let so_far : HasRun g.H.Device.tells old (running c.args.engine.now) c.args.first c.args.lines.now c.each.line-index (g.H.Device.history c.each.host) (running c.each.engine) =
-    record { shape = v.shape; map = v.map; order = v.order; goes = v.goes; log_only = v.log_only } in
-    tries_some g.H.Device.tells old (running c.args.engine.now) c.args.first c.args.lines.now c.each.line-index (g.H.Device.history c.each.host) (running c.each.engine) _ so_far (omega arith) (omega arith)
-
-pub returns-clause-goes : goal.returns-clause-goes
-returns-clause-goes g c t wanted stands segments =
+    let new = g.H.Device.history c.run_line.new.host in
     let lines = c.args.lines.now in
-    let goes = (c.each.invariant.goes t wanted stands segments).0 in
+    let start = c.args.engine.now in
+    let now = c.run_line.new.self in
+    let v = c.each.invariant in
+    let line = c.line-item.result in
+    let so_far = take c.each.line-index lines in
+    let long : length so_far ≡ c.each.line-index = omega (arith, length-take c.each.line-index lines) in
+    let more = take_one_more lines c.each.line-index line c.line-item.is (omega arith) in
+    let failed = on_err c.from_residual-in_err-push.result c.from_residual-in_err-push.ensures.0 in
+    let runs = runs_more tells old mid new start c.each.engine now c.args.first so_far (line ∷ []) c.each.number v.runs v.after (g.H.Device.sound c.each.host)
+    c.run_line.result c.from_residual-in_err-push.result c.run_line.ensures.runs (omega (arith, v.number, long)) (λ P holds. failed P) in
+    runs_part tells old new start now c.args.first lines (c.each.line-index + 1) c.from_residual-in_err-push.result failed (omega arith)
+    (subst (λ ls. RunsLines {T = Unit {0}} {E = StoreFault} tells old new start now c.args.first ls c.from_residual-in_err-push.result) (sym more) runs)
+
+pub returns-clause-runs : goal.returns-clause-runs
+returns-clause-runs g c =
+    let lines = c.args.lines.now in
     let all : take c.each.line-index lines ≡ lines = take_all c.each.line-index lines (omega arith) in
-    (subst (λ ls. HasDone wanted c.args.engine.now.map ls (running c.each.engine) (g.H.Device.history c.each.host).world) all goes.0, omega (arith, goes.1))
+    subst (λ ls. RunsLines {T = Unit {0}} {E = StoreFault} g.H.Device.tells (g.H.Device.history c.args.host.now) (g.H.Device.history c.each.host) c.args.engine.now c.each.engine c.args.first ls (Ok tt)) all c.each.invariant.runs
+
+pub returns-clause-done : goal.returns-clause-done
+returns-clause-done g c t wanted start done goes segments =
+    let lines = c.args.lines.now in
+    let all : take c.each.line-index lines ≡ lines = take_all c.each.line-index lines (omega arith) in
+    subst (λ ls. DoneAfter g.H.Device.tells (g.H.Device.history c.args.host.now).world (g.H.Device.history c.each.host).world c.args.engine.now c.each.engine ls) all c.each.invariant.after t wanted start done goes segments

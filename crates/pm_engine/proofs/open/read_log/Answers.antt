@@ -2,7 +2,7 @@ use Rattle.std.proofs.Common.{◌≡◌, ◌<◌, ◌≤◌, ◌^◌, ◌∙◌,
 use Rattle.pm_disk.proofs.Chain.{started, does, at_last}
 use Rattle.pm_types.specs.declared.place.Place.{Place}
 use Rattle.pm_records.specs.LogFiles.{contents}
-use Rattle.pm_records.specs.Logs.{is_over, place}
+use Rattle.pm_records.specs.Logs.{place}
 use Rattle.pm_segments.specs.Scans.{Scanned, IsAhead, bytes_after}
 use Rattle.pm_segments.proofs.Reading.{scan_starts}
 use Rattle.pm_engine.specs.Openings.{ReplaysNext, IsFurther, IsSame, ReadsPrefix, ReadsAll, IsBadRecord}

@@ -1,62 +1,59 @@
-use Rattle.std.proofs.Common.{rules, ◌≡◌, length, Ok, sym, subst, arith}
+use Rattle.std.proofs.Common.{◌+◌, ◌++◌, [], length, Ok, refl, sym, subst, arith, append-nil}
 use Rattle.pm_types.specs.declared.fault.StoreFault.{StoreFault}
-use Rattle.pm_disk.proofs.Chain.{at_last}
-use Rattle.pm_records.specs.LogFiles.{ChangesLog}
-use Rattle.pm_engine.specs.Batches.{TriesLines}
-use Rattle.pm_engine.specs.Engines.{running}
-use Rattle.pm_engine.proofs.Batching.{ok_holds, log_joined}
-use Rattle.pm_engine.proofs.Forcing.{tries_still, tries_forced}
+use Rattle.pm_engine.specs.Batches.{RunsLines}
+use Rattle.pm_engine.specs.Engines.{HasDoneWithin, IsAtRestWithin}
+use Rattle.pm_engine.proofs.Batching.{DoneAfter, runs_more}
+use Rattle.pm_engine.proofs.Forcing.{forced_at_rest, forced_runs}
+use Rattle.pm_engine.proofs.Results.{on_err, ok_holds}
 use Rattle.pm_engine.proofs.engine.Engine.batch.Goals as goal
 
-pub returns-in_err-run_lines-clause-tries : goal.returns-in_err-run_lines-clause-tries
-returns-in_err-run_lines-clause-tries g c =
-    tries_still g.H.Device.tells (g.H.Device.history c.args.host.now) (g.H.Device.history c.run_lines.new.host) (g.H.Device.history c.run_lines.new.host) (running c.args.self.now) (running c.run_lines.new.engine) c.args.first c.args.lines.now
-    c.run_lines.result c.from_residual.result c.run_lines.ensures.tries (search rules)
-
-pub returns-in_err-force-clause-tries : goal.returns-in_err-force-clause-tries
-returns-in_err-force-clause-tries g c =
+pub returns-in_err-force-clause-runs : goal.returns-in_err-force-clause-runs
+returns-in_err-force-clause-runs g c =
     let tells = g.H.Device.tells in
     let old = g.H.Device.history c.args.host.now in
     let mid = g.H.Device.history c.run_lines.new.host in
     let new = g.H.Device.history c.force.new.host in
-    let start = running c.args.self.now in
-    let now = running c.run_lines.new.engine in
+    let start = c.args.self.now in
+    let engine = c.run_lines.new.engine in
     let lines = c.args.lines.now in
-    let tries = c.run_lines.ensures.tries in
-    let all = ok_holds c.run_lines.result _ (tries.count ≡ length lines) c.in_ok-run_lines.was tries.all in
-    subst (λ e. TriesLines {T = Unit {0}} {E = StoreFault} tells old new start e c.args.first lines c.from_residual-in_err-force.result) (sym c.force.ensures.same)
-    (tries_forced tells old mid new start now c.args.first lines c.run_lines.result c.from_residual-in_err-force.result tries all c.run_lines.ensures.shape (λ t wanted stands segments. c.in_ok-run_lines.ensures.goes t wanted stands segments) c.force.ensures.moments)
+    let was = c.in_ok-run_lines.was in
+    let runs = subst (λ r. RunsLines {T = Unit {0}} {E = StoreFault} tells old mid start engine c.args.first lines r) was c.run_lines.ensures.runs in
+    let done : DoneAfter tells old.world mid.world start engine lines = λ t wanted from done goes segments.
+    ok_holds c.run_lines.result _ (HasDoneWithin wanted from (done ++ lines) (length lines) start engine mid.world) was (c.run_lines.ensures.done t wanted from done goes segments) in
+    let answer = c.from_residual-in_err-force.result in
+    let failed = on_err answer c.from_residual-in_err-force.ensures.0 in
+    let force = forced_runs tells mid new engine (c.args.first + length lines) c.force.result (λ t. c.force.ensures.does t) (g.H.Device.sound c.run_lines.new.host) (λ t. runs.end t) in
+    let all = runs_more tells old mid new start engine engine c.args.first lines [] (c.args.first + length lines) runs done (g.H.Device.sound c.run_lines.new.host) c.force.result answer force refl (λ P holds. failed P) in
+    subst (λ x. RunsLines {T = Unit {0}} {E = StoreFault} tells old new start x c.args.first lines answer) (sym c.force.ensures.same)
+    (subst (λ ls. RunsLines {T = Unit {0}} {E = StoreFault} tells old new start engine c.args.first ls answer) (append-nil lines) all)
 
-pub returns-in_err-force-clause-log_only : goal.returns-in_err-force-clause-log_only
-returns-in_err-force-clause-log_only g c t =
-    let old = g.H.Device.history c.args.host.now in
-    let mid = g.H.Device.history c.run_lines.new.host in
-    log_joined old mid (g.H.Device.history c.force.new.host) (c.run_lines.ensures.log_only t)
-    (at_last old mid (ChangesLog old.world) (g.H.Device.sound c.run_lines.new.host t) (c.run_lines.ensures.log_only t)) (c.force.ensures.log_only t)
-
-pub returns-clause-tries : goal.returns-clause-tries
-returns-clause-tries g c =
+pub returns-clause-runs : goal.returns-clause-runs
+returns-clause-runs g c =
     let tells = g.H.Device.tells in
     let old = g.H.Device.history c.args.host.now in
     let mid = g.H.Device.history c.run_lines.new.host in
     let new = g.H.Device.history c.force.new.host in
-    let start = running c.args.self.now in
-    let now = running c.run_lines.new.engine in
+    let start = c.args.self.now in
+    let engine = c.run_lines.new.engine in
     let lines = c.args.lines.now in
-    let tries = c.run_lines.ensures.tries in
-    let all = ok_holds c.run_lines.result _ (tries.count ≡ length lines) c.in_ok-run_lines.was tries.all in
-    subst (λ e. TriesLines {T = Unit {0}} {E = StoreFault} tells old new start e c.args.first lines (Ok tt)) (sym c.force.ensures.same)
-    (tries_forced tells old mid new start now c.args.first lines c.run_lines.result (Ok tt) tries all c.run_lines.ensures.shape (λ t wanted stands segments. c.in_ok-run_lines.ensures.goes t wanted stands segments) c.force.ensures.moments)
+    let was = c.in_ok-run_lines.was in
+    let runs = subst (λ r. RunsLines {T = Unit {0}} {E = StoreFault} tells old mid start engine c.args.first lines r) was c.run_lines.ensures.runs in
+    let done : DoneAfter tells old.world mid.world start engine lines = λ t wanted from done goes segments.
+    ok_holds c.run_lines.result _ (HasDoneWithin wanted from (done ++ lines) (length lines) start engine mid.world) was (c.run_lines.ensures.done t wanted from done goes segments) in
+    let force = forced_runs tells mid new engine (c.args.first + length lines) c.force.result (λ t. c.force.ensures.does t) (g.H.Device.sound c.run_lines.new.host) (λ t. runs.end t) in
+    let all = runs_more tells old mid new start engine engine c.args.first lines [] (c.args.first + length lines) runs done (g.H.Device.sound c.run_lines.new.host) {S = Unit {0}} {F = StoreFault} c.force.result (Ok tt) force refl (λ P holds. ok_holds c.force.result _ P c.in_ok-force.was holds) in
+    subst (λ x. RunsLines {T = Unit {0}} {E = StoreFault} tells old new start x c.args.first lines (Ok tt)) (sym c.force.ensures.same)
+    (subst (λ ls. RunsLines {T = Unit {0}} {E = StoreFault} tells old new start engine c.args.first ls (Ok tt)) (append-nil lines) all)
 
-pub returns-clause-stands : goal.returns-clause-stands
-returns-clause-stands g c t wanted stands segments =
-    let goes = c.in_ok-run_lines.ensures.goes t wanted stands segments in
-    let forced = c.in_ok-force.ensures.stands t wanted c.args.self.now.map c.args.lines.now goes.0 in
-    record { stands = forced.stands; rises = omega (arith, forced.rises, goes.1); lasting = forced.lasting }
-
-pub returns-clause-log_only : goal.returns-clause-log_only
-returns-clause-log_only g c t =
+pub returns-clause-at_rest : goal.returns-clause-at_rest
+returns-clause-at_rest g c t wanted rest segments =
     let old = g.H.Device.history c.args.host.now in
     let mid = g.H.Device.history c.run_lines.new.host in
-    log_joined old mid (g.H.Device.history c.force.new.host) (c.run_lines.ensures.log_only t)
-    (at_last old mid (ChangesLog old.world) (g.H.Device.sound c.run_lines.new.host t) (c.run_lines.ensures.log_only t)) (c.force.ensures.log_only t)
+    let new = g.H.Device.history c.force.new.host in
+    let start = c.args.self.now in
+    let engine = c.run_lines.new.engine in
+    let lines = c.args.lines.now in
+    let done = ok_holds c.run_lines.result _ (HasDoneWithin wanted start.map lines (length lines) start engine mid.world) c.in_ok-run_lines.was (c.run_lines.ensures.done t wanted start.map [] rest segments) in
+    let forced = ok_holds c.force.result _ (IsAtRestWithin wanted 0 engine engine new.world) c.in_ok-force.was (forced_at_rest mid new engine c.force.result (c.force.ensures.does t) wanted start.map lines done.0) in
+    let its : IsAtRestWithin wanted (length lines) start engine new.world = record { stands = forced.stands; rises = omega (arith, forced.rises, done.1); lasting = forced.lasting } in
+    subst (λ x. IsAtRestWithin wanted (length lines) start x new.world) (sym c.force.ensures.same) its

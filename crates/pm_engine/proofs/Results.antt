@@ -1,0 +1,21 @@
+-- What holds where a call gave `Ok`.
+use Rattle.std.proofs.Common.{◌≡◌, Result, Ok, Err, subst}
+use Rattle.std.specs.Prelude.{OnOk, IsErr}
+
+pub on_ok_both : {T E : Type 0} (r : Result T E) (P Q R : Type 0) → (P → Q → R) → OnOk r P → OnOk r Q → OnOk r R
+on_ok_both (Ok x) P Q R f p q = f p q
+on_ok_both (Err e) P Q R f p q = tt
+
+-- an `Err` promises nothing
+pub on_err : {T E : Type 0} (r : Result T E) → IsErr r → (P : Type 0) → OnOk r P
+on_err (Ok x) is P = absurd cc
+on_err (Err e) is P = tt
+
+-- what an `Ok` promises
+pub ok_holds : {T E : Type 0} (r : Result T E) (x : T) (P : Type 0) → r ≡ Ok x → OnOk r P → P
+ok_holds r x P is holds = subst (λ q. OnOk q P) is holds
+
+-- what holds anyway
+pub ok_anyway : {T E : Type 0} (r : Result T E) (P : Type 0) → P → OnOk r P
+ok_anyway (Ok x) P p = p
+ok_anyway (Err e) P p = tt
