@@ -1,12 +1,10 @@
-use Rattle.std.proofs.Common.{rules, ◌≡◌, ◌+◌, ◌<◌, ◌^◌, Err, ap, sym, ◌∙◌, subst, arith}
+use Rattle.std.proofs.Common.{rules, Err, ap, sym, ◌∙◌, subst, arith}
 use Rattle.pm_types.specs.declared.shape.Shape.{Shape}
 use Rattle.pm_disk.specs.Moments.{AllMoments}
 use Rattle.pm_disk.specs.Worlds.{World, with_said}
 use Rattle.pm_disk.proofs.Chain.{at_last, joined}
 use Rattle.pm_model.specs.Eval.{Pairs}
 use Rattle.pm_records.specs.LogFiles.{ChangesLog}
-use Rattle.pm_engine.specs.Engines.{HasSegments}
-use Rattle.pm_top.specs.declared.status.Status.TheVariants.{Damaged}
 use Rattle.pm_top.specs.Crashes.{CrashHoldsAcknowledged}
 use Rattle.pm_top.specs.Promises.{OutcomeIs, fault_record}
 use Rattle.pm_top.specs.Runs.{CanRun, SameFiles}
