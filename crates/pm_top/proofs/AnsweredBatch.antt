@@ -1,5 +1,5 @@
 -- One batch of a run: the next lines are taken off the script, and done.
-use Rattle.std.proofs.Common.{◌≡◌, ℕ, ◌+◌, ◌≤◌, List, [], ◌++◌, refl, ap, sym, ◌∙◌, subst, arith, append_assoc}
+use Rattle.std.proofs.Common.{◌≡◌, ℕ, ◌+◌, ◌≤◌, List, [], ◌++◌, ap, sym, ◌∙◌, subst, arith, append_assoc}
 use Rattle.pm_types.specs.declared.shape.Shape.{Shape}
 use Rattle.pm_disk.specs.Worlds.{World}
 use Rattle.pm_disk.specs.Moments.{History, AllMoments}
@@ -7,7 +7,7 @@ use Rattle.pm_disk.proofs.Chain.{weaker, joined}
 use Rattle.pm_model.specs.declared.line.Line.{Line}
 use Rattle.pm_model.specs.Eval.{Pairs}
 use Rattle.pm_script.specs.Reading.{OnlyTakes}
-use Rattle.pm_engine.specs.Engines.{running, IsAtRest}
+use Rattle.pm_engine.specs.Engines.{IsAtRest}
 use Rattle.pm_engine.proofs.DoneLines.{done_keeps}
 use Rattle.pm_top.specs.declared.run.Run.{Run}
 use Rattle.pm_top.specs.declared.shape.TheConstants.{SHAPE}
@@ -24,15 +24,15 @@ pub keeps_both : (before mid later : Run) → KeepsRun before mid → KeepsRun m
 keeps_both before mid later first second = record {
   shape = second.shape ∙ first.shape;
   more = first.more ++ second.more;
-  order = second.order ∙ ap (λ o. o ++ second.more) first.order ∙ append_assoc before.engine.order.items first.more second.more;
+  order = second.order ∙ ap (λ o. o ++ second.more) first.order ∙ append_assoc before.engine.order first.more second.more;
 }
 
 module _ {start : World} {left : List Line} {shape : Shape} {pairs : Pairs} {run : Run} where
   -- while input is taken
-  pub taken_moments : (old mid : History) → Progress start old.world left shape pairs run → IsAtRest SHAPE (running run.engine) old.world → AllMoments old mid (OnlyTakes old.world) → AllMoments old mid (CrashHoldsAcknowledged start shape pairs run.engine.order.items)
+  pub taken_moments : (old mid : History) → Progress start old.world left shape pairs run → IsAtRest SHAPE run.engine old.world → AllMoments old mid (OnlyTakes old.world) → AllMoments old mid (CrashHoldsAcknowledged start shape pairs run.engine.order)
   taken_moments old mid progress stands takes =
-      weaker old mid (OnlyTakes old.world) (CrashHoldsAcknowledged start shape pairs run.engine.order.items)
-      (λ w is. keeps_rest progress w (taken_said old.world w is) (keeps_taken run.engine.shape run.engine.map [] old.world w is (done_keeps SHAPE run.engine.map [] (running run.engine) old.world stands))) takes
+      weaker old mid (OnlyTakes old.world) (CrashHoldsAcknowledged start shape pairs run.engine.order)
+      (λ w is. keeps_rest progress w (taken_said old.world w is) (keeps_taken run.engine.shape run.engine.map [] old.world w is (done_keeps SHAPE run.engine.map [] run.engine old.world stands))) takes
 
 -- a longer order
 pub longer_moments : (start : World) (shape : Shape) (pairs : Pairs) (old new : History) (order more later : List ℕ) → later ≡ order ++ more → AllMoments old new (CrashHoldsAcknowledged start shape pairs order) → AllMoments old new (CrashHoldsAcknowledged start shape pairs later)

@@ -1,5 +1,5 @@
 -- How a batch is answered: what was said, and what a crash leaves meanwhile.
-use Rattle.std.proofs.Common.{◌≡◌, inl, inr, ℕ, ◌+◌, ◌≤◌, List, [], ◌++◌, length, take, Result, refl, ap, sym, ◌∙◌, subst, arith}
+use Rattle.std.proofs.Common.{◌≡◌, inl, inr, ℕ, ◌+◌, ◌≤◌, List, [], ◌++◌, length, take, Result, Ok, refl, ap, sym, ◌∙◌, subst, arith}
 use Rattle.std.proofs.lemmas.List.{take_all}
 use Rattle.pm_types.specs.declared.limits.TheConstants.{BATCH_LINES_MAX}
 use Rattle.pm_types.specs.declared.shape.Shape.{Shape}
@@ -7,13 +7,14 @@ use Rattle.pm_disk.specs.Worlds.{World, with_said}
 use Rattle.pm_disk.specs.Moments.{History, IsHistory, AllMoments, Says}
 use Rattle.pm_disk.proofs.Chain.{started, says, weaker}
 use Rattle.pm_model.specs.declared.line.Line.{Line}
+use Rattle.pm_model.specs.declared.reply.Reply.{Reply}
 use Rattle.pm_model.specs.Eval.{Pairs, replies_to, after_all, accepted}
 use Rattle.pm_script.specs.Reading.{OnlyTakes}
 use Rattle.pm_script.specs.Texts.{texts_of}
 use Rattle.pm_records.specs.LogFiles.{ChangesLog}
 use Rattle.pm_engine.specs.Held.{CrashHoldsPrefix}
-use Rattle.pm_engine.specs.Engines.{Running, running, IsAtRest, HasSegments}
-use Rattle.pm_engine.specs.Batches.{TriesLines}
+use Rattle.pm_engine.specs.Engines.{Running, IsAtRest, HasSegments}
+use Rattle.pm_engine.specs.Batches.{RunsLines, HasReplied}
 use Rattle.pm_engine.proofs.DoneLines.{done_keeps}
 use Rattle.pm_top.specs.declared.run.Run.{Run}
 use Rattle.pm_top.specs.declared.shape.TheConstants.{SHAPE}
@@ -38,7 +39,7 @@ both old new P Q one other = record {
 pub said_stands : (wanted : Shape) (engine : Running) (world : World) (bytes : List ℕ) → IsAtRest wanted engine world → IsAtRest wanted engine (with_said bytes world)
 said_stands wanted engine world bytes s = record {
   written = s.written;
-  stands = record { log = s.stands.log; ends = s.stands.ends };
+  log = record { log = s.log.log; ends = s.log.ends };
   is_open = s.is_open;
   held = s.held;
   map = s.map;
@@ -51,7 +52,7 @@ said_stands wanted engine world bytes s = record {
 pub taken_stands : (wanted : Shape) (engine : Running) (old new : World) → OnlyTakes old new → IsAtRest wanted engine old → IsAtRest wanted engine new
 taken_stands wanted engine old new takes s = subst (IsAtRest wanted engine) (sym takes.1) record {
   written = s.written;
-  stands = record { log = s.stands.log; ends = s.stands.ends };
+  log = record { log = s.log.log; ends = s.log.ends };
   is_open = s.is_open;
   held = s.held;
   map = s.map;
@@ -61,37 +62,45 @@ taken_stands wanted engine old new takes s = subst (IsAtRest wanted engine) (sym
 }
 
 -- before anything is done
-pub rest_moments : (old : History) {start : World} {left : List Line} {shape : Shape} {pairs : Pairs} {run : Run} (progress : Progress start old.world left shape pairs run) → IsHistory old → IsAtRest SHAPE (running run.engine) old.world
-    → AllMoments old old (CrashHoldsAcknowledged start shape pairs run.engine.order.items)
+pub rest_moments : (old : History) {start : World} {left : List Line} {shape : Shape} {pairs : Pairs} {run : Run} (progress : Progress start old.world left shape pairs run) → IsHistory old → IsAtRest SHAPE run.engine old.world
+    → AllMoments old old (CrashHoldsAcknowledged start shape pairs run.engine.order)
 rest_moments old {start = start} {shape = shape} {pairs = pairs} {run = run} progress sound stands =
-    started old (CrashHoldsAcknowledged start shape pairs run.engine.order.items) sound (keeps_rest progress old.world refl (done_keeps SHAPE run.engine.map [] (running run.engine) old.world stands))
+    started old (CrashHoldsAcknowledged start shape pairs run.engine.order) sound (keeps_rest progress old.world refl (done_keeps SHAPE run.engine.map [] run.engine old.world stands))
 
-module _ {T E : Type 0} (tells : Type 0) (old mid : History) (run : Run) (later : Running) (lines : List Line) (result : Result T E) (tries : TriesLines {T = T} {E = E} tells old mid (running run.engine) later (run.lines + 1) lines result)
+module _ {T E : Type 0} (tells : Type 0) (old mid : History) (run : Run) (later : Running) (lines : List Line) (result : Result T E) (tries : RunsLines {T = T} {E = E} tells old mid run.engine later (run.lines + 1) lines result)
     {start : World} {shape : Shape} {pairs : Pairs} (left : List Line) (progress : Progress start old.world (lines ++ left) shape pairs run) where
   -- a fault came while the batch was done
   pub failed_batch : length lines ≤ BATCH_LINES_MAX → mid.world.said ≡ old.world.said → HasFailed start mid.world shape pairs run.lines later.order
-  failed_batch few same = failed_unsaid lines left progress mid.world tries.count later.order few tries.within same tries.order
+  failed_batch few same = failed_unsaid lines left progress mid.world tries.tried later.order few tries.within same tries.order
 
   pub memory_batch : length lines ≤ BATCH_LINES_MAX → mid.world.said ≡ old.world.said → HasNoMemory start mid.world shape pairs run.lines later.order
-  memory_batch few same = memory_unsaid lines left progress mid.world tries.count later.order few tries.within same tries.order
+  memory_batch few same = memory_unsaid lines left progress mid.world tries.tried later.order few tries.within same tries.order
 
   -- what a crash left meanwhile
-  pub batch_moments : tells → AllMoments old mid (ChangesLog old.world) → IsAtRest SHAPE (running run.engine) old.world → HasSegments (running run.engine) (length lines) → AllMoments old mid (CrashHoldsAcknowledged start shape pairs later.order)
+  pub batch_moments : tells → AllMoments old mid (ChangesLog old.world) → IsAtRest SHAPE run.engine old.world → HasSegments run.engine (length lines) → AllMoments old mid (CrashHoldsAcknowledged start shape pairs later.order)
   batch_moments t only stands segments =
-      let Q : World → Type 0 = CrashHoldsPrefix SHAPE run.engine.shape run.engine.map (take tries.count lines) in
+      let Q : World → Type 0 = CrashHoldsPrefix SHAPE run.engine.shape run.engine.map (take tries.tried lines) in
       weaker old mid (λ w. Q w × ChangesLog old.world w) (CrashHoldsAcknowledged start shape pairs later.order)
-      (λ w is. keeps_doing lines left progress tries.count tries.within later.order tries.order w is.1.said is.0) (both old mid Q (ChangesLog old.world) (tries.moments t SHAPE stands segments) only)
+      (λ w is. keeps_doing lines left progress tries.tried tries.within later.order tries.order w is.1.said is.0) (both old mid Q (ChangesLog old.world) (tries.crash t SHAPE run.engine.map [] stands segments) only)
 
   -- the order, once all were tried
-  pub all_tried : tries.count ≡ length lines → later.order ≡ run.engine.order.items ++ accepted run.engine.shape (run.lines + 1) lines run.engine.map
-  all_tried all = tries.order ∙ ap (λ ls. run.engine.order.items ++ accepted run.engine.shape (run.lines + 1) ls run.engine.map) (ap (λ n. take n lines) all ∙ take_all (length lines) lines (omega arith))
+  pub all_tried : tries.tried ≡ length lines → later.order ≡ run.engine.order ++ accepted run.engine.shape (run.lines + 1) lines run.engine.map
+  all_tried all = tries.order ∙ ap (λ ls. run.engine.order ++ accepted run.engine.shape (run.lines + 1) ls run.engine.map) (ap (λ n. take n lines) all ∙ take_all (length lines) lines (omega arith))
 
   -- while the replies are said
-  pub saying_moments : {S F : Type 0} (new : History) (printed : Result S F) (text : List ℕ) → tries.count ≡ length lines → text ≡ texts_of (replies_to run.engine.shape lines run.engine.map) → Says {T = S} {E = F} mid new printed text → mid.world.said ≡ old.world.said
-      → later.shape ≡ run.engine.shape → later.pairs ≡ after_all run.engine.shape lines run.engine.map → IsAtRest SHAPE later mid.world → AllMoments old mid (CrashHoldsAcknowledged start shape pairs later.order) → AllMoments old new (CrashHoldsAcknowledged start shape pairs later.order)
+  pub saying_moments : {S F : Type 0} (new : History) (printed : Result S F) (text : List ℕ) → tries.tried ≡ length lines → text ≡ texts_of (replies_to run.engine.shape lines run.engine.map) → Says {T = S} {E = F} mid new printed text → mid.world.said ≡ old.world.said
+      → later.shape ≡ run.engine.shape → later.map ≡ after_all run.engine.shape lines run.engine.map → IsAtRest SHAPE later mid.world → AllMoments old mid (CrashHoldsAcknowledged start shape pairs later.order) → AllMoments old new (CrashHoldsAcknowledged start shape pairs later.order)
   saying_moments new printed text all is call same shapes maps stands so_far =
       let keeps : CrashHoldsPrefix SHAPE run.engine.shape (after_all run.engine.shape lines run.engine.map) [] mid.world =
-      subst (λ (x : Shape × Pairs). CrashHoldsPrefix SHAPE x.0 x.1 [] mid.world) (λ i. (shapes i, maps i)) (done_keeps SHAPE later.pairs [] later mid.world stands) in
+      subst (λ (x : Shape × Pairs). CrashHoldsPrefix SHAPE x.0 x.1 [] mid.world) (λ i. (shapes i, maps i)) (done_keeps SHAPE later.map [] later mid.world stands) in
       says old mid new printed text (CrashHoldsAcknowledged start shape pairs later.order) so_far call
       (λ k le. keeps_saying lines left progress later.order (all_tried all) (with_said (take k text) mid.world) k (ap (λ s. s ++ take k text) same ∙ ap (λ t. old.world.said ++ take k t) is)
       (keeps_said run.engine.shape (after_all run.engine.shape lines run.engine.map) [] (take k text) mid.world keeps))
+
+-- the replies to a batch that was done
+pub replied_all : {T E : Type 0} {x : T} (before now : List Reply) (shape : Shape) (pairs : Pairs) (lines : List Line) → HasReplied {T = T} {E = E} shape pairs lines before now (Ok x) → before ≡ [] → now ≡ replies_to shape lines pairs
+replied_all before now shape pairs lines replied none =
+    replied.replies
+    ∙ ap (λ n. before ++ replies_to shape (take n lines) pairs) replied.all
+    ∙ ap (λ ls. before ++ replies_to shape ls pairs) (take_all (length lines) lines (omega arith))
+    ∙ ap (λ b. b ++ replies_to shape lines pairs) none

@@ -1,6 +1,6 @@
 -- Runs of calls that change no file but the log.
-use Rattle.std.proofs.Common.{◌≡◌, ℕ, ◌≤◌, List, length, take, Result, refl, ap, sym, ◌∙◌, subst}
-use Rattle.pm_disk.specs.Worlds.{World, with_said}
+use Rattle.std.proofs.Common.{ℕ, List, Result, refl, sym, ◌∙◌, subst}
+use Rattle.pm_disk.specs.Worlds.{World}
 use Rattle.pm_disk.specs.Moments.{History, IsHistory, AllMoments, Does, Says}
 use Rattle.pm_disk.proofs.Chain.{started, does, says, joined, weaker, at_last}
 use Rattle.pm_script.specs.Reading.{OnlyTakes}

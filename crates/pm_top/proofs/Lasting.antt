@@ -141,23 +141,23 @@ module _ {start now : World} {left : List Line} {shape : Shape} {pairs : Pairs} 
   map_more n = ap (λ ls. after_all shape ls pairs) (take_more progress n) ∙ after_all-append shape progress.done (take n left) pairs ∙ ap (after_all shape (take n left)) (sym progress.map)
 
   -- between two batches
-  pub keeps_rest : (w : World) → w.said ≡ now.said → CrashHoldsPrefix SHAPE run.engine.shape run.engine.map [] w → CrashHoldsAcknowledged start shape pairs run.engine.order.items w
+  pub keeps_rest : (w : World) → w.said ≡ now.said → CrashHoldsPrefix SHAPE run.engine.shape run.engine.map [] w → CrashHoldsAcknowledged start shape pairs run.engine.order w
   keeps_rest w same keeps image leaves honest =
       let map : after_all shape (take (run.lines + 0) (script_of start.input)) pairs ≡ run.engine.map = map_more 0 ∙ ap (λ ls. after_all shape ls run.engine.map) (take_none left) in
       let holds = only_map shape run.engine.map image (subst (λ s. (count : ℕ) × (count ≤ 0) × HoldsImage SHAPE image s (after_all s (take count []) run.engine.map)) progress.shape_is (keeps image leaves honest)) in
       let here : run.lines + 0 ≡ run.lines = omega arith in
       let there : run.lines ≡ run.lines + 0 + 0 = omega arith in
-      holds_after start shape pairs run.engine.order.items w image (run.lines + 0) 0 (omega (arith, script_len progress)) (subst (λ n. IsOrder shape start.input pairs n run.engine.order.items) there (order_so_far progress))
+      holds_after start shape pairs run.engine.order w image (run.lines + 0) 0 (omega (arith, script_len progress)) (subst (λ n. IsOrder shape start.input pairs n run.engine.order) there (order_so_far progress))
       (acknowledged_within w [] (run.lines + 0) (same ∙ sym (append-nil now.said)) (omega (arith, begun_nothing (replies_to shape left run.engine.map))) (omega (arith, script_len progress)))
       (subst (HoldsImage SHAPE image shape) (sym map) holds)
 
 -- ---- while a batch is done
 
 module _ {start now : World} {shape : Shape} {pairs : Pairs} {run : Run} (lines left : List Line) (progress : Progress start now (lines ++ left) shape pairs run) (count : ℕ) (within : count ≤ length lines) (order : List ℕ)
-    (is : order ≡ run.engine.order.items ++ accepted run.engine.shape (run.lines + 1) (take count lines) run.engine.map) where
+    (is : order ≡ run.engine.order ++ accepted run.engine.shape (run.lines + 1) (take count lines) run.engine.map) where
   its_order : IsOrder shape start.input pairs (run.lines + count) order
   its_order = order_more progress count order
-      (is ∙ ap (λ o. run.engine.order.items ++ o) (accepted_are lines left progress (run.lines + 1) (take count lines) ∙ ap (λ ls. accepted shape (run.lines + 1) ls run.engine.map) (sym (first_ones lines left progress count within))))
+      (is ∙ ap (λ o. run.engine.order ++ o) (accepted_are lines left progress (run.lines + 1) (take count lines) ∙ ap (λ ls. accepted shape (run.lines + 1) ls run.engine.map) (sym (first_ones lines left progress count within))))
 
   long : run.lines + count ≤ length (script_of start.input)
   long = omega (arith, within, script_len progress, length-append lines left)
@@ -178,9 +178,9 @@ module _ {start now : World} {shape : Shape} {pairs : Pairs} {run : Run} (lines 
 -- ---- while its replies are said
 
 module _ {start now : World} {shape : Shape} {pairs : Pairs} {run : Run} (lines left : List Line) (progress : Progress start now (lines ++ left) shape pairs run) (order : List ℕ)
-    (is : order ≡ run.engine.order.items ++ accepted run.engine.shape (run.lines + 1) lines run.engine.map) where
+    (is : order ≡ run.engine.order ++ accepted run.engine.shape (run.lines + 1) lines run.engine.map) where
   all_order : IsOrder shape start.input pairs (run.lines + length lines) order
-  all_order = its_order lines left progress (length lines) (omega arith) order (is ∙ ap (λ ls. run.engine.order.items ++ accepted run.engine.shape (run.lines + 1) ls run.engine.map) (sym (take_all (length lines) lines (omega arith))))
+  all_order = its_order lines left progress (length lines) (omega arith) order (is ∙ ap (λ ls. run.engine.order ++ accepted run.engine.shape (run.lines + 1) ls run.engine.map) (sym (take_all (length lines) lines (omega arith))))
 
   pub keeps_saying : (w : World) (n : ℕ) → w.said ≡ now.said ++ take n (texts_of (replies_to run.engine.shape lines run.engine.map)) → CrashHoldsPrefix SHAPE run.engine.shape (after_all run.engine.shape lines run.engine.map) [] w
       → CrashHoldsAcknowledged start shape pairs order w

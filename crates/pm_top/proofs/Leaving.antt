@@ -14,9 +14,9 @@ use Rattle.pm_records.proofs.FrameGrammar.{frame_laws}
 use Rattle.pm_records.proofs.FileSteps.{plain_after}
 use Rattle.pm_records.proofs.HeldLog.{held_log}
 use Rattle.pm_records.proofs.Runs.{after_frames-append}
-use Rattle.pm_engine.specs.Engines.{Running, running, frames_of, IsAtRest}
+use Rattle.pm_engine.specs.Engines.{Running, frames_of, IsAtRest}
 use Rattle.pm_engine.specs.Held.{IsHeld, Holds}
-use Rattle.pm_engine.specs.Openings.{OpensWith}
+use Rattle.pm_engine.specs.Openings.{HasMap}
 use Rattle.pm_top.specs.declared.run.Run.{Run}
 use Rattle.pm_top.specs.declared.shape.TheConstants.{SHAPE}
 use Rattle.pm_top.specs.Promises.{IsLeft}
@@ -25,10 +25,10 @@ use Rattle.pm_top.specs.Served.{script_of}
 
 module _ (wanted : Shape) (engine : Running) (world : World) (s : IsAtRest wanted engine world) where
   -- where an engine stands its store is sound
-  stands_hold : Holds wanted world engine.shape engine.pairs
+  stands_hold : Holds wanted world engine.shape engine.map
   stands_hold = record {
     frames = frames_of s.written;
-    log = held_log all_frames (frame_laws) world.log 1 (place 1 0) s.written.at s.written.lasting s.written.pending s.written.tail s.stands.log;
+    log = held_log all_frames frame_laws world.log 1 (place 1 0) s.written.at s.written.lasting s.written.pending s.written.tail s.log.log;
     held = s.held;
   }
 
@@ -36,17 +36,17 @@ module _ (wanted : Shape) (engine : Running) (world : World) (s : IsAtRest wante
   stands_segment : (after_frames (place 1 0) (frames_of s.written)).seg ≡ engine.log.end.seg
   stands_segment =
       let w = s.written in
-      let there : after_frames (place 1 0) (w.lasting ++ w.pending) ≡ after_frames w.at w.pending = after_frames-append (place 1 0) w.lasting w.pending ∙ ap (λ (q : Place). after_frames q w.pending) s.stands.log.leads.to in
-      let end = subst (λ t. EndIs t engine.log.end w.at w.pending) s.is_open.ready s.stands.ends in
+      let there : after_frames (place 1 0) (w.lasting ++ w.pending) ≡ after_frames w.at w.pending = after_frames-append (place 1 0) w.lasting w.pending ∙ ap (λ (q : Place). after_frames q w.pending) s.log.log.leads.to in
+      let end = subst (λ t. EndIs t engine.log.end w.at w.pending) s.is_open.ready s.log.ends in
       ap (λ (q : Place). q.seg) (there ∙ plain_after w.at.seg w.at.off w.pending s.is_open.plain ∙ sym end)
 
 -- a script that is done leaves its store so
-pub leaves_store : (start world : World) (before later : Run) → before.lines ≡ 0 → later.lines ≤ LINES_MAX → LeavesRun start before.engine.shape before.engine.map before later world → LeavesStore start world (running before.engine)
+pub leaves_store : (start world : World) (before later : Run) → before.lines ≡ 0 → later.lines ≤ LINES_MAX → LeavesRun start before.engine.shape before.engine.map before later world → LeavesStore start world before.engine
 unfolding stands_hold
 leaves_store start world before later none few left =
     let stands = left.over.stands in
-    let holds = stands_hold SHAPE (running later.engine) world stands in
-    let segment : (after_frames (place 1 0) holds.frames).seg ≡ later.engine.log.end.seg = stands_segment SHAPE (running later.engine) world stands in
+    let holds = stands_hold SHAPE later.engine world stands in
+    let segment : (after_frames (place 1 0) holds.frames).seg ≡ later.engine.log.end.seg = stands_segment SHAPE later.engine world stands in
     record {
       holds = record {
         frames = holds.frames;
@@ -58,7 +58,7 @@ leaves_store start world before later none few left =
     }
 
 -- seen from the store that was opened
-pub is_left : (frames : List Frame) (old mid new : World) (engine : Running) (shape : Shape) (pairs : Pairs) → OpensWith shape pairs engine → engine.log.end.seg ≤ (after_frames (place 1 0) frames).seg + 1 → NothingPending old → SameFiles old mid → SameFiles mid new
+pub is_left : (frames : List Frame) (old mid new : World) (engine : Running) (shape : Shape) (pairs : Pairs) → HasMap shape pairs engine → engine.log.end.seg ≤ (after_frames (place 1 0) frames).seg + 1 → NothingPending old → SameFiles old mid → SameFiles mid new
     → LeavesStore old new engine → IsLeft frames 8388608 new shape (after_all shape (script_of old.input) pairs)
 is_left frames old mid new engine shape pairs opens rises nothing first second left = record {
   holds = record {

@@ -1,6 +1,6 @@
 -- What follows from how far a run has come.
-use Rattle.std.proofs.Common.{◌≡◌, ◌⊎◌, inl, inr, ℕ, ◌+◌, ◌-◌, ◌<◌, ◌≤◌, min, List, [], ◌++◌, length, take, drop, refl, ap, sym, ◌∙◌, append_assoc, append-nil, arith, length-append}
-use Rattle.std.proofs.lemmas.List.{length-map, take_at, drop_at, take_all, take_min, take-append-le}
+use Rattle.std.proofs.Common.{◌≡◌, ◌⊎◌, inl, inr, ℕ, ◌+◌, ◌-◌, ◌<◌, ◌≤◌, List, [], ◌++◌, length, take, drop, refl, ap, sym, ◌∙◌, append_assoc, append-nil, arith, length-append}
+use Rattle.std.proofs.lemmas.List.{length-map, take_at, drop_at, take_all, take-append-le}
 use Rattle.std.proofs.lemmas.List.Concat.{flat_map-append}
 use Rattle.std.proofs.Math.Seq.{take-append-add}
 use Rattle.pm_types.specs.declared.limits.TheConstants.{SCRIPT_BYTES_MAX, LINES_MAX, BATCH_LINES_MAX}
@@ -62,7 +62,7 @@ module _ {start now : World} {left : List Line} {shape : Shape} {pairs : Pairs} 
   take_more n = ap (take (run.lines + n)) progress.script ∙ ap (λ m. take (m + n) (progress.done ++ left)) (sym progress.count) ∙ take-append-add progress.done left n
 
   -- the order with so many more
-  pub order_more : (n : ℕ) (order : List ℕ) → order ≡ run.engine.order.items ++ accepted shape (run.lines + 1) (take n left) run.engine.map → IsOrder shape start.input pairs (run.lines + n) order
+  pub order_more : (n : ℕ) (order : List ℕ) → order ≡ run.engine.order ++ accepted shape (run.lines + 1) (take n left) run.engine.map → IsOrder shape start.input pairs (run.lines + n) order
   order_more n order is =
       let number : run.lines + 1 ≡ 1 + length progress.done = omega (arith, progress.count) in
       is
@@ -72,25 +72,25 @@ module _ {start now : World} {left : List Line} {shape : Shape} {pairs : Pairs} 
       ∙ sym (accepted-append shape 1 progress.done (take n left) pairs)
       ∙ ap (λ ls. accepted shape 1 ls pairs) (sym (take_more n))
 
-  pub order_so_far : IsOrder shape start.input pairs run.lines run.engine.order.items
+  pub order_so_far : IsOrder shape start.input pairs run.lines run.engine.order
   order_so_far = progress.order ∙ ap (λ d. accepted shape 1 d pairs) (sym done_is)
 
-  pub tried_so_far : HasTried shape start.input pairs run.lines run.engine.order.items
+  pub tried_so_far : HasTried shape start.input pairs run.lines run.engine.order
   tried_so_far = record { many = run.lines; from = omega arith; to = omega arith; within = omega (arith, script_len); order_is = order_so_far }
 
-  pub tried_more : (n : ℕ) (order : List ℕ) → n ≤ BATCH_LINES_MAX → n ≤ length left → order ≡ run.engine.order.items ++ accepted shape (run.lines + 1) (take n left) run.engine.map
+  pub tried_more : (n : ℕ) (order : List ℕ) → n ≤ BATCH_LINES_MAX → n ≤ length left → order ≡ run.engine.order ++ accepted shape (run.lines + 1) (take n left) run.engine.map
       → HasTried shape start.input pairs run.lines order
   tried_more n order few within is = record { many = run.lines + n; from = omega arith; to = omega (arith, few); within = omega (arith, within, script_len); order_is = order_more n order is }
 
   -- a call failed where nothing was said since
-  pub failed_still : (new : World) → new.said ≡ now.said → HasFailed start new shape pairs run.lines run.engine.order.items
+  pub failed_still : (new : World) → new.said ≡ now.said → HasFailed start new shape pairs run.lines run.engine.order
   failed_still new same = record { tail = []; answers = same_answers new same; prefix = (0, inl refl); tried = tried_so_far }
 
-  pub memory_still : (new : World) → new.said ≡ now.said → HasNoMemory start new shape pairs run.lines run.engine.order.items
+  pub memory_still : (new : World) → new.said ≡ now.said → HasNoMemory start new shape pairs run.lines run.engine.order
   memory_still new same = record { answers = same_answers new same; tried = tried_so_far }
 
   -- the script is answered whole
-  pub finished : (new : World) → new.said ≡ now.said → left ≡ [] → new.input ≡ [] → length start.input ≤ SCRIPT_BYTES_MAX → run.lines ≤ LINES_MAX → IsDone start new shape pairs run.lines run.engine.order.items
+  pub finished : (new : World) → new.said ≡ now.said → left ≡ [] → new.input ≡ [] → length start.input ≤ SCRIPT_BYTES_MAX → run.lines ≤ LINES_MAX → IsDone start new shape pairs run.lines run.engine.order
   finished new same end read bytes few =
       let no_more : length left ≡ 0 = ap (λ (l : List Line). length l) end in
       record {
@@ -103,7 +103,7 @@ module _ {start now : World} {left : List Line} {shape : Shape} {pairs : Pairs} 
 
   -- it is stopped by a limit
   pub stopped : (new : World) (rest : List ℕ) → new.said ≡ now.said → left ≡ script_of rest → rest ≡ after_lines run.lines start.input → 0 < length rest → run.lines ≤ LINES_MAX → length start.input ≤ SCRIPT_BYTES_MAX + length rest
-      → (run.lines ≡ LINES_MAX) ⊎ (SCRIPT_BYTES_MAX + length (after_line rest) < length start.input) → IsStopped start new shape pairs run.lines run.engine.order.items []
+      → (run.lines ≡ LINES_MAX) ⊎ (SCRIPT_BYTES_MAX + length (after_line rest) < length start.input) → IsStopped start new shape pairs run.lines run.engine.order []
   stopped new rest same is there some few short no_more = record {
     answers = same_answers new same;
     order_is = order_so_far;
@@ -119,7 +119,7 @@ module _ {start now : World} {left : List Line} {shape : Shape} {pairs : Pairs} 
   }
 
 -- before the first line
-pub begins : (start now : World) (run : Run) → SameConsole start now → run.lines ≡ 0 → run.engine.order.items ≡ [] → Progress start now (script_of start.input) run.engine.shape run.engine.map run
+pub begins : (start now : World) (run : Run) → SameConsole start now → run.lines ≡ 0 → run.engine.order ≡ [] → Progress start now (script_of start.input) run.engine.shape run.engine.map run
 begins start now run same none order = record {
   done = [];
   script = refl;
@@ -161,15 +161,15 @@ module _ {start now : World} {shape : Shape} {pairs : Pairs} {run : Run} (lines 
   all_lines = first_ones (length lines) (omega arith) ∙ take_all (length lines) lines (omega arith)
 
   -- so many were tried
-  pub tried_some : (n : ℕ) (order : List ℕ) → length lines ≤ BATCH_LINES_MAX → n ≤ length lines → order ≡ run.engine.order.items ++ accepted run.engine.shape (run.lines + 1) (take n lines) run.engine.map
+  pub tried_some : (n : ℕ) (order : List ℕ) → length lines ≤ BATCH_LINES_MAX → n ≤ length lines → order ≡ run.engine.order ++ accepted run.engine.shape (run.lines + 1) (take n lines) run.engine.map
       → HasTried shape start.input pairs run.lines order
   tried_some n order few within is =
       tried_more progress n order (omega (arith, few, within)) (omega (arith, within, length-append lines left))
-      (is ∙ ap (λ o. run.engine.order.items ++ o) (accepted_are (run.lines + 1) (take n lines) ∙ ap (λ ls. accepted shape (run.lines + 1) ls run.engine.map) (sym (first_ones n within))))
+      (is ∙ ap (λ o. run.engine.order ++ o) (accepted_are (run.lines + 1) (take n lines) ∙ ap (λ ls. accepted shape (run.lines + 1) ls run.engine.map) (sym (first_ones n within))))
 
   -- the batch was done, and its replies said
   pub progress_more : (new : World) (later : Run) → new.said ≡ now.said ++ texts → later.lines ≡ run.lines + length lines → later.engine.shape ≡ run.engine.shape → later.engine.map ≡ after_all run.engine.shape lines run.engine.map
-      → later.engine.order.items ≡ run.engine.order.items ++ accepted run.engine.shape (run.lines + 1) lines run.engine.map → Progress start new left shape pairs later
+      → later.engine.order ≡ run.engine.order ++ accepted run.engine.shape (run.lines + 1) lines run.engine.map → Progress start new left shape pairs later
   progress_more new later said_is lines_is shape_is map_is order_is =
       let number : run.lines + 1 ≡ 1 + length progress.done = omega (arith, progress.count) in
       record {
@@ -181,7 +181,7 @@ module _ {start now : World} {shape : Shape} {pairs : Pairs} {run : Run} (lines 
             ∙ ap (λ t. start.said ++ t) (sym (texts-append (replies_to shape progress.done pairs) (replies_to shape lines (after_all shape progress.done pairs))) ∙ ap texts_of (sym (replies_to-append shape progress.done lines pairs)));
         shape_is = shape_is ∙ progress.shape_is;
         map = map_is ∙ ap (λ s. after_all s lines run.engine.map) progress.shape_is ∙ ap (after_all shape lines) progress.map ∙ sym (after_all-append shape progress.done lines pairs);
-        order = order_is ∙ ap (λ o. run.engine.order.items ++ o) (accepted_are (run.lines + 1) lines)
+        order = order_is ∙ ap (λ o. run.engine.order ++ o) (accepted_are (run.lines + 1) lines)
             ∙ ap (λ o. o ++ accepted shape (run.lines + 1) lines run.engine.map) progress.order
             ∙ ap (λ k. accepted shape 1 progress.done pairs ++ accepted shape k lines run.engine.map) number
             ∙ ap (λ m. accepted shape 1 progress.done pairs ++ accepted shape (1 + length progress.done) lines m) progress.map
@@ -189,7 +189,7 @@ module _ {start now : World} {shape : Shape} {pairs : Pairs} {run : Run} (lines 
       }
 
   -- the batch was done, and its replies said in part
-  pub failed_saying : (new : World) (n : ℕ) (order : List ℕ) → length lines ≤ BATCH_LINES_MAX → new.said ≡ now.said ++ take n texts → order ≡ run.engine.order.items ++ accepted run.engine.shape (run.lines + 1) lines run.engine.map
+  pub failed_saying : (new : World) (n : ℕ) (order : List ℕ) → length lines ≤ BATCH_LINES_MAX → new.said ≡ now.said ++ take n texts → order ≡ run.engine.order ++ accepted run.engine.shape (run.lines + 1) lines run.engine.map
       → HasFailed start new shape pairs run.lines order
   unfolding tried_some tried_more
   failed_saying new n order few said_is order_is =
@@ -203,15 +203,15 @@ module _ {start now : World} {shape : Shape} {pairs : Pairs} {run : Run} (lines 
       record {
         tail = take n texts;
         answers = answers_so_far progress new (take n texts) said_is;
-        tried = tried_some (length lines) order few (omega arith) (order_is ∙ ap (λ ls. run.engine.order.items ++ accepted run.engine.shape (run.lines + 1) ls run.engine.map) (sym (take_all (length lines) lines (omega arith))));
+        tried = tried_some (length lines) order few (omega arith) (order_is ∙ ap (λ ls. run.engine.order ++ accepted run.engine.shape (run.lines + 1) ls run.engine.map) (sym (take_all (length lines) lines (omega arith))));
         prefix = (n, inl (ap (take n) (texts_are ∙ sym next)));
       }
 
   -- a fault came before anything was said
-  pub failed_unsaid : (new : World) (n : ℕ) (order : List ℕ) → length lines ≤ BATCH_LINES_MAX → n ≤ length lines → new.said ≡ now.said → order ≡ run.engine.order.items ++ accepted run.engine.shape (run.lines + 1) (take n lines) run.engine.map
+  pub failed_unsaid : (new : World) (n : ℕ) (order : List ℕ) → length lines ≤ BATCH_LINES_MAX → n ≤ length lines → new.said ≡ now.said → order ≡ run.engine.order ++ accepted run.engine.shape (run.lines + 1) (take n lines) run.engine.map
       → HasFailed start new shape pairs run.lines order
   failed_unsaid new n order few within same is = record { tail = []; answers = same_answers progress new same; prefix = (0, inl refl); tried = tried_some n order few within is }
 
-  pub memory_unsaid : (new : World) (n : ℕ) (order : List ℕ) → length lines ≤ BATCH_LINES_MAX → n ≤ length lines → new.said ≡ now.said → order ≡ run.engine.order.items ++ accepted run.engine.shape (run.lines + 1) (take n lines) run.engine.map
+  pub memory_unsaid : (new : World) (n : ℕ) (order : List ℕ) → length lines ≤ BATCH_LINES_MAX → n ≤ length lines → new.said ≡ now.said → order ≡ run.engine.order ++ accepted run.engine.shape (run.lines + 1) (take n lines) run.engine.map
       → HasNoMemory start new shape pairs run.lines order
   memory_unsaid new n order few within same is = record { answers = same_answers progress new same; tried = tried_some n order few within is }

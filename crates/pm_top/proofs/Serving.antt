@@ -10,7 +10,7 @@ use Rattle.pm_model.specs.Eval.{Pairs, after_all}
 use Rattle.pm_script.specs.Reading.{Unread}
 use Rattle.pm_records.specs.LogFiles.{ChangesLog}
 use Rattle.pm_engine.specs.Held.{CrashHoldsPrefix}
-use Rattle.pm_engine.specs.Engines.{Running, running, IsAtRestWithin, HasSegments}
+use Rattle.pm_engine.specs.Engines.{Running, IsAtRestWithin, HasSegments}
 use Rattle.pm_top.specs.declared.batch.Continuation.{Continuation}
 use Rattle.pm_top.specs.declared.batch.Continuation.TheVariants as then_comes
 use Rattle.pm_top.specs.declared.run.Run.{Run}
@@ -72,7 +72,7 @@ module _ (continuation : Continuation) {old new : Unread} {rest now_rest : List 
 
   -- a line is left that isn't ended within the limits
   pub over_stopped : continuation ≡ then_comes.Over → before.lines ≡ old.lines → rest ≡ after_lines old.lines input → old.bytes + length rest ≡ length input → old.bytes ≤ SCRIPT_BYTES_MAX → later.lines ≤ LINES_MAX
-      → (start : World) (shape : Shape) (pairs : Pairs) → start.input ≡ input → Progress start world (script_of rest) shape pairs before → IsStopped start now shape pairs later.lines later.engine.order.items []
+      → (start : World) (shape : Shape) (pairs : Pairs) → start.input ≡ input → Progress start world (script_of rest) shape pairs before → IsStopped start now shape pairs later.lines later.engine.order []
   over_stopped is counted place bytes few lines start shape pairs same progress =
       let over = subst (λ b. ContinuationIs b answered.at new answered.left now_rest) is answered.continues in
       let long : length start.input ≡ length input = ap (λ (l : List ℕ). length l) same in
@@ -86,7 +86,7 @@ module _ (continuation : Continuation) {old new : Unread} {rest now_rest : List 
 -- ---- the end
 
 -- the log was forced
-pub closed : {start now : World} {left : List Line} {shape : Shape} {pairs : Pairs} {run : Run} → Progress start now left shape pairs run → (later : Run) (new : World) → later.lines ≡ run.lines → running later.engine ≡ running run.engine → new.said ≡ now.said
+pub closed : {start now : World} {left : List Line} {shape : Shape} {pairs : Pairs} {run : Run} → Progress start now left shape pairs run → (later : Run) (new : World) → later.lines ≡ run.lines → later.engine ≡ run.engine → new.said ≡ now.said
     → Progress start new left shape pairs later
 closed progress later new lines same said = record {
   done = progress.done;
@@ -94,12 +94,12 @@ closed progress later new lines same said = record {
   count = progress.count ∙ sym lines;
   said = said ∙ progress.said;
   shape_is = ap (λ (r : Running). r.shape) same ∙ progress.shape_is;
-  map = ap (λ (r : Running). r.pairs) same ∙ progress.map;
+  map = ap (λ (r : Running). r.map) same ∙ progress.map;
   order = ap (λ (r : Running). r.order) same ∙ progress.order;
 }
 
 -- what is left when the script is done
-pub leaves : {start now : World} {shape : Shape} {pairs : Pairs} (before run later : Run) (mid new : World) → Progress start now [] shape pairs later → IsAtRestAfter before run mid → later.lines ≡ run.lines → IsAtRestWithin SHAPE 0 (running run.engine) (running later.engine) new
+pub leaves : {start now : World} {shape : Shape} {pairs : Pairs} (before run later : Run) (mid new : World) → Progress start now [] shape pairs later → IsAtRestAfter before run mid → later.lines ≡ run.lines → IsAtRestWithin SHAPE 0 run.engine later.engine new
     → LeavesRun start shape pairs before later new
 leaves {start = start} {shape = shape} {pairs = pairs} before run later mid new progress over lines on = record {
   over = record { stands = on.stands; rises = omega (arith, over.rises, on.rises, lines) };
@@ -110,10 +110,10 @@ leaves {start = start} {shape = shape} {pairs = pairs} before run later mid new 
 
 -- while the log is forced at the end
 pub closing_moments : (mid new : History) {start : World} {left : List Line} {shape : Shape} {pairs : Pairs} {run : Run} → Progress start mid.world left shape pairs run → AllMoments mid new (CrashHoldsPrefix SHAPE run.engine.shape run.engine.map [])
-    → AllMoments mid new (ChangesLog mid.world) → AllMoments mid new (CrashHoldsAcknowledged start shape pairs run.engine.order.items)
+    → AllMoments mid new (ChangesLog mid.world) → AllMoments mid new (CrashHoldsAcknowledged start shape pairs run.engine.order)
 closing_moments mid new {start = start} {shape = shape} {pairs = pairs} {run = run} progress keeps only =
     let Q : World → Type 0 = CrashHoldsPrefix SHAPE run.engine.shape run.engine.map [] in
-    weaker mid new (λ w. Q w × ChangesLog mid.world w) (CrashHoldsAcknowledged start shape pairs run.engine.order.items)
+    weaker mid new (λ w. Q w × ChangesLog mid.world w) (CrashHoldsAcknowledged start shape pairs run.engine.order)
     (λ w is. keeps_rest progress w is.1.said is.0) (both mid new Q (ChangesLog mid.world) keeps only)
 
 -- one batch after others
@@ -121,7 +121,7 @@ pub over_then : (before mid later : Run) (world now : World) → IsAtRestAfter b
 over_then before mid later world now first second = record { stands = second.stands; rises = omega (arith, first.rises, second.rises) }
 
 -- there are segments for a batch
-pub room_left : (before now : Run) (world : World) → before.lines ≡ 0 → now.lines ≤ LINES_MAX → HasSegments (running before.engine) (2 ^ 24) → IsAtRestAfter before now world → HasSegments (running now.engine) 2048
+pub room_left : (before now : Run) (world : World) → before.lines ≡ 0 → now.lines ≤ LINES_MAX → HasSegments before.engine (2 ^ 24) → IsAtRestAfter before now world → HasSegments now.engine 2048
 room_left before now world none few room over = omega (arith, none, few, room, over.rises)
 
 -- what stands after, where there is nothing

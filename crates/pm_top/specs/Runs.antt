@@ -13,7 +13,7 @@ use Rattle.pm_script.specs.Texts.{texts_of}
 use Rattle.pm_segments.specs.Ends.{LogEnd, EndsThere}
 use Rattle.pm_records.specs.Logs.{place}
 use Rattle.pm_records.specs.Logs.{after_frames}
-use Rattle.pm_engine.specs.Engines.{Running, running, IsAtRest, HasSegments}
+use Rattle.pm_engine.specs.Engines.{Running, IsAtRest, HasSegments}
 use Rattle.pm_engine.specs.Held.{Holds}
 use Rattle.pm_top.specs.declared.batch.Continuation.{Continuation}
 use Rattle.pm_top.specs.declared.batch.Continuation.TheVariants as then_comes
@@ -44,7 +44,7 @@ pub record OnlyAnswers (old new : World) : Type 0 where
 pub record KeepsRun (before now : Run) : Type 0 where
   pub shape : now.engine.shape ≡ before.engine.shape
   pub more : List ℕ
-  pub order : now.engine.order.items ≡ before.engine.order.items ++ more
+  pub order : now.engine.order ≡ before.engine.order ++ more
 
 -- How far a run has come from a start with this map: the lines that are done, and what follows from them. These lines are left.
 pub record Progress (start now : World) (left : List Line) (shape : Shape) (pairs : Pairs) (run : Run) : Type 0 where
@@ -54,12 +54,12 @@ pub record Progress (start now : World) (left : List Line) (shape : Shape) (pair
   pub said : now.said ≡ start.said ++ texts_of (replies_to shape done pairs)
   pub shape_is : run.engine.shape ≡ shape
   pub map : run.engine.map ≡ after_all shape done pairs
-  pub order : run.engine.order.items ≡ accepted shape 1 done pairs
+  pub order : run.engine.order ≡ accepted shape 1 done pairs
 
 -- A fault came after the replies to the lines that are counted: a call failed, or memory ran out.
 pub record FaultIs {T : Type 0} (start now : World) (shape : Shape) (pairs : Pairs) (run : Run) (result : Result T StoreFault) : Type 0 where
-  pub failed : IsErrOf result Failed → HasFailed start now shape pairs run.lines run.engine.order.items
-  pub memory : IsErrOf result Memory → HasNoMemory start now shape pairs run.lines run.engine.order.items
+  pub failed : IsErrOf result Failed → HasFailed start now shape pairs run.lines run.engine.order
+  pub memory : IsErrOf result Memory → HasNoMemory start now shape pairs run.lines run.engine.order
 
 -- Lines were answered, and these are left; or a fault came.
 pub record LinesAreAnswered {T : Type 0} (start now : World) (left : List Line) (shape : Shape) (pairs : Pairs) (run : Run) (result : Result T StoreFault) : Type 0 where
@@ -81,7 +81,7 @@ pub record IsOpenAfter {T : Type 0} (old new : History) (log : LogEnd) (input : 
 
 -- The engine of a run stands, its log in the same segment as an earlier one's or in the next so many.
 pub record IsAtRestSince (before now : Run) (count : ℕ) (world : World) : Type 0 where
-  pub stands : IsAtRest SHAPE (running now.engine) world
+  pub stands : IsAtRest SHAPE now.engine world
   pub rises : now.engine.log.end.seg ≤ before.engine.log.end.seg + count
 
 -- A run over a whole script may begin: the engine stands, and there are numbers for as many segments as it may need.
@@ -101,7 +101,7 @@ pub record BatchIsAnswered (continuation : Continuation) (old new : Unread) (res
 
 -- the engine of a run stands, its log by at most as many segments further as lines were done
 pub record IsAtRestAfter (before later : Run) (world : World) : Type 0 where
-  pub stands : IsAtRest SHAPE (running later.engine) world
+  pub stands : IsAtRest SHAPE later.engine world
   pub rises : later.engine.log.end.seg + before.lines ≤ before.engine.log.end.seg + later.lines
 
 -- The script is done: the engine has the map that its lines leave, and nothing of its log is pending.
@@ -114,6 +114,6 @@ pub record LeavesRun (start : World) (shape : Shape) (pairs : Pairs) (before lat
 -- A script is done whole over an engine's store: this is sound, holds the map that the lines leave, and nothing of its log is
 -- pending.
 pub record LeavesStore (start world : World) (engine : Running) : Type 0 where
-  pub holds : Holds SHAPE world engine.shape (after_all engine.shape (script_of start.input) engine.pairs)
+  pub holds : Holds SHAPE world engine.shape (after_all engine.shape (script_of start.input) engine.map)
   pub lasting : (seg : ℕ) → (world.log seg).since ≡ []
   pub rises : (after_frames (place 1 0) holds.frames).seg ≤ engine.log.end.seg + LINES_MAX

@@ -1,12 +1,10 @@
 //! The top call.
 
 ghost use Rattle.std.specs.Prelude.{◌≡◌, [], map, false, IsTrue, string_bytes};
-ghost use Rattle.pm_types.specs.Shapes.{IsShape};
 ghost use Rattle.pm_disk.specs.Moments.{AllMoments};
 ghost use Rattle.pm_disk.specs.States.{IsUsable};
 ghost use Rattle.pm_disk.specs.Worlds.{World};
 ghost use Rattle.pm_segments.specs.Ends.{EndsThere};
-ghost use Rattle.pm_engine.specs.Engines.{running};
 ghost use Rattle.pm_top.specs.Causes.{BindsFolder, HasRunCause, HasScriptCause, HasStatusCause};
 ghost use Rattle.pm_top.specs.Promises.{Completes, HoldsAtEachMoment, OutcomeIs, RefusalIs, RunHolds};
 ghost use Rattle.pm_top.specs.Runs.{CanRun, SameConsole, SameFiles, LeavesStore};
@@ -146,8 +144,7 @@ fn run<H: Host>(alloc: Global, host: &mut H) -> Outcome
 // Answers the script of the input over an open store, and says where it passes a limit.
 fn answer_script<H: Host>(alloc: Global, host: &mut H, engine: Engine) -> Outcome
     requires usable { IsUsable (H.state host.old) }
-    requires shape { IsShape engine.shape }
-    requires order { engine.order.items ≡ [] }
+    requires order { engine.order ≡ [] }
     requires end { H.tells → EndsThere engine.log (H.history host.old).world }
     ensures files { H.tells → AllMoments (H.history host.old) (H.history host.new) (SameFiles
         (H.history host.old).world) }
@@ -155,13 +152,13 @@ fn answer_script<H: Host>(alloc: Global, host: &mut H, engine: Engine) -> Outcom
         OutcomeIs result.status start (H.history host.new).world engine.shape engine.map
         result.lines result.order.items }
     ensures moments { H.tells → (start : World) → SameConsole start (H.history host.old).world →
-        CanRun (running engine) (H.history host.old).world →
+        CanRun engine (H.history host.old).world →
         AllMoments (H.history host.old) (H.history host.new)
         (CrashHoldsAcknowledged start engine.shape engine.map result.order.items) }
     ensures leaves { H.tells → result.status ≡ Status.Done → (start : World) →
         SameConsole start (H.history host.old).world →
-        CanRun (running engine) (H.history host.old).world →
-        LeavesStore start (H.history host.new).world (running engine) }
+        CanRun engine (H.history host.old).world →
+        LeavesStore start (H.history host.new).world engine }
     ensures cause { HasScriptCause result.status (H.state host.old) (H.state host.new) }
 {
     let mut run = Run::new(alloc, engine);

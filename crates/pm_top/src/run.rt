@@ -5,7 +5,6 @@ ghost use Rattle.std.specs.Prelude.{◌≡◌, ◌≤◌, ◌<◌, ◌+◌, ◌^
 ghost use Rattle.std.specs.List.{All};
 ghost use Rattle.pm_types.specs.declared.limits.TheConstants.{LINES_MAX as most_lines, BATCH_LINES_MAX as most_batch};
 ghost use Rattle.pm_types.specs.declared.shape.Shape.{Shape};
-ghost use Rattle.pm_types.specs.Shapes.{IsShape};
 ghost use Rattle.pm_disk.specs.Moments.{AllMoments};
 ghost use Rattle.pm_disk.specs.Worlds.{World};
 ghost use Rattle.pm_model.specs.declared.line.Line.{Line};
@@ -15,7 +14,7 @@ ghost use Rattle.pm_script.specs.Reading.{rest_of, KnowsEnd};
 ghost use Rattle.pm_script.specs.Texts.{texts_of};
 ghost use Rattle.pm_segments.specs.Ends.{EndsThere};
 ghost use Rattle.pm_engine.specs.Batches.{HasPlainFault};
-ghost use Rattle.pm_engine.specs.Engines.{running, IsAtRest, HasSegments};
+ghost use Rattle.pm_engine.specs.Engines.{IsAtRest, HasSegments};
 ghost use Rattle.pm_top.specs.declared.shape.TheConstants.{SHAPE};
 ghost use Rattle.pm_top.specs.Crashes.{CrashHoldsAcknowledged};
 ghost use Rattle.pm_top.specs.Promises.{HasFailed, HasNoMemory, StopIs};
@@ -66,9 +65,8 @@ impl Run {
     /// Answers the script of the input, batch after batch, up to its end or to a limit. At its end the log is forced.
     pub fn serve<H: Host>(&mut self, alloc: Global, host: &mut H) -> Result<Stop, StoreFault>
         requires usable { IsUsable (H.state host.old) }
-        requires shape { IsShape self.old.engine.shape }
         requires lines { self.old.lines ≡ 0 }
-        requires order { self.old.engine.order.items ≡ [] }
+        requires order { self.old.engine.order ≡ [] }
         requires end { H.tells → EndsThere self.old.engine.log (H.history host.old).world }
         ensures files { H.tells → AllMoments (H.history host.old) (H.history host.new) (SameFiles
             (H.history host.old).world) }
@@ -76,18 +74,18 @@ impl Run {
         // What was answered.
         ensures stop { H.tells → (start : World) → SameConsole start (H.history host.old).world →
             IfOk result (λ stop. StopIs stop start (H.history host.new).world
-            self.old.engine.shape self.old.engine.map self.new.lines self.new.engine.order.items) }
+            self.old.engine.shape self.old.engine.map self.new.lines self.new.engine.order) }
         ensures fault { H.tells → (start : World) → SameConsole start (H.history host.old).world →
             FaultIs start (H.history host.new).world self.old.engine.shape self.old.engine.map
             self.new result }
 
         // What a crash leaves, meanwhile and from then on.
         ensures moments { H.tells → (start : World) → SameConsole start (H.history host.old).world →
-            CanRun (running self.old.engine) (H.history host.old).world →
+            CanRun self.old.engine (H.history host.old).world →
             AllMoments (H.history host.old) (H.history host.new) (CrashHoldsAcknowledged start
-            self.old.engine.shape self.old.engine.map self.new.engine.order.items) }
+            self.old.engine.shape self.old.engine.map self.new.engine.order) }
         ensures leaves { H.tells → (start : World) → SameConsole start (H.history host.old).world →
-            CanRun (running self.old.engine) (H.history host.old).world →
+            CanRun self.old.engine (H.history host.old).world →
             IfOk result (λ stop. stop ≡ Stop.Done → LeavesRun start
             self.old.engine.shape self.old.engine.map self.old self.new (H.history host.new).world) }
         ensures cause { HasPlainFault (H.state host.old) (H.state host.new) result }
@@ -113,7 +111,6 @@ impl Run {
         input: &mut Lines,
     ) -> Result<Continuation, StoreFault>
         requires usable { IsUsable (H.state host.old) }
-        requires shape { IsShape self.old.engine.shape }
         requires counted { self.old.lines ≡ input.old.lines }
         requires few { self.old.lines ≤ most_lines }
         requires end { H.tells → EndsThere self.old.engine.log (H.history host.old).world }
@@ -134,16 +131,16 @@ impl Run {
             FaultIs start (H.history host.new).world shape pairs self.new result }
 
         // What a crash leaves.
-        ensures stands { H.tells → IsAtRest SHAPE (running self.old.engine) (H.history host.old).world →
-            HasSegments (running self.old.engine) 2048 →
+        ensures stands { H.tells → IsAtRest SHAPE self.old.engine (H.history host.old).world →
+            HasSegments self.old.engine 2048 →
             OnOk result (IsAtRestAfter self.old self.new (H.history host.new).world) }
         ensures moments { H.tells → (start : World) (shape : Shape) (pairs : Pairs) →
             Progress start (H.history host.old).world
             (script_of (rest_of input.old (H.history host.old).world)) shape pairs self.old →
-            IsAtRest SHAPE (running self.old.engine) (H.history host.old).world →
-            HasSegments (running self.old.engine) 2048 →
+            IsAtRest SHAPE self.old.engine (H.history host.old).world →
+            HasSegments self.old.engine 2048 →
             AllMoments (H.history host.old) (H.history host.new)
-            (CrashHoldsAcknowledged start shape pairs self.new.engine.order.items) }
+            (CrashHoldsAcknowledged start shape pairs self.new.engine.order) }
         ensures cause { HasPlainFault (H.state host.old) (H.state host.new) result }
     {
         let batch = next_batch(alloc, host, input)?;
@@ -160,7 +157,6 @@ impl Run {
         lines: &[Line],
     ) -> Result<(), StoreFault>
         requires usable { IsUsable (H.state host.old) }
-        requires shape { IsShape self.old.engine.shape }
         requires caches { All HasCache lines.now }
         requires few { length lines.now ≤ most_batch }
         requires numbers { self.old.lines + length lines.now ≤ most_lines }
@@ -177,15 +173,15 @@ impl Run {
             LinesAreAnswered start (H.history host.new).world left shape pairs self.new result }
 
         // What a crash leaves.
-        ensures stands { H.tells → IsAtRest SHAPE (running self.old.engine) (H.history host.old).world →
-            HasSegments (running self.old.engine) (length lines.now) → OnOk result
+        ensures stands { H.tells → IsAtRest SHAPE self.old.engine (H.history host.old).world →
+            HasSegments self.old.engine (length lines.now) → OnOk result
             (IsAtRestSince self.old self.new (length lines.now) (H.history host.new).world) }
         ensures moments { H.tells → (start : World) (left : List Line) (shape : Shape) (pairs : Pairs) →
             Progress start (H.history host.old).world (lines.now ++ left) shape pairs self.old →
-            IsAtRest SHAPE (running self.old.engine) (H.history host.old).world →
-            HasSegments (running self.old.engine) (length lines.now) →
+            IsAtRest SHAPE self.old.engine (H.history host.old).world →
+            HasSegments self.old.engine (length lines.now) →
             AllMoments (H.history host.old) (H.history host.new)
-            (CrashHoldsAcknowledged start shape pairs self.new.engine.order.items) }
+            (CrashHoldsAcknowledged start shape pairs self.new.engine.order) }
         ensures cause { HasPlainFault (H.state host.old) (H.state host.new) result }
     {
         if lines.is_empty() {

@@ -1,4 +1,4 @@
-use Rattle.std.proofs.Common.{◌≡◌, inl, inr, ℕ, ◌≤◌, ◌^◌, List, [], Err, ap, sym, ◌∙◌, subst, arith}
+use Rattle.std.proofs.Common.{◌≡◌, inl, inr, ℕ, ◌≤◌, List, [], Err, ap, sym, ◌∙◌, subst, arith}
 use Rattle.std.specs.Prelude.{codes}
 use Rattle.std.proofs.lemmas.List.{length-map}
 use Rattle.pm_types.specs.declared.limits.TheConstants.{LINES_MAX}
@@ -6,8 +6,7 @@ use Rattle.pm_disk.specs.Moments.{AllMoments}
 use Rattle.pm_disk.specs.Worlds.{World}
 use Rattle.pm_disk.proofs.Chain.{at_last}
 use Rattle.pm_script.specs.Lines.{lines_of}
-use Rattle.pm_engine.specs.declared.engine.Engine.{Engine}
-use Rattle.pm_engine.specs.Engines.{running}
+use Rattle.pm_engine.specs.Engines.{Running}
 use Rattle.pm_top.specs.declared.status.Status.{Status}
 use Rattle.pm_top.specs.Crashes.{CrashHoldsAcknowledged}
 use Rattle.pm_top.specs.Promises.{OutcomeIs, StopIs, IsDone, IsStopped, SaysPart}
@@ -24,7 +23,7 @@ pub returns-clause-outcome : goal.returns-clause-outcome
 returns-clause-outcome g c t start same =
     let engine = c.new-run.result.engine in
     let lines = c.serve.new.self.lines in
-    let order = c.serve.new.self.engine.order.items in
+    let order = c.serve.new.self.engine.order in
     let mid = (g.H.Device.history c.serve.new.host).world in
     let new = (g.H.Device.history c.match-serve.host).world in
     let ended : OutcomeIs c.match-serve.status start new engine.shape engine.map lines order = elim c.match-serve.branch [
@@ -45,19 +44,19 @@ returns-clause-outcome g c t start same =
           subst (λ s. OutcomeIs s start new engine.shape engine.map lines order) (sym w.status-is)
           (subst (λ h. OutcomeIs Status.Memory start (g.H.Device.history h).world engine.shape engine.map lines order) (sym w.host-is) ((w.in-Err-Memory.ensures.fault t start same).memory (ap Err w.in-Err-Memory.field-0-is)))
     ] in
-    subst (λ (e : Engine). OutcomeIs c.match-serve.status start new e.shape e.map lines c.into_order.result.items) c.new-run.ensures.engine
+    subst (λ (e : Running). OutcomeIs c.match-serve.status start new e.shape e.map lines c.into_order.result.items) c.new-run.ensures.engine
     (subst (λ (o : List ℕ). OutcomeIs c.match-serve.status start new engine.shape engine.map lines o) (sym c.into_order.ensures) ended)
 
 pub returns-clause-moments : goal.returns-clause-moments
 returns-clause-moments g c t start same can =
     let engine = c.new-run.result.engine in
     let lines = c.serve.new.self.lines in
-    let order = c.serve.new.self.engine.order.items in
+    let order = c.serve.new.self.engine.order in
     let old = g.H.Device.history c.args.host.now in
     let mid = g.H.Device.history c.serve.new.host in
     let new = g.H.Device.history c.match-serve.host in
     let K : World → Type 0 = CrashHoldsAcknowledged start engine.shape engine.map order in
-    let can_here : CanRun (running engine) old.world = subst (λ (e : Engine). CanRun (running e) old.world) (sym c.new-run.ensures.engine) can in
+    let can_here : CanRun engine old.world = subst (λ (e : Running). CanRun e old.world) (sym c.new-run.ensures.engine) can in
     let served : AllMoments old mid K = c.serve.ensures.moments t start same can_here in
     let all : AllMoments old new K = elim c.match-serve.branch [
       | in-Ok-Done w ↦ subst (λ h. AllMoments old (g.H.Device.history h) K) (sym w.host-is) served
@@ -69,7 +68,7 @@ returns-clause-moments g c t start same can =
       | in-Err-Failed w ↦ subst (λ h. AllMoments old (g.H.Device.history h) K) (sym w.host-is) served
       | in-Err-Memory w ↦ subst (λ h. AllMoments old (g.H.Device.history h) K) (sym w.host-is) served
     ] in
-    subst (λ (e : Engine). AllMoments old new (CrashHoldsAcknowledged start e.shape e.map c.into_order.result.items)) c.new-run.ensures.engine
+    subst (λ (e : Running). AllMoments old new (CrashHoldsAcknowledged start e.shape e.map c.into_order.result.items)) c.new-run.ensures.engine
     (subst (λ (o : List ℕ). AllMoments old new (CrashHoldsAcknowledged start engine.shape engine.map o)) (sym c.into_order.ensures) all)
 
 pub returns-clause-leaves : goal.returns-clause-leaves
@@ -78,16 +77,16 @@ returns-clause-leaves g c t is start same can =
     let engine = run.engine in
     let later = c.serve.new.self in
     let lines = later.lines in
-    let order = later.engine.order.items in
+    let order = later.engine.order in
     let old = g.H.Device.history c.args.host.now in
     let mid = (g.H.Device.history c.serve.new.host).world in
     let new = (g.H.Device.history c.match-serve.host).world in
-    let can_here : CanRun (running engine) old.world = subst (λ (e : Engine). CanRun (running e) old.world) (sym c.new-run.ensures.engine) can in
-    let left : LeavesStore start new (running engine) = elim c.match-serve.branch [
+    let can_here : CanRun engine old.world = subst (λ (e : Running). CanRun e old.world) (sym c.new-run.ensures.engine) can in
+    let left : LeavesStore start new engine = elim c.match-serve.branch [
       | in-Ok-Done w ↦
           let done : IsDone start mid engine.shape engine.map lines order = subst (λ s. StopIs s start mid engine.shape engine.map lines order) w.in-Ok-Done.field-0-is (w.in-Ok-Done.ensures.stop t start same) in
           let few : lines ≤ LINES_MAX = omega (arith, done.all, done.limits.lines, length-map (lines_of start.input) line_of) in
-          subst (λ h. LeavesStore start (g.H.Device.history h).world (running engine)) (sym w.host-is)
+          subst (λ h. LeavesStore start (g.H.Device.history h).world engine) (sym w.host-is)
           (leaves_store start mid run later c.new-run.ensures.lines few (w.in-Ok-Done.ensures.leaves t start same can_here w.in-Ok-Done.field-0-is))
       | in-Ok-Limit w ↦ absurd (elim w.print_limit_fault-status.ensures.cases [
         | inl long ↦ (let clash : 0 ≡ 6 = ap code_of (sym is ∙ w.status-is ∙ long) in omega (arith, clash))
@@ -96,7 +95,7 @@ returns-clause-leaves g c t is start same can =
       | in-Err-Failed w ↦ absurd (let clash : 0 ≡ 3 = ap code_of (sym is ∙ w.status-is) in omega (arith, clash))
       | in-Err-Memory w ↦ absurd (let clash : 0 ≡ 4 = ap code_of (sym is ∙ w.status-is) in omega (arith, clash))
     ] in
-    subst (λ (e : Engine). LeavesStore start new (running e)) c.new-run.ensures.engine left
+    subst (λ (e : Running). LeavesStore start new e) c.new-run.ensures.engine left
 
 pub returns-clause-files : goal.returns-clause-files
 returns-clause-files g c t =

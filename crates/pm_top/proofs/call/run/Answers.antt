@@ -1,12 +1,10 @@
-use Rattle.std.proofs.Common.{rules, ◌≡◌, ◌+◌, ◌<◌, ◌^◌, Err, ap, sym, ◌∙◌, subst, arith}
+use Rattle.std.proofs.Common.{rules, Err, ap, sym, ◌∙◌, subst, arith}
 use Rattle.pm_types.specs.declared.shape.Shape.{Shape}
 use Rattle.pm_disk.specs.Moments.{AllMoments}
 use Rattle.pm_disk.specs.Worlds.{World, with_said}
 use Rattle.pm_disk.proofs.Chain.{at_last, joined}
 use Rattle.pm_model.specs.Eval.{Pairs}
 use Rattle.pm_records.specs.LogFiles.{ChangesLog}
-use Rattle.pm_engine.specs.Engines.{running, HasSegments}
-use Rattle.pm_top.specs.declared.status.Status.TheVariants.{Damaged}
 use Rattle.pm_top.specs.Crashes.{CrashHoldsAcknowledged}
 use Rattle.pm_top.specs.Promises.{OutcomeIs, fault_record}
 use Rattle.pm_top.specs.Runs.{CanRun, SameFiles}
@@ -28,9 +26,9 @@ returns-in-Ok-clause-run g c t =
           subst (λ (x : Shape × Pairs). OutcomeIs outcome.status old.world new.world x.0 x.1 outcome.lines outcome.order.items) (λ i. (opens.0 i, opens.1 i))
           (c.answer_script.ensures.outcome t old.world (same_console old.world mid.world only));
       leaves = λ is shape pairs start.
-          let stands = c.in-Ok.ensures.stands t shape pairs start.holds start.numbers start.quiet in
-          let can : CanRun (running c.in-Ok.engine) mid.world = record { stands = stands.0; segments = omega (arith, stands.1, start.numbers) } in
-          is_left start.holds.frames old.world mid.world new.world (running c.in-Ok.engine) shape pairs (c.in-Ok.ensures.holds t shape pairs start.holds) stands.1 start.quiet (at_last old mid (SameFiles old.world) (g.H.Device.sound c.open_store.new.host t) (log_calls old mid (c.open_store.ensures.log_only t))) (at_last mid new (SameFiles mid.world) (g.H.Device.sound c.answer_script.new.host t) (c.answer_script.ensures.files t))
+          let stands = c.in-Ok.ensures.at_rest t shape pairs start.holds start.numbers start.quiet in
+          let can : CanRun c.in-Ok.engine mid.world = record { stands = stands.at_rest; segments = omega (arith, stands.rises, start.numbers) } in
+          is_left start.holds.frames old.world mid.world new.world c.in-Ok.engine shape pairs (c.in-Ok.ensures.holds t shape pairs start.holds) stands.rises start.quiet (at_last old mid (SameFiles old.world) (g.H.Device.sound c.open_store.new.host t) (log_calls old mid (c.open_store.ensures.log_only t))) (at_last mid new (SameFiles mid.world) (g.H.Device.sound c.answer_script.new.host t) (c.answer_script.ensures.files t))
           (c.answer_script.ensures.leaves t is old.world (same_console old.world mid.world only) can);
       damaged = λ is. absurd (c.answer_script.ensures.cause.sound is);
       long = λ is. (let stopped = subst (λ s. OutcomeIs s old.world new.world c.in-Ok.engine.shape c.in-Ok.engine.map outcome.lines outcome.order.items) is (c.answer_script.ensures.outcome t old.world (same_console old.world mid.world only)) in stopped.passes);
@@ -46,23 +44,23 @@ returns-in-Ok-clause-crash g c t shape pairs start =
     let opens = c.in-Ok.ensures.holds t shape pairs start.holds in
     let order = outcome.order.items in
     let K : World → Type 0 = CrashHoldsAcknowledged old.world shape pairs order in
-    let stands = c.in-Ok.ensures.stands t shape pairs start.holds start.numbers start.quiet in
-    let can : CanRun (running c.in-Ok.engine) mid.world = record { stands = stands.0; segments = omega (arith, stands.1, start.numbers) } in
+    let stands = c.in-Ok.ensures.at_rest t shape pairs start.holds start.numbers start.quiet in
+    let can : CanRun c.in-Ok.engine mid.world = record { stands = stands.at_rest; segments = omega (arith, stands.rises, start.numbers) } in
     let second : AllMoments mid new K = subst (λ (x : Shape × Pairs). AllMoments mid new (CrashHoldsAcknowledged old.world x.0 x.1 order)) (λ i. (opens.0 i, opens.1 i))
     (c.answer_script.ensures.moments t old.world (same_console old.world mid.world only) can) in
-    joined old mid new K (opening_moments old mid shape pairs order (c.open_store.ensures.moments t shape pairs start.holds start.numbers start.quiet) (c.open_store.ensures.log_only t)) second
+    joined old mid new K (opening_moments old mid shape pairs order (c.open_store.ensures.crash t shape pairs start.holds start.numbers start.quiet) (c.open_store.ensures.log_only t)) second
 
 pub returns-in-Err-Failed-clause-crash : goal.returns-in-Err-Failed-clause-crash
 returns-in-Err-Failed-clause-crash g c t shape pairs start =
     let old = g.H.Device.history c.args.host.now in
     let mid = g.H.Device.history c.open_store.new.host in
-    opening_moments old mid shape pairs c.without.result.order.items (c.open_store.ensures.moments t shape pairs start.holds start.numbers start.quiet) (c.open_store.ensures.log_only t)
+    opening_moments old mid shape pairs c.without.result.order.items (c.open_store.ensures.crash t shape pairs start.holds start.numbers start.quiet) (c.open_store.ensures.log_only t)
 
 pub returns-in-Err-Memory-clause-crash : goal.returns-in-Err-Memory-clause-crash
 returns-in-Err-Memory-clause-crash g c t shape pairs start =
     let old = g.H.Device.history c.args.host.now in
     let mid = g.H.Device.history c.open_store.new.host in
-    opening_moments old mid shape pairs c.without-in-Err-Memory.result.order.items (c.open_store.ensures.moments t shape pairs start.holds start.numbers start.quiet) (c.open_store.ensures.log_only t)
+    opening_moments old mid shape pairs c.without-in-Err-Memory.result.order.items (c.open_store.ensures.crash t shape pairs start.holds start.numbers start.quiet) (c.open_store.ensures.log_only t)
 
 pub returns-in-Err-BadRecord-clause-crash : goal.returns-in-Err-BadRecord-clause-crash
 returns-in-Err-BadRecord-clause-crash g c t shape pairs start =

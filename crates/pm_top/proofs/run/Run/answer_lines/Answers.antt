@@ -6,18 +6,18 @@ use Rattle.pm_disk.proofs.Chain.{at_last}
 use Rattle.pm_model.specs.Eval.{replies_to, accepted}
 use Rattle.pm_script.specs.Texts.{texts_of}
 use Rattle.pm_records.specs.LogFiles.{ChangesLog}
-use Rattle.pm_engine.specs.Engines.{running, IsAtRest}
-use Rattle.pm_engine.proofs.Batching.{ok_holds}
+use Rattle.pm_engine.specs.Engines.{IsAtRest}
+use Rattle.pm_engine.proofs.Results.{ok_holds}
 use Rattle.pm_top.specs.declared.shape.TheConstants.{SHAPE}
 use Rattle.pm_top.specs.Runs.{Progress}
-use Rattle.pm_top.proofs.AnsweredLines.{said_stands, rest_moments, failed_batch, memory_batch, batch_moments, all_tried, saying_moments}
+use Rattle.pm_top.proofs.AnsweredLines.{said_stands, rest_moments, failed_batch, memory_batch, batch_moments, all_tried, replied_all, saying_moments}
 use Rattle.pm_top.proofs.KeptFiles.{no_answers, log_answers, said_answers}
 use Rattle.pm_top.proofs.Progressing.{failed_still, memory_still, failed_saying, progress_more}
 use Rattle.pm_top.proofs.run.Run.answer_lines.Goals as goal
 
 pub returns-then-is_empty-clause-keeps : goal.returns-then-is_empty-clause-keeps
 returns-then-is_empty-clause-keeps g c =
-    record { shape = refl; more = []; order = sym (append-nil c.args.self.now.engine.order.items) }
+    record { shape = refl; more = []; order = sym (append-nil c.args.self.now.engine.order) }
 
 pub returns-then-is_empty-clause-answered : goal.returns-then-is_empty-clause-answered
 returns-then-is_empty-clause-answered g c t start left shape pairs progress =
@@ -34,7 +34,7 @@ returns-then-is_empty-clause-moments g c t start left shape pairs progress stand
 
 pub returns-in_err-replies-clause-keeps : goal.returns-in_err-replies-clause-keeps
 returns-in_err-replies-clause-keeps g c =
-    record { shape = refl; more = []; order = sym (append-nil c.args.self.now.engine.order.items) }
+    record { shape = refl; more = []; order = sym (append-nil c.args.self.now.engine.order) }
 
 pub returns-in_err-replies-clause-answered : goal.returns-in_err-replies-clause-answered
 returns-in_err-replies-clause-answered g c t start left shape pairs progress =
@@ -51,18 +51,18 @@ returns-in_err-replies-clause-moments g c t start left shape pairs progress stan
 pub returns-in_err-batch-clause-keeps : goal.returns-in_err-batch-clause-keeps
 returns-in_err-batch-clause-keeps g c =
     let run = c.args.self.now in
-    let tries = c.batch.ensures.tries in
-    record { shape = c.batch.ensures.shape; more = accepted run.engine.shape (run.lines + 1) (take tries.count c.args.lines.now) run.engine.map; order = tries.order }
+    let tries = c.batch.ensures.runs in
+    record { shape = c.batch.ensures.runs.shape; more = accepted run.engine.shape (run.lines + 1) (take tries.tried c.args.lines.now) run.engine.map; order = tries.order }
 
 pub returns-in_err-batch-clause-answered : goal.returns-in_err-batch-clause-answered
 returns-in_err-batch-clause-answered g c t start left shape pairs progress =
     let old = g.H.Device.history c.args.host.now in
     let mid = g.H.Device.history c.batch.new.host in
     let run = c.args.self.now in
-    let later = running c.batch.new.self in
+    let later = c.batch.new.self in
     let lines = c.args.lines.now in
-    let tries = c.batch.ensures.tries in
-    let only = at_last old mid (ChangesLog old.world) (g.H.Device.sound c.batch.new.host t) (c.batch.ensures.log_only t) in
+    let tries = c.batch.ensures.runs in
+    let only = at_last old mid (ChangesLog old.world) (g.H.Device.sound c.batch.new.host t) (c.batch.ensures.runs.log_only t) in
     record {
       done = search rules;
       fault = record {
@@ -76,27 +76,27 @@ returns-in_err-batch-clause-moments g c t start left shape pairs progress stands
     let old = g.H.Device.history c.args.host.now in
     let mid = g.H.Device.history c.batch.new.host in
     let run = c.args.self.now in
-    let later = running c.batch.new.self in
+    let later = c.batch.new.self in
     let lines = c.args.lines.now in
-    let tries = c.batch.ensures.tries in
-    let only = at_last old mid (ChangesLog old.world) (g.H.Device.sound c.batch.new.host t) (c.batch.ensures.log_only t) in
-    batch_moments g.H.Device.tells old mid run later lines c.batch.result tries left progress t (c.batch.ensures.log_only t) stands segments
+    let tries = c.batch.ensures.runs in
+    let only = at_last old mid (ChangesLog old.world) (g.H.Device.sound c.batch.new.host t) (c.batch.ensures.runs.log_only t) in
+    batch_moments g.H.Device.tells old mid run later lines c.batch.result tries left progress t (c.batch.ensures.runs.log_only t) stands segments
 
 pub returns-in_err-write_replies-clause-keeps : goal.returns-in_err-write_replies-clause-keeps
 returns-in_err-write_replies-clause-keeps g c =
     let run = c.args.self.now in
-    let tries = c.batch.ensures.tries in
-    record { shape = c.batch.ensures.shape; more = accepted run.engine.shape (run.lines + 1) (take tries.count c.args.lines.now) run.engine.map; order = tries.order }
+    let tries = c.batch.ensures.runs in
+    record { shape = c.batch.ensures.runs.shape; more = accepted run.engine.shape (run.lines + 1) (take tries.tried c.args.lines.now) run.engine.map; order = tries.order }
 
 pub returns-in_err-write_replies-clause-answered : goal.returns-in_err-write_replies-clause-answered
 returns-in_err-write_replies-clause-answered g c t start left shape pairs progress =
     let old = g.H.Device.history c.args.host.now in
     let mid = g.H.Device.history c.batch.new.host in
     let run = c.args.self.now in
-    let later = running c.batch.new.self in
+    let later = c.batch.new.self in
     let lines = c.args.lines.now in
-    let tries = c.batch.ensures.tries in
-    let only = at_last old mid (ChangesLog old.world) (g.H.Device.sound c.batch.new.host t) (c.batch.ensures.log_only t) in
+    let tries = c.batch.ensures.runs in
+    let only = at_last old mid (ChangesLog old.world) (g.H.Device.sound c.batch.new.host t) (c.batch.ensures.runs.log_only t) in
     record {
       done = search rules;
       fault = record {
@@ -110,31 +110,31 @@ returns-in_err-write_replies-clause-moments g c t start left shape pairs progres
     let old = g.H.Device.history c.args.host.now in
     let mid = g.H.Device.history c.batch.new.host in
     let run = c.args.self.now in
-    let later = running c.batch.new.self in
+    let later = c.batch.new.self in
     let lines = c.args.lines.now in
-    let tries = c.batch.ensures.tries in
-    let only = at_last old mid (ChangesLog old.world) (g.H.Device.sound c.batch.new.host t) (c.batch.ensures.log_only t) in
-    batch_moments g.H.Device.tells old mid run later lines c.batch.result tries left progress t (c.batch.ensures.log_only t) stands segments
+    let tries = c.batch.ensures.runs in
+    let only = at_last old mid (ChangesLog old.world) (g.H.Device.sound c.batch.new.host t) (c.batch.ensures.runs.log_only t) in
+    batch_moments g.H.Device.tells old mid run later lines c.batch.result tries left progress t (c.batch.ensures.runs.log_only t) stands segments
 
 pub returns-in_err-print-clause-keeps : goal.returns-in_err-print-clause-keeps
 returns-in_err-print-clause-keeps g c =
     let run = c.args.self.now in
-    let tries = c.batch.ensures.tries in
-    record { shape = c.batch.ensures.shape; more = accepted run.engine.shape (run.lines + 1) (take tries.count c.args.lines.now) run.engine.map; order = tries.order }
+    let tries = c.batch.ensures.runs in
+    record { shape = c.batch.ensures.runs.shape; more = accepted run.engine.shape (run.lines + 1) (take tries.tried c.args.lines.now) run.engine.map; order = tries.order }
 
 pub returns-in_err-print-clause-answered : goal.returns-in_err-print-clause-answered
 returns-in_err-print-clause-answered g c t start left shape pairs progress =
     let old = g.H.Device.history c.args.host.now in
     let mid = g.H.Device.history c.batch.new.host in
     let run = c.args.self.now in
-    let later = running c.batch.new.self in
+    let later = c.batch.new.self in
     let lines = c.args.lines.now in
-    let tries = c.batch.ensures.tries in
-    let only = at_last old mid (ChangesLog old.world) (g.H.Device.sound c.batch.new.host t) (c.batch.ensures.log_only t) in
+    let tries = c.batch.ensures.runs in
+    let only = at_last old mid (ChangesLog old.world) (g.H.Device.sound c.batch.new.host t) (c.batch.ensures.runs.log_only t) in
     let empty : c.in_ok-replies.replies.items ≡ [] = search rules in
-    let replies : c.batch.new.replies.items ≡ replies_to run.engine.shape lines run.engine.map = c.in_ok-batch.ensures.replies ∙ ap (λ rs. rs ++ replies_to run.engine.shape lines run.engine.map) empty in
+    let replies : c.batch.new.replies.items ≡ replies_to run.engine.shape lines run.engine.map = replied_all c.in_ok-replies.replies.items c.batch.new.replies.items run.engine.shape run.engine.map lines c.in_ok-batch.ensures.replied empty in
     let new = g.H.Device.history c.print.new.self in
-    let all = ok_holds c.batch.result _ (tries.count ≡ length lines) c.in_ok-batch.was tries.all in
+    let all = ok_holds c.batch.result _ (tries.tried ≡ length lines) c.in_ok-batch.was tries.all in
     let text : c.deref-2.result.now ≡ texts_of (replies_to run.engine.shape lines run.engine.map) = c.deref-2.ensures.value ∙ c.in_ok-write_replies.ensures ∙ ap texts_of (c.deref.ensures.value ∙ replies) in
     let part = (c.print.ensures.says t).part in
     record {
@@ -152,41 +152,41 @@ returns-in_err-print-clause-moments g c t start left shape pairs progress stands
     let old = g.H.Device.history c.args.host.now in
     let mid = g.H.Device.history c.batch.new.host in
     let run = c.args.self.now in
-    let later = running c.batch.new.self in
+    let later = c.batch.new.self in
     let lines = c.args.lines.now in
-    let tries = c.batch.ensures.tries in
-    let only = at_last old mid (ChangesLog old.world) (g.H.Device.sound c.batch.new.host t) (c.batch.ensures.log_only t) in
+    let tries = c.batch.ensures.runs in
+    let only = at_last old mid (ChangesLog old.world) (g.H.Device.sound c.batch.new.host t) (c.batch.ensures.runs.log_only t) in
     let empty : c.in_ok-replies.replies.items ≡ [] = search rules in
-    let replies : c.batch.new.replies.items ≡ replies_to run.engine.shape lines run.engine.map = c.in_ok-batch.ensures.replies ∙ ap (λ rs. rs ++ replies_to run.engine.shape lines run.engine.map) empty in
+    let replies : c.batch.new.replies.items ≡ replies_to run.engine.shape lines run.engine.map = replied_all c.in_ok-replies.replies.items c.batch.new.replies.items run.engine.shape run.engine.map lines c.in_ok-batch.ensures.replied empty in
     let new = g.H.Device.history c.print.new.self in
-    let all = ok_holds c.batch.result _ (tries.count ≡ length lines) c.in_ok-batch.was tries.all in
+    let all = ok_holds c.batch.result _ (tries.tried ≡ length lines) c.in_ok-batch.was tries.all in
     let text : c.deref-2.result.now ≡ texts_of (replies_to run.engine.shape lines run.engine.map) = c.deref-2.ensures.value ∙ c.in_ok-write_replies.ensures ∙ ap texts_of (c.deref.ensures.value ∙ replies) in
-    saying_moments g.H.Device.tells old mid run later lines c.batch.result tries left progress new c.print.result c.deref-2.result.now all text (c.print.ensures.says t) only.said c.batch.ensures.shape c.in_ok-batch.ensures.map
-    (c.in_ok-batch.ensures.stands t SHAPE stands segments).stands (batch_moments g.H.Device.tells old mid run later lines c.batch.result tries left progress t (c.batch.ensures.log_only t) stands segments)
+    saying_moments g.H.Device.tells old mid run later lines c.batch.result tries left progress new c.print.result c.deref-2.result.now all text (c.print.ensures.says t) only.said c.batch.ensures.runs.shape c.in_ok-batch.ensures.runs.map
+    (c.in_ok-batch.ensures.at_rest t SHAPE stands segments).stands (batch_moments g.H.Device.tells old mid run later lines c.batch.result tries left progress t (c.batch.ensures.runs.log_only t) stands segments)
 
 pub returns-clause-keeps : goal.returns-clause-keeps
 returns-clause-keeps g c =
     let run = c.args.self.now in
-    let tries = c.batch.ensures.tries in
-    record { shape = c.batch.ensures.shape; more = accepted run.engine.shape (run.lines + 1) (take tries.count c.args.lines.now) run.engine.map; order = tries.order }
+    let tries = c.batch.ensures.runs in
+    record { shape = c.batch.ensures.runs.shape; more = accepted run.engine.shape (run.lines + 1) (take tries.tried c.args.lines.now) run.engine.map; order = tries.order }
 
 pub returns-clause-answered : goal.returns-clause-answered
 returns-clause-answered g c t start left shape pairs progress =
     let old = g.H.Device.history c.args.host.now in
     let mid = g.H.Device.history c.batch.new.host in
     let run = c.args.self.now in
-    let later = running c.batch.new.self in
+    let later = c.batch.new.self in
     let lines = c.args.lines.now in
-    let tries = c.batch.ensures.tries in
-    let only = at_last old mid (ChangesLog old.world) (g.H.Device.sound c.batch.new.host t) (c.batch.ensures.log_only t) in
+    let tries = c.batch.ensures.runs in
+    let only = at_last old mid (ChangesLog old.world) (g.H.Device.sound c.batch.new.host t) (c.batch.ensures.runs.log_only t) in
     let empty : c.in_ok-replies.replies.items ≡ [] = search rules in
-    let replies : c.batch.new.replies.items ≡ replies_to run.engine.shape lines run.engine.map = c.in_ok-batch.ensures.replies ∙ ap (λ rs. rs ++ replies_to run.engine.shape lines run.engine.map) empty in
+    let replies : c.batch.new.replies.items ≡ replies_to run.engine.shape lines run.engine.map = replied_all c.in_ok-replies.replies.items c.batch.new.replies.items run.engine.shape run.engine.map lines c.in_ok-batch.ensures.replied empty in
     let new = g.H.Device.history c.print.new.self in
-    let all = ok_holds c.batch.result _ (tries.count ≡ length lines) c.in_ok-batch.was tries.all in
+    let all = ok_holds c.batch.result _ (tries.tried ≡ length lines) c.in_ok-batch.was tries.all in
     let text : c.deref-2.result.now ≡ texts_of (replies_to run.engine.shape lines run.engine.map) = c.deref-2.ensures.value ∙ c.in_ok-write_replies.ensures ∙ ap texts_of (c.deref.ensures.value ∙ replies) in
     let done = progress_more lines left progress new.world _
     (ap (λ (w : World). w.said) (c.in_ok-print.ensures.says t).ok ∙ ap (λ (u : List ℕ). u ++ c.deref-2.result.now) only.said ∙ ap (λ x. old.world.said ++ x) text)
-    refl c.batch.ensures.shape c.in_ok-batch.ensures.map (all_tried g.H.Device.tells old mid run later lines c.batch.result tries left progress all) in
+    refl c.batch.ensures.runs.shape c.in_ok-batch.ensures.runs.map (all_tried g.H.Device.tells old mid run later lines c.batch.result tries left progress all) in
     record {
       done = done;
       fault = record { failed = λ _. failed_still done new.world refl; memory = λ _. memory_still done new.world refl };
@@ -197,23 +197,23 @@ returns-clause-moments g c t start left shape pairs progress stands segments =
     let old = g.H.Device.history c.args.host.now in
     let mid = g.H.Device.history c.batch.new.host in
     let run = c.args.self.now in
-    let later = running c.batch.new.self in
+    let later = c.batch.new.self in
     let lines = c.args.lines.now in
-    let tries = c.batch.ensures.tries in
-    let only = at_last old mid (ChangesLog old.world) (g.H.Device.sound c.batch.new.host t) (c.batch.ensures.log_only t) in
+    let tries = c.batch.ensures.runs in
+    let only = at_last old mid (ChangesLog old.world) (g.H.Device.sound c.batch.new.host t) (c.batch.ensures.runs.log_only t) in
     let empty : c.in_ok-replies.replies.items ≡ [] = search rules in
-    let replies : c.batch.new.replies.items ≡ replies_to run.engine.shape lines run.engine.map = c.in_ok-batch.ensures.replies ∙ ap (λ rs. rs ++ replies_to run.engine.shape lines run.engine.map) empty in
+    let replies : c.batch.new.replies.items ≡ replies_to run.engine.shape lines run.engine.map = replied_all c.in_ok-replies.replies.items c.batch.new.replies.items run.engine.shape run.engine.map lines c.in_ok-batch.ensures.replied empty in
     let new = g.H.Device.history c.print.new.self in
-    let all = ok_holds c.batch.result _ (tries.count ≡ length lines) c.in_ok-batch.was tries.all in
+    let all = ok_holds c.batch.result _ (tries.tried ≡ length lines) c.in_ok-batch.was tries.all in
     let text : c.deref-2.result.now ≡ texts_of (replies_to run.engine.shape lines run.engine.map) = c.deref-2.ensures.value ∙ c.in_ok-write_replies.ensures ∙ ap texts_of (c.deref.ensures.value ∙ replies) in
-    saying_moments g.H.Device.tells old mid run later lines c.batch.result tries left progress new c.print.result c.deref-2.result.now all text (c.print.ensures.says t) only.said c.batch.ensures.shape c.in_ok-batch.ensures.map
-    (c.in_ok-batch.ensures.stands t SHAPE stands segments).stands (batch_moments g.H.Device.tells old mid run later lines c.batch.result tries left progress t (c.batch.ensures.log_only t) stands segments)
+    saying_moments g.H.Device.tells old mid run later lines c.batch.result tries left progress new c.print.result c.deref-2.result.now all text (c.print.ensures.says t) only.said c.batch.ensures.runs.shape c.in_ok-batch.ensures.runs.map
+    (c.in_ok-batch.ensures.at_rest t SHAPE stands segments).stands (batch_moments g.H.Device.tells old mid run later lines c.batch.result tries left progress t (c.batch.ensures.runs.log_only t) stands segments)
 
 pub returns-clause-stands : goal.returns-clause-stands
 returns-clause-stands g c t stands segments =
     let mid = g.H.Device.history c.batch.new.host in
-    let later = running c.batch.new.self in
-    let done = c.in_ok-batch.ensures.stands t SHAPE stands segments in
+    let later = c.batch.new.self in
+    let done = c.in_ok-batch.ensures.at_rest t SHAPE stands segments in
     record {
       stands = subst (IsAtRest SHAPE later) (sym (c.in_ok-print.ensures.says t).ok) (said_stands SHAPE later mid.world c.deref-2.result.now done.stands);
       rises = done.rises;
@@ -229,20 +229,20 @@ returns-in_err-replies-clause-only_answers g c t =
 
 pub returns-in_err-batch-clause-only_answers : goal.returns-in_err-batch-clause-only_answers
 returns-in_err-batch-clause-only_answers g c t =
-    log_answers (g.H.Device.history c.args.host.now) (g.H.Device.history c.batch.new.host) (c.batch.ensures.log_only t)
+    log_answers (g.H.Device.history c.args.host.now) (g.H.Device.history c.batch.new.host) (c.batch.ensures.runs.log_only t)
 
 pub returns-in_err-write_replies-clause-only_answers : goal.returns-in_err-write_replies-clause-only_answers
 returns-in_err-write_replies-clause-only_answers g c t =
-    log_answers (g.H.Device.history c.args.host.now) (g.H.Device.history c.batch.new.host) (c.batch.ensures.log_only t)
+    log_answers (g.H.Device.history c.args.host.now) (g.H.Device.history c.batch.new.host) (c.batch.ensures.runs.log_only t)
 
 pub returns-in_err-print-clause-only_answers : goal.returns-in_err-print-clause-only_answers
 returns-in_err-print-clause-only_answers g c t =
     let old = g.H.Device.history c.args.host.now in
     let mid = g.H.Device.history c.batch.new.host in
-    said_answers old mid (g.H.Device.history c.print.new.self) c.print.result c.deref-2.result.now (g.H.Device.sound c.batch.new.host t) (log_answers old mid (c.batch.ensures.log_only t)) (c.print.ensures.says t)
+    said_answers old mid (g.H.Device.history c.print.new.self) c.print.result c.deref-2.result.now (g.H.Device.sound c.batch.new.host t) (log_answers old mid (c.batch.ensures.runs.log_only t)) (c.print.ensures.says t)
 
 pub returns-clause-only_answers : goal.returns-clause-only_answers
 returns-clause-only_answers g c t =
     let old = g.H.Device.history c.args.host.now in
     let mid = g.H.Device.history c.batch.new.host in
-    said_answers old mid (g.H.Device.history c.print.new.self) c.print.result c.deref-2.result.now (g.H.Device.sound c.batch.new.host t) (log_answers old mid (c.batch.ensures.log_only t)) (c.print.ensures.says t)
+    said_answers old mid (g.H.Device.history c.print.new.self) c.print.result c.deref-2.result.now (g.H.Device.sound c.batch.new.host t) (log_answers old mid (c.batch.ensures.runs.log_only t)) (c.print.ensures.says t)

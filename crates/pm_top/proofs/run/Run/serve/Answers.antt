@@ -3,7 +3,6 @@ use Rattle.std.specs.Prelude.{IsErrOf}
 use Rattle.pm_types.specs.declared.fault.StoreFault.TheVariants.{Failed, Memory}
 use Rattle.pm_disk.specs.Moments.{AllMoments}
 use Rattle.pm_disk.proofs.Chain.{at_last}
-use Rattle.pm_types.specs.Shapes.{IsShape}
 use Rattle.pm_script.specs.Reading.{rest_of, Unread}
 use Rattle.pm_records.specs.LogFiles.{ChangesLog}
 use Rattle.pm_engine.specs.Engines.{Running}
@@ -35,7 +34,6 @@ batches-init g c =
       few = omega (arith, ap (λ (u : Unread). u.lines) c.in_ok-input.ensures);
       state = same_state _;
       input_end = λ t ended. search rules;
-      shape = c.requires.shape;
       limit = λ t. omega (arith, ap (λ (u : Unread). u.bytes) c.in_ok-input.ensures);
       end = λ t. c.requires.end t;
       files = λ t. no_calls old (g.H.Device.sound c.args.host.now t);
@@ -56,7 +54,7 @@ returns-in_err-answer_batch-clause-moments g c t start same can =
     let so_far = c.batches.invariant in
     let over = so_far.stands t can in
     let segments = room_left first c.batches.self before.world c.requires.lines (omega (arith, so_far.counted, so_far.few)) can.segments over in
-    let turned = then_moments start first.engine.shape first.engine.map old before new c.batches.self.engine.order.items c.answer_batch.ensures.keeps.more c.answer_batch.new.self.engine.order.items c.answer_batch.ensures.keeps.order
+    let turned = then_moments start first.engine.shape first.engine.map old before new c.batches.self.engine.order c.answer_batch.ensures.keeps.more c.answer_batch.new.self.engine.order c.answer_batch.ensures.keeps.order
     (so_far.moments t start same can) (c.answer_batch.ensures.moments t start first.engine.shape first.engine.map (so_far.progress t start same) over.stands segments) in
     turned
 
@@ -69,7 +67,7 @@ returns-in-Over-clause-moments g c t start same can =
     let so_far = c.batches.invariant in
     let over = so_far.stands t can in
     let segments = room_left first c.batches.self before.world c.requires.lines (omega (arith, so_far.counted, so_far.few)) can.segments over in
-    let turned = then_moments start first.engine.shape first.engine.map old before new c.batches.self.engine.order.items c.answer_batch.ensures.keeps.more c.answer_batch.new.self.engine.order.items c.answer_batch.ensures.keeps.order
+    let turned = then_moments start first.engine.shape first.engine.map old before new c.batches.self.engine.order c.answer_batch.ensures.keeps.more c.answer_batch.new.self.engine.order c.answer_batch.ensures.keeps.order
     (so_far.moments t start same can) (c.answer_batch.ensures.moments t start first.engine.shape first.engine.map (so_far.progress t start same) over.stands segments) in
     turned
 
@@ -96,7 +94,6 @@ batches-preserved g c =
       few = omega (arith, lines, c.in_ok-answer_batch.ensures.counted.few);
       state = plain_later _ _ _ c.answer_batch.result so_far.state c.answer_batch.ensures.cause;
       input_end = λ t. (c.in_ok-answer_batch.ensures.open t).input_end;
-      shape = subst IsShape (sym c.answer_batch.ensures.keeps.shape) so_far.shape;
       limit = λ t. more_limit c.in_ok-answer_batch.field-0 (c.in_ok-answer_batch.ensures.answered t) old.world.input c.in-More.is (so_far.limit t);
       end = λ t. (c.in_ok-answer_batch.ensures.open t).end;
       files = λ t. then_calls old before new (g.H.Device.sound c.batches.host t) (so_far.files t) (c.answer_batch.ensures.open t).files;
@@ -110,7 +107,7 @@ batches-preserved g c =
       moments = λ t start same can.
           let over = so_far.stands t can in
           let segments = room_left first c.batches.self before.world c.requires.lines (omega (arith, so_far.counted, so_far.few)) can.segments over in
-          then_moments start first.engine.shape first.engine.map old before new c.batches.self.engine.order.items c.answer_batch.ensures.keeps.more c.answer_batch.new.self.engine.order.items c.answer_batch.ensures.keeps.order
+          then_moments start first.engine.shape first.engine.map old before new c.batches.self.engine.order c.answer_batch.ensures.keeps.more c.answer_batch.new.self.engine.order c.answer_batch.ensures.keeps.order
           (so_far.moments t start same can) (c.answer_batch.ensures.moments t start first.engine.shape first.engine.map (so_far.progress t start same) over.stands segments);
     }
 
@@ -123,13 +120,13 @@ returns-in_err-close-in-End-clause-moments g c t start same can =
     let so_far = c.batches.invariant in
     let over = so_far.stands t can in
     let segments = room_left first c.batches.self before.world c.requires.lines (omega (arith, so_far.counted, so_far.few)) can.segments over in
-    let turned = then_moments start first.engine.shape first.engine.map old before new c.batches.self.engine.order.items c.answer_batch.ensures.keeps.more c.answer_batch.new.self.engine.order.items c.answer_batch.ensures.keeps.order
+    let turned = then_moments start first.engine.shape first.engine.map old before new c.batches.self.engine.order c.answer_batch.ensures.keeps.more c.answer_batch.new.self.engine.order c.answer_batch.ensures.keeps.order
     (so_far.moments t start same can) (c.answer_batch.ensures.moments t start first.engine.shape first.engine.map (so_far.progress t start same) over.stands segments) in
     let end = g.H.Device.history c.close.new.host in
     let later : Run = record c.answer_batch.new.self { engine = c.close.new.self } in
     let progress = end_progress c.in_ok-answer_batch.field-0 (c.in_ok-answer_batch.ensures.answered t) old.world.input c.in-End.is start first.engine.shape first.engine.map (so_far.progress t start same) in
-    let closing = closing_moments new end progress (c.close.ensures.moments t SHAPE (c.in_ok-answer_batch.ensures.stands t over.stands segments).stands) (c.close.ensures.log_only t) in
-    then_moments start first.engine.shape first.engine.map old new end c.answer_batch.new.self.engine.order.items [] c.close.new.self.order.items (ap (λ (r : Running). r.order) c.close.ensures.same ∙ sym (append-nil c.answer_batch.new.self.engine.order.items)) turned
+    let closing = closing_moments new end progress (c.close.ensures.crash t SHAPE (c.in_ok-answer_batch.ensures.stands t over.stands segments).stands) (c.close.ensures.log_only t) in
+    then_moments start first.engine.shape first.engine.map old new end c.answer_batch.new.self.engine.order [] c.close.new.self.order (ap (λ (r : Running). r.order) c.close.ensures.same ∙ sym (append-nil c.answer_batch.new.self.engine.order)) turned
     (subst (λ o. AllMoments new end (CrashHoldsAcknowledged start first.engine.shape first.engine.map o)) (sym (ap (λ (r : Running). r.order) c.close.ensures.same)) closing)
 
 pub returns-in-End-clause-moments : goal.returns-in-End-clause-moments
@@ -141,13 +138,13 @@ returns-in-End-clause-moments g c t start same can =
     let so_far = c.batches.invariant in
     let over = so_far.stands t can in
     let segments = room_left first c.batches.self before.world c.requires.lines (omega (arith, so_far.counted, so_far.few)) can.segments over in
-    let turned = then_moments start first.engine.shape first.engine.map old before new c.batches.self.engine.order.items c.answer_batch.ensures.keeps.more c.answer_batch.new.self.engine.order.items c.answer_batch.ensures.keeps.order
+    let turned = then_moments start first.engine.shape first.engine.map old before new c.batches.self.engine.order c.answer_batch.ensures.keeps.more c.answer_batch.new.self.engine.order c.answer_batch.ensures.keeps.order
     (so_far.moments t start same can) (c.answer_batch.ensures.moments t start first.engine.shape first.engine.map (so_far.progress t start same) over.stands segments) in
     let end = g.H.Device.history c.close.new.host in
     let later : Run = record c.answer_batch.new.self { engine = c.close.new.self } in
     let progress = end_progress c.in_ok-answer_batch.field-0 (c.in_ok-answer_batch.ensures.answered t) old.world.input c.in-End.is start first.engine.shape first.engine.map (so_far.progress t start same) in
-    let closing = closing_moments new end progress (c.close.ensures.moments t SHAPE (c.in_ok-answer_batch.ensures.stands t over.stands segments).stands) (c.close.ensures.log_only t) in
-    then_moments start first.engine.shape first.engine.map old new end c.answer_batch.new.self.engine.order.items [] c.close.new.self.order.items (ap (λ (r : Running). r.order) c.close.ensures.same ∙ sym (append-nil c.answer_batch.new.self.engine.order.items)) turned
+    let closing = closing_moments new end progress (c.close.ensures.crash t SHAPE (c.in_ok-answer_batch.ensures.stands t over.stands segments).stands) (c.close.ensures.log_only t) in
+    then_moments start first.engine.shape first.engine.map old new end c.answer_batch.new.self.engine.order [] c.close.new.self.order (ap (λ (r : Running). r.order) c.close.ensures.same ∙ sym (append-nil c.answer_batch.new.self.engine.order)) turned
     (subst (λ o. AllMoments new end (CrashHoldsAcknowledged start first.engine.shape first.engine.map o)) (sym (ap (λ (r : Running). r.order) c.close.ensures.same)) closing)
 
 pub returns-in-End-clause-stop : goal.returns-in-End-clause-stop
@@ -181,7 +178,7 @@ returns-in-End-clause-leaves g c t start same can =
     let over = so_far.stands t can in
     let segments = room_left first c.batches.self before.world c.requires.lines (omega (arith, so_far.counted, so_far.few)) can.segments over in
     λ _. leaves first c.answer_batch.new.self later new.world end.world after (over_then first c.batches.self c.answer_batch.new.self before.world new.world over (c.in_ok-answer_batch.ensures.stands t over.stands segments)) refl
-    (c.in_ok-close-in-End.ensures.stands t SHAPE (c.in_ok-answer_batch.ensures.stands t over.stands segments).stands)
+    (c.in_ok-close-in-End.ensures.at_rest t SHAPE (c.in_ok-answer_batch.ensures.stands t over.stands segments).stands)
 
 pub returns-in_err-close-in-End-clause-fault : goal.returns-in_err-close-in-End-clause-fault
 returns-in_err-close-in-End-clause-fault g c t start same =

@@ -1,12 +1,10 @@
 use Rattle.pm_disk.specs.States.{IsLaterState}
-use Rattle.std.proofs.Common.{◌≡◌, ◌+◌, ◌-◌, ◌≤◌, ◌^◌, length}
+use Rattle.std.proofs.Common.{◌≡◌, ◌+◌, ◌-◌, ◌≤◌, length}
 use Rattle.pm_types.specs.declared.limits.TheConstants.{SCRIPT_BYTES_MAX, LINES_MAX}
-use Rattle.pm_types.specs.Shapes.{IsShape}
 use Rattle.pm_disk.specs.Moments.{AllMoments}
 use Rattle.pm_disk.specs.Worlds.{World}
 use Rattle.pm_script.specs.Reading.{rest_of, KnowsEnd}
 use Rattle.pm_segments.specs.Ends.{EndsThere}
-use Rattle.pm_engine.specs.Engines.{running}
 use Rattle.pm_top.specs.Crashes.{CrashHoldsAcknowledged}
 use Rattle.pm_top.specs.Runs.{CanRun, Progress, SameConsole, SameFiles, IsAtRestAfter}
 use Rattle.pm_top.specs.Scripts.{after_lines}
@@ -24,7 +22,6 @@ invariant-batches g l =
       counted : l.self.lines ≡ l.input.lines;
       few : l.input.lines ≤ LINES_MAX;
       state : IsLaterState (state l.fn.host) (state l.host);
-      shape : IsShape l.self.engine.shape;
       limit : tells → l.input.bytes ≤ SCRIPT_BYTES_MAX;
       input_end : tells → KnowsEnd l.input now.world;
       end : tells → EndsThere l.self.engine.log now.world;
@@ -33,9 +30,9 @@ invariant-batches g l =
       place : tells → rest_of l.input now.world ≡ after_lines l.input.lines old.world.input;
       progress : tells → (start : World) → SameConsole start old.world
           → Progress start now.world (script_of (rest_of l.input now.world)) first.engine.shape first.engine.map l.self;
-      stands : tells → CanRun (running first.engine) old.world → IsAtRestAfter first l.self now.world;
-      moments : tells → (start : World) → SameConsole start old.world → CanRun (running first.engine) old.world
-          → AllMoments old now (CrashHoldsAcknowledged start first.engine.shape first.engine.map l.self.engine.order.items);
+      stands : tells → CanRun first.engine old.world → IsAtRestAfter first l.self now.world;
+      moments : tells → (start : World) → SameConsole start old.world → CanRun first.engine old.world
+          → AllMoments old now (CrashHoldsAcknowledged start first.engine.shape first.engine.map l.self.engine.order);
     }
 
 abbrev pub decreases-batches : goal.decreases-batches
