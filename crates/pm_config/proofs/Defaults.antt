@@ -1,5 +1,5 @@
 -- A text without fields says the defaults, and so does an empty one.
-use Rattle.std.proofs.Common.{◌≡◌, [], Some, Ok, refl, ap, ◌∙◌}
+use Rattle.std.proofs.Common.{◌≡◌, ℕ, List, [], ◌∷◌, Some, Ok, length, refl, ap, ◌∙◌, arith}
 use Rattle.pm_config.specs.Configs.{config_in, config_of, default_config}
 use Rattle.pm_config.specs.Objects.{object_of}
 
@@ -10,5 +10,9 @@ empty-object : object_of [] ≡ Some []
 unfolding object_of
 empty-object = refl
 
-pub empty-default : config_of [] ≡ Ok default_config
+empty-default : config_of [] ≡ Ok default_config
 empty-default = ap config_in empty-object ∙ no_fields-default
+
+pub empty_text-default : (bytes : List ℕ) → length bytes ≡ 0 → config_of bytes ≡ Ok default_config
+empty_text-default [] e = empty-default
+empty_text-default (x ∷ xs) e = absurd (omega arith)

@@ -15,7 +15,7 @@ Member = List ℕ × Data
 abbrev pub json_of : List ℕ → Option json.Json
 json_of text = option_and_then (λ p. json.if_last p.0 p.1) (json.value max_depth (tokens text))
 
--- the members, in the text's order; nothing where one has a value with a number that no 64-bit float is near
+-- the members, in the text's order; nothing where one has a number that is too large for a 64-bit float
 abbrev pub members_in : json.Members → Option (List Member)
 members_in json.no_members = Some []
 members_in (json.member name value more) = option_and_then (λ d. option_map (λ (ms : List Member). (name, d) ∷ ms) (members_in more)) (of_json value)

@@ -4,6 +4,7 @@ ghost use Rattle.std.specs.Prelude.{◌≡◌, ◌≢◌, ◌<◌, ◌≤◌, �
 ghost use Rattle.std.specs.BTreeMap.{keys};
 ghost use Rattle.std.specs.List.{list_all};
 ghost use Rattle.pm_config.specs.Names.{field_of};
+ghost use Rattle.serde_json.specs.Data.{object, no_members};
 ghost use Rattle.serde_json.specs.Errors.{IsMemory};
 ghost use Rattle.serde_json.specs.View.{view};
 ghost use Rattle.pm_config.specs.Stored.{value_of};
@@ -17,6 +18,7 @@ use std::alloc::Global;
 
 /// The value that a configuration's text is. An empty text is the object without fields. `Bad(Text)`
 /// exactly when the text is too long or isn't read as JSON, out of memory aside.
+#[tactic(auto, using(crate::proofs::TextValues::empty_is_an_object))]
 pub(crate) fn read_value(alloc: Global, bytes: &[u8]) -> Result<Value, ConfigFault>
     ensures value { IfOk result (λ v. value_of bytes.now ≡ Some (view v)) }
     ensures refused { IfErr result (λ fault. fault ≢ ConfigFault.Memory → value_of bytes.now ≡ None) }
@@ -29,12 +31,19 @@ pub(crate) fn read_value(alloc: Global, bytes: &[u8]) -> Result<Value, ConfigFau
         return Err(ConfigFault::Bad(Field::Text));
     }
     if bytes.is_empty() {
-        return Ok(Value::Object(Map::new(alloc)));
+        return Ok(no_fields(alloc));
     }
     match Value::from_slice(alloc, bytes) {
         Ok(value) => Ok(value),
         Err(error) => Err(fault_of(&error)),
     }
+}
+
+/// The object without fields.
+fn no_fields(alloc: Global) -> Value
+    ensures { view result ≡ object no_members }
+{
+    Value::Object(Map::new(alloc))
 }
 
 /// Why a text has no value, as `serde_json` reports it.

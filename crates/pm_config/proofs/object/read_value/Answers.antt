@@ -1,20 +1,13 @@
 -- The value by the case that the text is in.
-use Rattle.std.proofs.Common.{◌≡◌, ◌<◌, length, Some, ap, sym, ◌∙◌, arith}
+use Rattle.std.proofs.Common.{◌<◌, length, arith}
 use Rattle.std.proofs.lemmas.Grind.{common_steps}
-use Rattle.serde_json.specs.Data.{object}
-use Rattle.serde_json.specs.View.{view, members_view}
-use Rattle.serde_json.proofs.Views.{view-Object}
-use Rattle.pm_config.proofs.TextValues.{too_long_has_no_value, empty_is_an_object, read_is_the_value, unread_has_no_value}
+use Rattle.serde_json.specs.View.{view}
+use Rattle.pm_config.proofs.TextValues.{too_long_has_no_value, read_is_the_value, unread_has_no_value}
 use Rattle.pm_config.proofs.object.read_value.Goals as goal
 
 pub returns-then-bytes-gt-CONFIG_BYTES_MAX-clause-refused :
     goal.returns-then-bytes-gt-CONFIG_BYTES_MAX-clause-refused
 returns-then-bytes-gt-CONFIG_BYTES_MAX-clause-refused c = λ _. too_long_has_no_value c.args.bytes.now c.if-bytes-gt-CONFIG_BYTES_MAX.true
-
-pub returns-then-is_empty-clause-value : goal.returns-then-is_empty-clause-value
-returns-then-is_empty-clause-value c =
-    let empty : length c.args.bytes.now ≡ 0 = grind (arith, common_steps) in
-    empty_is_an_object c.args.bytes.now empty ∙ ap Some (sym (view-Object c.new.result ∙ ap (λ es. object (members_view es)) c.new.ensures.empty))
 
 pub returns-in-Ok-clause-value : goal.returns-in-Ok-clause-value
 returns-in-Ok-clause-value c =
