@@ -2,7 +2,7 @@
 //
 // All rows are in memory. The log is one file that only grows; a batch appends its records by one write and one force.
 // A batch that changed nothing is not forced, since nothing is unforced. Opening reads the log from its start and cuts
-// it behind the last whole record.
+// it after the last whole record.
 //
 //   record, numbers little-endian
 //   offset  size  field
