@@ -2,12 +2,13 @@
 
 ghost use Rattle.std.specs.Prelude.{◌≡◌, ◌≤◌, length, OnOk, IfOk};
 ghost use Rattle.pm_frame.specs.declared.limits.TheConstants.{PAYLOAD_MAX as longest};
-ghost use Rattle.pm_disk_mem.specs.Hosts.{world_of};
+ghost use Rattle.pm_disk.specs.States.{IsUsable};
+ghost use Rattle.pm_disk_mem.specs.Hosts.{state_of, world_of};
 ghost use Rattle.pm_segments.specs.Ends.{EndsThere};
 ghost use Rattle.pm_segments.specs.Scans.{IsAhead};
 
 use crate::runs::SEGMENT;
-use pm_disk::Failed;
+use pm_disk::{Failed, Host};
 use pm_disk_mem::{MemDisk, MemHost, Pick};
 use pm_frame::{LOGICAL, SEAL};
 use pm_segments::{Log, Scan};
@@ -40,8 +41,10 @@ const SEAL_FRAME: [u8; 21] = [
 
 /// The frame that a scan gives next: its place, its kind and the length of its payload.
 fn next_of(host: &mut MemHost, scan: &mut Scan) -> Result<Option<(Place, u8, usize)>, Failed>
-    requires { IsAhead scan.old (world_of host.old) }
-    ensures { OnOk result (IsAhead scan.new (world_of host.new)) }
+    requires ahead { IsAhead scan.old (world_of host.old) }
+    requires usable { IsUsable (state_of host.old) }
+    ensures ahead { OnOk result (IsAhead scan.new (world_of host.new)) }
+    ensures usable { IsUsable (state_of host.new) }
 {
     let Some(frame) = scan.next(host)? else {
         return Ok(None);
@@ -55,7 +58,9 @@ fn next_of(host: &mut MemHost, scan: &mut Scan) -> Result<Option<(Place, u8, usi
 fn append_all(host: &mut MemHost, log: &mut Log, payload: &[u8], count: u32) -> Result<(), Failed>
     requires short { length payload.now ≤ longest }
     requires end { EndsThere log.old (world_of host.old) }
-    ensures { OnOk result (EndsThere log.new (world_of host.new)) }
+    requires usable { IsUsable (state_of host.old) }
+    ensures end { OnOk result (EndsThere log.new (world_of host.new)) }
+    ensures usable { IsUsable (state_of host.new) }
 {
     'records: for _ in 0..count {
         log.append(host, LOGICAL, payload)?;
@@ -65,7 +70,8 @@ fn append_all(host: &mut MemHost, log: &mut Log, payload: &[u8], count: u32) -> 
 
 /// How many frames a scan gives up to the log's end, at most so many.
 fn count_frames(host: &mut MemHost, scan: &mut Scan, most: u32) -> Result<u32, Failed>
-    requires { IsAhead scan.old (world_of host.old) }
+    requires ahead { IsAhead scan.old (world_of host.old) }
+    requires usable { IsUsable (state_of host.old) }
 {
     'frames: for count in 0..most {
         if next_of(host, scan)?.is_none() {
@@ -95,16 +101,22 @@ fn with_sevens(
     Ok(bytes)
 }
 
-/// An empty host.
-fn empty_host(rt: &impl AllocGlobal) -> Result<MemHost, Fail> {
-    Ok(MemHost::new(rt.alloc(), b"", b"", MemDisk::empty(rt.alloc()), &[], None)?)
+/// An empty host, with a folder bound.
+fn empty_host(rt: &impl AllocGlobal) -> Result<MemHost, Fail>
+    ensures { IfOk result (λ host. IsUsable (state_of host)) }
+{
+    let mut host = MemHost::new(rt.alloc(), b"", b"", MemDisk::empty(rt.alloc()), &[], None)?;
+    host.bind("store")?;
+    Ok(host)
 }
 
 /// An empty log with segments of this size.
 fn empty_log(host: &mut MemHost, segment_bytes: u32) -> Result<Log, Failed>
     requires from { 65536 ≤ segment_bytes }
     requires to { segment_bytes ≤ 67108864 }
-    ensures { IfOk result (λ log. EndsThere log (world_of host.new)) }
+    requires usable { IsUsable (state_of host.old) }
+    ensures end { IfOk result (λ log. EndsThere log (world_of host.new)) }
+    ensures usable { IsUsable (state_of host.new) }
 {
     Log::cut_tail(host, 1, BEGIN, segment_bytes)
 }
@@ -118,7 +130,9 @@ fn append_sevens(
 ) -> Result<Place, Fail>
     requires short { len ≤ longest }
     requires end { EndsThere log.old (world_of host.old) }
-    ensures { OnOk result (EndsThere log.new (world_of host.new)) }
+    requires usable { IsUsable (state_of host.old) }
+    ensures end { OnOk result (EndsThere log.new (world_of host.new)) }
+    ensures usable { IsUsable (state_of host.new) }
 {
     Ok(log.append(host, LOGICAL, &sevens(rt, len)?)?)
 }
@@ -130,7 +144,9 @@ fn append_after(
     len: usize,
     place: Place,
 ) -> Result<Log, Fail>
-    requires { len ≤ 600 }
+    requires short { len ≤ 600 }
+    requires usable { IsUsable (state_of host.old) }
+    ensures { IsUsable (state_of host.new) }
 {
     let mut log = empty_log(host, SEGMENT_BYTES)?;
     append_sevens(rt, host, &mut log, 64_979)?;
@@ -148,7 +164,9 @@ fn scan_after(
     host: &mut MemHost,
     len: usize,
     place: Place,
-) -> Result<Place, Fail> {
+) -> Result<Place, Fail>
+    requires { IsUsable (state_of host.old) }
+{
     let mut scan = Scan::new(rt.alloc(), END)?;
     if place == NEXT {
         assert_eq!(rt; next_of(host, &mut scan)?, Some((END, SEAL, 0)));
@@ -215,6 +233,8 @@ fn fill_log(
 ) -> Result<Place, Fail>
     requires from { 65536 ≤ segment_bytes }
     requires to { segment_bytes ≤ 67108864 }
+    requires usable { IsUsable (state_of host.old) }
+    ensures { IsUsable (state_of host.new) }
 {
     let mut log = empty_log(host, segment_bytes)?;
     append_all(host, &mut log, &sevens(rt, 32_000)?, records)?;
@@ -222,7 +242,9 @@ fn fill_log(
 }
 
 /// Scans the whole log. Answers where it ends and how many frames it has.
-fn scan_all(rt: &impl AllocGlobal, host: &mut MemHost) -> Result<(Place, u32), Fail> {
+fn scan_all(rt: &impl AllocGlobal, host: &mut MemHost) -> Result<(Place, u32), Fail>
+    requires { IsUsable (state_of host.old) }
+{
     let mut scan = Scan::new(rt.alloc(), BEGIN)?;
     let frames = count_frames(host, &mut scan, 1_000)?;
     Ok((scan.place(), frames))
