@@ -335,11 +335,21 @@ fn look_at_the_end(rt: &(impl Abort + AllocGlobal + Files), memory: &MemHost) ->
 fn look_at_forces(rt: &(impl Abort + AllocGlobal + Files)) -> Result<(), Fail> {
     let trace = fs::read_to_string(rt, TRACE)?;
     for name in NAMES {
-        let path = path_of(rt.alloc(), name)?;
-        let forces = count_forces(&trace, FOLDER, &path);
-        assert!(rt; forces.is_some(), "{name}");
-        assert_eq!(rt; forces == Some(0), name == "config.json", "{name}");
+        look_at_file_forces(rt, &trace, name)?;
     }
+    Ok(())
+}
+
+/// The same of one file.
+fn look_at_file_forces(
+    rt: &(impl Abort + AllocGlobal),
+    trace: &str,
+    name: &str,
+) -> Result<(), Fail> {
+    let path = path_of(rt.alloc(), name)?;
+    let forces = count_forces(trace, FOLDER, &path);
+    assert!(rt; forces.is_some(), "{name}");
+    assert_eq!(rt; forces == Some(0), name == "config.json", "{name}");
     Ok(())
 }
 
