@@ -1,0 +1,2 @@
+pub mod SlotMarks
+pub mod SlotWrites

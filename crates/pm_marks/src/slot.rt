@@ -1,0 +1,172 @@
+//! A slot of a marker file: its bytes, and the mark that they say.
+
+ghost use Rattle.std.specs.Prelude.{◌≡◌, ◌+◌, ◌≤◌, ◌↔◌, ◌==◌, ◌&&◌, IsTrue, length};
+ghost use Rattle.pm_marks.specs.Slots.{IsMark, IsMarkPlace, place_bytes, marked_bytes, slot_bytes, named_place, named_shape, named_mark, mark_in};
+
+use pm_disk::SLOT_LEN;
+use pm_frame::{FRAME_END_MAX, sum};
+use pm_records::{SHAPE_LEN, shape_bytes};
+use pm_types::fields::{get_u16, get_u32, get_u64};
+use pm_types::{Mark, Place, Shape, is_shape};
+
+// The bytes of a slot of which the sum is taken.
+const MARKED_LEN: usize = 60;
+
+// The bytes of a place.
+const PLACE_LEN: usize = 12;
+
+/// The bytes of the slot that has this mark.
+#[tactic(auto, unfolding(crate::specs::Slots::slot_bytes))]
+pub(crate) fn slot_bytes(mark: &Mark) -> [u8; SLOT_LEN]
+    ensures { result ≡ slot_bytes mark.now }
+{
+    let mut bytes = [0; SLOT_LEN];
+    let (marked, stored) = bytes.split_at_mut(MARKED_LEN);
+    marked.copy_from_slice(&marked_bytes(mark));
+    stored.copy_from_slice(&sum(marked).to_le_bytes());
+    bytes
+}
+
+/// The mark that the slot of this number has, none exactly where the slot isn't valid.
+pub(crate) fn mark_in(slot: u8, bytes: &[u8; SLOT_LEN]) -> Option<Mark>
+    ensures { result ≡ mark_in slot bytes.now }
+{
+    let mark = named_mark(bytes);
+    if is_mark(&mark) && mark.number % 2 == slot as u64 && *bytes == slot_bytes(&mark) {
+        Some(mark)
+    } else {
+        None
+    }
+}
+
+#[tactic(auto, unfolding(crate::specs::Slots::marked_bytes, pm_records::specs::Shapes::shape_bytes))]
+fn marked_bytes(mark: &Mark) -> [u8; MARKED_LEN]
+    ensures { result ≡ marked_bytes mark.now }
+{
+    let mut bytes = [0; MARKED_LEN];
+    bytes[0..8].copy_from_slice(&mark.number.to_le_bytes());
+    bytes[8..20].copy_from_slice(&place_bytes(mark.begin));
+    bytes[20..32].copy_from_slice(&place_bytes(mark.replay));
+    bytes[32..48].copy_from_slice(&shape_bytes(&mark.shape));
+    bytes[48..60].copy_from_slice(&place_bytes(mark.from));
+    bytes
+}
+
+fn place_bytes(place: Place) -> [u8; PLACE_LEN]
+    ensures { result ≡ place_bytes place }
+{
+    let mut bytes = [0; PLACE_LEN];
+    bytes[0..8].copy_from_slice(&place.seg.to_le_bytes());
+    bytes[8..12].copy_from_slice(&place.off.to_le_bytes());
+    bytes
+}
+
+#[tactic(auto, unfolding(crate::specs::Slots::named_mark))]
+fn named_mark(bytes: &[u8; SLOT_LEN]) -> Mark
+    ensures { result ≡ named_mark bytes.now }
+{
+    Mark {
+        number: get_u64(bytes, 0),
+        begin: named_place(bytes, 8),
+        replay: named_place(bytes, 20),
+        from: named_place(bytes, 48),
+        shape: named_shape(bytes, 32),
+    }
+}
+
+fn named_place(bytes: &[u8; SLOT_LEN], at: u16) -> Place
+    requires { at + 12 ≤ SLOT_LEN }
+    ensures { result ≡ named_place bytes.now at }
+{
+    Place {
+        seg: get_u64(bytes, at),
+        off: get_u32(bytes, at + 8),
+    }
+}
+
+fn named_shape(bytes: &[u8; SLOT_LEN], at: u16) -> Shape
+    requires { at + 16 ≤ SLOT_LEN }
+    ensures { result ≡ named_shape bytes.now at }
+{
+    Shape {
+        page_size: get_u32(bytes, at),
+        partitions: get_u16(bytes, at + 4),
+        version: get_u16(bytes, at + 6),
+        max_rows: get_u32(bytes, at + 8),
+        segment_bytes: get_u32(bytes, at + 12),
+    }
+}
+
+fn is_mark(mark: &Mark) -> bool
+    ensures { IsTrue result ↔ IsMark mark.now }
+{
+    mark.number >= 1
+        && is_mark_place(mark.begin)
+        && is_mark_place(mark.replay)
+        && is_mark_place(mark.from)
+        && is_shape(&mark.shape)
+}
+
+fn is_mark_place(place: Place) -> bool
+    ensures { IsTrue result ↔ IsMarkPlace place }
+{
+    place.seg >= 1 && place.off <= FRAME_END_MAX
+}
+
+#[cfg(test)]
+mod tests {
+    use super::*;
+
+    // The slot of checkpoint 3. Its sum is that of Python's zlib.
+    #[rattlefmt::skip]
+    const SLOT: [u8; SLOT_LEN] = [
+        0x03, 0x00, 0x00, 0x00, 0x00, 0x00, 0x00, 0x00, // number
+        0x02, 0x00, 0x00, 0x00, 0x00, 0x00, 0x00, 0x00, // begin: segment
+        0x05, 0x02, 0x00, 0x00, // offset
+        0x02, 0x00, 0x00, 0x00, 0x00, 0x00, 0x00, 0x00, // replay: segment
+        0x2e, 0x02, 0x00, 0x00, // offset
+        0x00, 0x10, 0x00, 0x00, // page size
+        0x04, 0x00, // partitions
+        0x01, 0x00, // version
+        0x80, 0x1a, 0x06, 0x00, // most rows
+        0x00, 0x00, 0x00, 0x04, // most bytes of a segment
+        0x01, 0x00, 0x00, 0x00, 0x00, 0x00, 0x00, 0x00, // from: segment
+        0x25, 0x00, 0x00, 0x00, // offset
+        0xe2, 0x29, 0x8f, 0xb0, // sum
+    ];
+
+    const MARK: Mark = Mark {
+        number: 3,
+        begin: Place { seg: 2, off: 517 },
+        replay: Place { seg: 2, off: 558 },
+        from: Place { seg: 1, off: 37 },
+        shape: Shape {
+            page_size: 4096,
+            partitions: 4,
+            version: 1,
+            max_rows: 400_000,
+            segment_bytes: 67_108_864,
+        },
+    };
+
+    #[test]
+    fn a_slot_has_these_bytes(rt: HostRuntime) {
+        assert_eq!(rt; slot_bytes(&MARK).as_slice(), SLOT.as_slice());
+    }
+
+    #[test]
+    fn a_slot_is_read_in_its_own_place_alone(rt: HostRuntime) {
+        assert_eq!(rt; mark_in(1, &SLOT), Some(MARK));
+        assert_eq!(rt; mark_in(0, &SLOT), None);
+    }
+
+    #[test]
+    fn a_slot_with_a_torn_byte_is_none(rt: HostRuntime) {
+        for at in [0, 8, 31, 33, 47, 48, 59, 60, 63] {
+            let mut torn = SLOT;
+            torn[at] = torn[at] ^ 0x10;
+            assert_eq!(rt; mark_in(1, &torn), None, "byte {at}");
+        }
+        assert_eq!(rt; mark_in(1, &[0; SLOT_LEN]), None);
+    }
+}
