@@ -1,12 +1,15 @@
 pub mod AskedPages
 pub mod BelowTrees
 pub mod DeltaLaw
+pub mod EditedPages
 pub mod Exactly
 pub mod GrownPartitions
 pub mod PageReads
 pub mod PlainSteps
+pub mod ReadablePages
 pub mod RowsFrom
 pub mod SamePages
+pub mod TakenPages
 pub mod TreeLists
 pub mod Walks
 pub mod WholePages

@@ -1,6 +1,7 @@
 pub mod Asked
 pub mod Chains
 pub mod Deltas
+pub mod Edits
 pub mod FileForms
 pub mod Growth
 pub mod PageLists
@@ -10,6 +11,7 @@ pub mod Plain
 pub mod PlainLaws
 pub mod PlainRooms
 pub mod Rows
+pub mod SparePages
 pub mod TreeItems
 pub mod Trees
 pub mod WellFormed

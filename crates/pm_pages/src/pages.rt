@@ -31,6 +31,11 @@ pub trait Pages {
         ensures size { result ≡ (seen self.now).page_size }
         ensures page_size { IsPageSize result };
 
+    /// The partition's number, by which pages are named.
+    fn part(&self) -> u16
+        requires { ready self.now }
+        ensures { result ≡ (seen self.now).part };
+
     /// The bytes of a page. `None` comes only where page 0 is asked for and the partition has none.
     ///
     /// `Failed` comes only where a call on the disk failed, and `BadPage`, which names the page, only where it isn't

@@ -198,6 +198,10 @@ impl Pages for PlainPages {
         self.shape.page_size
     }
 
+    fn part(&self) -> u16 {
+        self.part
+    }
+
     fn view(&mut self, index: u32) -> Result<Option<&[u8]>, PageFault> {
         if (index as usize) < self.pages.len() {
             ask(&mut self.asked, index);

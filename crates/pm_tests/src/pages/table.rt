@@ -65,6 +65,10 @@ impl Pages for TablePages {
         self.plain.page_size()
     }
 
+    fn part(&self) -> u16 {
+        self.plain.part()
+    }
+
     fn view(&mut self, index: u32) -> Result<Option<&[u8]>, PageFault> {
         if index as usize >= self.plain.len() {
             self.faults = raised(self.faults);
