@@ -1,11 +1,11 @@
 -- The checkpoint in force is that of the valid start marker of the highest number.
-use Rattle.std.proofs.Common.{◌≡◌, ◌⊎◌, inl, inr, ℕ, ◌≤◌, true, false, Bool, List, Option, Some, None, refl, sym, ap, subst, ◌∙◌, arith}
-use Rattle.std.specs.Prelude.{◌%◌, nat_lt, if◌then◌else◌}
+use Rattle.std.proofs.Common.{◌≡◌, ◌⊎◌, inl, inr, ℕ, ◌≤◌, Bool, List, Option, Some, None, sym, ap, subst, ◌∙◌, arith}
+use Rattle.std.specs.Prelude.{nat_lt, if◌then◌else◌}
 use Rattle.std.proofs.lemmas.Bool.{ltb-true, ltb-false}
 use Rattle.std.proofs.lemmas.Option.{same_Some}
 use Rattle.pm_types.specs.declared.shape.Mark.{Mark}
 use Rattle.pm_records.proofs.Runs.{bool_cases, option_cases}
-use Rattle.pm_marks.specs.InForce.{Checkpoint, NoStart, Started, Ended, has_slot, higher, start_in, checkpoint_of, checkpoint_in}
+use Rattle.pm_marks.specs.InForce.{higher}
 use Rattle.pm_marks.specs.Slots.{bytes_in_slot, slot_of, mark_at}
 use Rattle.pm_marks.proofs.SlotMarks.{mark_in-some}
 
@@ -27,15 +27,12 @@ at_own : (slot : ℕ) (file : List ℕ) (mark : Mark) → mark_at slot file ≡ 
 at_own slot file mark e = subst (λ s. mark_at s file ≡ Some mark) (sym (mark_in-some slot (bytes_in_slot slot file) mark e).1) e
 
 module _ (file : List ℕ) where
-  start : Option Mark
-  start = higher (mark_at 0 file) (mark_at 1 file)
-
-  abbrev IsStart : Option Mark → Type 0
+  abbrev pub IsStart : Option Mark → Type 0
   IsStart None = (slot : ℕ) → mark_at slot file ≡ None
   IsStart (Some mark) = IsHighest file mark
 
   -- of the marks in the two slots, the higher one
-  highest_of : (zero one : Option Mark) → mark_at 0 file ≡ zero → mark_at 1 file ≡ one → IsStart (higher zero one)
+  pub highest_of : (zero one : Option Mark) → mark_at 0 file ≡ zero → mark_at 1 file ≡ one → IsStart (higher zero one)
   highest_of None None a b = λ slot. elim (option_cases (mark_at slot file)) [
     | inl none ↦ none
     | inr some ↦ elim (slot_cases slot file some.0 some.1) [
@@ -73,19 +70,3 @@ module _ (file : List ℕ) where
       ];
     })
   ]
-
--- What the checkpoint in force says of the two marker files.
-abbrev pub Says : Checkpoint → List ℕ → List ℕ → Type 0
-Says NoStart starts ends = (slot : ℕ) → mark_at slot starts ≡ None
-Says (Started mark) starts ends = IsHighest starts mark × (has_slot ends mark ≡ false)
-Says (Ended mark) starts ends = IsHighest starts mark × (has_slot ends mark ≡ true)
-
-says_of : (starts ends : List ℕ) (found : Option Mark) → IsStart starts found → Says (checkpoint_of found ends) starts ends
-says_of starts ends None none = none
-says_of starts ends (Some mark) is = elim (bool_cases (has_slot ends mark)) [
-  | inl ended ↦ subst (λ c. Says c starts ends) (sym (ap (λ (b : Bool). let c : Checkpoint = if b then Ended mark else Started mark in c) ended)) (is, ended)
-  | inr not_yet ↦ subst (λ c. Says c starts ends) (sym (ap (λ (b : Bool). let c : Checkpoint = if b then Ended mark else Started mark in c) not_yet)) (is, not_yet)
-]
-
-pub checkpoint_says : (starts ends : List ℕ) → Says (checkpoint_in starts ends) starts ends
-checkpoint_says starts ends = says_of starts ends (higher (mark_at 0 starts) (mark_at 1 starts)) (highest_of starts (mark_at 0 starts) (mark_at 1 starts) refl refl)

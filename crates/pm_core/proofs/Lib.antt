@@ -1,7 +1,17 @@
+pub mod CrashLaw
+pub mod Images
 pub mod InForce
+pub mod Joins
 pub mod Junk
+pub mod LeftPages
+pub mod LogSteps
+pub mod MarkSteps
 pub mod NoFiles
 pub mod One
+pub mod PageSteps
 pub mod Ranges
 pub mod Rebuilt
+pub mod Replaying
+pub mod Saying
+pub mod Starting
 pub mod WithoutStart

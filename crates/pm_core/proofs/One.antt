@@ -1,5 +1,5 @@
 -- A disk holds one shape and one map.
-use Rattle.std.proofs.Common.{◌≡◌, inl, inr, ℕ, List, [], ◌∷◌, Option, Some, None, refl, sym, ap, subst, ◌∙◌, arith}
+use Rattle.std.proofs.Common.{◌≡◌, inl, inr, ℕ, List, [], ◌∷◌, Option, Some, refl, sym, ap, subst, ◌∙◌, arith}
 use Rattle.std.proofs.lemmas.Option.{same_Some}
 use Rattle.pm_types.specs.declared.place.Place.{Place}
 use Rattle.pm_types.specs.declared.shape.Mark.{Mark}
@@ -7,12 +7,11 @@ use Rattle.pm_types.specs.declared.shape.Shape.{Shape}
 use Rattle.pm_frame.specs.Frames.{Frame}
 use Rattle.pm_disk.specs.Images.{Image}
 use Rattle.pm_model.specs.Eval.{Pairs}
-use Rattle.pm_records.specs.Logs.{all_frames, next_place, after_frames, HasFrames, IsLogFrom}
+use Rattle.pm_records.specs.Logs.{all_frames, next_place, after_frames, HasFrames}
 use Rattle.pm_records.proofs.Runs.{rises, one_log}
 use Rattle.pm_core.specs.Replays.{all_replayed}
-use Rattle.pm_records.specs.Records.{Record}
 use Rattle.pm_marks.specs.InForce.{Checkpoint, NoStart, Started, Ended, replay_of}
-use Rattle.pm_core.specs.BasePages.{Partitions, Rebuilds, RebuiltAre, records_in, rebuilt_from, since_restart, base_of}
+use Rattle.pm_core.specs.BasePages.{Partitions, Rebuilds, RebuiltAre, rebuilt_of, base_of}
 use Rattle.pm_core.specs.Held.{HoldsWith, in_force, log_in, store_shape, pairs_in}
 use Rattle.pm_core.specs.Sound.{SoundImage}
 
@@ -37,8 +36,7 @@ one_run log p (x ∷ xs) (y ∷ ys) one two same =
 pub rebuilt_once : (mark : Mark) (log : ℕ → List ℕ) (a b : Partitions) → Rebuilds mark log a → Rebuilds mark log b → a ≡ b
 rebuilt_once mark log a b one two =
     let frames = one_run log mark.from one.frames two.frames one.run two.run (one.reaches ∙ sym two.reaches) in
-    let records : one.records ≡ two.records = same_Some _ _ (sym one.read ∙ ap records_in frames ∙ two.read) in
-    same_Some a b (sym one.rebuilt ∙ ap (λ (found : List Record). rebuilt_from mark.shape (since_restart found)) records ∙ two.rebuilt)
+    same_Some a b (sym one.rebuilt ∙ ap (rebuilt_of mark.shape) frames ∙ two.rebuilt)
 
 pub rebuilt_are_one : (checkpoint : Checkpoint) (log : ℕ → List ℕ) (a b : Partitions) → RebuiltAre checkpoint log a → RebuiltAre checkpoint log b → a ≡ b
 rebuilt_are_one NoStart log a b one two = one ∙ sym two

@@ -16,7 +16,7 @@ use Rattle.pm_marks.specs.Slots.{mark_at}
 use Rattle.pm_marks.specs.InForce.{NoStart, higher, checkpoint_of}
 use Rattle.pm_core.specs.BasePages.{no_pages, counted}
 use Rattle.pm_core.specs.Held.{in_force, entry_of, pairs_in}
-use Rattle.pm_core.specs.Sound.{SoundWith, SoundImage, AreBare}
+use Rattle.pm_core.specs.Sound.{SoundWith, SoundImage}
 
 -- without a valid slot no checkpoint is in force
 pub none_in_force : (page_size : ℕ) (image : Image) → LogIsAlone page_size image → in_force image ≡ NoStart

@@ -70,6 +70,15 @@ rebuilt_by shape found pages = Some pages
 abbrev pub rebuilt_from : Shape → List Record → Option Partitions
 rebuilt_from shape records = fold (λ pages found. option_and_then (rebuilt_by shape found) pages) (Some no_pages) records
 
+-- the pages that frames rebuild, of these only those after the last RESTART; none where they can't, or one is in no grammar
+unfoldable pub rebuilt_of : Shape → List Frame → Option Partitions
+rebuilt_of shape frames = option_and_then (λ records. rebuilt_from shape (since_restart records)) (records_in frames)
+
+-- the frame holds the begin of this checkpoint
+pub record IsBegin (number : ℕ) (frame : Frame) : Type 0 where
+  pub replay : Place
+  pub is : record_in frame ≡ Some (CpBegin number replay)
+
 -- The log from the mark's from place leads up to its begin place, where its CP_BEGIN stands, and rebuilds these pages.
 pub record Rebuilds (mark : Mark) (log : ℕ → List ℕ) (pages : Partitions) : Type 0 where
   pub frames : List Frame
@@ -77,26 +86,28 @@ pub record Rebuilds (mark : Mark) (log : ℕ → List ℕ) (pages : Partitions) 
   pub reaches : after_frames mark.from frames ≡ mark.begin
   pub begin : Frame
   pub stands : all_frames.frame_at mark.begin.seg mark.begin.off (log mark.begin.seg) ≡ Some begin
-  pub replay : Place
-  pub begins : record_in begin ≡ Some (CpBegin mark.number replay)
-  pub records : List Record
-  pub read : records_in frames ≡ Some records
-  pub rebuilt : rebuilt_from mark.shape (since_restart records) ≡ Some pages
+  pub begins : IsBegin mark.number begin
+  pub rebuilt : rebuilt_of mark.shape frames ≡ Some pages
 
 -- the pages that the log rebuilds: only a checkpoint without its end marker has some
 abbrev pub RebuiltAre : Checkpoint → (ℕ → List ℕ) → Partitions → Type 0
+RebuiltAre NoStart log pages = pages ≡ no_pages
 RebuiltAre (Started mark) log pages = Rebuilds mark log pages
-RebuiltAre checkpoint log pages = pages ≡ no_pages
+RebuiltAre (Ended mark) log pages = pages ≡ no_pages
 
--- the pages laid over those of the partition files
-abbrev pub laid_over : Partitions → ℕ → (ℕ → Option (List ℕ)) → Partitions
-laid_over rebuilt page_size files part index = option_or (rebuilt part index) (page_in_file page_size (files part) index)
+-- the pages of a size that the partitions' files hold
+abbrev pub pages_of : ℕ → (ℕ → Option (List ℕ)) → Partitions
+pages_of page_size files part index = page_in_file page_size (files part) index
+
+-- pages laid over others
+abbrev pub laid_over : Partitions → Partitions → Partitions
+laid_over rebuilt pages part index = option_or (rebuilt part index) (pages part index)
 
 -- the base pages, where these are rebuilt: without a start marker there are none
 abbrev pub base_of : Checkpoint → Partitions → (ℕ → Option (List ℕ)) → Partitions
 base_of NoStart rebuilt files = no_pages
-base_of (Started mark) rebuilt files = laid_over rebuilt mark.shape.page_size files
-base_of (Ended mark) rebuilt files = laid_over rebuilt mark.shape.page_size files
+base_of (Started mark) rebuilt files = laid_over rebuilt (pages_of mark.shape.page_size files)
+base_of (Ended mark) rebuilt files = laid_over rebuilt (pages_of mark.shape.page_size files)
 
 -- the pages of a partition that count: its first one, and those below the page count
 abbrev pub counted : Partition → Partition

@@ -1,5 +1,5 @@
 -- What a disk holds: the rows of its base pages, and the log from the replay place on applied to them.
-use Rattle.std.specs.Prelude.{◌≡◌, ◌≤◌, ◌<◌, ℕ, List, map, length, true, Some, None}
+use Rattle.std.specs.Prelude.{◌≡◌, ◌≤◌, ◌<◌, ℕ, List, map, length, true, Some}
 use Rattle.std.specs.List.{flat_map, range_with_len}
 use Rattle.std.specs.FinMap.{from_entries}
 use Rattle.pm_types.specs.declared.shape.Shape.{Shape}

@@ -2,5 +2,11 @@ pub mod BasePages
 pub mod Held
 pub mod LogAlone
 pub mod PageLaws
+pub mod Prefixes
 pub mod Replays
+pub mod Machine
+pub mod Rounds
 pub mod Sound
+pub mod Stands
+pub mod Starts
+pub mod States

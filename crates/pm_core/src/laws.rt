@@ -1,11 +1,11 @@
-//! What follows of what a disk holds, for every disk.
+//! Laws on disks and on runs of the disk machine. The functions do nothing: their contracts are the laws.
 
-ghost use Rattle.std.specs.Prelude.{◌≡◌, ◌↔◌, ◌<◌, ℕ, List, Option, None, ◌∷◌, ◌++◌, Some, fold};
+ghost use Rattle.std.specs.Prelude.{◌≡◌, ◌↔◌, ◌<◌, ◌≤◌, ℕ, List, length, take, Option, None, ◌∷◌, ◌++◌, Some, fold};
 ghost use Rattle.std.specs.FinMap.{empty};
 ghost use Rattle.pm_types.specs.declared.shape.Shape.{Shape};
 ghost use Rattle.pm_types.specs.Shapes.{IsShape};
-ghost use Rattle.pm_disk.specs.Images.{Image};
-ghost use Rattle.pm_disk.specs.Worlds.{empty_world};
+ghost use Rattle.pm_disk.specs.Images.{Image, LeavesAll};
+ghost use Rattle.pm_disk.specs.Worlds.{World, empty_world};
 ghost use Rattle.pm_model.specs.Eval.{Pairs};
 ghost use Rattle.pm_records.specs.Records.{Record, Restart};
 ghost use Rattle.pm_marks.specs.InForce.{Checkpoint};
@@ -13,7 +13,13 @@ ghost use Rattle.pm_core.specs.BasePages.{Partitions, base_of, rebuilt_from, sin
 ghost use Rattle.pm_core.specs.PageLaws.{Grows, after_record};
 ghost use Rattle.pm_core.specs.Held.{HoldsWith};
 ghost use Rattle.pm_core.specs.LogAlone.{LogHolds, LogIsAlone};
-ghost use Rattle.pm_core.specs.Sound.{Sound, SoundImage};
+ghost use Rattle.pm_core.specs.Sound.{Sound, SoundImage, IsTrueImage};
+ghost use Rattle.pm_core.specs.States.{State};
+ghost use Rattle.pm_core.specs.Machine.{DiskStep, CanAll, states, worlds};
+ghost use Rattle.pm_core.specs.Rounds.{PageStep, on_log, on_pages, joined};
+ghost use Rattle.pm_core.specs.Starts.{CanBegin, start_state, appended};
+ghost use Rattle.pm_core.specs.Prefixes.{KeepsPrefix};
+ghost use Rattle.pm_records.specs.LogSteps.{Step};
 
 /// A folder without files is sound, and holds the empty map and the wanted shape.
 pub fn a_folder_without_files_is_sound()
@@ -49,4 +55,41 @@ pub fn a_page_is_its_last_snapshot_with_its_deltas()
         → rebuilt_from shape records ≡ Some pages → pages part index ≡ fold (after_record part index) None records }
     ensures restart { (before records : List Record) (shape : Shape)
         → since_restart (before ++ Restart shape ∷ records) ≡ since_restart records }
+{}
+
+/// The crash law. From a sound disk with nothing pending, and for every list of steps that meet their guards: whatever a crash
+/// leaves at any moment, as long as no sum is right by chance, is sound, and holds the map of the start after a prefix of the
+/// records that the list appends, which has all that were forced by then.
+///
+/// The replies that were begun by then speak of no record that wasn't forced.
+pub fn a_crash_leaves_a_prefix()
+    ensures map { (wanted : Shape) (told : List ℕ → ℕ) (world : World) (shape : Shape) (pairs : Pairs)
+        → (can : CanBegin wanted told world shape pairs) → (steps : List DiskStep)
+        → CanAll told steps (start_state wanted world shape pairs can.sound) world → (k : ℕ) (image : Image)
+        → LeavesAll (worlds (take k steps) (start_state wanted world shape pairs can.sound) world) image
+        → IsTrueImage (worlds (take k steps) (start_state wanted world shape pairs can.sound) world) image
+        → KeepsPrefix wanted shape pairs (appended (states steps (start_state wanted world shape pairs can.sound) world))
+        (length (states (take k steps) (start_state wanted world shape pairs can.sound) world).order) image }
+    ensures said { (wanted : Shape) (told : List ℕ → ℕ) (world : World) (shape : Shape) (pairs : Pairs)
+        → (can : CanBegin wanted told world shape pairs) → (steps : List DiskStep)
+        → CanAll told steps (start_state wanted world shape pairs can.sound) world → (k : ℕ)
+        → told (worlds (take k steps) (start_state wanted world shape pairs can.sound) world).said
+        ≤ length (states (take k steps) (start_state wanted world shape pairs can.sound) world).order }
+{}
+
+/// The crash law of a round. After steps that meet their guards, steps of the log and steps of the pages are made side by side, of
+/// which each list meets its guards by itself: at each pair of a moment of the one and a moment of the other, whatever a crash
+/// leaves is sound, and holds the map after a prefix of the appended records that has all that were forced by then.
+pub fn a_round_leaves_a_prefix()
+    ensures map { (wanted : Shape) (told : List ℕ → ℕ) (world : World) (shape : Shape) (pairs : Pairs)
+        → (can : CanBegin wanted told world shape pairs) → (steps : List DiskStep)
+        → CanAll told steps (start_state wanted world shape pairs can.sound) world
+        → (mid : State) → mid ≡ states steps (start_state wanted world shape pairs can.sound) world
+        → (now : World) → now ≡ worlds steps (start_state wanted world shape pairs can.sound) world
+        → (logged : List Step) (paged : List PageStep) → CanAll told (on_log logged) mid now → CanAll told (on_pages paged) mid now
+        → (j k : ℕ) (image : Image)
+        → LeavesAll (joined now (worlds (take j (on_log logged)) mid now) (worlds (take k (on_pages paged)) mid now)) image
+        → IsTrueImage (joined now (worlds (take j (on_log logged)) mid now) (worlds (take k (on_pages paged)) mid now)) image
+        → KeepsPrefix wanted shape pairs (appended (states (on_log logged) mid now))
+        (length (states (take j (on_log logged)) mid now).order) image }
 {}
