@@ -64,6 +64,7 @@ fn reason(status: u8) -> Option<&'static str> {
     match status {
         0 => None,
         USAGE => Some("call it as `pagemem run DIR < SCRIPT`"),
+        2 => Some("the folder's configuration is refused: the field is named on standard output"),
         FAILED => Some("a call on the disk, the input or the output failed"),
         OUT_OF_MEMORY => Some("memory ran out"),
         5 => Some(

@@ -171,6 +171,7 @@ config_in-stored (Some ms) d is =
     ∙ ap (λ s. config_stored s d) (sym is)
 
 pub config_of-stored : (bytes : List ℕ) (d : Data) → value_of bytes ≡ Some d → config_of bytes ≡ config_stored (as_object d) d
+unfolding config_of
 config_of-stored bytes d is = config_in-stored (object_of bytes) d (sym (ap (option_and_then as_object) is) ∙ value_of-object bytes)
 
 none-stored : (o : Option (List Member)) → None ≡ stored_all o → config_in o ≡ Err (Bad Text)
@@ -178,6 +179,7 @@ none-stored None is = refl
 none-stored (Some ms) is = absurd (cc)
 
 pub config_of-none : (bytes : List ℕ) → value_of bytes ≡ None → config_of bytes ≡ Err (Bad Text)
+unfolding config_of
 config_of-none bytes is = none-stored (object_of bytes) (sym (ap (option_and_then as_object) is) ∙ value_of-object bytes)
 
 pub keys-names : (es : List (String Global × Value)) → list_all (λ (k : String Global). is_known (string_bytes k)) (keys_of es) ≡ names_are_known (members_view es)

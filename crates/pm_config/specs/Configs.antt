@@ -99,5 +99,5 @@ default_config =
     }
 
 -- what the bytes of a configuration say
-abbrev pub config_of : List ℕ → Result Config ConfigFault
+unfoldable pub config_of : List ℕ → Result Config ConfigFault
 config_of bytes = config_in (object_of bytes)

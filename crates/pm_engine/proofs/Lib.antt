@@ -3,6 +3,7 @@ pub mod Batching
 pub mod DoneLines
 pub mod Forcing
 pub mod Opening
+pub mod ReadShapes
 pub mod Replaying
 pub mod Results
 pub mod Trying

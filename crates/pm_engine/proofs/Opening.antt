@@ -36,7 +36,7 @@ use Rattle.pm_segments.proofs.Quiet.{append_quiet}
 use Rattle.pm_model.specs.Eval.{Pairs}
 use Rattle.pm_engine.specs.Held.{replayed, all_replayed, IsHeld, Holds, HasNumbers, CrashHoldsPrefix}
 use Rattle.pm_engine.specs.Engines.{Running, frames_of, HeldAfterPrefix, IsAtRest}
-use Rattle.pm_engine.specs.Openings.{ReadsAll, OpensWith, OpensAtRest}
+use Rattle.pm_engine.specs.Openings.{HasMap, LogHolds, ReadsAll, OpensWith, OpensAtRest}
 use Rattle.pm_engine.specs.declared.replay.Replay.{Replay}
 use Rattle.pm_engine.proofs.Replaying.{holds_log}
 use Rattle.pm_engine.proofs.DoneLines.{held_push, held_seal, before_push}
@@ -67,6 +67,30 @@ run_room c p (f ∷ fs) le run goes_on =
 pub end_within : (wanted : Shape) (old : World) (end : Place) (replay : Replay) → ReadsAll wanted old end replay → end.off ≤ length (bytes_of (segment_in old end.seg))
 end_within wanted old end replay all = subst (λ (p : Place). p.off ≤ length (bytes_of (segment_in old p.seg))) (sym all.ends) (run_within (contents old.log) (place 1 0) all.frames (omega arith) all.log.run)
 
+-- what was read is what the log holds
+pub reads_hold : (wanted : Shape) (old : World) (end : Place) (replay : Replay) → ReadsAll wanted old end replay → LogHolds wanted old replay.shape replay.map
+reads_hold wanted old end replay all = record { frames = all.frames; log = all.log; held = all.held }
+
+-- so does a sound store's
+pub sound_holds : (wanted : Shape) (old : World) (shape : Shape) (pairs : Pairs) → Holds wanted old shape pairs → LogHolds wanted old shape pairs
+sound_holds wanted old shape pairs holds = record { frames = holds.frames; log = holds.log.log; held = holds.held }
+
+-- a log holds one shape and one map
+pub holds_one : (wanted : Shape) (old : World) (shape other : Shape) (pairs others : Pairs) → LogHolds wanted old shape pairs → LogHolds wanted old other others → (shape ≡ other) × (pairs ≡ others)
+holds_one wanted old shape other pairs others one two =
+    let frames : one.frames ≡ two.frames = one_log all_frames (contents old.log) (place 1 0) one.frames two.frames one.log two.log in
+    let held = subst (λ fs. IsHeld wanted fs shape pairs) frames one.held in
+    let shapes : shape ≡ other = held.told ∙ sym two.held.told in
+    let maps : Some pairs ≡ Some others = sym held.map ∙ ap (λ s. all_replayed s two.frames (Some empty)) shapes ∙ two.held.map in
+    (shapes, same_Some pairs others maps)
+
+-- a store that was opened held the engine's map
+pub opens_hold : (wanted : Shape) (old now : World) (engine : Running) → OpensWith wanted old now engine → LogHolds wanted old engine.shape engine.map
+opens_hold wanted old now engine opens = record { frames = opens.frames; log = opens.log; held = opens.held }
+
+pub opens_map : (wanted : Shape) (old now : World) (engine : Running) (shape : Shape) (pairs : Pairs) → OpensWith wanted old now engine → LogHolds wanted old shape pairs → HasMap shape pairs engine
+opens_map wanted old now engine shape pairs opens holds = holds_one wanted old engine.shape shape engine.map pairs (opens_hold wanted old now engine opens) holds
+
 -- ---- the frame that tells the shape
 
 restart_record : (shape : Shape) → IsShape shape → record_in (restart_frame shape) ≡ Some (Restart shape)
@@ -94,11 +118,7 @@ module _ (wanted : Shape) (old : World) (shape : Shape) (pairs : Pairs) (holds :
   reads_same at found all = one_log all_frames (contents old.log) (place 1 0) all.frames holds.frames all.log (holds_log wanted old shape pairs holds)
 
   pub reads_held : (at : Place) (found : Replay) → ReadsAll wanted old at found → (found.shape ≡ shape) × (found.map ≡ pairs)
-  reads_held at found all =
-      let held = subst (λ fs. IsHeld wanted fs found.shape found.map) (reads_same at found all) all.held in
-      let shapes : found.shape ≡ shape = held.told ∙ sym holds.held.told in
-      let maps : Some found.map ≡ Some pairs = sym held.map ∙ ap (λ s. all_replayed s frames (Some empty)) shapes ∙ holds.held.map in
-      (shapes, same_Some found.map pairs maps)
+  reads_held at found all = holds_one wanted old found.shape shape found.map pairs (reads_hold wanted old at found all) (sound_holds wanted old shape pairs holds)
 
   module _ (numbered : HasNumbers holds.frames) (quiet : NothingPending old) where
     pub reads_end : (at : Place) (found : Replay) → ReadsAll wanted old at found → at ≡ end

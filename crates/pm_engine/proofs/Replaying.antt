@@ -17,7 +17,7 @@ use Rattle.pm_segments.specs.Scans.{Scanned, frame_ahead, Advances}
 use Rattle.pm_segments.proofs.Reading.{scan_goes, scan_ends}
 use Rattle.pm_model.specs.Eval.{Pairs}
 use Rattle.pm_engine.specs.Held.{replayed, then_replayed, all_replayed, IsHeld, Holds}
-use Rattle.pm_engine.specs.Openings.{IsBadAfter, IsBadRecord, AppliesFrame, IsReplayOf, ReadsPrefix, ReadsAll}
+use Rattle.pm_engine.specs.Openings.{IsBadAfter, IsBadRecord, AppliesFrame, IsReplayOf, LogHoldsNothing, ReadsPrefix, ReadsAll}
 use Rattle.pm_engine.specs.declared.replay.Replay.{Replay}
 use Rattle.pm_engine.proofs.DoneLines.{all_replayed-append}
 
@@ -142,10 +142,10 @@ module _ (wanted : Shape) (world : World) (scan later : Scanned) (old new : Repl
         bad = replay_bad wanted reads.frames old new f reads.is_replay takes;
       }
 
-  pub reads_unsound : (f : Frame) → frame_ahead scan world ≡ Some f → Advances scan later (Some f) → AppliesFrame false old new (record_in f) → (shape : Shape) (pairs : Pairs) → Holds wanted world shape pairs → ⊥
+  pub reads_unsound : (f : Frame) → frame_ahead scan world ≡ Some f → Advances scan later (Some f) → AppliesFrame false old new (record_in f) → LogHoldsNothing wanted world
   reads_unsound f stands advances takes shape pairs holds =
       let goes = scan_goes world (place 1 0) reads.frames scan later f reads.scanned stands advances in
-      let front = run_begins all_frames (contents world.log) (place 1 0) (reads.frames ++ f ∷ []) holds.frames goes.run (holds_log wanted world shape pairs holds) in
+      let front = run_begins all_frames (contents world.log) (place 1 0) (reads.frames ++ f ∷ []) holds.frames goes.run holds.log in
       let all : holds.frames ≡ reads.frames ++ f ∷ front.0 = front.1 ∙ append_assoc reads.frames (f ∷ []) front.0 in
       bad_unsound wanted reads.frames f front.0 shape pairs (replay_bad wanted reads.frames old new f reads.is_replay takes) (subst (λ fs. IsHeld wanted fs shape pairs) all holds.held)
 

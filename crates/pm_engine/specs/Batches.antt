@@ -2,6 +2,8 @@
 use Rattle.std.specs.Prelude.{◌≡◌, ◌≤◌, ℕ, List, [], ◌∷◌, ◌++◌, length, take, Bool, if◌then◌else◌, Result, OnOk, IsErrOf, IfErr}
 use Rattle.pm_types.specs.declared.fault.StoreFault.{StoreFault}
 use Rattle.pm_types.specs.declared.fault.StoreFault.TheVariants.{Failed, Memory, BadPage, BadRecord}
+use Rattle.pm_types.specs.declared.fault.OpenFault.{OpenFault}
+use Rattle.pm_types.specs.declared.fault.OpenFault.TheVariants.{Store}
 use Rattle.pm_types.specs.declared.page_id.PageId.{PageId}
 use Rattle.pm_types.specs.declared.shape.Shape.{Shape}
 use Rattle.pm_disk.specs.Moments.{History, AllMoments}
@@ -30,6 +32,14 @@ pub record HasStoreFault {T : Type 0} (before now : DeviceState) (result : Resul
   pub access : now.access ≡ before.access
   pub usable : IsUsable before → IsUsable now
   pub no_page : (page : PageId) → IsErrOf result (BadPage page) → ⊥
+
+-- the same of an opening
+pub record HasOpenFault {T : Type 0} (before now : DeviceState) (result : Result T OpenFault) : Type 0 where
+  pub later : before.faults ≤ now.faults
+  pub failed : IsErrOf result (Store Failed) → Rose before now
+  pub access : now.access ≡ before.access
+  pub usable : IsUsable before → IsUsable now
+  pub no_page : (page : PageId) → IsErrOf result (Store (BadPage page)) → ⊥
 
 -- the count of faults doesn't fall, and `Failed` comes only where it rose; no other fault than that and out of memory comes
 pub record HasPlainFault {T : Type 0} (before now : DeviceState) (result : Result T StoreFault) : Type 0 where

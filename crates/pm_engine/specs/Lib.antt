@@ -3,3 +3,4 @@ pub mod Engines
 pub mod Held
 pub mod Openings
 pub mod Records
+pub mod StoredShapes

@@ -1,5 +1,6 @@
 -- How a store is opened.
 use Rattle.std.specs.Prelude.{◌≡◌, ◌⊎◌, ◌+◌, ◌<◌, ◌≤◌, List, [], ◌∷◌, ◌++◌, Bool, true, false, Option, Some, None}
+use Rattle.pm_types.specs.declared.fault.Field.{Field}
 use Rattle.pm_types.specs.declared.place.Place.{Place}
 use Rattle.pm_types.specs.declared.shape.Shape.{Shape}
 use Rattle.pm_frame.specs.Frames.{Frame}
@@ -15,8 +16,9 @@ use Rattle.pm_segments.specs.Read.{HasScanned}
 use Rattle.pm_segments.specs.Scans.{Scanned, frame_ahead, Advances}
 use Rattle.pm_model.specs.declared.line.Line.{Line}
 use Rattle.pm_model.specs.Eval.{Pairs}
-use Rattle.pm_engine.specs.Held.{put_replayed, replayed, IsHeld, Holds}
+use Rattle.pm_engine.specs.Held.{put_replayed, replayed, IsHeld}
 use Rattle.pm_engine.specs.Engines.{Running, IsAtRest}
+use Rattle.pm_engine.specs.StoredShapes.{shape_fault}
 use Rattle.pm_engine.specs.declared.replay.Replay.{Replay}
 use Rattle.pm_engine.specs.declared.replay.ReplayStep.{ReplayStep}
 use Rattle.pm_engine.specs.declared.replay.ReplayStep.TheVariants as replay_step
@@ -109,10 +111,24 @@ pub record ReadsAll (wanted : Shape) (world : World) (end : Place) (replay : Rep
 abbrev pub IsSame : World → World → Type 0
 IsSame old now = now ≡ old
 
--- The record at this place is bad, so that the store isn't sound, and nothing was changed.
+-- The log can be replayed, and holds this shape and this map. What stands above its end isn't looked at.
+pub record LogHolds (wanted : Shape) (world : World) (shape : Shape) (pairs : Pairs) : Type 0 where
+  pub frames : List Frame
+  pub log : IsLogFrom all_frames (contents world.log) (place 1 0) frames
+  pub held : IsHeld wanted frames shape pairs
+
+-- no map is held: the log can't be replayed
+abbrev pub LogHoldsNothing : Shape → World → Type 0
+LogHoldsNothing wanted world = (shape : Shape) (pairs : Pairs) → LogHolds wanted world shape pairs → ⊥
+
+-- a store isn't opened where its shape differs from the wanted one, or its log can't be replayed
+abbrev pub CanNotOpen : Shape → World → Type 0
+CanNotOpen wanted world = ((field : Field) × (shape_fault wanted world ≡ Some field)) ⊎ LogHoldsNothing wanted world
+
+-- The record at this place is bad, so that the log can't be replayed, and nothing was changed.
 pub record IsBadStore (wanted : Shape) (at : Place) (old now : World) : Type 0 where
   pub record_is : IsBadRecord wanted old at
-  pub unsound : (shape : Shape) (pairs : Pairs) → Holds wanted old shape pairs → ⊥
+  pub unsound : LogHoldsNothing wanted old
   pub same : now ≡ old
 
 -- what is written to the log at opening, from where it ends on: the tail is cut and forced, and a RESTART is appended

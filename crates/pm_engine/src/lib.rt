@@ -6,5 +6,6 @@ mod engine;
 mod open;
 mod record;
 mod replay;
+mod stored_shape;
 
 pub use engine::Engine;

@@ -1,7 +1,7 @@
 //! How a store is opened.
 
 ghost use Rattle.pm_disk.specs.States.{IsUsable};
-ghost use Rattle.std.specs.Prelude.{◌≡◌, ◌+◌, ◌<◌, ◌≤◌, [], false, IfOk, OnOk, IsErrOf};
+ghost use Rattle.std.specs.Prelude.{◌≡◌, ◌+◌, ◌<◌, ◌≤◌, [], None, false, IfOk, IfErr, OnOk, IsErrOf};
 ghost use Rattle.std.specs.FinMap.{empty};
 ghost use Rattle.pm_types.specs.declared.place.Place.{Place};
 ghost use Rattle.pm_types.specs.declared.shape.Shape.{Shape};
@@ -14,43 +14,46 @@ ghost use Rattle.pm_records.specs.LogFiles.{ChangesLog};
 ghost use Rattle.pm_records.specs.Logs.{place, after_frames};
 ghost use Rattle.pm_segments.specs.Ends.{EndsThere};
 ghost use Rattle.pm_segments.specs.Scans.{IsAhead};
-ghost use Rattle.pm_engine.specs.Batches.{HasStoreFault};
+ghost use Rattle.pm_engine.specs.Batches.{HasOpenFault, HasStoreFault};
 ghost use Rattle.pm_engine.specs.Held.{Holds, HasNumbers, CrashHoldsPrefix};
-ghost use Rattle.pm_engine.specs.Openings.{ReplaysNext, IsFurther, ReadsAll, IsSame, IsBadStore, OpensWith, OpensAtRest, HasMap};
+ghost use Rattle.pm_engine.specs.Openings.{ReplaysNext, IsFurther, ReadsAll, IsSame, IsBadStore, LogHoldsNothing, CanNotOpen, OpensWith, OpensAtRest};
+ghost use Rattle.pm_engine.specs.StoredShapes.{ComparesShape, shape_fault};
 
 use crate::engine::Engine;
 use crate::record::restart_payload;
 use crate::replay::{Replay, ReplayStep};
+use crate::stored_shape::compare_shape;
 use pm_disk::Host;
 use pm_frame::RESTART;
 use pm_segments::{Log, Scan};
-use pm_types::{Place, Shape, StoreFault};
+use pm_types::{OpenFault, Place, Shape, StoreFault};
 use std::alloc::Global;
 
 impl Engine {
-    /// Opens the store: reads its log from the first segment on, replays its records, cuts what is after the log's end, and
-    /// appends a RESTART with the store's shape. A store that is empty takes the wanted shape.
+    /// Opens the store: compares its shape with the wanted one, reads its log from the first segment on, replays its records,
+    /// cuts what is after the log's end, and appends a RESTART with the store's shape. A store that is empty takes the wanted
+    /// shape.
     ///
-    /// `BadRecord` comes where the first frame is no RESTART, where a frame's payload is in no grammar, and where a put meets a
-    /// full partition: it names the frame's place, and nothing was changed. After `Failed` and `Memory` the store holds what it
-    /// held.
+    /// `Shape` comes exactly where the store has a shape and it differs, unless a call failed or memory ran out: it names the
+    /// first field that does. `BadRecord` comes where the first frame is no RESTART, where a frame's payload is in no grammar,
+    /// and where a put meets a full partition: it names the frame's place. After both nothing was changed. After `Failed` and
+    /// `Memory` the store holds what it held.
     pub fn open_store<H: Host>(
         alloc: Global,
         host: &mut H,
         wanted: Shape,
-    ) -> Result<Engine, StoreFault>
+    ) -> Result<Engine, OpenFault>
         requires usable { IsUsable (H.state host.old) }
         requires wanted { IsShape wanted }
         ensures fresh { IfOk result (λ engine. IsShape engine.shape × (engine.order ≡ [])) }
         ensures end { H.tells → IfOk result (λ engine. EndsThere engine.log (H.history host.new).world) }
 
-        // What is found, whether the store is sound or not, and which record is bad.
+        // What is found, whether the store is sound or not, which field differs, and which record is bad.
         ensures opens { H.tells → IfOk result (λ engine. OpensWith wanted
             (H.history host.old).world (H.history host.new).world engine) }
-        ensures holds { H.tells → (shape : Shape) (pairs : Pairs) →
-            Holds wanted (H.history host.old).world shape pairs →
-            IfOk result (λ engine. HasMap shape pairs engine) }
-        ensures bad { H.tells → (at : Place) → IsErrOf result (StoreFault.BadRecord at) →
+        ensures compared { H.tells → IfErr result (ComparesShape wanted (H.history host.old).world) }
+        ensures alike { H.tells → OnOk result (shape_fault wanted (H.history host.old).world ≡ None) }
+        ensures bad { H.tells → (at : Place) → IsErrOf result (OpenFault.Store (StoreFault.BadRecord at)) →
             IsBadStore wanted at (H.history host.old).world (H.history host.new).world }
 
         // What a crash leaves, meanwhile and from then on.
@@ -64,6 +67,38 @@ impl Engine {
             AllMoments (H.history host.old) (H.history host.new) (CrashHoldsPrefix wanted shape pairs []) }
         ensures log_only { H.tells → AllMoments (H.history host.old) (H.history host.new)
             (ChangesLog (H.history host.old).world) }
+
+        // A store whose shape differs or whose log can't be replayed is left as it is, at each moment.
+        ensures untouched { H.tells → CanNotOpen wanted (H.history host.old).world →
+            AllMoments (H.history host.old) (H.history host.new) (IsSame (H.history host.old).world) }
+        ensures cause { HasOpenFault (H.state host.old) (H.state host.new) result }
+    {
+        compare_shape(alloc, host, wanted)?;
+        Ok(Engine::open_log(alloc, host, wanted)?)
+    }
+
+    // The same, without a look at the shape that the store has.
+    fn open_log<H: Host>(alloc: Global, host: &mut H, wanted: Shape) -> Result<Engine, StoreFault>
+        requires usable { IsUsable (H.state host.old) }
+        requires wanted { IsShape wanted }
+        ensures fresh { IfOk result (λ engine. IsShape engine.shape × (engine.order ≡ [])) }
+        ensures end { H.tells → IfOk result (λ engine. EndsThere engine.log (H.history host.new).world) }
+        ensures opens { H.tells → IfOk result (λ engine. OpensWith wanted
+            (H.history host.old).world (H.history host.new).world engine) }
+        ensures bad { H.tells → (at : Place) → IsErrOf result (StoreFault.BadRecord at) →
+            IsBadStore wanted at (H.history host.old).world (H.history host.new).world }
+        ensures at_rest { H.tells → (shape : Shape) (pairs : Pairs) →
+            (holds : Holds wanted (H.history host.old).world shape pairs) → HasNumbers holds.frames →
+            NothingPending (H.history host.old).world → IfOk result (λ engine. OpensAtRest wanted
+            holds.frames (H.history host.old).world (H.history host.new).world engine) }
+        ensures crash { H.tells → (shape : Shape) (pairs : Pairs) →
+            (holds : Holds wanted (H.history host.old).world shape pairs) → HasNumbers holds.frames →
+            NothingPending (H.history host.old).world →
+            AllMoments (H.history host.old) (H.history host.new) (CrashHoldsPrefix wanted shape pairs []) }
+        ensures log_only { H.tells → AllMoments (H.history host.old) (H.history host.new)
+            (ChangesLog (H.history host.old).world) }
+        ensures untouched { H.tells → LogHoldsNothing wanted (H.history host.old).world →
+            AllMoments (H.history host.old) (H.history host.new) (IsSame (H.history host.old).world) }
         ensures cause { HasStoreFault (H.state host.old) (H.state host.new) result }
     {
         let mut replay = Replay::new(alloc, wanted);

@@ -12,27 +12,28 @@ use std::test::Fail;
 const THREE: &[u8] = b"put 0 a 1\nscan 3\nput 0 b 2\n";
 
 /// The number of the call that forces the last batch of `THREE`.
-const LAST_FORCE: u64 = 12;
+const LAST_FORCE: u64 = 14;
 
-// The folder is bound; the log is read, cut and forced, and the RESTART written; then the whole script is read. The put is
+// The folder is bound, the configuration and the store's shape are read; the log is read, cut and forced, and the RESTART written;
+// then the whole script is read. The put is
 // written, forced and answered, the scan forced and answered, and the last put written, forced and answered; then the script's
 // end is read. At last the log is forced once more.
 #[test]
 fn a_batch_is_lasting_before_it_is_answered(rt: HostRuntime) -> Result<(), Fail> {
     // (refused call, lines answered, order, said, lasting bytes of the log)
     let cases = [
-        (4, 0, [].as_slice(), b"".as_slice(), 0),
-        (5, 0, &[], b"", 0),
-        (6, 0, &[1], b"", 0),
-        (7, 0, &[1], b"", 0),
-        (8, 0, &[1], b"", 67),
-        (9, 1, &[1], b"ok\n", 67),
-        (10, 1, &[1], b"ok\n", 67),
-        (11, 2, &[1, 3], b"ok\nend 0\n", 67),
+        (6, 0, [].as_slice(), b"".as_slice(), 0),
+        (7, 0, &[], b"", 0),
+        (8, 0, &[1], b"", 0),
+        (9, 0, &[1], b"", 0),
+        (10, 0, &[1], b"", 67),
+        (11, 1, &[1], b"ok\n", 67),
+        (12, 1, &[1], b"ok\n", 67),
+        (13, 2, &[1, 3], b"ok\nend 0\n", 67),
         (LAST_FORCE, 2, &[1, 3], b"ok\nend 0\n", 67),
-        (13, 2, &[1, 3], b"ok\nend 0\n", 97),
-        (14, 3, &[1, 3], b"ok\nend 0\nok\n", 97),
-        (15, 3, &[1, 3], b"ok\nend 0\nok\n", 97),
+        (15, 2, &[1, 3], b"ok\nend 0\n", 97),
+        (16, 3, &[1, 3], b"ok\nend 0\nok\n", 97),
+        (17, 3, &[1, 3], b"ok\nend 0\nok\n", 97),
     ];
     for (refused, lines, order, said, lasting) in cases {
         let run = run_refusing(&rt, THREE, refused)?;
@@ -62,17 +63,17 @@ fn run_puts(rt: &(impl Abort + AllocGlobal), lines: usize, calls: u64) -> Result
     Ok(())
 }
 
-// Beside the write of each put: six calls up to the script's first piece, a force and a print for each batch, the read of the
+// Beside the write of each put: eight calls up to the script's first piece, a force and a print for each batch, the read of the
 // script's end, and the last force. 7,168 lines are two pieces, and one read more: a read that gave all that it was asked for
 // ends no batch.
 #[test]
 fn a_batch_has_at_most_1024_lines(rt: HostRuntime) -> Result<(), Fail> {
     for (lines, calls) in [
-        (1_023, 1_033),
-        (1_024, 1_034),
-        (1_025, 1_037),
-        (2_049, 2_063),
-        (7_168, 7_191),
+        (1_023, 1_035),
+        (1_024, 1_036),
+        (1_025, 1_039),
+        (2_049, 2_065),
+        (7_168, 7_193),
     ] {
         run_puts(&rt, lines, calls)?;
     }
@@ -96,20 +97,20 @@ fn look_before_read(
     look_at_refused(rt, &run, refused, order.len() as u64, order, said)
 }
 
-// The first piece is read by the call of number 5, and each put is written, forced and answered by three calls.
+// The first piece is read by the call of number 7, and each put is written, forced and answered by three calls.
 #[test]
 fn a_line_is_answered_before_the_next_read(rt: HostRuntime) -> Result<(), Fail> {
-    look_before_read(&rt, 10, 9, &[1], b"ok\n")?;
-    look_before_read(&rt, 10, 13, &[1, 2], b"ok\nok\n")?;
+    look_before_read(&rt, 10, 11, &[1], b"ok\n")?;
+    look_before_read(&rt, 10, 15, &[1, 2], b"ok\nok\n")?;
     // The second piece has the first line's newline, and the third one the end of the second line.
-    look_before_read(&rt, 7, 6, &[], b"")?;
-    look_before_read(&rt, 7, 10, &[1], b"ok\n")
+    look_before_read(&rt, 7, 8, &[], b"")?;
+    look_before_read(&rt, 7, 12, &[1], b"ok\n")
 }
 
 #[test]
 fn lines_that_are_read_at_once_are_one_batch(rt: HostRuntime) -> Result<(), Fail> {
-    look_before_read(&rt, 20, 10, &[1, 2], b"ok\nok\n")?;
-    look_before_read(&rt, 65_536, 10, &[1, 2], b"ok\nok\n")
+    look_before_read(&rt, 20, 12, &[1, 2], b"ok\nok\n")?;
+    look_before_read(&rt, 65_536, 12, &[1, 2], b"ok\nok\n")
 }
 
 /// Looks at how many lines were answered by a run of puts whose call of this number was refused.
@@ -125,10 +126,10 @@ fn the_line_after_1024_waits_for_a_force_of_its_own(rt: HostRuntime) -> Result<(
     let script = puts(&rt, 1_025)?;
     // (refused call, lines answered, lasting bytes of the log): both forces and both prints.
     for (refused, lines, lasting) in [
-        (1_030, 0, 0),
-        (1_031, 0, 30_757),
-        (1_033, 1_024, 30_757),
-        (1_034, 1_024, 30_787),
+        (1_032, 0, 0),
+        (1_033, 0, 30_757),
+        (1_035, 1_024, 30_757),
+        (1_036, 1_024, 30_787),
     ] {
         let run = run_refusing(&rt, &script, refused)?;
         look_at_answered(&rt, &run, refused, lines)?;

@@ -138,11 +138,11 @@ fn restart_stopped(
     panic!(rt; "no restart was done")
 }
 
-/// Whether restarts over a crash with this pick are stopped too, and not only made whole. Of the cuts that is each seventh,
-/// which falls on another byte of each frame: stopped restarts over each cut would take five times as long.
+/// Whether restarts over a crash with this pick are stopped too, and not only made whole. Of the cuts that is each eleventh,
+/// which falls on another byte of each frame: stopped restarts over each cut would take seven times as long.
 fn is_stopped(pick: Pick) -> bool {
     match pick {
-        Pick::Cut(count) => count % 7 == 0,
+        Pick::Cut(count) => count % 11 == 0,
         _ => true,
     }
 }
@@ -174,9 +174,9 @@ fn run_stopped(rt: &(impl Abort + AllocGlobal), stop: u64) -> Result<Run, Fail> 
     Ok(run)
 }
 
-// The whole run makes 34 calls. Together with those that are stopped at each of these it leaves 957 crashes. Over 186 of them a
-// restart is stopped at each of its 10 calls, and what three crashes leave of it is restarted over: in all there are
-// 957 + 186 * 10 * (1 + 3) restarts.
+// The whole run makes 36 calls. Together with those that are stopped at each of these it leaves 959 crashes. Over 141 of them a
+// restart is stopped at each of its 12 calls, and what three crashes leave of it is restarted over: in all there are
+// 959 + 141 * 12 * (1 + 3) restarts.
 #[test]
 fn each_restart_after_a_crash_has_what_was_acknowledged(rt: HostRuntime) -> Result<(), Fail> {
     let mut restarts: u32 = 0;
@@ -184,7 +184,7 @@ fn each_restart_after_a_crash_has_what_was_acknowledged(rt: HostRuntime) -> Resu
         let run = run_stopped(&rt, stop)?;
         restarts = restarts.saturating_add(crash(&rt, &run)?);
         if run.report.status == 0 {
-            assert_eq!(rt; (stop, restarts), (34, 8_397));
+            assert_eq!(rt; (stop, restarts), (36, 7_727));
             return Ok(());
         }
     }

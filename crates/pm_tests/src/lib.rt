@@ -7,6 +7,8 @@ mod batches;
 #[cfg(test)]
 mod calls;
 #[cfg(test)]
+mod configurations;
+#[cfg(test)]
 mod consoles;
 #[cfg(test)]
 mod crashes;

@@ -2,7 +2,7 @@
 
 use crate::runs::{
     CP_BEGIN_3, DELTA_OF_A_PAGE, FIRST_FRAME, OTHER_PUT, PUT, Run, disk_of, frame, lasting_len,
-    log_after, log_left, run_over, with_frame,
+    log_after, log_left, run_configured, run_over, with_frame,
 };
 use pm_disk_mem::Pick;
 use pm_frame::{CP_BEGIN, DELTA, LOGICAL, RESTART, SEAL, SNAPSHOT};
@@ -11,6 +11,9 @@ use std::test::Fail;
 
 /// A shape: pages of 4,096 bytes, one partition of one row, and segments of 65,536 bytes.
 const ONE_ROW: &[u8] = &[0, 16, 0, 0, 1, 0, 1, 0, 1, 0, 0, 0, 0, 0, 1, 0];
+
+/// The configuration that asks for that shape.
+const ONE_ROW_ASKED: &[u8] = b"{\"partitions\":1,\"max_rows\":1,\"segment_bytes\":65536}";
 
 /// Looks for a log that is as it was, whatever a crash leaves of it.
 fn look_at_unchanged(
@@ -26,8 +29,13 @@ fn look_at_unchanged(
 }
 
 /// Runs over a store with this log, and looks that it is refused at this place and that nothing was changed.
-fn refuse(rt: &(impl Abort + AllocGlobal), log: &[u8], said: &[u8]) -> Result<(), Fail> {
-    let run = run_over(rt, b"put 0 a 2\nget 0 a\n", disk_of(rt, log)?)?;
+fn refuse(
+    rt: &(impl Abort + AllocGlobal),
+    config: &[u8],
+    log: &[u8],
+    said: &[u8],
+) -> Result<(), Fail> {
+    let run = run_configured(rt, config, b"put 0 a 2\nget 0 a\n", disk_of(rt, log)?)?;
     assert_eq!(rt; run.report.status, 5, "{said:?}");
     assert_eq!(rt; run.report.lines, 0, "{said:?}");
     assert!(rt; run.report.order.is_empty(), "{said:?}");
@@ -43,7 +51,7 @@ fn refuse_after(
     payload: &[u8],
     said: &[u8],
 ) -> Result<(), Fail> {
-    refuse(rt, &with_frame(rt, log, kind, payload)?, said)
+    refuse(rt, b"", &with_frame(rt, log, kind, payload)?, said)
 }
 
 #[test]
@@ -107,7 +115,7 @@ fn a_payload_outside_its_grammar_is_refused(rt: HostRuntime) -> Result<(), Fail>
 /// Runs three puts over a store with room for one row, and looks at their replies.
 fn fill_one_row(rt: &(impl Abort + AllocGlobal), shape: &[u8]) -> Result<(), Fail> {
     let script = b"put 0 a 1\nput 0 b 2\nput 0 a 3\n";
-    let run = run_over(rt, script, disk_of(rt, shape)?)?;
+    let run = run_configured(rt, ONE_ROW_ASKED, script, disk_of(rt, shape)?)?;
     assert_eq!(rt; run.report.status, 0);
     assert_eq!(rt; run.host.said(), b"ok\nerror full\nok\n".as_slice());
     Ok(())
@@ -118,7 +126,8 @@ fn a_put_that_meets_a_full_partition_is_refused(rt: HostRuntime) -> Result<(), F
     let shape = with_frame(&rt, b"", RESTART, ONE_ROW)?;
     fill_one_row(&rt, &shape)?;
     let put = with_frame(&rt, &shape, LOGICAL, PUT)?;
-    refuse_after(&rt, &put, LOGICAL, OTHER_PUT, b"fault record 1:67\n")
+    let log = with_frame(&rt, &put, LOGICAL, OTHER_PUT)?;
+    refuse(&rt, ONE_ROW_ASKED, &log, b"fault record 1:67\n")
 }
 
 /// Runs over a store whose log has a RESTART and then bytes that are no frame, and looks for a RESTART in their place.

@@ -73,9 +73,25 @@ fn run_failing(
     refused: &[u64],
     stop: Option<u64>,
 ) -> Result<Run, Fail> {
-    let mut host = MemHost::new(rt.alloc(), script, b"", disk, refused, stop)?;
+    let host = MemHost::new(rt.alloc(), script, b"", disk, refused, stop)?;
+    run_on(rt, host)
+}
+
+/// Runs the script of a host.
+fn run_on(rt: &impl AllocGlobal, mut host: MemHost) -> Result<Run, Fail> {
     let report = call_with(rt, &["run", "d"], &mut host)?;
     Ok(Run { report, host })
+}
+
+/// Runs a script over a disk with a configuration.
+pub fn run_configured(
+    rt: &impl AllocGlobal,
+    config: &[u8],
+    script: &[u8],
+    disk: MemDisk,
+) -> Result<Run, Fail> {
+    let host = MemHost::new(rt.alloc(), script, config, disk, &[], None)?;
+    run_on(rt, host)
 }
 
 /// Runs a script over a disk, up to a stop.

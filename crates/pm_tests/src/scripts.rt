@@ -210,7 +210,8 @@ fn other_words_are_refused(rt: HostRuntime) -> Result<(), Fail> {
     Ok(())
 }
 
-// The folder is bound; the log is read, cut and forced, and the RESTART written. Each line is read, written if it is a put,
+// The folder is bound, the configuration and the store's shape are read; the log is read, cut and forced, and the RESTART written.
+// Each line is read, written if it is a put,
 // forced and answered; then the script's end is read; at last the log is forced once more.
 #[test]
 fn after_a_refused_call_none_is_made(rt: HostRuntime) -> Result<(), Fail> {
@@ -223,26 +224,28 @@ fn after_a_refused_call_none_is_made(rt: HostRuntime) -> Result<(), Fail> {
         (3, 0, &[], b""),
         (4, 0, &[], b""),
         (5, 0, &[], b""),
-        (6, 0, &[1], b""),
-        (7, 0, &[1], b""),
+        (6, 0, &[], b""),
+        (7, 0, &[], b""),
         (8, 0, &[1], b""),
-        (9, 1, &[1], b"ok\n"),
-        (10, 1, &[1, 2], b"ok\n"),
-        (11, 1, &[1, 2], b"ok\n"),
+        (9, 0, &[1], b""),
+        (10, 0, &[1], b""),
+        (11, 1, &[1], b"ok\n"),
         (12, 1, &[1, 2], b"ok\n"),
-        (13, 2, &[1, 2], b"ok\nok\n"),
-        (14, 2, &[1, 2], b"ok\nok\n"),
+        (13, 1, &[1, 2], b"ok\n"),
+        (14, 1, &[1, 2], b"ok\n"),
         (15, 2, &[1, 2], b"ok\nok\n"),
-        (16, 3, &[1, 2], b"ok\nok\nvalue 1\n"),
-        (17, 3, &[1, 2], b"ok\nok\nvalue 1\n"),
+        (16, 2, &[1, 2], b"ok\nok\n"),
+        (17, 2, &[1, 2], b"ok\nok\n"),
+        (18, 3, &[1, 2], b"ok\nok\nvalue 1\n"),
+        (19, 3, &[1, 2], b"ok\nok\nvalue 1\n"),
     ];
     for (refused, lines, order, wanted) in cases {
         let run = run_in_pieces(&rt, &["run", "d"], script, 10, &[refused])?;
         look_at_refused(&rt, &run, refused, lines, order, wanted)?;
     }
-    let whole = run_in_pieces(&rt, &["run", "d"], script, 10, &[18])?;
+    let whole = run_in_pieces(&rt, &["run", "d"], script, 10, &[20])?;
     assert_eq!(rt; whole.report.status, 0);
-    assert_eq!(rt; whole.host.calls(), 18);
+    assert_eq!(rt; whole.host.calls(), 20);
     Ok(())
 }
 

@@ -10,7 +10,6 @@ use Rattle.pm_script.specs.Reading.{OnlyTakes}
 use Rattle.pm_engine.specs.Engines.{IsAtRest}
 use Rattle.pm_engine.proofs.DoneLines.{done_keeps}
 use Rattle.pm_top.specs.declared.run.Run.{Run}
-use Rattle.pm_top.specs.declared.shape.TheConstants.{SHAPE}
 use Rattle.pm_top.specs.Crashes.{CrashHoldsAcknowledged}
 use Rattle.pm_top.specs.Runs.{Progress, KeepsRun, IsAtRestSince, IsAtRestAfter}
 use Rattle.pm_top.proofs.Lasting.{keeps_rest, keeps_taken, order_longer}
@@ -29,23 +28,23 @@ keeps_both before mid later first second = record {
 
 module _ {start : World} {left : List Line} {shape : Shape} {pairs : Pairs} {run : Run} where
   -- while input is taken
-  pub taken_moments : (old mid : History) → Progress start old.world left shape pairs run → IsAtRest SHAPE run.engine old.world → AllMoments old mid (OnlyTakes old.world) → AllMoments old mid (CrashHoldsAcknowledged start shape pairs run.engine.order)
-  taken_moments old mid progress stands takes =
-      weaker old mid (OnlyTakes old.world) (CrashHoldsAcknowledged start shape pairs run.engine.order)
-      (λ w is. keeps_rest progress w (taken_said old.world w is) (keeps_taken run.engine.shape run.engine.map [] old.world w is (done_keeps SHAPE run.engine.map [] run.engine old.world stands))) takes
+  pub taken_moments : (wanted : Shape) (old mid : History) → Progress start old.world left shape pairs run → IsAtRest wanted run.engine old.world → AllMoments old mid (OnlyTakes old.world) → AllMoments old mid (CrashHoldsAcknowledged wanted start shape pairs run.engine.order)
+  taken_moments wanted old mid progress stands takes =
+      weaker old mid (OnlyTakes old.world) (CrashHoldsAcknowledged wanted start shape pairs run.engine.order)
+      (λ w is. keeps_rest progress wanted w (taken_said old.world w is) (keeps_taken wanted run.engine.shape run.engine.map [] old.world w is (done_keeps wanted run.engine.map [] run.engine old.world stands))) takes
 
 -- a longer order
-pub longer_moments : (start : World) (shape : Shape) (pairs : Pairs) (old new : History) (order more later : List ℕ) → later ≡ order ++ more → AllMoments old new (CrashHoldsAcknowledged start shape pairs order) → AllMoments old new (CrashHoldsAcknowledged start shape pairs later)
-longer_moments start shape pairs old new order more later is all =
-    weaker old new (CrashHoldsAcknowledged start shape pairs order) (CrashHoldsAcknowledged start shape pairs later)
-    (λ w keeps. subst (λ o. CrashHoldsAcknowledged start shape pairs o w) (sym is) (order_longer start shape pairs order more w keeps)) all
+pub longer_moments : (wanted : Shape) (start : World) (shape : Shape) (pairs : Pairs) (old new : History) (order more later : List ℕ) → later ≡ order ++ more → AllMoments old new (CrashHoldsAcknowledged wanted start shape pairs order) → AllMoments old new (CrashHoldsAcknowledged wanted start shape pairs later)
+longer_moments wanted start shape pairs old new order more later is all =
+    weaker old new (CrashHoldsAcknowledged wanted start shape pairs order) (CrashHoldsAcknowledged wanted start shape pairs later)
+    (λ w keeps. subst (λ o. CrashHoldsAcknowledged wanted start shape pairs o w) (sym is) (order_longer wanted start shape pairs order more w keeps)) all
 
 -- one run of calls after another, the order longer after it
-pub then_moments : (start : World) (shape : Shape) (pairs : Pairs) (old mid new : History) (order more later : List ℕ) → later ≡ order ++ more → AllMoments old mid (CrashHoldsAcknowledged start shape pairs order) → AllMoments mid new (CrashHoldsAcknowledged start shape pairs later)
-    → AllMoments old new (CrashHoldsAcknowledged start shape pairs later)
-then_moments start shape pairs old mid new order more later is first second =
-    joined old mid new (CrashHoldsAcknowledged start shape pairs later) (longer_moments start shape pairs old mid order more later is first) second
+pub then_moments : (wanted : Shape) (start : World) (shape : Shape) (pairs : Pairs) (old mid new : History) (order more later : List ℕ) → later ≡ order ++ more → AllMoments old mid (CrashHoldsAcknowledged wanted start shape pairs order) → AllMoments mid new (CrashHoldsAcknowledged wanted start shape pairs later)
+    → AllMoments old new (CrashHoldsAcknowledged wanted start shape pairs later)
+then_moments wanted start shape pairs old mid new order more later is first second =
+    joined old mid new (CrashHoldsAcknowledged wanted start shape pairs later) (longer_moments wanted start shape pairs old mid order more later is first) second
 
 -- a run goes on
-pub stands_then : (before mid later : Run) (m n : ℕ) (world : World) → mid.lines ≡ before.lines + m → later.lines ≡ mid.lines + n → mid.engine.log.end.seg ≤ before.engine.log.end.seg + m → IsAtRestSince mid later n world → IsAtRestAfter before later world
-stands_then before mid later m n world first second rises stands = record { stands = stands.stands; rises = omega (arith, first, second, rises, stands.rises) }
+pub stands_then : (wanted : Shape) (before mid later : Run) (m n : ℕ) (world : World) → mid.lines ≡ before.lines + m → later.lines ≡ mid.lines + n → mid.engine.log.end.seg ≤ before.engine.log.end.seg + m → IsAtRestSince wanted mid later n world → IsAtRestAfter wanted before later world
+stands_then wanted before mid later m n world first second rises stands = record { stands = stands.stands; rises = omega (arith, first, second, rises, stands.rises) }

@@ -17,7 +17,6 @@ use Rattle.pm_engine.specs.Engines.{Running, IsAtRest, HasSegments}
 use Rattle.pm_engine.specs.Batches.{RunsLines, HasReplied}
 use Rattle.pm_engine.proofs.DoneLines.{done_keeps}
 use Rattle.pm_top.specs.declared.run.Run.{Run}
-use Rattle.pm_top.specs.declared.shape.TheConstants.{SHAPE}
 use Rattle.pm_top.specs.Crashes.{CrashHoldsAcknowledged}
 use Rattle.pm_top.specs.Promises.{HasFailed, HasNoMemory}
 use Rattle.pm_top.specs.Runs.{Progress}
@@ -62,10 +61,10 @@ taken_stands wanted engine old new takes s = subst (IsAtRest wanted engine) (sym
 }
 
 -- before anything is done
-pub rest_moments : (old : History) {start : World} {left : List Line} {shape : Shape} {pairs : Pairs} {run : Run} (progress : Progress start old.world left shape pairs run) → IsHistory old → IsAtRest SHAPE run.engine old.world
-    → AllMoments old old (CrashHoldsAcknowledged start shape pairs run.engine.order)
-rest_moments old {start = start} {shape = shape} {pairs = pairs} {run = run} progress sound stands =
-    started old (CrashHoldsAcknowledged start shape pairs run.engine.order) sound (keeps_rest progress old.world refl (done_keeps SHAPE run.engine.map [] run.engine old.world stands))
+pub rest_moments : (wanted : Shape) (old : History) {start : World} {left : List Line} {shape : Shape} {pairs : Pairs} {run : Run} (progress : Progress start old.world left shape pairs run) → IsHistory old → IsAtRest wanted run.engine old.world
+    → AllMoments old old (CrashHoldsAcknowledged wanted start shape pairs run.engine.order)
+rest_moments wanted old {start = start} {shape = shape} {pairs = pairs} {run = run} progress sound stands =
+    started old (CrashHoldsAcknowledged wanted start shape pairs run.engine.order) sound (keeps_rest progress wanted old.world refl (done_keeps wanted run.engine.map [] run.engine old.world stands))
 
 module _ {T E : Type 0} (tells : Type 0) (old mid : History) (run : Run) (later : Running) (lines : List Line) (result : Result T E) (tries : RunsLines {T = T} {E = E} tells old mid run.engine later (run.lines + 1) lines result)
     {start : World} {shape : Shape} {pairs : Pairs} (left : List Line) (progress : Progress start old.world (lines ++ left) shape pairs run) where
@@ -77,25 +76,25 @@ module _ {T E : Type 0} (tells : Type 0) (old mid : History) (run : Run) (later 
   memory_batch few same = memory_unsaid lines left progress mid.world tries.tried later.order few tries.within same tries.order
 
   -- what a crash left meanwhile
-  pub batch_moments : tells → AllMoments old mid (ChangesLog old.world) → IsAtRest SHAPE run.engine old.world → HasSegments run.engine (length lines) → AllMoments old mid (CrashHoldsAcknowledged start shape pairs later.order)
-  batch_moments t only stands segments =
-      let Q : World → Type 0 = CrashHoldsPrefix SHAPE run.engine.shape run.engine.map (take tries.tried lines) in
-      weaker old mid (λ w. Q w × ChangesLog old.world w) (CrashHoldsAcknowledged start shape pairs later.order)
-      (λ w is. keeps_doing lines left progress tries.tried tries.within later.order tries.order w is.1.said is.0) (both old mid Q (ChangesLog old.world) (tries.crash t SHAPE run.engine.map [] stands segments) only)
+  pub batch_moments : (wanted : Shape) → tells → AllMoments old mid (ChangesLog old.world) → IsAtRest wanted run.engine old.world → HasSegments run.engine (length lines) → AllMoments old mid (CrashHoldsAcknowledged wanted start shape pairs later.order)
+  batch_moments wanted t only stands segments =
+      let Q : World → Type 0 = CrashHoldsPrefix wanted run.engine.shape run.engine.map (take tries.tried lines) in
+      weaker old mid (λ w. Q w × ChangesLog old.world w) (CrashHoldsAcknowledged wanted start shape pairs later.order)
+      (λ w is. keeps_doing lines left progress tries.tried tries.within later.order tries.order wanted w is.1.said is.0) (both old mid Q (ChangesLog old.world) (tries.crash t wanted run.engine.map [] stands segments) only)
 
   -- the order, once all were tried
   pub all_tried : tries.tried ≡ length lines → later.order ≡ run.engine.order ++ accepted run.engine.shape (run.lines + 1) lines run.engine.map
   all_tried all = tries.order ∙ ap (λ ls. run.engine.order ++ accepted run.engine.shape (run.lines + 1) ls run.engine.map) (ap (λ n. take n lines) all ∙ take_all (length lines) lines (omega arith))
 
   -- while the replies are said
-  pub saying_moments : {S F : Type 0} (new : History) (printed : Result S F) (text : List ℕ) → tries.tried ≡ length lines → text ≡ texts_of (replies_to run.engine.shape lines run.engine.map) → Says {T = S} {E = F} mid new printed text → mid.world.said ≡ old.world.said
-      → later.shape ≡ run.engine.shape → later.map ≡ after_all run.engine.shape lines run.engine.map → IsAtRest SHAPE later mid.world → AllMoments old mid (CrashHoldsAcknowledged start shape pairs later.order) → AllMoments old new (CrashHoldsAcknowledged start shape pairs later.order)
-  saying_moments new printed text all is call same shapes maps stands so_far =
-      let keeps : CrashHoldsPrefix SHAPE run.engine.shape (after_all run.engine.shape lines run.engine.map) [] mid.world =
-      subst (λ (x : Shape × Pairs). CrashHoldsPrefix SHAPE x.0 x.1 [] mid.world) (λ i. (shapes i, maps i)) (done_keeps SHAPE later.map [] later mid.world stands) in
-      says old mid new printed text (CrashHoldsAcknowledged start shape pairs later.order) so_far call
-      (λ k le. keeps_saying lines left progress later.order (all_tried all) (with_said (take k text) mid.world) k (ap (λ s. s ++ take k text) same ∙ ap (λ t. old.world.said ++ take k t) is)
-      (keeps_said run.engine.shape (after_all run.engine.shape lines run.engine.map) [] (take k text) mid.world keeps))
+  pub saying_moments : (wanted : Shape) {S F : Type 0} (new : History) (printed : Result S F) (text : List ℕ) → tries.tried ≡ length lines → text ≡ texts_of (replies_to run.engine.shape lines run.engine.map) → Says {T = S} {E = F} mid new printed text → mid.world.said ≡ old.world.said
+      → later.shape ≡ run.engine.shape → later.map ≡ after_all run.engine.shape lines run.engine.map → IsAtRest wanted later mid.world → AllMoments old mid (CrashHoldsAcknowledged wanted start shape pairs later.order) → AllMoments old new (CrashHoldsAcknowledged wanted start shape pairs later.order)
+  saying_moments wanted new printed text all is call same shapes maps stands so_far =
+      let keeps : CrashHoldsPrefix wanted run.engine.shape (after_all run.engine.shape lines run.engine.map) [] mid.world =
+      subst (λ (x : Shape × Pairs). CrashHoldsPrefix wanted x.0 x.1 [] mid.world) (λ i. (shapes i, maps i)) (done_keeps wanted later.map [] later mid.world stands) in
+      says old mid new printed text (CrashHoldsAcknowledged wanted start shape pairs later.order) so_far call
+      (λ k le. keeps_saying lines left progress later.order (all_tried all) wanted (with_said (take k text) mid.world) k (ap (λ s. s ++ take k text) same ∙ ap (λ t. old.world.said ++ take k t) is)
+      (keeps_said wanted run.engine.shape (after_all run.engine.shape lines run.engine.map) [] (take k text) mid.world keeps))
 
 -- the replies to a batch that was done
 pub replied_all : {T E : Type 0} {x : T} (before now : List Reply) (shape : Shape) (pairs : Pairs) (lines : List Line) → HasReplied {T = T} {E = E} shape pairs lines before now (Ok x) → before ≡ [] → now ≡ replies_to shape lines pairs

@@ -5,6 +5,7 @@ use Rattle.pm_disk.specs.Moments.{History, IsHistory, AllMoments, Does, Says}
 use Rattle.pm_disk.proofs.Chain.{started, does, says, joined, weaker, at_last}
 use Rattle.pm_script.specs.Reading.{OnlyTakes}
 use Rattle.pm_records.specs.LogFiles.{ChangesLog}
+use Rattle.pm_engine.specs.Openings.{IsSame}
 use Rattle.pm_top.specs.Promises.{SaysPart}
 use Rattle.pm_top.specs.Runs.{SameFiles, OnlyAnswers}
 
@@ -27,6 +28,9 @@ no_calls h sound = started h (SameFiles h.world) sound (files_same h.world)
 pub log_calls : (old new : History) → AllMoments old new (ChangesLog old.world) → AllMoments old new (SameFiles old.world)
 log_calls old new only =
     weaker old new (ChangesLog old.world) (SameFiles old.world) (λ w is. record { pages = is.pages; starts = is.starts; ends = is.ends; config = is.config }) only
+
+pub same_calls : (old new : History) → AllMoments old new (IsSame old.world) → AllMoments old new (SameFiles old.world)
+same_calls old new same = weaker old new (IsSame old.world) (SameFiles old.world) (λ w is. subst (SameFiles old.world) (sym is) (files_same old.world)) same
 
 pub take_calls : (old new : History) → AllMoments old new (OnlyTakes old.world) → AllMoments old new (SameFiles old.world)
 take_calls old new takes =

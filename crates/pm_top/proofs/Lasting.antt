@@ -1,6 +1,5 @@
 -- What a crash leaves holds what was acknowledged.
 use Rattle.std.proofs.Common.{◌≡◌, ℕ, zero, suc, ◌+◌, ◌-◌, ◌≤◌, List, [], ◌∷◌, ◌++◌, length, take, drop, refl, ap, sym, ◌∙◌, subst, append_assoc, append-nil, arith, length-append}
-use Rattle.std.specs.Prelude.{codes}
 use Rattle.std.proofs.lemmas.List.{take_at, drop_at, take_all, take-append-le, take-append-drop, length-take}
 use Rattle.std.proofs.Math.Seq.{take-append-add}
 use Rattle.pm_types.specs.declared.shape.Shape.{Shape}
@@ -13,12 +12,11 @@ use Rattle.pm_script.specs.Reading.{OnlyTakes}
 use Rattle.pm_script.specs.Texts.{texts_of}
 use Rattle.pm_engine.specs.Held.{HoldsImage, CrashHoldsPrefix}
 use Rattle.pm_top.specs.declared.run.Run.{Run}
-use Rattle.pm_top.specs.declared.shape.TheConstants.{SHAPE}
 use Rattle.pm_top.specs.Crashes.{CrashHoldsAcknowledged, HoldsAfter, begun, after_numbers, acknowledged}
 use Rattle.pm_top.specs.Promises.{replies_of, IsOrder, SaysPart}
 use Rattle.pm_top.specs.Runs.{Progress}
 use Rattle.pm_top.specs.Served.{script_of}
-use Rattle.pm_top.proofs.Orders.{after_accepted, begun-texts, begun_nothing, begun_within, take_none, none_acknowledged, none_with_u}
+use Rattle.pm_top.proofs.Orders.{after_accepted, begun-texts, begun_nothing, begun_within, take_none, none_acknowledged, BeginsNone, fault_line}
 use Rattle.pm_top.proofs.Progressing.{parted, script_len, take_more, order_so_far, order_more, first_ones, accepted_are, texts_are}
 
 -- ---- lists
@@ -49,10 +47,10 @@ take_take (suc a) (suc b) (x ∷ xs) le = ap (λ ys. x ∷ ys) (take_take a b xs
 -- ---- images
 
 -- what holds the map after the first so many lines, where no more than these are acknowledged, and the order has at least these
-holds_after : (start : World) (shape : Shape) (pairs : Pairs) (order : List ℕ) (w : World) (image : Image) (k d : ℕ) → k + d ≤ length (script_of start.input) → IsOrder shape start.input pairs (k + d) order
-    → acknowledged start shape pairs w ≤ length (accepted shape 1 (take k (script_of start.input)) pairs) → HoldsImage SHAPE image shape (after_all shape (take k (script_of start.input)) pairs)
-    → HoldsAfter start shape pairs order w image
-holds_after start shape pairs order w image k d within is has holds =
+holds_after : (wanted : Shape) (start : World) (shape : Shape) (pairs : Pairs) (order : List ℕ) (w : World) (image : Image) (k d : ℕ) → k + d ≤ length (script_of start.input) → IsOrder shape start.input pairs (k + d) order
+    → acknowledged start shape pairs w ≤ length (accepted shape 1 (take k (script_of start.input)) pairs) → HoldsImage wanted image shape (after_all shape (take k (script_of start.input)) pairs)
+    → HoldsAfter wanted start shape pairs order w image
+holds_after wanted start shape pairs order w image k d within is has holds =
     let script = script_of start.input in
     let first = accepted shape 1 (take k script) pairs in
     let more = accepted shape (1 + length (take k script)) (take d (drop k script)) (after_all shape (take k script) pairs) in
@@ -64,39 +62,39 @@ holds_after start shape pairs order w image k d within is has holds =
       count = length first;
       fits = omega (arith, ap length order_is, length-append first more);
       has = has;
-      holds = subst (HoldsImage SHAPE image shape) (sym (ap (λ o. after_numbers shape o script pairs) front ∙ map)) holds;
+      holds = subst (HoldsImage wanted image shape) (sym (ap (λ o. after_numbers shape o script pairs) front ∙ map)) holds;
     }
 
 -- a longer order keeps what a shorter one keeps
-pub order_longer : (start : World) (shape : Shape) (pairs : Pairs) (order more : List ℕ) (w : World) → CrashHoldsAcknowledged start shape pairs order w → CrashHoldsAcknowledged start shape pairs (order ++ more) w
-order_longer start shape pairs order more w keeps image leaves honest =
+pub order_longer : (wanted : Shape) (start : World) (shape : Shape) (pairs : Pairs) (order more : List ℕ) (w : World) → CrashHoldsAcknowledged wanted start shape pairs order w → CrashHoldsAcknowledged wanted start shape pairs (order ++ more) w
+order_longer wanted start shape pairs order more w keeps image leaves honest =
     let h = keeps image leaves honest in
     record {
       count = h.count;
       fits = omega (arith, h.fits, length-append order more);
       has = h.has;
-      holds = subst (λ o. HoldsImage SHAPE image shape (after_numbers shape o (script_of start.input) pairs)) (sym (take-append-le h.count order more h.fits)) h.holds;
+      holds = subst (λ o. HoldsImage wanted image shape (after_numbers shape o (script_of start.input) pairs)) (sym (take-append-le h.count order more h.fits)) h.holds;
     }
 
 -- what was said is no file
-pub keeps_said : (shape : Shape) (pairs : Pairs) (lines : List Line) (bytes : List ℕ) (w : World) → CrashHoldsPrefix SHAPE shape pairs lines w → CrashHoldsPrefix SHAPE shape pairs lines (with_said bytes w)
-keeps_said shape pairs lines bytes w keeps image leaves honest =
+pub keeps_said : (wanted : Shape) (shape : Shape) (pairs : Pairs) (lines : List Line) (bytes : List ℕ) (w : World) → CrashHoldsPrefix wanted shape pairs lines w → CrashHoldsPrefix wanted shape pairs lines (with_said bytes w)
+keeps_said wanted shape pairs lines bytes w keeps image leaves honest =
     keeps image (record { log = leaves.log; pages = leaves.pages; starts = leaves.starts; ends = leaves.ends }) (record { frames = honest.frames })
 
 -- nor is the input
-pub keeps_taken : (shape : Shape) (pairs : Pairs) (lines : List Line) (old w : World) → OnlyTakes old w → CrashHoldsPrefix SHAPE shape pairs lines old → CrashHoldsPrefix SHAPE shape pairs lines w
-keeps_taken shape pairs lines old w takes keeps = subst (CrashHoldsPrefix SHAPE shape pairs lines) (sym takes.1) (λ image leaves honest.
+pub keeps_taken : (wanted : Shape) (shape : Shape) (pairs : Pairs) (lines : List Line) (old w : World) → OnlyTakes old w → CrashHoldsPrefix wanted shape pairs lines old → CrashHoldsPrefix wanted shape pairs lines w
+keeps_taken wanted shape pairs lines old w takes keeps = subst (CrashHoldsPrefix wanted shape pairs lines) (sym takes.1) (λ image leaves honest.
     keeps image (record { log = leaves.log; pages = leaves.pages; starts = leaves.starts; ends = leaves.ends }) (record { frames = honest.frames }))
 
 -- the map of all lines, where it is the only one
-only_map : (shape : Shape) (pairs : Pairs) (image : Image) → (count : ℕ) × (count ≤ 0) × HoldsImage SHAPE image shape (after_all shape (take count []) pairs) → HoldsImage SHAPE image shape pairs
-only_map shape pairs image h = subst (HoldsImage SHAPE image shape) (ap (λ ls. after_all shape ls pairs) (take_all h.0 [] (omega arith))) h.2
+only_map : (wanted : Shape) (shape : Shape) (pairs : Pairs) (image : Image) → (count : ℕ) × (count ≤ 0) × HoldsImage wanted image shape (after_all shape (take count []) pairs) → HoldsImage wanted image shape pairs
+only_map wanted shape pairs image h = subst (HoldsImage wanted image shape) (ap (λ ls. after_all shape ls pairs) (take_all h.0 [] (omega arith))) h.2
 
 -- ---- at the start
 
 -- nothing was said
-pub start_keeps : (start : World) (shape : Shape) (pairs : Pairs) (order : List ℕ) (w : World) → w.said ≡ start.said → CrashHoldsPrefix SHAPE shape pairs [] w → CrashHoldsAcknowledged start shape pairs order w
-start_keeps start shape pairs order w same keeps image leaves honest =
+pub start_keeps : (wanted : Shape) (start : World) (shape : Shape) (pairs : Pairs) (order : List ℕ) (w : World) → w.said ≡ start.said → CrashHoldsPrefix wanted shape pairs [] w → CrashHoldsAcknowledged wanted start shape pairs order w
+start_keeps wanted start shape pairs order w same keeps image leaves honest =
     let script = script_of start.input in
     let nothing : drop (length start.said) w.said ≡ [] = ap (drop (length start.said)) (same ∙ sym (append-nil start.said)) ∙ drop_at start.said [] (length start.said) refl in
     let none : acknowledged start shape pairs w ≡ 0 =
@@ -106,7 +104,7 @@ start_keeps start shape pairs order w same keeps image leaves honest =
       count = 0;
       fits = omega arith;
       has = omega (arith, none);
-      holds = subst (λ o. HoldsImage SHAPE image shape (after_numbers shape o script pairs)) (sym (take_none order)) (only_map shape pairs image (keeps image leaves honest));
+      holds = subst (λ o. HoldsImage wanted image shape (after_numbers shape o script pairs)) (sym (take_none order)) (only_map wanted shape pairs image (keeps image leaves honest));
     }
 
 -- ---- on the way
@@ -141,15 +139,15 @@ module _ {start now : World} {left : List Line} {shape : Shape} {pairs : Pairs} 
   map_more n = ap (λ ls. after_all shape ls pairs) (take_more progress n) ∙ after_all-append shape progress.done (take n left) pairs ∙ ap (after_all shape (take n left)) (sym progress.map)
 
   -- between two batches
-  pub keeps_rest : (w : World) → w.said ≡ now.said → CrashHoldsPrefix SHAPE run.engine.shape run.engine.map [] w → CrashHoldsAcknowledged start shape pairs run.engine.order w
-  keeps_rest w same keeps image leaves honest =
+  pub keeps_rest : (wanted : Shape) (w : World) → w.said ≡ now.said → CrashHoldsPrefix wanted run.engine.shape run.engine.map [] w → CrashHoldsAcknowledged wanted start shape pairs run.engine.order w
+  keeps_rest wanted w same keeps image leaves honest =
       let map : after_all shape (take (run.lines + 0) (script_of start.input)) pairs ≡ run.engine.map = map_more 0 ∙ ap (λ ls. after_all shape ls run.engine.map) (take_none left) in
-      let holds = only_map shape run.engine.map image (subst (λ s. (count : ℕ) × (count ≤ 0) × HoldsImage SHAPE image s (after_all s (take count []) run.engine.map)) progress.shape_is (keeps image leaves honest)) in
+      let holds = only_map wanted shape run.engine.map image (subst (λ s. (count : ℕ) × (count ≤ 0) × HoldsImage wanted image s (after_all s (take count []) run.engine.map)) progress.shape_is (keeps image leaves honest)) in
       let here : run.lines + 0 ≡ run.lines = omega arith in
       let there : run.lines ≡ run.lines + 0 + 0 = omega arith in
-      holds_after start shape pairs run.engine.order w image (run.lines + 0) 0 (omega (arith, script_len progress)) (subst (λ n. IsOrder shape start.input pairs n run.engine.order) there (order_so_far progress))
+      holds_after wanted start shape pairs run.engine.order w image (run.lines + 0) 0 (omega (arith, script_len progress)) (subst (λ n. IsOrder shape start.input pairs n run.engine.order) there (order_so_far progress))
       (acknowledged_within w [] (run.lines + 0) (same ∙ sym (append-nil now.said)) (omega (arith, begun_nothing (replies_to shape left run.engine.map))) (omega (arith, script_len progress)))
-      (subst (HoldsImage SHAPE image shape) (sym map) holds)
+      (subst (HoldsImage wanted image shape) (sym map) holds)
 
 -- ---- while a batch is done
 
@@ -163,17 +161,17 @@ module _ {start now : World} {shape : Shape} {pairs : Pairs} {run : Run} (lines 
   long = omega (arith, within, script_len progress, length-append lines left)
 
   -- before anything is said
-  pub keeps_doing : (w : World) → w.said ≡ now.said → CrashHoldsPrefix SHAPE run.engine.shape run.engine.map (take count lines) w → CrashHoldsAcknowledged start shape pairs order w
-  keeps_doing w same keeps image leaves honest =
-      let h = subst (λ s. (m : ℕ) × (m ≤ length (take count lines)) × HoldsImage SHAPE image s (after_all s (take m (take count lines)) run.engine.map)) progress.shape_is (keeps image leaves honest) in
+  pub keeps_doing : (wanted : Shape) (w : World) → w.said ≡ now.said → CrashHoldsPrefix wanted run.engine.shape run.engine.map (take count lines) w → CrashHoldsAcknowledged wanted start shape pairs order w
+  keeps_doing wanted w same keeps image leaves honest =
+      let h = subst (λ s. (m : ℕ) × (m ≤ length (take count lines)) × HoldsImage wanted image s (after_all s (take m (take count lines)) run.engine.map)) progress.shape_is (keeps image leaves honest) in
       let m = h.0 in
       let few : m ≤ count = omega (arith, h.1, length-take count lines) in
       let nested : take m (take count lines) ≡ take m (lines ++ left) = take_take m count lines few ∙ sym (first_ones lines left progress m (omega (arith, few, within))) in
       let map : after_all shape (take (run.lines + m) (script_of start.input)) pairs ≡ after_all shape (take m (take count lines)) run.engine.map = map_more progress m ∙ ap (λ ls. after_all shape ls run.engine.map) (sym nested) in
       let sum : run.lines + count ≡ run.lines + m + (count - m) = omega (arith, few) in
-      holds_after start shape pairs order w image (run.lines + m) (count - m) (omega (arith, long, few)) (subst (λ n. IsOrder shape start.input pairs n order) sum its_order)
+      holds_after wanted start shape pairs order w image (run.lines + m) (count - m) (omega (arith, long, few)) (subst (λ n. IsOrder shape start.input pairs n order) sum its_order)
       (acknowledged_within progress w [] (run.lines + m) (same ∙ sym (append-nil now.said)) (omega (arith, begun_nothing (replies_to shape (lines ++ left) run.engine.map))) (omega (arith, long, few)))
-      (subst (HoldsImage SHAPE image shape) (sym map) h.2)
+      (subst (HoldsImage wanted image shape) (sym map) h.2)
 
 -- ---- while its replies are said
 
@@ -182,14 +180,14 @@ module _ {start now : World} {shape : Shape} {pairs : Pairs} {run : Run} (lines 
   all_order : IsOrder shape start.input pairs (run.lines + length lines) order
   all_order = its_order lines left progress (length lines) (omega arith) order (is ∙ ap (λ ls. run.engine.order ++ accepted run.engine.shape (run.lines + 1) ls run.engine.map) (sym (take_all (length lines) lines (omega arith))))
 
-  pub keeps_saying : (w : World) (n : ℕ) → w.said ≡ now.said ++ take n (texts_of (replies_to run.engine.shape lines run.engine.map)) → CrashHoldsPrefix SHAPE run.engine.shape (after_all run.engine.shape lines run.engine.map) [] w
-      → CrashHoldsAcknowledged start shape pairs order w
-  keeps_saying w n said keeps image leaves honest =
+  pub keeps_saying : (wanted : Shape) (w : World) (n : ℕ) → w.said ≡ now.said ++ take n (texts_of (replies_to run.engine.shape lines run.engine.map)) → CrashHoldsPrefix wanted run.engine.shape (after_all run.engine.shape lines run.engine.map) [] w
+      → CrashHoldsAcknowledged wanted start shape pairs order w
+  keeps_saying wanted w n said keeps image leaves honest =
       let k : ℕ = run.lines + length lines in
       let map : after_all shape (take k (script_of start.input)) pairs ≡ after_all shape lines run.engine.map =
       map_more progress (length lines) ∙ ap (λ ls. after_all shape ls run.engine.map) (first_ones lines left progress (length lines) (omega arith) ∙ take_all (length lines) lines (omega arith)) in
-      let holds = only_map shape (after_all shape lines run.engine.map) image
-      (subst (λ s. (count : ℕ) × (count ≤ 0) × HoldsImage SHAPE image s (after_all s (take count []) (after_all s lines run.engine.map))) progress.shape_is (keeps image leaves honest)) in
+      let holds = only_map wanted shape (after_all shape lines run.engine.map) image
+      (subst (λ s. (count : ℕ) × (count ≤ 0) × HoldsImage wanted image s (after_all s (take count []) (after_all s lines run.engine.map))) progress.shape_is (keeps image leaves honest)) in
       let own = replies_to shape lines run.engine.map in
       let others = replies_to shape left (after_all shape lines run.engine.map) in
       let tail : List ℕ = take n (texts_of own) in
@@ -197,24 +195,24 @@ module _ {start now : World} {shape : Shape} {pairs : Pairs} {run : Run} (lines 
       omega (arith, ap (λ rs. begun rs tail) (replies_to-append shape lines left run.engine.map), begun_within own others n, length-replies_to shape lines run.engine.map) in
       let within : k ≤ length (script_of start.input) = omega (arith, script_len progress, length-append lines left) in
       let sum : k ≡ k + 0 = omega arith in
-      holds_after start shape pairs order w image k 0 (omega (arith, within)) (subst (λ m. IsOrder shape start.input pairs m order) sum all_order)
+      holds_after wanted start shape pairs order w image k 0 (omega (arith, within)) (subst (λ m. IsOrder shape start.input pairs m order) sum all_order)
       (acknowledged_within progress w tail k (said ∙ ap (λ t. now.said ++ take n t) (texts_are lines left progress)) (omega (arith, few)) within)
-      (subst (HoldsImage SHAPE image shape) (sym map) holds)
+      (subst (HoldsImage wanted image shape) (sym map) holds)
 
 -- ---- while a fault is told
 
--- the words are refused
-pub refused_keeps : (start : World) (shape : Shape) (pairs : Pairs) (order : List ℕ) (w : World) → CrashHoldsPrefix SHAPE shape pairs [] start → SaysPart (codes "fault usage\n") start w → CrashHoldsAcknowledged start shape pairs order w
-refused_keeps start shape pairs order w keeps part = subst (CrashHoldsAcknowledged start shape pairs order) (sym part.1) (λ image leaves honest.
+-- the words or the configuration are refused
+pub refused_keeps : (wanted : Shape) (start : World) (shape : Shape) (pairs : Pairs) (order : List ℕ) (w : World) (c : ℕ) (bytes : List ℕ) → BeginsNone c → CrashHoldsPrefix wanted shape pairs [] start → SaysPart (fault_line c bytes) start w → CrashHoldsAcknowledged wanted start shape pairs order w
+refused_keeps wanted start shape pairs order w c bytes none_with keeps part = subst (CrashHoldsAcknowledged wanted start shape pairs order) (sym part.1) (λ image leaves honest.
     let script = script_of start.input in
-    let said = take part.0 (codes "fault usage\n") in
+    let said = take part.0 (fault_line c bytes) in
     let after_text : drop (length start.said) (start.said ++ said) ≡ said = drop_at start.said said (length start.said) refl in
     let none : acknowledged start shape pairs (with_said said start) ≡ 0 =
     ap (λ b. length (accepted shape 1 (take (begun (replies_to shape script pairs) b) script) pairs)) after_text
-    ∙ ap length (none_acknowledged shape 1 script pairs part.0 117 (codes "sage\n") none_with_u) in
+    ∙ ap length (none_acknowledged shape 1 script pairs part.0 c bytes none_with) in
     record {
       count = 0;
       fits = omega arith;
       has = omega (arith, none);
-      holds = subst (λ o. HoldsImage SHAPE image shape (after_numbers shape o script pairs)) (sym (take_none order)) (only_map shape pairs image (keeps_said shape pairs [] said start keeps image leaves honest));
+      holds = subst (λ o. HoldsImage wanted image shape (after_numbers shape o script pairs)) (sym (take_none order)) (only_map wanted shape pairs image (keeps_said wanted shape pairs [] said start keeps image leaves honest));
     })

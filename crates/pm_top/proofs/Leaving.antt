@@ -18,7 +18,6 @@ use Rattle.pm_engine.specs.Engines.{Running, frames_of, IsAtRest}
 use Rattle.pm_engine.specs.Held.{IsHeld, Holds}
 use Rattle.pm_engine.specs.Openings.{HasMap}
 use Rattle.pm_top.specs.declared.run.Run.{Run}
-use Rattle.pm_top.specs.declared.shape.TheConstants.{SHAPE}
 use Rattle.pm_top.specs.Promises.{IsLeft}
 use Rattle.pm_top.specs.Runs.{SameFiles, LeavesRun, LeavesStore}
 use Rattle.pm_top.specs.Served.{script_of}
@@ -41,30 +40,30 @@ module _ (wanted : Shape) (engine : Running) (world : World) (s : IsAtRest wante
       ap (λ (q : Place). q.seg) (there ∙ plain_after w.at.seg w.at.off w.pending s.is_open.plain ∙ sym end)
 
 -- a script that is done leaves its store so
-pub leaves_store : (start world : World) (before later : Run) → before.lines ≡ 0 → later.lines ≤ LINES_MAX → LeavesRun start before.engine.shape before.engine.map before later world → LeavesStore start world before.engine
+pub leaves_store : (wanted : Shape) (start world : World) (before later : Run) → before.lines ≡ 0 → later.lines ≤ LINES_MAX → LeavesRun wanted start before.engine.shape before.engine.map before later world → LeavesStore wanted start world before.engine
 unfolding stands_hold
-leaves_store start world before later none few left =
+leaves_store wanted start world before later none few left =
     let stands = left.over.stands in
-    let holds = stands_hold SHAPE later.engine world stands in
-    let segment : (after_frames (place 1 0) holds.frames).seg ≡ later.engine.log.end.seg = stands_segment SHAPE later.engine world stands in
+    let holds = stands_hold wanted later.engine world stands in
+    let segment : (after_frames (place 1 0) holds.frames).seg ≡ later.engine.log.end.seg = stands_segment wanted later.engine world stands in
     record {
       holds = record {
         frames = holds.frames;
         log = holds.log;
-        held = subst (λ (x : Shape × Pairs). IsHeld SHAPE holds.frames x.0 x.1) (λ i. (left.shape_is i, left.map i)) holds.held;
+        held = subst (λ (x : Shape × Pairs). IsHeld wanted holds.frames x.0 x.1) (λ i. (left.shape_is i, left.map i)) holds.held;
       };
       lasting = left.lasting;
       rises = omega (arith, segment, left.over.rises, none, few);
     }
 
 -- seen from the store that was opened
-pub is_left : (frames : List Frame) (old mid new : World) (engine : Running) (shape : Shape) (pairs : Pairs) → HasMap shape pairs engine → engine.log.end.seg ≤ (after_frames (place 1 0) frames).seg + 1 → NothingPending old → SameFiles old mid → SameFiles mid new
-    → LeavesStore old new engine → IsLeft frames 8388608 new shape (after_all shape (script_of old.input) pairs)
-is_left frames old mid new engine shape pairs opens rises nothing first second left = record {
+pub is_left : (wanted : Shape) (frames : List Frame) (old mid new : World) (engine : Running) (shape : Shape) (pairs : Pairs) → HasMap shape pairs engine → engine.log.end.seg ≤ (after_frames (place 1 0) frames).seg + 1 → NothingPending old → SameFiles old mid → SameFiles mid new
+    → LeavesStore wanted old new engine → IsLeft wanted frames 8388608 new shape (after_all shape (script_of old.input) pairs)
+is_left wanted frames old mid new engine shape pairs opens rises nothing first second left = record {
   holds = record {
     frames = left.holds.frames;
     log = left.holds.log;
-    held = subst (λ (x : Shape × Pairs). IsHeld SHAPE left.holds.frames x.0 (after_all x.0 (script_of old.input) x.1)) (λ i. (opens.0 i, opens.1 i)) left.holds.held;
+    held = subst (λ (x : Shape × Pairs). IsHeld wanted left.holds.frames x.0 (after_all x.0 (script_of old.input) x.1)) (λ i. (opens.0 i, opens.1 i)) left.holds.held;
   };
   quiet = record {
     log = left.lasting;

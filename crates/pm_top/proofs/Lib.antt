@@ -1,5 +1,6 @@
 pub mod AnsweredBatch
 pub mod AnsweredLines
+pub mod Configured
 pub mod KeptFiles
 pub mod Lasting
 pub mod LaterStates
@@ -9,6 +10,7 @@ pub mod Opened
 pub mod Orders
 pub mod PrintedLimit
 pub mod Progressing
+pub mod Refusing
 pub mod Says
 pub mod ServedCaches
 pub mod ServedLines

@@ -1,61 +1,62 @@
 -- What a crash leaves before a store is opened, and meanwhile.
-use Rattle.std.proofs.Common.{◌≡◌, ◌^◌, ◌⊎◌, inl, inr, ℕ, List, [], Result, refl, subst, sym}
+use Rattle.std.proofs.Common.{◌≡◌, ℕ, List, [], Result, refl, subst, sym, ◌⊎◌, inl, inr}
 use Rattle.std.specs.Prelude.{codes}
 use Rattle.pm_types.specs.declared.shape.Shape.{Shape}
 use Rattle.pm_disk.specs.Worlds.{World, with_said}
-use Rattle.pm_disk.specs.Images.{NothingPending}
 use Rattle.pm_disk.specs.Moments.{History, IsHistory, AllMoments, Does}
-use Rattle.pm_disk.proofs.Chain.{started, does, weaker}
-use Rattle.pm_model.specs.Eval.{Pairs, after_all}
+use Rattle.pm_disk.proofs.Chain.{started, does, weaker, joined}
+use Rattle.pm_model.specs.Eval.{Pairs}
 use Rattle.pm_records.specs.LogFiles.{ChangesLog}
-use Rattle.pm_engine.specs.Held.{Holds, HasNumbers, CrashHoldsPrefix}
+use Rattle.pm_engine.specs.Held.{CrashHoldsPrefix}
+use Rattle.pm_engine.specs.Openings.{IsSame}
 use Rattle.pm_engine.proofs.Opening.{sound_keeps}
-use Rattle.pm_top.specs.declared.shape.TheConstants.{SHAPE}
 use Rattle.pm_top.specs.Crashes.{CrashHoldsAcknowledged}
+use Rattle.pm_top.specs.Configurations.{wanted_in}
 use Rattle.pm_top.specs.declared.status.Status.{Status}
-use Rattle.pm_top.specs.declared.status.Status.TheVariants.{Done, Usage, Failed}
-use Rattle.pm_top.specs.Promises.{IsDamaged, IsLeft, IsStart, OutcomeIs, RefusalIs, RunHolds, SaysPart}
-use Rattle.pm_top.specs.Scripts.{PassesLimit}
-use Rattle.pm_top.specs.Served.{script_of}
+use Rattle.pm_top.specs.declared.status.Status.TheVariants.{Usage, Failed}
+use Rattle.pm_top.specs.Promises.{HoldsAtEachMoment, IsStart, RefusalIs, SaysPart}
 use Rattle.pm_top.specs.Runs.{SameConsole}
 use Rattle.pm_top.proofs.AnsweredLines.{both}
 use Rattle.pm_top.proofs.Lasting.{start_keeps, refused_keeps}
+use Rattle.pm_top.proofs.Orders.{BeginsNone, fault_line}
 
-pub opening_moments : (old mid : History) (shape : Shape) (pairs : Pairs) (order : List ℕ) → AllMoments old mid (CrashHoldsPrefix SHAPE shape pairs []) → AllMoments old mid (ChangesLog old.world) → AllMoments old mid (CrashHoldsAcknowledged old.world shape pairs order)
-opening_moments old mid shape pairs order keeps only =
-    let Q : World → Type 0 = CrashHoldsPrefix SHAPE shape pairs [] in
-    weaker old mid (λ w. Q w × ChangesLog old.world w) (CrashHoldsAcknowledged old.world shape pairs order)
-    (λ w is. start_keeps old.world shape pairs order w is.1.said is.0) (both old mid Q (ChangesLog old.world) keeps only)
+pub opening_moments : (wanted : Shape) (old mid : History) (shape : Shape) (pairs : Pairs) (order : List ℕ) → AllMoments old mid (CrashHoldsPrefix wanted shape pairs []) → AllMoments old mid (ChangesLog old.world) → AllMoments old mid (CrashHoldsAcknowledged wanted old.world shape pairs order)
+opening_moments wanted old mid shape pairs order keeps only =
+    let Q : World → Type 0 = CrashHoldsPrefix wanted shape pairs [] in
+    weaker old mid (λ w. Q w × ChangesLog old.world w) (CrashHoldsAcknowledged wanted old.world shape pairs order)
+    (λ w is. start_keeps wanted old.world shape pairs order w is.1.said is.0) (both old mid Q (ChangesLog old.world) keeps only)
 
 pub same_console : (old mid : World) → ChangesLog old mid → SameConsole old mid
 same_console old mid only = record { said = only.said; input = only.input }
 
 -- a sound store with nothing pending
-pub rest_keeps : (old : World) (shape : Shape) (pairs : Pairs) (holds : Holds SHAPE old shape pairs) → HasNumbers holds.frames → NothingPending old → CrashHoldsPrefix SHAPE shape pairs [] old
-rest_keeps old shape pairs holds numbers nothing = sound_keeps SHAPE old shape pairs holds numbers nothing old refl
+pub rest_keeps : (wanted : Shape) (old : World) (shape : Shape) (pairs : Pairs) → IsStart wanted old shape pairs → CrashHoldsPrefix wanted shape pairs [] old
+rest_keeps wanted old shape pairs start = sound_keeps wanted old shape pairs start.holds start.numbers start.quiet old refl
 
--- the words are refused
-pub refused_moments : (old new : History) (shape : Shape) (pairs : Pairs) (order : List ℕ) → CrashHoldsPrefix SHAPE shape pairs [] old.world → AllMoments old new (SaysPart (codes "fault usage\n") old.world) → AllMoments old new (CrashHoldsAcknowledged old.world shape pairs order)
-refused_moments old new shape pairs order keeps all =
-    weaker old new (SaysPart (codes "fault usage\n") old.world) (CrashHoldsAcknowledged old.world shape pairs order)
-    (λ w part. refused_keeps old.world shape pairs order w keeps part) all
+-- a call that changes nothing
+pub same_moments : {T E : Type 0} (old new : History) (result : Result T E) → IsHistory old → Does old new result old.world → AllMoments old new (IsSame old.world)
+same_moments old new result sound call =
+    does old old new result old.world (IsSame old.world) (started old (IsSame old.world) sound refl) call refl refl
 
--- the folder is named
-pub bound_moments : {T E : Type 0} (old new : History) (result : Result T E) (shape : Shape) (pairs : Pairs) (order : List ℕ) → IsHistory old → CrashHoldsPrefix SHAPE shape pairs [] old.world → Does old new result old.world
-    → AllMoments old new (CrashHoldsAcknowledged old.world shape pairs order)
-bound_moments old new result shape pairs order sound keeps call =
-    let P : World → Type 0 = CrashHoldsAcknowledged old.world shape pairs order in
-    let here = start_keeps old.world shape pairs order old.world refl keeps in
-    does old old new result old.world P (started old P sound here) call here here
+-- as long as nothing changed, a crash leaves what there was
+pub kept_moments : (old mid : History) (order : List ℕ) → AllMoments old mid (IsSame old.world) → HoldsAtEachMoment old mid order
+kept_moments old mid order same shape pairs start =
+    let wanted = wanted_in old.world in
+    weaker old mid (IsSame old.world) (CrashHoldsAcknowledged wanted old.world shape pairs order)
+    (λ w is. subst (CrashHoldsAcknowledged wanted old.world shape pairs order) (sym is) (start_keeps wanted old.world shape pairs order old.world refl (rest_keeps wanted old.world shape pairs start))) same
 
--- a run of calls that begins once the folder is bound
-pub run_from : (old mid new : History) (status : Status) (lines : ℕ) (order : List ℕ) → mid.world ≡ old.world → RunHolds mid new status lines order → RunHolds old new status lines order
-run_from old mid new status lines order same run = record {
-  outcome = subst (λ (w : World). (shape : Shape) (pairs : Pairs) → Holds SHAPE w shape pairs → OutcomeIs status w new.world shape pairs lines order) same run.outcome;
-  leaves = subst (λ (w : World). status ≡ Done → (shape : Shape) (pairs : Pairs) (start : IsStart w shape pairs) → IsLeft start.holds.frames (2 ^ 23) new.world shape (after_all shape (script_of w.input) pairs)) same run.leaves;
-  damaged = λ is. subst (λ (w : World). IsDamaged w new.world lines order) same (run.damaged is);
-  long = λ is. subst (λ (w : World). PassesLimit w.input) same (run.long is);
-}
+-- a fault is told, and nothing else happens
+pub refused_moments : (old new : History) (order : List ℕ) (c : ℕ) (bytes : List ℕ) → BeginsNone c → AllMoments old new (SaysPart (fault_line c bytes) old.world) → HoldsAtEachMoment old new order
+refused_moments old new order c bytes none all shape pairs start =
+    let wanted = wanted_in old.world in
+    weaker old new (SaysPart (fault_line c bytes) old.world) (CrashHoldsAcknowledged wanted old.world shape pairs order)
+    (λ w part. refused_keeps wanted old.world shape pairs order w c bytes none (rest_keeps wanted old.world shape pairs start) part) all
+
+-- the calls that come after ones that changed nothing
+pub crash_from : (old mid new : History) (order : List ℕ) → AllMoments old mid (IsSame old.world) → mid.world ≡ old.world → HoldsAtEachMoment mid new order → HoldsAtEachMoment old new order
+crash_from old mid new order first same second shape pairs start =
+    joined old mid new (CrashHoldsAcknowledged (wanted_in old.world) old.world shape pairs order) (kept_moments old mid order first shape pairs start)
+    (subst (λ w. IsStart (wanted_in w) w shape pairs → AllMoments mid new (CrashHoldsAcknowledged (wanted_in w) w shape pairs order)) same (second shape pairs) start)
 
 -- what is left where the words are refused
 pub refusal : (status : Status) (old new : World) (lines : ℕ) (order : List ℕ) → (status ≡ Usage) ⊎ (status ≡ Failed) → (status ≡ Usage → new ≡ with_said (codes "fault usage\n") old) → SaysPart (codes "fault usage\n") old new → lines ≡ 0 → order ≡ []

@@ -137,6 +137,10 @@ begun_part reply more k some le =
 abbrev pub BeginsNone : ℕ → Type 0
 BeginsNone c = (reply : Reply) (bytes : List ℕ) → starts_with nat_eq (c ∷ bytes) (take 1 (text_of reply)) ≡ false
 
+-- a line that tells a fault, from the first byte of its name on
+abbrev pub fault_line : ℕ → List ℕ → List ℕ
+fault_line c bytes = 102 ∷ 97 ∷ 117 ∷ 108 ∷ 116 ∷ 32 ∷ c ∷ bytes
+
 -- none begins with an l
 pub none_with_l : BeginsNone 108
 none_with_l Done bytes = refl
@@ -162,6 +166,19 @@ none_with_u (reply.Pairs (pair ∷ pairs)) bytes = refl
 none_with_u Full bytes = refl
 none_with_u BadLine bytes = refl
 none_with_u LongLine bytes = refl
+
+-- none begins with a c
+pub none_with_c : BeginsNone 99
+none_with_c Done bytes = refl
+none_with_c (Found value) bytes = refl
+none_with_c Absent bytes = refl
+none_with_c (Was true) bytes = refl
+none_with_c (Was false) bytes = refl
+none_with_c (reply.Pairs []) bytes = refl
+none_with_c (reply.Pairs (pair ∷ pairs)) bytes = refl
+none_with_c Full bytes = refl
+none_with_c BadLine bytes = refl
+none_with_c LongLine bytes = refl
 
 -- only the reply `false` begins with an f
 begins_with_f : (reply : Reply) (bytes : List ℕ) → (starts_with nat_eq (102 ∷ bytes) (take 1 (text_of reply)) ≡ false) ⊎ (reply ≡ Was false)

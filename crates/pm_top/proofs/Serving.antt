@@ -14,7 +14,6 @@ use Rattle.pm_engine.specs.Engines.{Running, IsAtRestWithin, HasSegments}
 use Rattle.pm_top.specs.declared.batch.Continuation.{Continuation}
 use Rattle.pm_top.specs.declared.batch.Continuation.TheVariants as then_comes
 use Rattle.pm_top.specs.declared.run.Run.{Run}
-use Rattle.pm_top.specs.declared.shape.TheConstants.{SHAPE}
 use Rattle.pm_top.specs.Crashes.{CrashHoldsAcknowledged}
 use Rattle.pm_top.specs.Promises.{IsStopped}
 use Rattle.pm_top.specs.Runs.{Progress, IsAtRestAfter, BatchIsAnswered, LeavesRun}
@@ -99,9 +98,9 @@ closed progress later new lines same said = record {
 }
 
 -- what is left when the script is done
-pub leaves : {start now : World} {shape : Shape} {pairs : Pairs} (before run later : Run) (mid new : World) → Progress start now [] shape pairs later → IsAtRestAfter before run mid → later.lines ≡ run.lines → IsAtRestWithin SHAPE 0 run.engine later.engine new
-    → LeavesRun start shape pairs before later new
-leaves {start = start} {shape = shape} {pairs = pairs} before run later mid new progress over lines on = record {
+pub leaves : (wanted : Shape) {start now : World} {shape : Shape} {pairs : Pairs} (before run later : Run) (mid new : World) → Progress start now [] shape pairs later → IsAtRestAfter wanted before run mid → later.lines ≡ run.lines → IsAtRestWithin wanted 0 run.engine later.engine new
+    → LeavesRun wanted start shape pairs before later new
+leaves wanted {start = start} {shape = shape} {pairs = pairs} before run later mid new progress over lines on = record {
   over = record { stands = on.stands; rises = omega (arith, over.rises, on.rises, lines) };
   lasting = on.lasting;
   shape_is = progress.shape_is;
@@ -109,20 +108,20 @@ leaves {start = start} {shape = shape} {pairs = pairs} before run later mid new 
 }
 
 -- while the log is forced at the end
-pub closing_moments : (mid new : History) {start : World} {left : List Line} {shape : Shape} {pairs : Pairs} {run : Run} → Progress start mid.world left shape pairs run → AllMoments mid new (CrashHoldsPrefix SHAPE run.engine.shape run.engine.map [])
-    → AllMoments mid new (ChangesLog mid.world) → AllMoments mid new (CrashHoldsAcknowledged start shape pairs run.engine.order)
-closing_moments mid new {start = start} {shape = shape} {pairs = pairs} {run = run} progress keeps only =
-    let Q : World → Type 0 = CrashHoldsPrefix SHAPE run.engine.shape run.engine.map [] in
-    weaker mid new (λ w. Q w × ChangesLog mid.world w) (CrashHoldsAcknowledged start shape pairs run.engine.order)
-    (λ w is. keeps_rest progress w is.1.said is.0) (both mid new Q (ChangesLog mid.world) keeps only)
+pub closing_moments : (wanted : Shape) (mid new : History) {start : World} {left : List Line} {shape : Shape} {pairs : Pairs} {run : Run} → Progress start mid.world left shape pairs run → AllMoments mid new (CrashHoldsPrefix wanted run.engine.shape run.engine.map [])
+    → AllMoments mid new (ChangesLog mid.world) → AllMoments mid new (CrashHoldsAcknowledged wanted start shape pairs run.engine.order)
+closing_moments wanted mid new {start = start} {shape = shape} {pairs = pairs} {run = run} progress keeps only =
+    let Q : World → Type 0 = CrashHoldsPrefix wanted run.engine.shape run.engine.map [] in
+    weaker mid new (λ w. Q w × ChangesLog mid.world w) (CrashHoldsAcknowledged wanted start shape pairs run.engine.order)
+    (λ w is. keeps_rest progress wanted w is.1.said is.0) (both mid new Q (ChangesLog mid.world) keeps only)
 
 -- one batch after others
-pub over_then : (before mid later : Run) (world now : World) → IsAtRestAfter before mid world → IsAtRestAfter mid later now → IsAtRestAfter before later now
-over_then before mid later world now first second = record { stands = second.stands; rises = omega (arith, first.rises, second.rises) }
+pub over_then : (wanted : Shape) (before mid later : Run) (world now : World) → IsAtRestAfter wanted before mid world → IsAtRestAfter wanted mid later now → IsAtRestAfter wanted before later now
+over_then wanted before mid later world now first second = record { stands = second.stands; rises = omega (arith, first.rises, second.rises) }
 
 -- there are segments for a batch
-pub room_left : (before now : Run) (world : World) → before.lines ≡ 0 → now.lines ≤ LINES_MAX → HasSegments before.engine (2 ^ 24) → IsAtRestAfter before now world → HasSegments now.engine 2048
-room_left before now world none few room over = omega (arith, none, few, room, over.rises)
+pub room_left : (wanted : Shape) (before now : Run) (world : World) → before.lines ≡ 0 → now.lines ≤ LINES_MAX → HasSegments before.engine (2 ^ 24) → IsAtRestAfter wanted before now world → HasSegments now.engine 2048
+room_left wanted before now world none few room over = omega (arith, none, few, room, over.rises)
 
 -- what stands after, where there is nothing
 pub append_right : (xs ys : List ℕ) → xs ++ ys ≡ [] → ys ≡ []

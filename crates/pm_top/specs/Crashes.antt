@@ -12,7 +12,6 @@ use Rattle.pm_model.specs.declared.reply.Reply.{Reply}
 use Rattle.pm_model.specs.Eval.{Pairs, after, replies_to, accepted}
 use Rattle.pm_script.specs.Texts.{text_of}
 use Rattle.pm_engine.specs.Held.{HoldsImage, IsTrueImage}
-use Rattle.pm_top.specs.declared.shape.TheConstants.{SHAPE}
 use Rattle.pm_top.specs.Served.{script_of}
 
 -- how many of these replies begin in the bytes: the first byte of each stands there, after the texts of those before it
@@ -35,13 +34,13 @@ acknowledged old shape pairs now =
 
 -- What a crash left is sound, and holds the map of the start after the first of the lines in the order, with each one that was
 -- acknowledged.
-pub record HoldsAfter (old : World) (shape : Shape) (pairs : Pairs) (order : List ℕ) (now : World) (image : Image) : Type 0 where
+pub record HoldsAfter (wanted : Shape) (old : World) (shape : Shape) (pairs : Pairs) (order : List ℕ) (now : World) (image : Image) : Type 0 where
   pub count : ℕ
   pub fits : count ≤ length order
   pub has : acknowledged old shape pairs now ≤ count
-  pub holds : HoldsImage SHAPE image shape (after_numbers shape (take count order) (script_of old.input) pairs)
+  pub holds : HoldsImage wanted image shape (after_numbers shape (take count order) (script_of old.input) pairs)
 
 -- whatever a crash at this moment leaves, as long as no sum is right by chance, keeps what was acknowledged
-abbrev pub CrashHoldsAcknowledged : World → Shape → Pairs → List ℕ → World → Type 0
-CrashHoldsAcknowledged old shape pairs order now =
-    (image : Image) → LeavesAll now image → IsTrueImage now image → HoldsAfter old shape pairs order now image
+abbrev pub CrashHoldsAcknowledged : Shape → World → Shape → Pairs → List ℕ → World → Type 0
+CrashHoldsAcknowledged wanted old shape pairs order now =
+    (image : Image) → LeavesAll now image → IsTrueImage now image → HoldsAfter wanted old shape pairs order now image

@@ -1,4 +1,5 @@
 pub mod Causes
+pub mod Configurations
 pub mod Crashes
 pub mod Promises
 pub mod Runs

@@ -1,6 +1,7 @@
 -- What a run promises.
-use Rattle.std.specs.Prelude.{◌≡◌, ◌⊎◌, ℕ, ◌+◌, ◌-◌, ◌≤◌, ◌^◌, List, [], ◌++◌, take, drop, length, codes, decimal}
+use Rattle.std.specs.Prelude.{◌≡◌, ◌⊎◌, None, Some, ℕ, ◌+◌, ◌-◌, ◌≤◌, ◌^◌, List, [], ◌++◌, take, drop, length, codes, decimal}
 use Rattle.pm_types.specs.declared.limits.TheConstants.{BATCH_LINES_MAX}
+use Rattle.pm_types.specs.declared.fault.Field.{Field}
 use Rattle.pm_types.specs.declared.place.Place.{Place}
 use Rattle.pm_types.specs.declared.shape.Shape.{Shape}
 use Rattle.pm_disk.specs.Images.{NothingPending}
@@ -14,12 +15,12 @@ use Rattle.pm_script.specs.Texts.{texts_of}
 use Rattle.pm_records.specs.Logs.{place}
 use Rattle.pm_records.specs.Logs.{after_frames}
 use Rattle.pm_engine.specs.Held.{Holds, HasNumbers}
-use Rattle.pm_engine.specs.Openings.{IsBadRecord}
+use Rattle.pm_engine.specs.Openings.{IsBadRecord, LogHolds, LogHoldsNothing}
+use Rattle.pm_top.specs.Configurations.{config_fault, fault_config, wanted_in}
 use Rattle.pm_top.specs.declared.run.Stop.{Stop}
 use Rattle.pm_top.specs.declared.run.Stop.TheVariants as stop
-use Rattle.pm_top.specs.declared.shape.TheConstants.{SHAPE}
 use Rattle.pm_top.specs.declared.status.Status.{Status}
-use Rattle.pm_top.specs.declared.status.Status.TheVariants.{Done, Usage, Failed, Memory, Damaged, Long}
+use Rattle.pm_top.specs.declared.status.Status.TheVariants.{Done, Usage, Misconfigured, Failed, Memory, Damaged, Long}
 use Rattle.pm_top.specs.Crashes.{CrashHoldsAcknowledged}
 use Rattle.pm_top.specs.Scripts.{IsWithinLimits, PassesLimit, AreWithin}
 use Rattle.pm_top.specs.Served.{script_of}
@@ -27,6 +28,10 @@ use Rattle.pm_top.specs.Served.{script_of}
 -- the replies to the whole script, over the map of the start
 abbrev pub replies_of : Shape → List ℕ → Pairs → List Reply
 replies_of shape input pairs = replies_to shape (script_of input) pairs
+
+-- no segment of the log is other than it was
+abbrev pub SameLog : World → World → Type 0
+SameLog old new = new.log ≡ old.log
 
 -- nothing happened but that a prefix of the bytes of a text were said
 abbrev pub SaysPart : List ℕ → World → World → Type 0
@@ -81,10 +86,16 @@ pub record IsStopped (old new : World) (shape : Shape) (pairs : Pairs) (lines : 
   pub passes : PassesLimit old.input
   pub within : AreWithin old.input lines
 
--- what each status says of a `run` over a sound store
+-- A run opens the store: no field of its configuration is refused, and the log holds this shape and this map.
+pub record CanOpen (world : World) (shape : Shape) (pairs : Pairs) : Type 0 where
+  pub configured : config_fault world ≡ None
+  pub log : LogHolds (wanted_in world) world shape pairs
+
+-- what each status says of a `run` over a store that it opens
 abbrev pub OutcomeIs : Status → World → World → Shape → Pairs → ℕ → List ℕ → Type 0
 OutcomeIs Done old new shape pairs lines order = IsDone old new shape pairs lines order
 OutcomeIs Usage old new shape pairs lines order = ⊥
+OutcomeIs Misconfigured old new shape pairs lines order = ⊥
 OutcomeIs Failed old new shape pairs lines order = HasFailed old new shape pairs lines order
 OutcomeIs Memory old new shape pairs lines order = HasNoMemory old new shape pairs lines order
 OutcomeIs Damaged old new shape pairs lines order = ⊥
@@ -96,14 +107,14 @@ StopIs stop.Done old new shape pairs lines order = IsDone old new shape pairs li
 StopIs stop.Limit old new shape pairs lines order = IsStopped old new shape pairs lines order []
 
 -- The store is sound and holds this map, and nothing is pending. Its log has so many segments more at most.
-pub record IsLeft (frames : List Frame) (more : ℕ) (new : World) (shape : Shape) (pairs : Pairs) : Type 0 where
-  pub holds : Holds SHAPE new shape pairs
+pub record IsLeft (wanted : Shape) (frames : List Frame) (more : ℕ) (new : World) (shape : Shape) (pairs : Pairs) : Type 0 where
+  pub holds : Holds wanted new shape pairs
   pub quiet : NothingPending new
   pub rises : (after_frames (place 1 0) holds.frames).seg ≤ (after_frames (place 1 0) frames).seg + more
 
 -- A run may begin: the store is sound and holds this map, its log has numbers for more segments, and nothing is pending.
-pub record IsStart (world : World) (shape : Shape) (pairs : Pairs) : Type 0 where
-  pub holds : Holds SHAPE world shape pairs
+pub record IsStart (wanted : Shape) (world : World) (shape : Shape) (pairs : Pairs) : Type 0 where
+  pub holds : Holds wanted world shape pairs
   pub numbers : HasNumbers holds.frames
   pub quiet : NothingPending world
 
@@ -111,11 +122,19 @@ pub record IsStart (world : World) (shape : Shape) (pairs : Pairs) : Type 0 wher
 abbrev pub fault_record : Place → List ℕ
 fault_record at = codes "fault record " ++ decimal at.seg ++ codes ":" ++ decimal at.off ++ codes "\n"
 
+-- a field of the configuration is refused: it was named, and nothing was changed
+pub record IsMisconfigured (old new : World) (lines : ℕ) (order : List ℕ) : Type 0 where
+  pub field : Field
+  pub refused : config_fault old ≡ Some field
+  pub now : new ≡ with_said (fault_config field) old
+  pub none : lines ≡ 0
+  pub order_is : order ≡ []
+
 -- a record of the log is bad, so that the store isn't sound: it was named, and nothing was changed
 pub record IsDamaged (old new : World) (lines : ℕ) (order : List ℕ) : Type 0 where
   pub at : Place
-  pub record_is : IsBadRecord SHAPE old at
-  pub unsound : (shape : Shape) (pairs : Pairs) → Holds SHAPE old shape pairs → ⊥
+  pub record_is : IsBadRecord (wanted_in old) old at
+  pub unsound : LogHoldsNothing (wanted_in old) old
   pub now : new ≡ with_said (fault_record at) old
   pub none : lines ≡ 0
   pub order_is : order ≡ []
@@ -136,28 +155,56 @@ pub record IsRefusedInPart (old new : World) (lines : ℕ) (order : List ℕ) : 
 abbrev pub RefusalIs : Status → World → World → ℕ → List ℕ → Type 0
 RefusalIs Done old new lines order = ⊥
 RefusalIs Usage old new lines order = IsRefused old new lines order
+RefusalIs Misconfigured old new lines order = ⊥
 RefusalIs Failed old new lines order = IsRefusedInPart old new lines order
 RefusalIs Memory old new lines order = ⊥
 RefusalIs Damaged old new lines order = ⊥
 RefusalIs Long old new lines order = ⊥
 
+-- whether a field of the configuration was refused, as far as a status says it
+abbrev pub ConfigurationIs : Status → World → World → ℕ → List ℕ → Type 0
+ConfigurationIs Done old new lines order = config_fault old ≡ None
+ConfigurationIs Usage old new lines order = Unit {0}
+ConfigurationIs Misconfigured old new lines order = IsMisconfigured old new lines order
+ConfigurationIs Failed old new lines order = Unit {0}
+ConfigurationIs Memory old new lines order = Unit {0}
+ConfigurationIs Damaged old new lines order = config_fault old ≡ None
+ConfigurationIs Long old new lines order = config_fault old ≡ None
+
+-- the store was opened, as far as a status says it
+abbrev pub WasOpened : Status → World → Type 0
+WasOpened Done world = (shape : Shape) × (pairs : Pairs) × CanOpen world shape pairs
+WasOpened Usage world = Unit {0}
+WasOpened Misconfigured world = Unit {0}
+WasOpened Failed world = Unit {0}
+WasOpened Memory world = Unit {0}
+WasOpened Damaged world = Unit {0}
+WasOpened Long world = (shape : Shape) × (pairs : Pairs) × CanOpen world shape pairs
+
 -- What a run promises, by its status.
 pub record RunHolds (old new : History) (status : Status) (lines : ℕ) (order : List ℕ) : Type 0 where
-  -- over a sound store: which lines are answered, and with what
-  pub outcome : (shape : Shape) (pairs : Pairs) → Holds SHAPE old.world shape pairs → OutcomeIs status old.world new.world shape pairs lines order
+  -- over a store that it opens: which lines are answered, and with what
+  pub outcome : (shape : Shape) (pairs : Pairs) → CanOpen old.world shape pairs → OutcomeIs status old.world new.world shape pairs lines order
+  -- a script is answered only over such a store, and no other one is changed
+  pub opened : WasOpened status old.world
+  pub untouched : ((shape : Shape) (pairs : Pairs) → CanOpen old.world shape pairs → ⊥) → AllMoments old new (SameLog old.world)
   -- a script that is done leaves a sound store for the next run
-  pub leaves : status ≡ Done → (shape : Shape) (pairs : Pairs) (start : IsStart old.world shape pairs)
-      → IsLeft start.holds.frames (2 ^ 23) new.world shape (after_all shape (script_of old.world.input) pairs)
-  -- a store with a bad record is named so, and left as it is
+  pub leaves : status ≡ Done → (shape : Shape) (pairs : Pairs) (start : IsStart (wanted_in old.world) old.world shape pairs)
+      → IsLeft (wanted_in old.world) start.holds.frames (2 ^ 23) new.world shape (after_all shape (script_of old.world.input) pairs)
+  -- a field that is refused is named so, and a bad record too: the store is left as it is
+  pub configured : ConfigurationIs status old.world new.world lines order
   pub damaged : status ≡ Damaged → IsDamaged old.world new.world lines order
   pub long : status ≡ Long → PassesLimit old.world.input
 
 -- at each moment a crash leaves a sound store, which holds what was acknowledged
 abbrev pub HoldsAtEachMoment : History → History → List ℕ → Type 0
 HoldsAtEachMoment old new order =
-    (shape : Shape) (pairs : Pairs) → IsStart old.world shape pairs → AllMoments old new (CrashHoldsAcknowledged old.world shape pairs order)
+    (shape : Shape) (pairs : Pairs) → IsStart (wanted_in old.world) old.world shape pairs
+    → AllMoments old new (CrashHoldsAcknowledged (wanted_in old.world) old.world shape pairs order)
 
--- Where no call fails, a script over a sound store is answered whole, or the limit that it passes is reported, unless memory runs out.
+-- Where no call fails: a field of the configuration that is refused is named, and a script over a store that is opened is answered
+-- whole, or the limit that it passes is reported, unless memory runs out.
 pub record Completes (status : Status) (old : World) (before now : DeviceState) : Type 0 where
-  pub within : (shape : Shape) (pairs : Pairs) → Holds SHAPE old shape pairs → IsWithinLimits old.input → (Rose before now → ⊥) → (status ≡ Done) ⊎ (status ≡ Memory)
-  pub passes : (shape : Shape) (pairs : Pairs) → Holds SHAPE old shape pairs → PassesLimit old.input → (Rose before now → ⊥) → (status ≡ Long) ⊎ (status ≡ Memory)
+  pub refused : (field : Field) → config_fault old ≡ Some field → (Rose before now → ⊥) → (status ≡ Misconfigured) ⊎ (status ≡ Memory)
+  pub within : (shape : Shape) (pairs : Pairs) → CanOpen old shape pairs → IsWithinLimits old.input → (Rose before now → ⊥) → (status ≡ Done) ⊎ (status ≡ Memory)
+  pub passes : (shape : Shape) (pairs : Pairs) → CanOpen old shape pairs → PassesLimit old.input → (Rose before now → ⊥) → (status ≡ Long) ⊎ (status ≡ Memory)

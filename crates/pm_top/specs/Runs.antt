@@ -18,7 +18,6 @@ use Rattle.pm_engine.specs.Held.{Holds}
 use Rattle.pm_top.specs.declared.batch.Continuation.{Continuation}
 use Rattle.pm_top.specs.declared.batch.Continuation.TheVariants as then_comes
 use Rattle.pm_top.specs.declared.run.Run.{Run}
-use Rattle.pm_top.specs.declared.shape.TheConstants.{SHAPE}
 use Rattle.pm_top.specs.Promises.{HasFailed, HasNoMemory}
 use Rattle.pm_top.specs.Scripts.{LinesAreTaken, ContinuationIs}
 use Rattle.pm_top.specs.Served.{script_of}
@@ -80,13 +79,13 @@ pub record IsOpenAfter {T : Type 0} (old new : History) (log : LogEnd) (input : 
   pub input_end : OnOk result (KnowsEnd input new.world)
 
 -- The engine of a run stands, its log in the same segment as an earlier one's or in the next so many.
-pub record IsAtRestSince (before now : Run) (count : ℕ) (world : World) : Type 0 where
-  pub stands : IsAtRest SHAPE now.engine world
+pub record IsAtRestSince (wanted : Shape) (before now : Run) (count : ℕ) (world : World) : Type 0 where
+  pub stands : IsAtRest wanted now.engine world
   pub rises : now.engine.log.end.seg ≤ before.engine.log.end.seg + count
 
 -- A run over a whole script may begin: the engine stands, and there are numbers for as many segments as it may need.
-pub record CanRun (engine : Running) (world : World) : Type 0 where
-  pub stands : IsAtRest SHAPE engine world
+pub record CanRun (wanted : Shape) (engine : Running) (world : World) : Type 0 where
+  pub stands : IsAtRest wanted engine world
   pub segments : HasSegments engine (2 ^ 24)
 
 -- How a run went on by some lines of its script, which goes on so after them.
@@ -100,20 +99,20 @@ pub record BatchIsAnswered (continuation : Continuation) (old new : Unread) (res
   pub progress : (start : World) (shape : Shape) (pairs : Pairs) → Progress start world (script_of rest) shape pairs before → Progress start now (script_of left) shape pairs later
 
 -- the engine of a run stands, its log by at most as many segments further as lines were done
-pub record IsAtRestAfter (before later : Run) (world : World) : Type 0 where
-  pub stands : IsAtRest SHAPE later.engine world
+pub record IsAtRestAfter (wanted : Shape) (before later : Run) (world : World) : Type 0 where
+  pub stands : IsAtRest wanted later.engine world
   pub rises : later.engine.log.end.seg + before.lines ≤ before.engine.log.end.seg + later.lines
 
 -- The script is done: the engine has the map that its lines leave, and nothing of its log is pending.
-pub record LeavesRun (start : World) (shape : Shape) (pairs : Pairs) (before later : Run) (world : World) : Type 0 where
-  pub over : IsAtRestAfter before later world
+pub record LeavesRun (wanted : Shape) (start : World) (shape : Shape) (pairs : Pairs) (before later : Run) (world : World) : Type 0 where
+  pub over : IsAtRestAfter wanted before later world
   pub lasting : (seg : ℕ) → (world.log seg).since ≡ []
   pub shape_is : later.engine.shape ≡ shape
   pub map : later.engine.map ≡ after_all shape (script_of start.input) pairs
 
 -- A script is done whole over an engine's store: this is sound, holds the map that the lines leave, and nothing of its log is
 -- pending.
-pub record LeavesStore (start world : World) (engine : Running) : Type 0 where
-  pub holds : Holds SHAPE world engine.shape (after_all engine.shape (script_of start.input) engine.map)
+pub record LeavesStore (wanted : Shape) (start world : World) (engine : Running) : Type 0 where
+  pub holds : Holds wanted world engine.shape (after_all engine.shape (script_of start.input) engine.map)
   pub lasting : (seg : ℕ) → (world.log seg).since ≡ []
   pub rises : (after_frames (place 1 0) holds.frames).seg ≤ engine.log.end.seg + LINES_MAX

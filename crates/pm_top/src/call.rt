@@ -1,34 +1,40 @@
 //! The top call.
 
 ghost use Rattle.std.specs.Prelude.{◌≡◌, [], map, false, IsTrue, string_bytes};
+ghost use Rattle.pm_types.specs.declared.shape.Shape.{Shape};
+ghost use Rattle.pm_types.specs.Shapes.{IsShape};
 ghost use Rattle.pm_disk.specs.Moments.{AllMoments};
 ghost use Rattle.pm_disk.specs.States.{IsUsable};
 ghost use Rattle.pm_disk.specs.Worlds.{World};
 ghost use Rattle.pm_segments.specs.Ends.{EndsThere};
 ghost use Rattle.pm_top.specs.Causes.{BindsFolder, HasRunCause, HasScriptCause, HasStatusCause};
+ghost use Rattle.pm_top.specs.Configurations.{AsksFor};
 ghost use Rattle.pm_top.specs.Promises.{Completes, HoldsAtEachMoment, OutcomeIs, RefusalIs, RunHolds};
 ghost use Rattle.pm_top.specs.Runs.{CanRun, SameConsole, SameFiles, LeavesStore};
 ghost use Rattle.pm_top.specs.Crashes.{CrashHoldsAcknowledged};
 ghost use Rattle.pm_top.specs.Statuses.{status_of, code_of};
 ghost use Rattle.pm_top.specs.Words.{is_command};
 
-use crate::fault_lines::{print_limit_fault, print_record_fault, print_usage_fault};
+use crate::configuration::{ConfigError, read_config};
+use crate::fault_lines::{
+    print_config_fault, print_limit_fault, print_record_fault, print_usage_fault,
+};
 use crate::report::Report;
 use crate::run::{Run, Stop};
-use crate::shape::SHAPE;
 use crate::status::Status;
 use crate::words::folder_of;
 use pm_disk::Host;
 use pm_engine::Engine;
-use pm_types::StoreFault;
+use pm_types::{OpenFault, Shape, StoreFault};
 use std::alloc::Global;
 
 /// Does what the words of a command line ask for.
 ///
 /// The words are those after the program's name: `run` and a folder, which isn't empty and doesn't begin with `-`. The folder
-/// is bound, and made where it isn't there. Then the script on the host's input is answered, batch by batch, over the map that
-/// the folder's log holds. The records of a batch are in the log, and forced, before any of its replies is printed. A store
-/// whose log has a bad record is refused: the record is named, and nothing is changed.
+/// is bound, and made where it isn't there. Its configuration is read: one that is refused, or that asks for another shape than
+/// the store has, is named by its field, and nothing is changed. Then the script on the host's input is answered, batch by batch,
+/// over the map that the folder's log holds. The records of a batch are in the log, and forced, before any of its replies is
+/// printed. A store whose log has a bad record is refused: the record is named, and nothing is changed.
 /// After the statuses 3 and 4 nothing more is printed.
 pub fn top<Q: AllocGlobal, H: Host>(rt: &Q, words: &[String], host: &mut H) -> Report
     requires whole { (H.state host.old).access.is_lent ≡ false }
@@ -114,13 +120,13 @@ fn command<H: Host>(alloc: Global, words: &[String], host: &mut H) -> Outcome
         return Outcome::without(alloc, print_usage_fault(host));
     };
     match host.bind(folder) {
-        Ok(()) => run(alloc, host),
+        Ok(()) => run_configured(alloc, host),
         Err(_) => Outcome::without(alloc, Status::Failed),
     }
 }
 
-// Opens the store and answers the script of the input, or names the record that is bad.
-fn run<H: Host>(alloc: Global, host: &mut H) -> Outcome
+// Reads the configuration, and runs with what it asks for, or names the field that is refused.
+fn run_configured<H: Host>(alloc: Global, host: &mut H) -> Outcome
     requires usable { IsUsable (H.state host.old) }
     ensures run { H.tells →
         RunHolds (H.history host.old) (H.history host.new) result.status result.lines result.order.items }
@@ -130,14 +136,40 @@ fn run<H: Host>(alloc: Global, host: &mut H) -> Outcome
         (H.history host.old).world) }
     ensures cause { HasRunCause result.status (H.state host.old) (H.state host.new) }
 {
-    match Engine::open_store(alloc, host, SHAPE) {
+    match read_config(alloc, host) {
+        Ok(config) => run(alloc, host, config.shape()),
+        Err(ConfigError::Failed) => Outcome::without(alloc, Status::Failed),
+        Err(ConfigError::Memory) => Outcome::without(alloc, Status::Memory),
+        Err(ConfigError::Refused(field)) => {
+            Outcome::without(alloc, print_config_fault(alloc, host, field))
+        }
+    }
+}
+
+// Opens the store and answers the script of the input, or names the field that differs or the record that is bad.
+fn run<H: Host>(alloc: Global, host: &mut H, wanted: Shape) -> Outcome
+    requires usable { IsUsable (H.state host.old) }
+    requires within_limits { IsShape wanted }
+    requires asked { H.tells → AsksFor (H.history host.old).world wanted }
+    ensures run { H.tells →
+        RunHolds (H.history host.old) (H.history host.new) result.status result.lines result.order.items }
+    ensures crash { H.tells →
+        HoldsAtEachMoment (H.history host.old) (H.history host.new) result.order.items }
+    ensures files { H.tells → AllMoments (H.history host.old) (H.history host.new) (SameFiles
+        (H.history host.old).world) }
+    ensures cause { HasRunCause result.status (H.state host.old) (H.state host.new) }
+{
+    match Engine::open_store(alloc, host, wanted) {
         Ok(engine) => answer_script(alloc, host, engine),
-        Err(StoreFault::Failed) => Outcome::without(alloc, Status::Failed),
-        Err(StoreFault::Memory) => Outcome::without(alloc, Status::Memory),
-        Err(StoreFault::BadRecord(at)) => {
+        Err(OpenFault::Shape(field)) => {
+            Outcome::without(alloc, print_config_fault(alloc, host, field))
+        }
+        Err(OpenFault::Store(StoreFault::Failed)) => Outcome::without(alloc, Status::Failed),
+        Err(OpenFault::Store(StoreFault::Memory)) => Outcome::without(alloc, Status::Memory),
+        Err(OpenFault::Store(StoreFault::BadRecord(at))) => {
             Outcome::without(alloc, print_record_fault(alloc, host, at))
         }
-        Err(StoreFault::BadPage(_)) => unreachable!(),
+        Err(OpenFault::Store(StoreFault::BadPage(_))) => unreachable!(),
     }
 }
 
@@ -151,14 +183,14 @@ fn answer_script<H: Host>(alloc: Global, host: &mut H, engine: Engine) -> Outcom
     ensures outcome { H.tells → (start : World) → SameConsole start (H.history host.old).world →
         OutcomeIs result.status start (H.history host.new).world engine.shape engine.map
         result.lines result.order.items }
-    ensures moments { H.tells → (start : World) → SameConsole start (H.history host.old).world →
-        CanRun engine (H.history host.old).world →
+    ensures moments { H.tells → (wanted : Shape) (start : World) → SameConsole start (H.history host.old).world →
+        CanRun wanted engine (H.history host.old).world →
         AllMoments (H.history host.old) (H.history host.new)
-        (CrashHoldsAcknowledged start engine.shape engine.map result.order.items) }
-    ensures leaves { H.tells → result.status ≡ Status.Done → (start : World) →
+        (CrashHoldsAcknowledged wanted start engine.shape engine.map result.order.items) }
+    ensures leaves { H.tells → result.status ≡ Status.Done → (wanted : Shape) (start : World) →
         SameConsole start (H.history host.old).world →
-        CanRun engine (H.history host.old).world →
-        LeavesStore start (H.history host.new).world engine }
+        CanRun wanted engine (H.history host.old).world →
+        LeavesStore wanted start (H.history host.new).world engine }
     ensures cause { HasScriptCause result.status (H.state host.old) (H.state host.new) }
 {
     let mut run = Run::new(alloc, engine);

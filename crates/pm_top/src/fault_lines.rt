@@ -4,12 +4,14 @@ ghost use Rattle.std.specs.Prelude.{◌≡◌, ◌≢◌, ◌⊎◌, [], codes, 
 ghost use Rattle.pm_disk.specs.States.{IsLaterState, Rose};
 ghost use Rattle.pm_disk.specs.Moments.{AllMoments};
 ghost use Rattle.pm_disk.specs.Worlds.{with_said};
+ghost use Rattle.pm_top.specs.Configurations.{fault_config};
 ghost use Rattle.pm_top.specs.Promises.{SaysPart, fault_record};
 
 use crate::status::Status;
 use itoa::Buffer;
+use pm_config::field_name;
 use pm_disk::Host;
-use pm_types::Place;
+use pm_types::{Field, Place};
 use std::alloc::{AllocError, Global};
 
 /// Prints the line that says that the words aren't a command. Gives `Usage`, or `Failed` where that fails.
@@ -56,6 +58,24 @@ pub fn print_record_fault<H: Host>(alloc: Global, host: &mut H, at: Place) -> St
     }
 }
 
+/// Prints the line that names a field of the configuration that is refused. Gives `Misconfigured`, or `Failed` where that fails.
+/// Where there is no memory for it nothing is printed, and it gives `Memory`.
+pub fn print_config_fault<H: Host>(alloc: Global, host: &mut H, field: Field) -> Status
+    ensures misconfigured { H.tells → result ≡ Status.Misconfigured →
+        (H.history host.new).world ≡ with_said (fault_config field) (H.history host.old).world }
+    ensures moments { H.tells → AllMoments (H.history host.old) (H.history host.new)
+        (SaysPart (fault_config field) (H.history host.old).world) }
+    ensures cases { (result ≡ Status.Misconfigured) ⊎ (result ≡ Status.Failed) ⊎ (result ≡ Status.Memory) }
+    ensures failed { result ≡ Status.Failed → Rose (H.state host.old) (H.state host.new) }
+    ensures state { IsLaterState (H.state host.old) (H.state host.new) }
+{
+    let mut text = Vec::new(alloc);
+    match write_config_fault(field, &mut text) {
+        Ok(()) => print_fault(host, &text, Status::Misconfigured),
+        Err(_) => Status::Memory,
+    }
+}
+
 // Prints a line, and gives this status, or `Failed` where that fails.
 fn print_fault<H: Host>(host: &mut H, text: &[u8], status: Status) -> Status
     requires { status ≢ Status.Failed }
@@ -71,6 +91,16 @@ fn print_fault<H: Host>(host: &mut H, text: &[u8], status: Status) -> Status
         Ok(()) => status,
         Err(_) => Status::Failed,
     }
+}
+
+// Writes the line that names a field of the configuration.
+fn write_config_fault(field: Field, into: &mut Vec<u8>) -> Result<(), AllocError>
+    requires { into.old.items ≡ [] }
+    ensures { OnOk result (into.new.items ≡ fault_config field) }
+{
+    into.extend_from_slice(b"fault config ")?;
+    into.extend_from_slice(field_name(field).as_bytes())?;
+    into.extend_from_slice(b"\n")
 }
 
 // Writes the line that names a record.

@@ -3,11 +3,11 @@
 
 mod batch;
 mod call;
+mod configuration;
 mod fault_lines;
 mod report;
 mod run;
 mod script;
-mod shape;
 mod status;
 mod words;
 

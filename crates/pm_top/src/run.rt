@@ -15,7 +15,6 @@ ghost use Rattle.pm_script.specs.Texts.{texts_of};
 ghost use Rattle.pm_segments.specs.Ends.{EndsThere};
 ghost use Rattle.pm_engine.specs.Batches.{HasPlainFault};
 ghost use Rattle.pm_engine.specs.Engines.{IsAtRest, HasSegments};
-ghost use Rattle.pm_top.specs.declared.shape.TheConstants.{SHAPE};
 ghost use Rattle.pm_top.specs.Crashes.{CrashHoldsAcknowledged};
 ghost use Rattle.pm_top.specs.Promises.{HasFailed, HasNoMemory, StopIs};
 ghost use Rattle.pm_top.specs.Runs.{CanRun, Progress, SameConsole, SameFiles, OnlyAnswers, KeepsRun, CountsBatch, IsOpenAfter, LinesAreAnswered, FaultIs, IsAtRestSince, IsAtRestAfter, BatchIsAnswered, LeavesRun};
@@ -80,13 +79,13 @@ impl Run {
             self.new result }
 
         // What a crash leaves, meanwhile and from then on.
-        ensures moments { H.tells → (start : World) → SameConsole start (H.history host.old).world →
-            CanRun self.old.engine (H.history host.old).world →
-            AllMoments (H.history host.old) (H.history host.new) (CrashHoldsAcknowledged start
+        ensures moments { H.tells → (wanted : Shape) (start : World) → SameConsole start (H.history host.old).world →
+            CanRun wanted self.old.engine (H.history host.old).world →
+            AllMoments (H.history host.old) (H.history host.new) (CrashHoldsAcknowledged wanted start
             self.old.engine.shape self.old.engine.map self.new.engine.order) }
-        ensures leaves { H.tells → (start : World) → SameConsole start (H.history host.old).world →
-            CanRun self.old.engine (H.history host.old).world →
-            IfOk result (λ stop. stop ≡ Stop.Done → LeavesRun start
+        ensures leaves { H.tells → (wanted : Shape) (start : World) → SameConsole start (H.history host.old).world →
+            CanRun wanted self.old.engine (H.history host.old).world →
+            IfOk result (λ stop. stop ≡ Stop.Done → LeavesRun wanted start
             self.old.engine.shape self.old.engine.map self.old self.new (H.history host.new).world) }
         ensures cause { HasPlainFault (H.state host.old) (H.state host.new) result }
     {
@@ -131,16 +130,16 @@ impl Run {
             FaultIs start (H.history host.new).world shape pairs self.new result }
 
         // What a crash leaves.
-        ensures stands { H.tells → IsAtRest SHAPE self.old.engine (H.history host.old).world →
+        ensures stands { H.tells → (wanted : Shape) → IsAtRest wanted self.old.engine (H.history host.old).world →
             HasSegments self.old.engine 2048 →
-            OnOk result (IsAtRestAfter self.old self.new (H.history host.new).world) }
-        ensures moments { H.tells → (start : World) (shape : Shape) (pairs : Pairs) →
+            OnOk result (IsAtRestAfter wanted self.old self.new (H.history host.new).world) }
+        ensures moments { H.tells → (wanted : Shape) (start : World) (shape : Shape) (pairs : Pairs) →
             Progress start (H.history host.old).world
             (script_of (rest_of input.old (H.history host.old).world)) shape pairs self.old →
-            IsAtRest SHAPE self.old.engine (H.history host.old).world →
+            IsAtRest wanted self.old.engine (H.history host.old).world →
             HasSegments self.old.engine 2048 →
             AllMoments (H.history host.old) (H.history host.new)
-            (CrashHoldsAcknowledged start shape pairs self.new.engine.order) }
+            (CrashHoldsAcknowledged wanted start shape pairs self.new.engine.order) }
         ensures cause { HasPlainFault (H.state host.old) (H.state host.new) result }
     {
         let batch = next_batch(alloc, host, input)?;
@@ -173,15 +172,15 @@ impl Run {
             LinesAreAnswered start (H.history host.new).world left shape pairs self.new result }
 
         // What a crash leaves.
-        ensures stands { H.tells → IsAtRest SHAPE self.old.engine (H.history host.old).world →
+        ensures stands { H.tells → (wanted : Shape) → IsAtRest wanted self.old.engine (H.history host.old).world →
             HasSegments self.old.engine (length lines.now) → OnOk result
-            (IsAtRestSince self.old self.new (length lines.now) (H.history host.new).world) }
-        ensures moments { H.tells → (start : World) (left : List Line) (shape : Shape) (pairs : Pairs) →
+            (IsAtRestSince wanted self.old self.new (length lines.now) (H.history host.new).world) }
+        ensures moments { H.tells → (wanted : Shape) (start : World) (left : List Line) (shape : Shape) (pairs : Pairs) →
             Progress start (H.history host.old).world (lines.now ++ left) shape pairs self.old →
-            IsAtRest SHAPE self.old.engine (H.history host.old).world →
+            IsAtRest wanted self.old.engine (H.history host.old).world →
             HasSegments self.old.engine (length lines.now) →
             AllMoments (H.history host.old) (H.history host.new)
-            (CrashHoldsAcknowledged start shape pairs self.new.engine.order) }
+            (CrashHoldsAcknowledged wanted start shape pairs self.new.engine.order) }
         ensures cause { HasPlainFault (H.state host.old) (H.state host.new) result }
     {
         if lines.is_empty() {

@@ -10,6 +10,8 @@ pub enum Status {
     Done,
     /// The words aren't a command.
     Usage,
+    /// A field of the configuration is refused.
+    Misconfigured,
     /// A call on disk or console failed.
     Failed,
     /// Memory ran out.
@@ -29,6 +31,7 @@ impl Status {
         match self {
             Status::Done => 0,
             Status::Usage => 1,
+            Status::Misconfigured => 2,
             Status::Failed => 3,
             Status::Memory => 4,
             Status::Damaged => 5,

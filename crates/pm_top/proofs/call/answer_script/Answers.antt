@@ -48,31 +48,31 @@ returns-clause-outcome g c t start same =
     (subst (λ (o : List ℕ). OutcomeIs c.match-serve.status start new engine.shape engine.map lines o) (sym c.into_order.ensures) ended)
 
 pub returns-clause-moments : goal.returns-clause-moments
-returns-clause-moments g c t start same can =
+returns-clause-moments g c t wanted start same can =
     let engine = c.new-run.result.engine in
     let lines = c.serve.new.self.lines in
     let order = c.serve.new.self.engine.order in
     let old = g.H.Device.history c.args.host.now in
     let mid = g.H.Device.history c.serve.new.host in
     let new = g.H.Device.history c.match-serve.host in
-    let K : World → Type 0 = CrashHoldsAcknowledged start engine.shape engine.map order in
-    let can_here : CanRun engine old.world = subst (λ (e : Running). CanRun e old.world) (sym c.new-run.ensures.engine) can in
-    let served : AllMoments old mid K = c.serve.ensures.moments t start same can_here in
+    let K : World → Type 0 = CrashHoldsAcknowledged wanted start engine.shape engine.map order in
+    let can_here : CanRun wanted engine old.world = subst (λ (e : Running). CanRun wanted e old.world) (sym c.new-run.ensures.engine) can in
+    let served : AllMoments old mid K = c.serve.ensures.moments t wanted start same can_here in
     let all : AllMoments old new K = elim c.match-serve.branch [
       | in-Ok-Done w ↦ subst (λ h. AllMoments old (g.H.Device.history h) K) (sym w.host-is) served
       | in-Ok-Limit w ↦
           let stopped : IsStopped start mid.world engine.shape engine.map lines order [] = subst (λ s. StopIs s start mid.world engine.shape engine.map lines order) w.in-Ok-Limit.field-0-is (w.in-Ok-Limit.ensures.stop t start same) in
           let told = w.print_limit_fault-status in
           subst (λ h. AllMoments old (g.H.Device.history h) K) (sym w.host-is)
-          (limit_moments old mid (g.H.Device.history told.new.host) start engine.shape engine.map lines order (g.H.Device.sound c.serve.new.host t) stopped served (told.ensures.moments t))
+          (limit_moments wanted old mid (g.H.Device.history told.new.host) start engine.shape engine.map lines order (g.H.Device.sound c.serve.new.host t) stopped served (told.ensures.moments t))
       | in-Err-Failed w ↦ subst (λ h. AllMoments old (g.H.Device.history h) K) (sym w.host-is) served
       | in-Err-Memory w ↦ subst (λ h. AllMoments old (g.H.Device.history h) K) (sym w.host-is) served
     ] in
-    subst (λ (e : Running). AllMoments old new (CrashHoldsAcknowledged start e.shape e.map c.into_order.result.items)) c.new-run.ensures.engine
-    (subst (λ (o : List ℕ). AllMoments old new (CrashHoldsAcknowledged start engine.shape engine.map o)) (sym c.into_order.ensures) all)
+    subst (λ (e : Running). AllMoments old new (CrashHoldsAcknowledged wanted start e.shape e.map c.into_order.result.items)) c.new-run.ensures.engine
+    (subst (λ (o : List ℕ). AllMoments old new (CrashHoldsAcknowledged wanted start engine.shape engine.map o)) (sym c.into_order.ensures) all)
 
 pub returns-clause-leaves : goal.returns-clause-leaves
-returns-clause-leaves g c t is start same can =
+returns-clause-leaves g c t is wanted start same can =
     let run = c.new-run.result in
     let engine = run.engine in
     let later = c.serve.new.self in
@@ -81,13 +81,13 @@ returns-clause-leaves g c t is start same can =
     let old = g.H.Device.history c.args.host.now in
     let mid = (g.H.Device.history c.serve.new.host).world in
     let new = (g.H.Device.history c.match-serve.host).world in
-    let can_here : CanRun engine old.world = subst (λ (e : Running). CanRun e old.world) (sym c.new-run.ensures.engine) can in
-    let left : LeavesStore start new engine = elim c.match-serve.branch [
+    let can_here : CanRun wanted engine old.world = subst (λ (e : Running). CanRun wanted e old.world) (sym c.new-run.ensures.engine) can in
+    let left : LeavesStore wanted start new engine = elim c.match-serve.branch [
       | in-Ok-Done w ↦
           let done : IsDone start mid engine.shape engine.map lines order = subst (λ s. StopIs s start mid engine.shape engine.map lines order) w.in-Ok-Done.field-0-is (w.in-Ok-Done.ensures.stop t start same) in
           let few : lines ≤ LINES_MAX = omega (arith, done.all, done.limits.lines, length-map (lines_of start.input) line_of) in
-          subst (λ h. LeavesStore start (g.H.Device.history h).world engine) (sym w.host-is)
-          (leaves_store start mid run later c.new-run.ensures.lines few (w.in-Ok-Done.ensures.leaves t start same can_here w.in-Ok-Done.field-0-is))
+          subst (λ h. LeavesStore wanted start (g.H.Device.history h).world engine) (sym w.host-is)
+          (leaves_store wanted start mid run later c.new-run.ensures.lines few (w.in-Ok-Done.ensures.leaves t wanted start same can_here w.in-Ok-Done.field-0-is))
       | in-Ok-Limit w ↦ absurd (elim w.print_limit_fault-status.ensures.cases [
         | inl long ↦ (let clash : 0 ≡ 6 = ap code_of (sym is ∙ w.status-is ∙ long) in omega (arith, clash))
         | inr failed ↦ (let clash : 0 ≡ 3 = ap code_of (sym is ∙ w.status-is ∙ failed) in omega (arith, clash))
@@ -95,7 +95,7 @@ returns-clause-leaves g c t is start same can =
       | in-Err-Failed w ↦ absurd (let clash : 0 ≡ 3 = ap code_of (sym is ∙ w.status-is) in omega (arith, clash))
       | in-Err-Memory w ↦ absurd (let clash : 0 ≡ 4 = ap code_of (sym is ∙ w.status-is) in omega (arith, clash))
     ] in
-    subst (λ (e : Running). LeavesStore start new e) c.new-run.ensures.engine left
+    subst (λ (e : Running). LeavesStore wanted start new e) c.new-run.ensures.engine left
 
 pub returns-clause-files : goal.returns-clause-files
 returns-clause-files g c t =

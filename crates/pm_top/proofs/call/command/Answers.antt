@@ -1,42 +1,49 @@
-use Rattle.std.proofs.Common.{◌≡◌, subst, sym}
+use Rattle.std.proofs.Common.{◌≡◌, inl, ap, subst, sym}
 use Rattle.std.specs.Prelude.{codes}
-use Rattle.pm_disk.specs.Moments.{AllMoments}
 use Rattle.pm_disk.specs.Worlds.{World}
-use Rattle.pm_disk.proofs.Chain.{joined, at_last}
-use Rattle.pm_top.specs.Crashes.{CrashHoldsAcknowledged}
-use Rattle.pm_top.specs.Promises.{IsStart, RefusalIs, SaysPart}
+use Rattle.pm_disk.proofs.Chain.{at_last}
+use Rattle.pm_engine.specs.Openings.{IsSame}
+use Rattle.pm_top.specs.Promises.{RefusalIs, SaysPart}
 use Rattle.pm_top.proofs.KeptFiles.{bind_call, say_calls, then_calls}
-use Rattle.pm_top.proofs.Opened.{rest_keeps, refused_moments, refusal, bound_moments, run_from}
+use Rattle.pm_top.proofs.Opened.{crash_from, kept_moments, refused_moments, refusal, same_moments}
+use Rattle.pm_top.proofs.Orders.{none_with_u}
+use Rattle.pm_top.proofs.Refusing.{idle_run, run_from, same_log}
 use Rattle.pm_top.proofs.call.command.Goals as goal
 
 pub returns-in_default-clause-crash : goal.returns-in_default-clause-crash
-returns-in_default-clause-crash g c t shape pairs start =
-    let old = g.H.Device.history c.args.host.now in
-    refused_moments old (g.H.Device.history c.print_usage_fault.new.host) shape pairs c.without.result.order.items (rest_keeps old.world shape pairs start.holds start.numbers start.quiet) (c.print_usage_fault.ensures.moments t)
+returns-in_default-clause-crash g c t =
+    refused_moments (g.H.Device.history c.args.host.now) (g.H.Device.history c.print_usage_fault.new.host) c.without.result.order.items 117 (codes "sage\n") none_with_u (c.print_usage_fault.ensures.moments t)
 
 pub returns-in-Ok-clause-run : goal.returns-in-Ok-clause-run
 returns-in-Ok-clause-run g c t is =
     let old = g.H.Device.history c.args.host.now in
     let mid = g.H.Device.history c.bind.new.self in
-    let new = g.H.Device.history c.run.new.host in
-    let same : mid.world ≡ old.world = (c.in-Ok.ensures.does t).ok in
-    run_from old mid new c.run.result.status c.run.result.lines c.run.result.order.items same (c.run.ensures.run t)
+    let new = g.H.Device.history c.run_configured.new.host in
+    run_from old mid new c.run_configured.result.status c.run_configured.result.lines c.run_configured.result.order.items
+    (same_moments old mid c.bind.result (g.H.Device.sound c.args.host.now t) (c.bind.ensures.does t)) (c.in-Ok.ensures.does t).ok (c.run_configured.ensures.run t)
 
 pub returns-in-Ok-clause-crash : goal.returns-in-Ok-clause-crash
-returns-in-Ok-clause-crash g c t shape pairs start =
+returns-in-Ok-clause-crash g c t =
     let old = g.H.Device.history c.args.host.now in
     let mid = g.H.Device.history c.bind.new.self in
-    let new = g.H.Device.history c.run.new.host in
-    let same : mid.world ≡ old.world = (c.in-Ok.ensures.does t).ok in
-    let order = c.run.result.order.items in
-    joined old mid new (CrashHoldsAcknowledged old.world shape pairs order)
-    (bound_moments old mid c.bind.result shape pairs order (g.H.Device.sound c.args.host.now t) (rest_keeps old.world shape pairs start.holds start.numbers start.quiet) (c.bind.ensures.does t))
-    (subst (λ (w : World). IsStart w shape pairs → AllMoments mid new (CrashHoldsAcknowledged w shape pairs order)) same (c.run.ensures.crash t shape pairs) start)
+    let new = g.H.Device.history c.run_configured.new.host in
+    crash_from old mid new c.run_configured.result.order.items
+    (same_moments old mid c.bind.result (g.H.Device.sound c.args.host.now t) (c.bind.ensures.does t)) (c.in-Ok.ensures.does t).ok (c.run_configured.ensures.crash t)
+
+pub returns-in-Err-clause-run : goal.returns-in-Err-clause-run
+returns-in-Err-clause-run g c t is =
+    let old = g.H.Device.history c.args.host.now in
+    let mid = g.H.Device.history c.bind.new.self in
+    let outcome = c.without-in-Err.result in
+    let kept = same_moments old mid c.bind.result (g.H.Device.sound c.args.host.now t) (c.bind.ensures.does t) in
+    let same : mid.world ≡ old.world = at_last old mid (IsSame old.world) (g.H.Device.sound c.bind.new.self t) kept in
+    idle_run old mid outcome.status outcome.lines outcome.order.items (inl c.without-in-Err.ensures.status) (ap (λ (w : World). w.said) same) c.without-in-Err.ensures.lines c.without-in-Err.ensures.order (λ _. same_log old mid kept)
 
 pub returns-in-Err-clause-crash : goal.returns-in-Err-clause-crash
-returns-in-Err-clause-crash g c t shape pairs start =
+returns-in-Err-clause-crash g c t =
     let old = g.H.Device.history c.args.host.now in
-    bound_moments old (g.H.Device.history c.bind.new.self) c.bind.result shape pairs c.without-in-Err.result.order.items (g.H.Device.sound c.args.host.now t) (rest_keeps old.world shape pairs start.holds start.numbers start.quiet) (c.bind.ensures.does t)
+    let mid = g.H.Device.history c.bind.new.self in
+    kept_moments old mid c.without-in-Err.result.order.items (same_moments old mid c.bind.result (g.H.Device.sound c.args.host.now t) (c.bind.ensures.does t))
 
 pub returns-in_default-clause-files : goal.returns-in_default-clause-files
 returns-in_default-clause-files g c t =
@@ -46,7 +53,7 @@ pub returns-in-Ok-clause-files : goal.returns-in-Ok-clause-files
 returns-in-Ok-clause-files g c t =
     let old = g.H.Device.history c.args.host.now in
     let mid = g.H.Device.history c.bind.new.self in
-    then_calls old mid (g.H.Device.history c.run.new.host) (g.H.Device.sound c.bind.new.self t) (bind_call old mid c.bind.result (g.H.Device.sound c.args.host.now t) (c.bind.ensures.does t)) (c.run.ensures.files t)
+    then_calls old mid (g.H.Device.history c.run_configured.new.host) (g.H.Device.sound c.bind.new.self t) (bind_call old mid c.bind.result (g.H.Device.sound c.args.host.now t) (c.bind.ensures.does t)) (c.run_configured.ensures.files t)
 
 pub returns-in-Err-clause-files : goal.returns-in-Err-clause-files
 returns-in-Err-clause-files g c t =

@@ -1,113 +1,259 @@
-use Rattle.std.proofs.Common.{rules, Err, ap, sym, ◌∙◌, subst, arith}
+use Rattle.std.proofs.Common.{◌≡◌, ◌⊎◌, ◌^◌, inl, inr, Some, None, Err, ap, sym, ◌∙◌, subst, arith}
+use Rattle.std.specs.Prelude.{codes, ◌++◌}
+use Rattle.pm_types.specs.declared.fault.OpenFault.TheVariants.{Store}
 use Rattle.pm_types.specs.declared.shape.Shape.{Shape}
 use Rattle.pm_disk.specs.Moments.{AllMoments}
-use Rattle.pm_disk.specs.Worlds.{World, with_said}
+use Rattle.pm_disk.specs.Worlds.{World}
 use Rattle.pm_disk.proofs.Chain.{at_last, joined}
-use Rattle.pm_model.specs.Eval.{Pairs}
+use Rattle.pm_config.specs.Names.{name_of}
+use Rattle.pm_model.specs.Eval.{Pairs, after_all}
 use Rattle.pm_records.specs.LogFiles.{ChangesLog}
+use Rattle.pm_engine.specs.Openings.{IsBadRecord, IsSame, LogHolds, LogHoldsNothing}
+use Rattle.pm_engine.specs.StoredShapes.{ComparesShape, shape_fault}
+use Rattle.pm_engine.proofs.Opening.{opens_hold, opens_map, sound_holds}
+use Rattle.pm_top.specs.declared.status.Status.TheVariants.{Failed, Memory, Damaged}
+use Rattle.pm_top.specs.Configurations.{AsksFor, config_fault, fault_config}
 use Rattle.pm_top.specs.Crashes.{CrashHoldsAcknowledged}
-use Rattle.pm_top.specs.Promises.{OutcomeIs, fault_record}
+use Rattle.pm_top.specs.Promises.{CanOpen, OutcomeIs, fault_record, IsStart, IsLeft}
+use Rattle.pm_top.specs.Served.{script_of}
 use Rattle.pm_top.specs.Runs.{CanRun, SameFiles}
-use Rattle.pm_top.proofs.KeptFiles.{log_calls, say_calls, then_calls}
+use Rattle.pm_top.proofs.KeptFiles.{log_calls, same_calls, say_calls, then_calls}
 use Rattle.pm_top.proofs.Leaving.{is_left}
-use Rattle.pm_top.proofs.Opened.{opening_moments, same_console}
+use Rattle.pm_top.proofs.Opened.{crash_from, opening_moments, refused_moments, same_console}
+use Rattle.pm_top.proofs.Orders.{none_with_c}
+use Rattle.pm_top.proofs.Refusing.{AnswersNone, can_not_open, damaged_run, field_refused_run, idle_run, opens_log, run_from, same_log, was_configured, was_opened}
 use Rattle.pm_top.proofs.call.run.Goals as goal
 
 pub returns-in-Ok-clause-run : goal.returns-in-Ok-clause-run
 returns-in-Ok-clause-run g c t =
     let old = g.H.Device.history c.args.host.now in
     let mid = g.H.Device.history c.open_store.new.host in
-    let new = g.H.Device.history c.answer_script.new.host in
+    let wanted = c.args.wanted in
+    let asks = c.requires.asked t in
     let only = at_last old mid (ChangesLog old.world) (g.H.Device.sound c.open_store.new.host t) (c.open_store.ensures.log_only t) in
+    let new = g.H.Device.history c.answer_script.new.host in
     let outcome = c.answer_script.result in
+    let engine = c.in-Ok.engine in
+    let opens = c.in-Ok.ensures.opens t in
+    let can : CanOpen old.world engine.shape engine.map = record { configured = asks.fault_is ∙ c.in-Ok.ensures.alike t; log = subst (λ s. LogHolds s old.world engine.shape engine.map) (sym asks.wanted_is) (opens_hold wanted old.world mid.world engine opens) } in
+    let answered = c.answer_script.ensures.outcome t old.world (same_console old.world mid.world only) in
     record {
-      outcome = λ shape pairs holds.
-          let opens = c.in-Ok.ensures.holds t shape pairs holds in
-          subst (λ (x : Shape × Pairs). OutcomeIs outcome.status old.world new.world x.0 x.1 outcome.lines outcome.order.items) (λ i. (opens.0 i, opens.1 i))
-          (c.answer_script.ensures.outcome t old.world (same_console old.world mid.world only));
-      leaves = λ is shape pairs start.
+      outcome = λ shape pairs it.
+          let maps = opens_map wanted old.world mid.world engine shape pairs opens (opens_log old.world wanted shape pairs asks it) in
+          subst (λ (x : Shape × Pairs). OutcomeIs outcome.status old.world new.world x.0 x.1 outcome.lines outcome.order.items) (λ i. (maps.0 i, maps.1 i)) answered;
+      opened = was_opened outcome.status old.world engine.shape engine.map can;
+      untouched = λ none. absurd (none engine.shape engine.map can);
+      leaves = λ is. subst (λ (s : Shape). (shape : Shape) (pairs : Pairs) (start : IsStart s old.world shape pairs) → IsLeft s start.holds.frames (2 ^ 23) new.world shape (after_all shape (script_of old.world.input) pairs)) (sym asks.wanted_is)
+          (λ shape pairs start.
           let stands = c.in-Ok.ensures.at_rest t shape pairs start.holds start.numbers start.quiet in
-          let can : CanRun c.in-Ok.engine mid.world = record { stands = stands.at_rest; segments = omega (arith, stands.rises, start.numbers) } in
-          is_left start.holds.frames old.world mid.world new.world c.in-Ok.engine shape pairs (c.in-Ok.ensures.holds t shape pairs start.holds) stands.rises start.quiet (at_last old mid (SameFiles old.world) (g.H.Device.sound c.open_store.new.host t) (log_calls old mid (c.open_store.ensures.log_only t))) (at_last mid new (SameFiles mid.world) (g.H.Device.sound c.answer_script.new.host t) (c.answer_script.ensures.files t))
-          (c.answer_script.ensures.leaves t is old.world (same_console old.world mid.world only) can);
+          let runs : CanRun wanted engine mid.world = record { stands = stands.at_rest; segments = omega (arith, stands.rises, start.numbers) } in
+          let maps = opens_map wanted old.world mid.world engine shape pairs opens (sound_holds wanted old.world shape pairs start.holds) in
+          is_left wanted start.holds.frames old.world mid.world new.world engine shape pairs maps stands.rises start.quiet (at_last old mid (SameFiles old.world) (g.H.Device.sound c.open_store.new.host t) (log_calls old mid (c.open_store.ensures.log_only t))) (at_last mid new (SameFiles mid.world) (g.H.Device.sound c.answer_script.new.host t) (c.answer_script.ensures.files t))
+          (c.answer_script.ensures.leaves t is wanted old.world (same_console old.world mid.world only) runs));
+      configured = was_configured outcome.status old.world new.world outcome.lines outcome.order.items can.configured c.answer_script.ensures.cause.configured;
       damaged = λ is. absurd (c.answer_script.ensures.cause.sound is);
-      long = λ is. (let stopped = subst (λ s. OutcomeIs s old.world new.world c.in-Ok.engine.shape c.in-Ok.engine.map outcome.lines outcome.order.items) is (c.answer_script.ensures.outcome t old.world (same_console old.world mid.world only)) in stopped.passes);
+      long = λ is. (let stopped = subst (λ s. OutcomeIs s old.world new.world engine.shape engine.map outcome.lines outcome.order.items) is answered in stopped.passes);
     }
 
 pub returns-in-Ok-clause-crash : goal.returns-in-Ok-clause-crash
-returns-in-Ok-clause-crash g c t shape pairs start =
+returns-in-Ok-clause-crash g c t =
     let old = g.H.Device.history c.args.host.now in
     let mid = g.H.Device.history c.open_store.new.host in
-    let new = g.H.Device.history c.answer_script.new.host in
+    let wanted = c.args.wanted in
+    let asks = c.requires.asked t in
     let only = at_last old mid (ChangesLog old.world) (g.H.Device.sound c.open_store.new.host t) (c.open_store.ensures.log_only t) in
+    let new = g.H.Device.history c.answer_script.new.host in
     let outcome = c.answer_script.result in
-    let opens = c.in-Ok.ensures.holds t shape pairs start.holds in
+    let engine = c.in-Ok.engine in
+    let opens = c.in-Ok.ensures.opens t in
     let order = outcome.order.items in
-    let K : World → Type 0 = CrashHoldsAcknowledged old.world shape pairs order in
+    let keeps : (shape : Shape) (pairs : Pairs) → IsStart wanted old.world shape pairs → AllMoments old new (CrashHoldsAcknowledged wanted old.world shape pairs order) = λ shape pairs start.
+    let maps = opens_map wanted old.world mid.world engine shape pairs opens (sound_holds wanted old.world shape pairs start.holds) in
+    let K : World → Type 0 = CrashHoldsAcknowledged wanted old.world shape pairs order in
     let stands = c.in-Ok.ensures.at_rest t shape pairs start.holds start.numbers start.quiet in
-    let can : CanRun c.in-Ok.engine mid.world = record { stands = stands.at_rest; segments = omega (arith, stands.rises, start.numbers) } in
-    let second : AllMoments mid new K = subst (λ (x : Shape × Pairs). AllMoments mid new (CrashHoldsAcknowledged old.world x.0 x.1 order)) (λ i. (opens.0 i, opens.1 i))
-    (c.answer_script.ensures.moments t old.world (same_console old.world mid.world only) can) in
-    joined old mid new K (opening_moments old mid shape pairs order (c.open_store.ensures.crash t shape pairs start.holds start.numbers start.quiet) (c.open_store.ensures.log_only t)) second
-
-pub returns-in-Err-Failed-clause-crash : goal.returns-in-Err-Failed-clause-crash
-returns-in-Err-Failed-clause-crash g c t shape pairs start =
-    let old = g.H.Device.history c.args.host.now in
-    let mid = g.H.Device.history c.open_store.new.host in
-    opening_moments old mid shape pairs c.without.result.order.items (c.open_store.ensures.crash t shape pairs start.holds start.numbers start.quiet) (c.open_store.ensures.log_only t)
-
-pub returns-in-Err-Memory-clause-crash : goal.returns-in-Err-Memory-clause-crash
-returns-in-Err-Memory-clause-crash g c t shape pairs start =
-    let old = g.H.Device.history c.args.host.now in
-    let mid = g.H.Device.history c.open_store.new.host in
-    opening_moments old mid shape pairs c.without-in-Err-Memory.result.order.items (c.open_store.ensures.crash t shape pairs start.holds start.numbers start.quiet) (c.open_store.ensures.log_only t)
-
-pub returns-in-Err-BadRecord-clause-crash : goal.returns-in-Err-BadRecord-clause-crash
-returns-in-Err-BadRecord-clause-crash g c t shape pairs start =
-    absurd ((c.in-Err-BadRecord.ensures.bad t c.in-Err-BadRecord.at (ap Err c.in-Err-BadRecord.field-0-is)).unsound shape pairs start.holds)
-
-pub returns-in-Err-BadRecord-clause-run : goal.returns-in-Err-BadRecord-clause-run
-returns-in-Err-BadRecord-clause-run g c t =
-    let bad = (c.in-Err-BadRecord.ensures.bad t c.in-Err-BadRecord.at (ap Err c.in-Err-BadRecord.field-0-is)) in
-    record {
-      outcome = λ shape pairs holds. absurd (bad.unsound shape pairs holds);
-      leaves = λ is shape pairs start. absurd (bad.unsound shape pairs start.holds);
-      damaged = λ is. record {
-        at = c.in-Err-BadRecord.at;
-        record_is = bad.record_is;
-        unsound = bad.unsound;
-        now = c.print_record_fault.ensures.damaged t (sym c.without-in-Err-BadRecord.ensures.status ∙ is) ∙ ap (with_said (fault_record c.in-Err-BadRecord.at)) bad.same;
-        none = c.without-in-Err-BadRecord.ensures.lines;
-        order_is = c.without-in-Err-BadRecord.ensures.order;
-      };
-      long = search rules;
-    }
+    let runs : CanRun wanted engine mid.world = record { stands = stands.at_rest; segments = omega (arith, stands.rises, start.numbers) } in
+    let second : AllMoments mid new K = subst (λ (x : Shape × Pairs). AllMoments mid new (CrashHoldsAcknowledged wanted old.world x.0 x.1 order)) (λ i. (maps.0 i, maps.1 i))
+    (c.answer_script.ensures.moments t wanted old.world (same_console old.world mid.world only) runs) in
+    joined old mid new K (opening_moments wanted old mid shape pairs order (c.open_store.ensures.crash t shape pairs start.holds start.numbers start.quiet) (c.open_store.ensures.log_only t)) second
+    in
+    subst (λ (s : Shape). (shape : Shape) (pairs : Pairs) → IsStart s old.world shape pairs → AllMoments old new (CrashHoldsAcknowledged s old.world shape pairs order)) (sym asks.wanted_is) keeps
 
 pub returns-in-Ok-clause-files : goal.returns-in-Ok-clause-files
 returns-in-Ok-clause-files g c t =
     let old = g.H.Device.history c.args.host.now in
     let mid = g.H.Device.history c.open_store.new.host in
-    let opened = log_calls old mid (c.open_store.ensures.log_only t) in
-    then_calls old mid (g.H.Device.history c.answer_script.new.host) (g.H.Device.sound c.open_store.new.host t) opened (c.answer_script.ensures.files t)
+    let wanted = c.args.wanted in
+    let asks = c.requires.asked t in
+    let only = at_last old mid (ChangesLog old.world) (g.H.Device.sound c.open_store.new.host t) (c.open_store.ensures.log_only t) in
+    let new = g.H.Device.history c.answer_script.new.host in
+    let outcome = c.answer_script.result in
+    let engine = c.in-Ok.engine in
+    let opens = c.in-Ok.ensures.opens t in
+    then_calls old mid new (g.H.Device.sound c.open_store.new.host t) (log_calls old mid (c.open_store.ensures.log_only t)) (c.answer_script.ensures.files t)
 
-pub returns-in-Err-Failed-clause-files : goal.returns-in-Err-Failed-clause-files
-returns-in-Err-Failed-clause-files g c t =
+pub returns-in-Err-Shape-clause-run : goal.returns-in-Err-Shape-clause-run
+returns-in-Err-Shape-clause-run g c t =
     let old = g.H.Device.history c.args.host.now in
     let mid = g.H.Device.history c.open_store.new.host in
-    let opened = log_calls old mid (c.open_store.ensures.log_only t) in
-    opened
+    let wanted = c.args.wanted in
+    let asks = c.requires.asked t in
+    let only = at_last old mid (ChangesLog old.world) (g.H.Device.sound c.open_store.new.host t) (c.open_store.ensures.log_only t) in
+    let printed = c.print_config_fault in
+    let new = g.H.Device.history printed.new.host in
+    let outcome = c.without.result in
+    let differs = subst (ComparesShape wanted old.world) c.in-Err-Shape.field-0-is (c.in-Err-Shape.ensures.compared t) in
+    let first = c.open_store.ensures.untouched t (inl (c.in-Err-Shape.field, differs)) in
+    let same : mid.world ≡ old.world = at_last old mid (IsSame old.world) (g.H.Device.sound c.open_store.new.host t) first in
+    let is : config_fault mid.world ≡ Some c.in-Err-Shape.field = ap config_fault same ∙ asks.fault_is ∙ differs in
+    run_from old mid new outcome.status outcome.lines outcome.order.items first same
+    (field_refused_run mid new outcome.status outcome.lines outcome.order.items c.in-Err-Shape.field is (subst AnswersNone (sym c.without.ensures.status) printed.ensures.cases) (λ e. printed.ensures.misconfigured t (sym c.without.ensures.status ∙ e)) (printed.ensures.moments t) c.without.ensures.lines c.without.ensures.order)
 
-pub returns-in-Err-Memory-clause-files : goal.returns-in-Err-Memory-clause-files
-returns-in-Err-Memory-clause-files g c t =
+pub returns-in-Err-Shape-clause-crash : goal.returns-in-Err-Shape-clause-crash
+returns-in-Err-Shape-clause-crash g c t =
     let old = g.H.Device.history c.args.host.now in
     let mid = g.H.Device.history c.open_store.new.host in
-    let opened = log_calls old mid (c.open_store.ensures.log_only t) in
-    opened
+    let wanted = c.args.wanted in
+    let asks = c.requires.asked t in
+    let only = at_last old mid (ChangesLog old.world) (g.H.Device.sound c.open_store.new.host t) (c.open_store.ensures.log_only t) in
+    let printed = c.print_config_fault in
+    let new = g.H.Device.history printed.new.host in
+    let outcome = c.without.result in
+    let differs = subst (ComparesShape wanted old.world) c.in-Err-Shape.field-0-is (c.in-Err-Shape.ensures.compared t) in
+    let first = c.open_store.ensures.untouched t (inl (c.in-Err-Shape.field, differs)) in
+    let same : mid.world ≡ old.world = at_last old mid (IsSame old.world) (g.H.Device.sound c.open_store.new.host t) first in
+    crash_from old mid new outcome.order.items first same (refused_moments mid new outcome.order.items 99 (codes "onfig " ++ name_of c.in-Err-Shape.field ++ codes "\n") none_with_c (printed.ensures.moments t))
 
-pub returns-in-Err-BadRecord-clause-files : goal.returns-in-Err-BadRecord-clause-files
-returns-in-Err-BadRecord-clause-files g c t =
+pub returns-in-Err-Shape-clause-files : goal.returns-in-Err-Shape-clause-files
+returns-in-Err-Shape-clause-files g c t =
     let old = g.H.Device.history c.args.host.now in
     let mid = g.H.Device.history c.open_store.new.host in
-    let opened = log_calls old mid (c.open_store.ensures.log_only t) in
-    let new = g.H.Device.history c.print_record_fault.new.host in
-    then_calls old mid new (g.H.Device.sound c.open_store.new.host t) opened (say_calls (fault_record c.in-Err-BadRecord.at) mid new (c.print_record_fault.ensures.moments t))
+    let wanted = c.args.wanted in
+    let asks = c.requires.asked t in
+    let only = at_last old mid (ChangesLog old.world) (g.H.Device.sound c.open_store.new.host t) (c.open_store.ensures.log_only t) in
+    let printed = c.print_config_fault in
+    let new = g.H.Device.history printed.new.host in
+    let outcome = c.without.result in
+    let differs = subst (ComparesShape wanted old.world) c.in-Err-Shape.field-0-is (c.in-Err-Shape.ensures.compared t) in
+    let first = c.open_store.ensures.untouched t (inl (c.in-Err-Shape.field, differs)) in
+    let same : mid.world ≡ old.world = at_last old mid (IsSame old.world) (g.H.Device.sound c.open_store.new.host t) first in
+    then_calls old mid new (g.H.Device.sound c.open_store.new.host t) (same_calls old mid first) (say_calls (fault_config c.in-Err-Shape.field) mid new (printed.ensures.moments t))
+
+pub returns-in-Err-Store-Failed-clause-run : goal.returns-in-Err-Store-Failed-clause-run
+returns-in-Err-Store-Failed-clause-run g c t =
+    let old = g.H.Device.history c.args.host.now in
+    let mid = g.H.Device.history c.open_store.new.host in
+    let wanted = c.args.wanted in
+    let asks = c.requires.asked t in
+    let only = at_last old mid (ChangesLog old.world) (g.H.Device.sound c.open_store.new.host t) (c.open_store.ensures.log_only t) in
+    let outcome = c.without-in-Err-Store-Failed.result in
+    idle_run old mid outcome.status outcome.lines outcome.order.items (inl c.without-in-Err-Store-Failed.ensures.status) only.said c.without-in-Err-Store-Failed.ensures.lines c.without-in-Err-Store-Failed.ensures.order
+    (λ none. same_log old mid (c.open_store.ensures.untouched t (can_not_open old.world wanted asks none)))
+
+pub returns-in-Err-Store-Failed-clause-crash : goal.returns-in-Err-Store-Failed-clause-crash
+returns-in-Err-Store-Failed-clause-crash g c t =
+    let old = g.H.Device.history c.args.host.now in
+    let mid = g.H.Device.history c.open_store.new.host in
+    let wanted = c.args.wanted in
+    let asks = c.requires.asked t in
+    let only = at_last old mid (ChangesLog old.world) (g.H.Device.sound c.open_store.new.host t) (c.open_store.ensures.log_only t) in
+    let order = c.without-in-Err-Store-Failed.result.order.items in
+    let keeps : (shape : Shape) (pairs : Pairs) → IsStart wanted old.world shape pairs → AllMoments old mid (CrashHoldsAcknowledged wanted old.world shape pairs order) = λ shape pairs start.
+    opening_moments wanted old mid shape pairs order (c.open_store.ensures.crash t shape pairs start.holds start.numbers start.quiet) (c.open_store.ensures.log_only t)
+    in
+    subst (λ (s : Shape). (shape : Shape) (pairs : Pairs) → IsStart s old.world shape pairs → AllMoments old mid (CrashHoldsAcknowledged s old.world shape pairs order)) (sym asks.wanted_is) keeps
+
+pub returns-in-Err-Store-Failed-clause-files : goal.returns-in-Err-Store-Failed-clause-files
+returns-in-Err-Store-Failed-clause-files g c t =
+    let old = g.H.Device.history c.args.host.now in
+    let mid = g.H.Device.history c.open_store.new.host in
+    let wanted = c.args.wanted in
+    let asks = c.requires.asked t in
+    let only = at_last old mid (ChangesLog old.world) (g.H.Device.sound c.open_store.new.host t) (c.open_store.ensures.log_only t) in
+    log_calls old mid (c.open_store.ensures.log_only t)
+
+pub returns-in-Err-Store-Memory-clause-run : goal.returns-in-Err-Store-Memory-clause-run
+returns-in-Err-Store-Memory-clause-run g c t =
+    let old = g.H.Device.history c.args.host.now in
+    let mid = g.H.Device.history c.open_store.new.host in
+    let wanted = c.args.wanted in
+    let asks = c.requires.asked t in
+    let only = at_last old mid (ChangesLog old.world) (g.H.Device.sound c.open_store.new.host t) (c.open_store.ensures.log_only t) in
+    let outcome = c.without-in-Err-Store-Memory.result in
+    idle_run old mid outcome.status outcome.lines outcome.order.items (inr c.without-in-Err-Store-Memory.ensures.status) only.said c.without-in-Err-Store-Memory.ensures.lines c.without-in-Err-Store-Memory.ensures.order
+    (λ none. same_log old mid (c.open_store.ensures.untouched t (can_not_open old.world wanted asks none)))
+
+pub returns-in-Err-Store-Memory-clause-crash : goal.returns-in-Err-Store-Memory-clause-crash
+returns-in-Err-Store-Memory-clause-crash g c t =
+    let old = g.H.Device.history c.args.host.now in
+    let mid = g.H.Device.history c.open_store.new.host in
+    let wanted = c.args.wanted in
+    let asks = c.requires.asked t in
+    let only = at_last old mid (ChangesLog old.world) (g.H.Device.sound c.open_store.new.host t) (c.open_store.ensures.log_only t) in
+    let order = c.without-in-Err-Store-Memory.result.order.items in
+    let keeps : (shape : Shape) (pairs : Pairs) → IsStart wanted old.world shape pairs → AllMoments old mid (CrashHoldsAcknowledged wanted old.world shape pairs order) = λ shape pairs start.
+    opening_moments wanted old mid shape pairs order (c.open_store.ensures.crash t shape pairs start.holds start.numbers start.quiet) (c.open_store.ensures.log_only t)
+    in
+    subst (λ (s : Shape). (shape : Shape) (pairs : Pairs) → IsStart s old.world shape pairs → AllMoments old mid (CrashHoldsAcknowledged s old.world shape pairs order)) (sym asks.wanted_is) keeps
+
+pub returns-in-Err-Store-Memory-clause-files : goal.returns-in-Err-Store-Memory-clause-files
+returns-in-Err-Store-Memory-clause-files g c t =
+    let old = g.H.Device.history c.args.host.now in
+    let mid = g.H.Device.history c.open_store.new.host in
+    let wanted = c.args.wanted in
+    let asks = c.requires.asked t in
+    let only = at_last old mid (ChangesLog old.world) (g.H.Device.sound c.open_store.new.host t) (c.open_store.ensures.log_only t) in
+    log_calls old mid (c.open_store.ensures.log_only t)
+
+pub returns-in-Err-Store-BadRecord-clause-run : goal.returns-in-Err-Store-BadRecord-clause-run
+returns-in-Err-Store-BadRecord-clause-run g c t =
+    let old = g.H.Device.history c.args.host.now in
+    let mid = g.H.Device.history c.open_store.new.host in
+    let wanted = c.args.wanted in
+    let asks = c.requires.asked t in
+    let only = at_last old mid (ChangesLog old.world) (g.H.Device.sound c.open_store.new.host t) (c.open_store.ensures.log_only t) in
+    let printed = c.print_record_fault in
+    let new = g.H.Device.history printed.new.host in
+    let outcome = c.without-in-Err-Store-BadRecord.result in
+    let at = c.in-Err-Store-BadRecord.at in
+    let err = c.in-Err-Store-BadRecord.field-0-is ∙ ap Store c.in-Err-Store-BadRecord.field-0-0-is in
+    let bad = c.in-Err-Store-BadRecord.ensures.bad t at (ap Err err) in
+    let first = c.open_store.ensures.untouched t (inr bad.unsound) in
+    let same : mid.world ≡ old.world = at_last old mid (IsSame old.world) (g.H.Device.sound c.open_store.new.host t) first in
+    let alike : shape_fault wanted old.world ≡ None = subst (ComparesShape wanted old.world) err (c.in-Err-Store-BadRecord.ensures.compared t) in
+    run_from old mid new outcome.status outcome.lines outcome.order.items first same
+    (damaged_run mid new outcome.status outcome.lines outcome.order.items wanted at (subst (λ w. AsksFor w wanted) (sym same) asks) (subst (λ w. IsBadRecord wanted w at) (sym same) bad.record_is) (subst (LogHoldsNothing wanted) (sym same) bad.unsound) (ap (shape_fault wanted) same ∙ alike)
+    (subst (λ s. (s ≡ Damaged) ⊎ (s ≡ Failed) ⊎ (s ≡ Memory)) (sym c.without-in-Err-Store-BadRecord.ensures.status) printed.ensures.cases) (λ e. printed.ensures.damaged t (sym c.without-in-Err-Store-BadRecord.ensures.status ∙ e)) (printed.ensures.moments t) c.without-in-Err-Store-BadRecord.ensures.lines c.without-in-Err-Store-BadRecord.ensures.order)
+
+pub returns-in-Err-Store-BadRecord-clause-crash : goal.returns-in-Err-Store-BadRecord-clause-crash
+returns-in-Err-Store-BadRecord-clause-crash g c t shape pairs start =
+    let old = g.H.Device.history c.args.host.now in
+    let mid = g.H.Device.history c.open_store.new.host in
+    let wanted = c.args.wanted in
+    let asks = c.requires.asked t in
+    let only = at_last old mid (ChangesLog old.world) (g.H.Device.sound c.open_store.new.host t) (c.open_store.ensures.log_only t) in
+    let printed = c.print_record_fault in
+    let new = g.H.Device.history printed.new.host in
+    let outcome = c.without-in-Err-Store-BadRecord.result in
+    let at = c.in-Err-Store-BadRecord.at in
+    let err = c.in-Err-Store-BadRecord.field-0-is ∙ ap Store c.in-Err-Store-BadRecord.field-0-0-is in
+    let bad = c.in-Err-Store-BadRecord.ensures.bad t at (ap Err err) in
+    let first = c.open_store.ensures.untouched t (inr bad.unsound) in
+    let same : mid.world ≡ old.world = at_last old mid (IsSame old.world) (g.H.Device.sound c.open_store.new.host t) first in
+    absurd (bad.unsound shape pairs (sound_holds wanted old.world shape pairs (subst (λ s. IsStart s old.world shape pairs) asks.wanted_is start).holds))
+
+pub returns-in-Err-Store-BadRecord-clause-files : goal.returns-in-Err-Store-BadRecord-clause-files
+returns-in-Err-Store-BadRecord-clause-files g c t =
+    let old = g.H.Device.history c.args.host.now in
+    let mid = g.H.Device.history c.open_store.new.host in
+    let wanted = c.args.wanted in
+    let asks = c.requires.asked t in
+    let only = at_last old mid (ChangesLog old.world) (g.H.Device.sound c.open_store.new.host t) (c.open_store.ensures.log_only t) in
+    let printed = c.print_record_fault in
+    let new = g.H.Device.history printed.new.host in
+    let outcome = c.without-in-Err-Store-BadRecord.result in
+    let at = c.in-Err-Store-BadRecord.at in
+    let err = c.in-Err-Store-BadRecord.field-0-is ∙ ap Store c.in-Err-Store-BadRecord.field-0-0-is in
+    let bad = c.in-Err-Store-BadRecord.ensures.bad t at (ap Err err) in
+    let first = c.open_store.ensures.untouched t (inr bad.unsound) in
+    let same : mid.world ≡ old.world = at_last old mid (IsSame old.world) (g.H.Device.sound c.open_store.new.host t) first in
+    then_calls old mid new (g.H.Device.sound c.open_store.new.host t) (same_calls old mid first) (say_calls (fault_record at) mid new (printed.ensures.moments t))

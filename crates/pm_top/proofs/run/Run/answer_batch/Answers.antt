@@ -5,7 +5,6 @@ use Rattle.pm_disk.proofs.Chain.{at_last}
 use Rattle.pm_model.specs.declared.line.Line.{Line}
 use Rattle.pm_script.specs.Reading.{rest_of, OnlyTakes}
 use Rattle.pm_engine.specs.Engines.{HasSegments}
-use Rattle.pm_top.specs.declared.shape.TheConstants.{SHAPE}
 use Rattle.pm_top.specs.Runs.{Progress, OnlyAnswers}
 use Rattle.pm_top.specs.Scripts.{ContinuationIs}
 use Rattle.pm_top.specs.Served.{script_of}
@@ -28,8 +27,8 @@ returns-in_err-batch-clause-fault g c t start shape pairs progress =
     record { failed = λ _. failed_still progress mid.world same; memory = λ _. memory_still progress mid.world same }
 
 pub returns-in_err-batch-clause-moments : goal.returns-in_err-batch-clause-moments
-returns-in_err-batch-clause-moments g c t start shape pairs progress stands segments =
-    taken_moments (g.H.Device.history c.args.host.now) (g.H.Device.history c.next_batch.new.host) progress stands (c.next_batch.ensures.takes t)
+returns-in_err-batch-clause-moments g c t wanted start shape pairs progress stands segments =
+    taken_moments wanted (g.H.Device.history c.args.host.now) (g.H.Device.history c.next_batch.new.host) progress stands (c.next_batch.ensures.takes t)
 
 pub returns-in_err-answer_lines-clause-keeps : goal.returns-in_err-answer_lines-clause-keeps
 returns-in_err-answer_lines-clause-keeps g c =
@@ -54,7 +53,7 @@ returns-in_err-answer_lines-clause-fault g c t start shape pairs progress =
     }
 
 pub returns-in_err-answer_lines-clause-moments : goal.returns-in_err-answer_lines-clause-moments
-returns-in_err-answer_lines-clause-moments g c t start shape pairs progress stands segments =
+returns-in_err-answer_lines-clause-moments g c t wanted start shape pairs progress stands segments =
     let old = g.H.Device.history c.args.host.now in
     let mid = g.H.Device.history c.next_batch.new.host in
     let takes = at_last old mid (OnlyTakes old.world) (g.H.Device.sound c.next_batch.new.host t) (c.next_batch.ensures.takes t) in
@@ -66,10 +65,10 @@ returns-in_err-answer_lines-clause-moments g c t start shape pairs progress stan
     let first : Progress start mid.world (c.deref.result.now ++ (batch.alone.items ++ left)) shape pairs c.args.self.now =
     progress_still (subst (λ ls. Progress start old.world ls shape pairs c.args.self.now) parted progress) mid.world (taken_said old.world mid.world takes) in
     let lines_few : length c.deref.result.now ≤ 1024 = omega (arith, c.in_ok-batch.ensures.batch.few, ap (λ (l : List Line). length l) c.deref.ensures.value) in
-    let stands_taken = taken_stands SHAPE c.args.self.now.engine old.world mid.world takes stands in
+    let stands_taken = taken_stands wanted c.args.self.now.engine old.world mid.world takes stands in
     let one : HasSegments c.args.self.now.engine (length c.deref.result.now) = omega (arith, lines_few, segments) in
-    let so_far = then_moments start shape pairs old mid (g.H.Device.history c.answer_lines.new.host) c.args.self.now.engine.order c.answer_lines.ensures.keeps.more c.answer_lines.new.self.engine.order c.answer_lines.ensures.keeps.order
-    (taken_moments old mid progress stands (c.next_batch.ensures.takes t)) (c.answer_lines.ensures.moments t start (batch.alone.items ++ left) shape pairs first stands_taken one) in
+    let so_far = then_moments wanted start shape pairs old mid (g.H.Device.history c.answer_lines.new.host) c.args.self.now.engine.order c.answer_lines.ensures.keeps.more c.answer_lines.new.self.engine.order c.answer_lines.ensures.keeps.order
+    (taken_moments wanted old mid progress stands (c.next_batch.ensures.takes t)) (c.answer_lines.ensures.moments t wanted start (batch.alone.items ++ left) shape pairs first stands_taken one) in
     so_far
 
 pub returns-in_err-answer_lines-2-clause-keeps : goal.returns-in_err-answer_lines-2-clause-keeps
@@ -98,7 +97,7 @@ returns-in_err-answer_lines-2-clause-fault g c t start shape pairs progress =
     }
 
 pub returns-in_err-answer_lines-2-clause-moments : goal.returns-in_err-answer_lines-2-clause-moments
-returns-in_err-answer_lines-2-clause-moments g c t start shape pairs progress stands segments =
+returns-in_err-answer_lines-2-clause-moments g c t wanted start shape pairs progress stands segments =
     let old = g.H.Device.history c.args.host.now in
     let mid = g.H.Device.history c.next_batch.new.host in
     let takes = at_last old mid (OnlyTakes old.world) (g.H.Device.sound c.next_batch.new.host t) (c.next_batch.ensures.takes t) in
@@ -110,18 +109,18 @@ returns-in_err-answer_lines-2-clause-moments g c t start shape pairs progress st
     let first : Progress start mid.world (c.deref.result.now ++ (batch.alone.items ++ left)) shape pairs c.args.self.now =
     progress_still (subst (λ ls. Progress start old.world ls shape pairs c.args.self.now) parted progress) mid.world (taken_said old.world mid.world takes) in
     let lines_few : length c.deref.result.now ≤ 1024 = omega (arith, c.in_ok-batch.ensures.batch.few, ap (λ (l : List Line). length l) c.deref.ensures.value) in
-    let stands_taken = taken_stands SHAPE c.args.self.now.engine old.world mid.world takes stands in
+    let stands_taken = taken_stands wanted c.args.self.now.engine old.world mid.world takes stands in
     let one : HasSegments c.args.self.now.engine (length c.deref.result.now) = omega (arith, lines_few, segments) in
-    let so_far = then_moments start shape pairs old mid (g.H.Device.history c.answer_lines.new.host) c.args.self.now.engine.order c.answer_lines.ensures.keeps.more c.answer_lines.new.self.engine.order c.answer_lines.ensures.keeps.order
-    (taken_moments old mid progress stands (c.next_batch.ensures.takes t)) (c.answer_lines.ensures.moments t start (batch.alone.items ++ left) shape pairs first stands_taken one) in
+    let so_far = then_moments wanted start shape pairs old mid (g.H.Device.history c.answer_lines.new.host) c.args.self.now.engine.order c.answer_lines.ensures.keeps.more c.answer_lines.new.self.engine.order c.answer_lines.ensures.keeps.order
+    (taken_moments wanted old mid progress stands (c.next_batch.ensures.takes t)) (c.answer_lines.ensures.moments t wanted start (batch.alone.items ++ left) shape pairs first stands_taken one) in
     let done = g.H.Device.history c.answer_lines.new.host in
     let second : Progress start done.world (c.deref-2.result.now ++ left) shape pairs c.answer_lines.new.self =
     subst (λ ls. Progress start done.world (ls ++ left) shape pairs c.answer_lines.new.self) (sym c.deref-2.ensures.value) (c.in_ok-answer_lines.ensures.answered t start (batch.alone.items ++ left) shape pairs first).done in
     let alone_few : length c.deref-2.result.now ≤ 1 = omega (arith, c.in_ok-batch.ensures.batch.one, ap (λ (l : List Line). length l) c.deref-2.ensures.value) in
-    let since = c.in_ok-answer_lines.ensures.stands t stands_taken one in
+    let since = c.in_ok-answer_lines.ensures.stands t wanted stands_taken one in
     let two : HasSegments c.answer_lines.new.self.engine (length c.deref-2.result.now) = omega (arith, alone_few, lines_few, segments, since.rises) in
-    then_moments start shape pairs old done (g.H.Device.history c.answer_lines-2.new.host) c.answer_lines.new.self.engine.order c.answer_lines-2.ensures.keeps.more c.answer_lines-2.new.self.engine.order c.answer_lines-2.ensures.keeps.order
-    so_far (c.answer_lines-2.ensures.moments t start left shape pairs second since.stands two)
+    then_moments wanted start shape pairs old done (g.H.Device.history c.answer_lines-2.new.host) c.answer_lines.new.self.engine.order c.answer_lines-2.ensures.keeps.more c.answer_lines-2.new.self.engine.order c.answer_lines-2.ensures.keeps.order
+    so_far (c.answer_lines-2.ensures.moments t wanted start left shape pairs second since.stands two)
 
 pub returns-clause-keeps : goal.returns-clause-keeps
 returns-clause-keeps g c =
@@ -179,7 +178,7 @@ returns-clause-fault g c t start shape pairs progress =
     record { failed = λ _. failed_still third new.world refl; memory = λ _. memory_still third new.world refl }
 
 pub returns-clause-moments : goal.returns-clause-moments
-returns-clause-moments g c t start shape pairs progress stands segments =
+returns-clause-moments g c t wanted start shape pairs progress stands segments =
     let old = g.H.Device.history c.args.host.now in
     let mid = g.H.Device.history c.next_batch.new.host in
     let takes = at_last old mid (OnlyTakes old.world) (g.H.Device.sound c.next_batch.new.host t) (c.next_batch.ensures.takes t) in
@@ -191,32 +190,32 @@ returns-clause-moments g c t start shape pairs progress stands segments =
     let first : Progress start mid.world (c.deref.result.now ++ (batch.alone.items ++ left)) shape pairs c.args.self.now =
     progress_still (subst (λ ls. Progress start old.world ls shape pairs c.args.self.now) parted progress) mid.world (taken_said old.world mid.world takes) in
     let lines_few : length c.deref.result.now ≤ 1024 = omega (arith, c.in_ok-batch.ensures.batch.few, ap (λ (l : List Line). length l) c.deref.ensures.value) in
-    let stands_taken = taken_stands SHAPE c.args.self.now.engine old.world mid.world takes stands in
+    let stands_taken = taken_stands wanted c.args.self.now.engine old.world mid.world takes stands in
     let one : HasSegments c.args.self.now.engine (length c.deref.result.now) = omega (arith, lines_few, segments) in
-    let so_far = then_moments start shape pairs old mid (g.H.Device.history c.answer_lines.new.host) c.args.self.now.engine.order c.answer_lines.ensures.keeps.more c.answer_lines.new.self.engine.order c.answer_lines.ensures.keeps.order
-    (taken_moments old mid progress stands (c.next_batch.ensures.takes t)) (c.answer_lines.ensures.moments t start (batch.alone.items ++ left) shape pairs first stands_taken one) in
+    let so_far = then_moments wanted start shape pairs old mid (g.H.Device.history c.answer_lines.new.host) c.args.self.now.engine.order c.answer_lines.ensures.keeps.more c.answer_lines.new.self.engine.order c.answer_lines.ensures.keeps.order
+    (taken_moments wanted old mid progress stands (c.next_batch.ensures.takes t)) (c.answer_lines.ensures.moments t wanted start (batch.alone.items ++ left) shape pairs first stands_taken one) in
     let done = g.H.Device.history c.answer_lines.new.host in
     let second : Progress start done.world (c.deref-2.result.now ++ left) shape pairs c.answer_lines.new.self =
     subst (λ ls. Progress start done.world (ls ++ left) shape pairs c.answer_lines.new.self) (sym c.deref-2.ensures.value) (c.in_ok-answer_lines.ensures.answered t start (batch.alone.items ++ left) shape pairs first).done in
     let alone_few : length c.deref-2.result.now ≤ 1 = omega (arith, c.in_ok-batch.ensures.batch.one, ap (λ (l : List Line). length l) c.deref-2.ensures.value) in
-    let since = c.in_ok-answer_lines.ensures.stands t stands_taken one in
+    let since = c.in_ok-answer_lines.ensures.stands t wanted stands_taken one in
     let two : HasSegments c.answer_lines.new.self.engine (length c.deref-2.result.now) = omega (arith, alone_few, lines_few, segments, since.rises) in
-    then_moments start shape pairs old done (g.H.Device.history c.answer_lines-2.new.host) c.answer_lines.new.self.engine.order c.answer_lines-2.ensures.keeps.more c.answer_lines-2.new.self.engine.order c.answer_lines-2.ensures.keeps.order
-    so_far (c.answer_lines-2.ensures.moments t start left shape pairs second since.stands two)
+    then_moments wanted start shape pairs old done (g.H.Device.history c.answer_lines-2.new.host) c.answer_lines.new.self.engine.order c.answer_lines-2.ensures.keeps.more c.answer_lines-2.new.self.engine.order c.answer_lines-2.ensures.keeps.order
+    so_far (c.answer_lines-2.ensures.moments t wanted start left shape pairs second since.stands two)
 
 pub returns-clause-stands : goal.returns-clause-stands
-returns-clause-stands g c t stands segments =
+returns-clause-stands g c t wanted stands segments =
     let old = g.H.Device.history c.args.host.now in
     let mid = g.H.Device.history c.next_batch.new.host in
     let takes = at_last old mid (OnlyTakes old.world) (g.H.Device.sound c.next_batch.new.host t) (c.next_batch.ensures.takes t) in
     let lines_few : length c.deref.result.now ≤ 1024 = omega (arith, c.in_ok-batch.ensures.batch.few, ap (λ (l : List Line). length l) c.deref.ensures.value) in
-    let stands_taken = taken_stands SHAPE c.args.self.now.engine old.world mid.world takes stands in
+    let stands_taken = taken_stands wanted c.args.self.now.engine old.world mid.world takes stands in
     let one : HasSegments c.args.self.now.engine (length c.deref.result.now) = omega (arith, lines_few, segments) in
     let alone_few : length c.deref-2.result.now ≤ 1 = omega (arith, c.in_ok-batch.ensures.batch.one, ap (λ (l : List Line). length l) c.deref-2.ensures.value) in
-    let since = c.in_ok-answer_lines.ensures.stands t stands_taken one in
+    let since = c.in_ok-answer_lines.ensures.stands t wanted stands_taken one in
     let two : HasSegments c.answer_lines.new.self.engine (length c.deref-2.result.now) = omega (arith, alone_few, lines_few, segments, since.rises) in
-    stands_then c.args.self.now c.answer_lines.new.self c.answer_lines-2.new.self (length c.deref.result.now) (length c.deref-2.result.now) (g.H.Device.history c.answer_lines-2.new.host).world
-    c.in_ok-answer_lines.ensures.lines c.in_ok-answer_lines-2.ensures.lines since.rises (c.in_ok-answer_lines-2.ensures.stands t since.stands two)
+    stands_then wanted c.args.self.now c.answer_lines.new.self c.answer_lines-2.new.self (length c.deref.result.now) (length c.deref-2.result.now) (g.H.Device.history c.answer_lines-2.new.host).world
+    c.in_ok-answer_lines.ensures.lines c.in_ok-answer_lines-2.ensures.lines since.rises (c.in_ok-answer_lines-2.ensures.stands t wanted since.stands two)
 
 pub returns-clause-counted : goal.returns-clause-counted
 returns-clause-counted g c =

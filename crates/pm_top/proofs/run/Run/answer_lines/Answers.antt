@@ -8,7 +8,6 @@ use Rattle.pm_script.specs.Texts.{texts_of}
 use Rattle.pm_records.specs.LogFiles.{ChangesLog}
 use Rattle.pm_engine.specs.Engines.{IsAtRest}
 use Rattle.pm_engine.proofs.Results.{ok_holds}
-use Rattle.pm_top.specs.declared.shape.TheConstants.{SHAPE}
 use Rattle.pm_top.specs.Runs.{Progress}
 use Rattle.pm_top.proofs.AnsweredLines.{said_stands, rest_moments, failed_batch, memory_batch, batch_moments, all_tried, replied_all, saying_moments}
 use Rattle.pm_top.proofs.KeptFiles.{no_answers, log_answers, said_answers}
@@ -29,8 +28,8 @@ returns-then-is_empty-clause-answered g c t start left shape pairs progress =
     }
 
 pub returns-then-is_empty-clause-moments : goal.returns-then-is_empty-clause-moments
-returns-then-is_empty-clause-moments g c t start left shape pairs progress stands segments =
-    rest_moments (g.H.Device.history c.args.host.now) progress (g.H.Device.sound c.args.host.now t) stands
+returns-then-is_empty-clause-moments g c t wanted start left shape pairs progress stands segments =
+    rest_moments wanted (g.H.Device.history c.args.host.now) progress (g.H.Device.sound c.args.host.now t) stands
 
 pub returns-in_err-replies-clause-keeps : goal.returns-in_err-replies-clause-keeps
 returns-in_err-replies-clause-keeps g c =
@@ -45,8 +44,8 @@ returns-in_err-replies-clause-answered g c t start left shape pairs progress =
     }
 
 pub returns-in_err-replies-clause-moments : goal.returns-in_err-replies-clause-moments
-returns-in_err-replies-clause-moments g c t start left shape pairs progress stands segments =
-    rest_moments (g.H.Device.history c.args.host.now) progress (g.H.Device.sound c.args.host.now t) stands
+returns-in_err-replies-clause-moments g c t wanted start left shape pairs progress stands segments =
+    rest_moments wanted (g.H.Device.history c.args.host.now) progress (g.H.Device.sound c.args.host.now t) stands
 
 pub returns-in_err-batch-clause-keeps : goal.returns-in_err-batch-clause-keeps
 returns-in_err-batch-clause-keeps g c =
@@ -72,7 +71,7 @@ returns-in_err-batch-clause-answered g c t start left shape pairs progress =
     }
 
 pub returns-in_err-batch-clause-moments : goal.returns-in_err-batch-clause-moments
-returns-in_err-batch-clause-moments g c t start left shape pairs progress stands segments =
+returns-in_err-batch-clause-moments g c t wanted start left shape pairs progress stands segments =
     let old = g.H.Device.history c.args.host.now in
     let mid = g.H.Device.history c.batch.new.host in
     let run = c.args.self.now in
@@ -80,7 +79,7 @@ returns-in_err-batch-clause-moments g c t start left shape pairs progress stands
     let lines = c.args.lines.now in
     let tries = c.batch.ensures.runs in
     let only = at_last old mid (ChangesLog old.world) (g.H.Device.sound c.batch.new.host t) (c.batch.ensures.runs.log_only t) in
-    batch_moments g.H.Device.tells old mid run later lines c.batch.result tries left progress t (c.batch.ensures.runs.log_only t) stands segments
+    batch_moments g.H.Device.tells old mid run later lines c.batch.result tries left progress wanted t (c.batch.ensures.runs.log_only t) stands segments
 
 pub returns-in_err-write_replies-clause-keeps : goal.returns-in_err-write_replies-clause-keeps
 returns-in_err-write_replies-clause-keeps g c =
@@ -106,7 +105,7 @@ returns-in_err-write_replies-clause-answered g c t start left shape pairs progre
     }
 
 pub returns-in_err-write_replies-clause-moments : goal.returns-in_err-write_replies-clause-moments
-returns-in_err-write_replies-clause-moments g c t start left shape pairs progress stands segments =
+returns-in_err-write_replies-clause-moments g c t wanted start left shape pairs progress stands segments =
     let old = g.H.Device.history c.args.host.now in
     let mid = g.H.Device.history c.batch.new.host in
     let run = c.args.self.now in
@@ -114,7 +113,7 @@ returns-in_err-write_replies-clause-moments g c t start left shape pairs progres
     let lines = c.args.lines.now in
     let tries = c.batch.ensures.runs in
     let only = at_last old mid (ChangesLog old.world) (g.H.Device.sound c.batch.new.host t) (c.batch.ensures.runs.log_only t) in
-    batch_moments g.H.Device.tells old mid run later lines c.batch.result tries left progress t (c.batch.ensures.runs.log_only t) stands segments
+    batch_moments g.H.Device.tells old mid run later lines c.batch.result tries left progress wanted t (c.batch.ensures.runs.log_only t) stands segments
 
 pub returns-in_err-print-clause-keeps : goal.returns-in_err-print-clause-keeps
 returns-in_err-print-clause-keeps g c =
@@ -148,7 +147,7 @@ returns-in_err-print-clause-answered g c t start left shape pairs progress =
     }
 
 pub returns-in_err-print-clause-moments : goal.returns-in_err-print-clause-moments
-returns-in_err-print-clause-moments g c t start left shape pairs progress stands segments =
+returns-in_err-print-clause-moments g c t wanted start left shape pairs progress stands segments =
     let old = g.H.Device.history c.args.host.now in
     let mid = g.H.Device.history c.batch.new.host in
     let run = c.args.self.now in
@@ -161,8 +160,8 @@ returns-in_err-print-clause-moments g c t start left shape pairs progress stands
     let new = g.H.Device.history c.print.new.self in
     let all = ok_holds c.batch.result _ (tries.tried ≡ length lines) c.in_ok-batch.was tries.all in
     let text : c.deref-2.result.now ≡ texts_of (replies_to run.engine.shape lines run.engine.map) = c.deref-2.ensures.value ∙ c.in_ok-write_replies.ensures ∙ ap texts_of (c.deref.ensures.value ∙ replies) in
-    saying_moments g.H.Device.tells old mid run later lines c.batch.result tries left progress new c.print.result c.deref-2.result.now all text (c.print.ensures.says t) only.said c.batch.ensures.runs.shape c.in_ok-batch.ensures.runs.map
-    (c.in_ok-batch.ensures.at_rest t SHAPE stands segments).stands (batch_moments g.H.Device.tells old mid run later lines c.batch.result tries left progress t (c.batch.ensures.runs.log_only t) stands segments)
+    saying_moments g.H.Device.tells old mid run later lines c.batch.result tries left progress wanted new c.print.result c.deref-2.result.now all text (c.print.ensures.says t) only.said c.batch.ensures.runs.shape c.in_ok-batch.ensures.runs.map
+    (c.in_ok-batch.ensures.at_rest t wanted stands segments).stands (batch_moments g.H.Device.tells old mid run later lines c.batch.result tries left progress wanted t (c.batch.ensures.runs.log_only t) stands segments)
 
 pub returns-clause-keeps : goal.returns-clause-keeps
 returns-clause-keeps g c =
@@ -193,7 +192,7 @@ returns-clause-answered g c t start left shape pairs progress =
     }
 
 pub returns-clause-moments : goal.returns-clause-moments
-returns-clause-moments g c t start left shape pairs progress stands segments =
+returns-clause-moments g c t wanted start left shape pairs progress stands segments =
     let old = g.H.Device.history c.args.host.now in
     let mid = g.H.Device.history c.batch.new.host in
     let run = c.args.self.now in
@@ -206,16 +205,16 @@ returns-clause-moments g c t start left shape pairs progress stands segments =
     let new = g.H.Device.history c.print.new.self in
     let all = ok_holds c.batch.result _ (tries.tried ≡ length lines) c.in_ok-batch.was tries.all in
     let text : c.deref-2.result.now ≡ texts_of (replies_to run.engine.shape lines run.engine.map) = c.deref-2.ensures.value ∙ c.in_ok-write_replies.ensures ∙ ap texts_of (c.deref.ensures.value ∙ replies) in
-    saying_moments g.H.Device.tells old mid run later lines c.batch.result tries left progress new c.print.result c.deref-2.result.now all text (c.print.ensures.says t) only.said c.batch.ensures.runs.shape c.in_ok-batch.ensures.runs.map
-    (c.in_ok-batch.ensures.at_rest t SHAPE stands segments).stands (batch_moments g.H.Device.tells old mid run later lines c.batch.result tries left progress t (c.batch.ensures.runs.log_only t) stands segments)
+    saying_moments g.H.Device.tells old mid run later lines c.batch.result tries left progress wanted new c.print.result c.deref-2.result.now all text (c.print.ensures.says t) only.said c.batch.ensures.runs.shape c.in_ok-batch.ensures.runs.map
+    (c.in_ok-batch.ensures.at_rest t wanted stands segments).stands (batch_moments g.H.Device.tells old mid run later lines c.batch.result tries left progress wanted t (c.batch.ensures.runs.log_only t) stands segments)
 
 pub returns-clause-stands : goal.returns-clause-stands
-returns-clause-stands g c t stands segments =
+returns-clause-stands g c t wanted stands segments =
     let mid = g.H.Device.history c.batch.new.host in
     let later = c.batch.new.self in
-    let done = c.in_ok-batch.ensures.at_rest t SHAPE stands segments in
+    let done = c.in_ok-batch.ensures.at_rest t wanted stands segments in
     record {
-      stands = subst (IsAtRest SHAPE later) (sym (c.in_ok-print.ensures.says t).ok) (said_stands SHAPE later mid.world c.deref-2.result.now done.stands);
+      stands = subst (IsAtRest wanted later) (sym (c.in_ok-print.ensures.says t).ok) (said_stands wanted later mid.world c.deref-2.result.now done.stands);
       rises = done.rises;
     }
 

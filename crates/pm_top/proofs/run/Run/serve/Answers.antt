@@ -8,7 +8,6 @@ use Rattle.pm_records.specs.LogFiles.{ChangesLog}
 use Rattle.pm_engine.specs.Engines.{Running}
 use Rattle.pm_top.specs.declared.run.Run.{Run}
 use Rattle.pm_top.specs.Crashes.{CrashHoldsAcknowledged}
-use Rattle.pm_top.specs.declared.shape.TheConstants.{SHAPE}
 use Rattle.pm_top.specs.Runs.{Progress}
 use Rattle.pm_top.specs.Scripts.{after_lines}
 use Rattle.pm_top.specs.Served.{script_of}
@@ -22,8 +21,8 @@ use Rattle.pm_top.proofs.LaterStates.{plain_later}
 use Rattle.pm_top.proofs.run.Run.serve.Goals as goal
 
 pub returns-in_err-input-clause-moments : goal.returns-in_err-input-clause-moments
-returns-in_err-input-clause-moments g c t start same can =
-    rest_moments (g.H.Device.history c.args.host.now) (begins start (g.H.Device.history c.args.host.now).world c.args.self.now same c.requires.lines c.requires.order) (g.H.Device.sound c.args.host.now t) can.stands
+returns-in_err-input-clause-moments g c t wanted start same can =
+    rest_moments wanted (g.H.Device.history c.args.host.now) (begins start (g.H.Device.history c.args.host.now).world c.args.self.now same c.requires.lines c.requires.order) (g.H.Device.sound c.args.host.now t) can.stands
 
 pub batches-init : goal.batches-init
 batches-init g c =
@@ -41,34 +40,34 @@ batches-init g c =
       place = λ t. subst (λ (u : Unread). rest_of u old.world ≡ after_lines u.lines old.world.input) (sym c.in_ok-input.ensures) refl;
       progress = λ t start same. subst (λ (u : Unread). Progress start old.world (script_of (rest_of u old.world)) first.engine.shape first.engine.map first) (sym c.in_ok-input.ensures)
           (subst (λ (i : List ℕ). Progress start old.world (script_of i) first.engine.shape first.engine.map first) (sym same.input) (begins start old.world first same c.requires.lines c.requires.order));
-      stands = λ t can. record { stands = can.stands; rises = omega arith };
-      moments = λ t start same can. rest_moments old (begins start old.world first same c.requires.lines c.requires.order) (g.H.Device.sound c.args.host.now t) can.stands;
+      stands = λ t wanted can. record { stands = can.stands; rises = omega arith };
+      moments = λ t wanted start same can. rest_moments wanted old (begins start old.world first same c.requires.lines c.requires.order) (g.H.Device.sound c.args.host.now t) can.stands;
     }
 
 pub returns-in_err-answer_batch-clause-moments : goal.returns-in_err-answer_batch-clause-moments
-returns-in_err-answer_batch-clause-moments g c t start same can =
+returns-in_err-answer_batch-clause-moments g c t wanted start same can =
     let old = g.H.Device.history c.args.host.now in
     let before = g.H.Device.history c.batches.host in
     let new = g.H.Device.history c.answer_batch.new.host in
     let first = c.args.self.now in
     let so_far = c.batches.invariant in
-    let over = so_far.stands t can in
-    let segments = room_left first c.batches.self before.world c.requires.lines (omega (arith, so_far.counted, so_far.few)) can.segments over in
-    let turned = then_moments start first.engine.shape first.engine.map old before new c.batches.self.engine.order c.answer_batch.ensures.keeps.more c.answer_batch.new.self.engine.order c.answer_batch.ensures.keeps.order
-    (so_far.moments t start same can) (c.answer_batch.ensures.moments t start first.engine.shape first.engine.map (so_far.progress t start same) over.stands segments) in
+    let over = so_far.stands t wanted can in
+    let segments = room_left wanted first c.batches.self before.world c.requires.lines (omega (arith, so_far.counted, so_far.few)) can.segments over in
+    let turned = then_moments wanted start first.engine.shape first.engine.map old before new c.batches.self.engine.order c.answer_batch.ensures.keeps.more c.answer_batch.new.self.engine.order c.answer_batch.ensures.keeps.order
+    (so_far.moments t wanted start same can) (c.answer_batch.ensures.moments t wanted start first.engine.shape first.engine.map (so_far.progress t start same) over.stands segments) in
     turned
 
 pub returns-in-Over-clause-moments : goal.returns-in-Over-clause-moments
-returns-in-Over-clause-moments g c t start same can =
+returns-in-Over-clause-moments g c t wanted start same can =
     let old = g.H.Device.history c.args.host.now in
     let before = g.H.Device.history c.batches.host in
     let new = g.H.Device.history c.answer_batch.new.host in
     let first = c.args.self.now in
     let so_far = c.batches.invariant in
-    let over = so_far.stands t can in
-    let segments = room_left first c.batches.self before.world c.requires.lines (omega (arith, so_far.counted, so_far.few)) can.segments over in
-    let turned = then_moments start first.engine.shape first.engine.map old before new c.batches.self.engine.order c.answer_batch.ensures.keeps.more c.answer_batch.new.self.engine.order c.answer_batch.ensures.keeps.order
-    (so_far.moments t start same can) (c.answer_batch.ensures.moments t start first.engine.shape first.engine.map (so_far.progress t start same) over.stands segments) in
+    let over = so_far.stands t wanted can in
+    let segments = room_left wanted first c.batches.self before.world c.requires.lines (omega (arith, so_far.counted, so_far.few)) can.segments over in
+    let turned = then_moments wanted start first.engine.shape first.engine.map old before new c.batches.self.engine.order c.answer_batch.ensures.keeps.more c.answer_batch.new.self.engine.order c.answer_batch.ensures.keeps.order
+    (so_far.moments t wanted start same can) (c.answer_batch.ensures.moments t wanted start first.engine.shape first.engine.map (so_far.progress t start same) over.stands segments) in
     turned
 
 pub returns-in-Over-clause-stop : goal.returns-in-Over-clause-stop
@@ -100,52 +99,52 @@ batches-preserved g c =
       bytes = λ t. more_bytes c.in_ok-answer_batch.field-0 (c.in_ok-answer_batch.ensures.answered t) old.world.input c.in-More.is (so_far.bytes t);
       place = λ t. more_place c.in_ok-answer_batch.field-0 (c.in_ok-answer_batch.ensures.answered t) old.world.input c.in-More.is so_far.counted lines (so_far.place t);
       progress = λ t start same. more_progress c.in_ok-answer_batch.field-0 (c.in_ok-answer_batch.ensures.answered t) old.world.input c.in-More.is start first.engine.shape first.engine.map (so_far.progress t start same);
-      stands = λ t can.
-          let over = so_far.stands t can in
-          let segments = room_left first c.batches.self before.world c.requires.lines (omega (arith, so_far.counted, so_far.few)) can.segments over in
-          over_then first c.batches.self c.answer_batch.new.self before.world new.world over (c.in_ok-answer_batch.ensures.stands t over.stands segments);
-      moments = λ t start same can.
-          let over = so_far.stands t can in
-          let segments = room_left first c.batches.self before.world c.requires.lines (omega (arith, so_far.counted, so_far.few)) can.segments over in
-          then_moments start first.engine.shape first.engine.map old before new c.batches.self.engine.order c.answer_batch.ensures.keeps.more c.answer_batch.new.self.engine.order c.answer_batch.ensures.keeps.order
-          (so_far.moments t start same can) (c.answer_batch.ensures.moments t start first.engine.shape first.engine.map (so_far.progress t start same) over.stands segments);
+      stands = λ t wanted can.
+          let over = so_far.stands t wanted can in
+          let segments = room_left wanted first c.batches.self before.world c.requires.lines (omega (arith, so_far.counted, so_far.few)) can.segments over in
+          over_then wanted first c.batches.self c.answer_batch.new.self before.world new.world over (c.in_ok-answer_batch.ensures.stands t wanted over.stands segments);
+      moments = λ t wanted start same can.
+          let over = so_far.stands t wanted can in
+          let segments = room_left wanted first c.batches.self before.world c.requires.lines (omega (arith, so_far.counted, so_far.few)) can.segments over in
+          then_moments wanted start first.engine.shape first.engine.map old before new c.batches.self.engine.order c.answer_batch.ensures.keeps.more c.answer_batch.new.self.engine.order c.answer_batch.ensures.keeps.order
+          (so_far.moments t wanted start same can) (c.answer_batch.ensures.moments t wanted start first.engine.shape first.engine.map (so_far.progress t start same) over.stands segments);
     }
 
 pub returns-in_err-close-in-End-clause-moments : goal.returns-in_err-close-in-End-clause-moments
-returns-in_err-close-in-End-clause-moments g c t start same can =
+returns-in_err-close-in-End-clause-moments g c t wanted start same can =
     let old = g.H.Device.history c.args.host.now in
     let before = g.H.Device.history c.batches.host in
     let new = g.H.Device.history c.answer_batch.new.host in
     let first = c.args.self.now in
     let so_far = c.batches.invariant in
-    let over = so_far.stands t can in
-    let segments = room_left first c.batches.self before.world c.requires.lines (omega (arith, so_far.counted, so_far.few)) can.segments over in
-    let turned = then_moments start first.engine.shape first.engine.map old before new c.batches.self.engine.order c.answer_batch.ensures.keeps.more c.answer_batch.new.self.engine.order c.answer_batch.ensures.keeps.order
-    (so_far.moments t start same can) (c.answer_batch.ensures.moments t start first.engine.shape first.engine.map (so_far.progress t start same) over.stands segments) in
+    let over = so_far.stands t wanted can in
+    let segments = room_left wanted first c.batches.self before.world c.requires.lines (omega (arith, so_far.counted, so_far.few)) can.segments over in
+    let turned = then_moments wanted start first.engine.shape first.engine.map old before new c.batches.self.engine.order c.answer_batch.ensures.keeps.more c.answer_batch.new.self.engine.order c.answer_batch.ensures.keeps.order
+    (so_far.moments t wanted start same can) (c.answer_batch.ensures.moments t wanted start first.engine.shape first.engine.map (so_far.progress t start same) over.stands segments) in
     let end = g.H.Device.history c.close.new.host in
     let later : Run = record c.answer_batch.new.self { engine = c.close.new.self } in
     let progress = end_progress c.in_ok-answer_batch.field-0 (c.in_ok-answer_batch.ensures.answered t) old.world.input c.in-End.is start first.engine.shape first.engine.map (so_far.progress t start same) in
-    let closing = closing_moments new end progress (c.close.ensures.crash t SHAPE (c.in_ok-answer_batch.ensures.stands t over.stands segments).stands) (c.close.ensures.log_only t) in
-    then_moments start first.engine.shape first.engine.map old new end c.answer_batch.new.self.engine.order [] c.close.new.self.order (ap (λ (r : Running). r.order) c.close.ensures.same ∙ sym (append-nil c.answer_batch.new.self.engine.order)) turned
-    (subst (λ o. AllMoments new end (CrashHoldsAcknowledged start first.engine.shape first.engine.map o)) (sym (ap (λ (r : Running). r.order) c.close.ensures.same)) closing)
+    let closing = closing_moments wanted new end progress (c.close.ensures.crash t wanted (c.in_ok-answer_batch.ensures.stands t wanted over.stands segments).stands) (c.close.ensures.log_only t) in
+    then_moments wanted start first.engine.shape first.engine.map old new end c.answer_batch.new.self.engine.order [] c.close.new.self.order (ap (λ (r : Running). r.order) c.close.ensures.same ∙ sym (append-nil c.answer_batch.new.self.engine.order)) turned
+    (subst (λ o. AllMoments new end (CrashHoldsAcknowledged wanted start first.engine.shape first.engine.map o)) (sym (ap (λ (r : Running). r.order) c.close.ensures.same)) closing)
 
 pub returns-in-End-clause-moments : goal.returns-in-End-clause-moments
-returns-in-End-clause-moments g c t start same can =
+returns-in-End-clause-moments g c t wanted start same can =
     let old = g.H.Device.history c.args.host.now in
     let before = g.H.Device.history c.batches.host in
     let new = g.H.Device.history c.answer_batch.new.host in
     let first = c.args.self.now in
     let so_far = c.batches.invariant in
-    let over = so_far.stands t can in
-    let segments = room_left first c.batches.self before.world c.requires.lines (omega (arith, so_far.counted, so_far.few)) can.segments over in
-    let turned = then_moments start first.engine.shape first.engine.map old before new c.batches.self.engine.order c.answer_batch.ensures.keeps.more c.answer_batch.new.self.engine.order c.answer_batch.ensures.keeps.order
-    (so_far.moments t start same can) (c.answer_batch.ensures.moments t start first.engine.shape first.engine.map (so_far.progress t start same) over.stands segments) in
+    let over = so_far.stands t wanted can in
+    let segments = room_left wanted first c.batches.self before.world c.requires.lines (omega (arith, so_far.counted, so_far.few)) can.segments over in
+    let turned = then_moments wanted start first.engine.shape first.engine.map old before new c.batches.self.engine.order c.answer_batch.ensures.keeps.more c.answer_batch.new.self.engine.order c.answer_batch.ensures.keeps.order
+    (so_far.moments t wanted start same can) (c.answer_batch.ensures.moments t wanted start first.engine.shape first.engine.map (so_far.progress t start same) over.stands segments) in
     let end = g.H.Device.history c.close.new.host in
     let later : Run = record c.answer_batch.new.self { engine = c.close.new.self } in
     let progress = end_progress c.in_ok-answer_batch.field-0 (c.in_ok-answer_batch.ensures.answered t) old.world.input c.in-End.is start first.engine.shape first.engine.map (so_far.progress t start same) in
-    let closing = closing_moments new end progress (c.close.ensures.crash t SHAPE (c.in_ok-answer_batch.ensures.stands t over.stands segments).stands) (c.close.ensures.log_only t) in
-    then_moments start first.engine.shape first.engine.map old new end c.answer_batch.new.self.engine.order [] c.close.new.self.order (ap (λ (r : Running). r.order) c.close.ensures.same ∙ sym (append-nil c.answer_batch.new.self.engine.order)) turned
-    (subst (λ o. AllMoments new end (CrashHoldsAcknowledged start first.engine.shape first.engine.map o)) (sym (ap (λ (r : Running). r.order) c.close.ensures.same)) closing)
+    let closing = closing_moments wanted new end progress (c.close.ensures.crash t wanted (c.in_ok-answer_batch.ensures.stands t wanted over.stands segments).stands) (c.close.ensures.log_only t) in
+    then_moments wanted start first.engine.shape first.engine.map old new end c.answer_batch.new.self.engine.order [] c.close.new.self.order (ap (λ (r : Running). r.order) c.close.ensures.same ∙ sym (append-nil c.answer_batch.new.self.engine.order)) turned
+    (subst (λ o. AllMoments new end (CrashHoldsAcknowledged wanted start first.engine.shape first.engine.map o)) (sym (ap (λ (r : Running). r.order) c.close.ensures.same)) closing)
 
 pub returns-in-End-clause-stop : goal.returns-in-End-clause-stop
 returns-in-End-clause-stop g c t start same =
@@ -164,7 +163,7 @@ returns-in-End-clause-stop g c t start same =
     (omega (arith, end_limit c.in_ok-answer_batch.field-0 (c.in_ok-answer_batch.ensures.answered t) old.world.input c.in-End.is (so_far.limit t) (so_far.bytes t), ap (λ (l : List ℕ). length l) same.input)) c.in_ok-answer_batch.ensures.counted.few
 
 pub returns-in-End-clause-leaves : goal.returns-in-End-clause-leaves
-returns-in-End-clause-leaves g c t start same can =
+returns-in-End-clause-leaves g c t wanted start same can =
     let old = g.H.Device.history c.args.host.now in
     let before = g.H.Device.history c.batches.host in
     let new = g.H.Device.history c.answer_batch.new.host in
@@ -175,10 +174,10 @@ returns-in-End-clause-leaves g c t start same can =
     let later : Run = record c.answer_batch.new.self { engine = c.close.new.self } in
     let progress = end_progress c.in_ok-answer_batch.field-0 (c.in_ok-answer_batch.ensures.answered t) old.world.input c.in-End.is start first.engine.shape first.engine.map (so_far.progress t start same) in
     let after = closed progress later end.world refl c.close.ensures.same only.said in
-    let over = so_far.stands t can in
-    let segments = room_left first c.batches.self before.world c.requires.lines (omega (arith, so_far.counted, so_far.few)) can.segments over in
-    λ _. leaves first c.answer_batch.new.self later new.world end.world after (over_then first c.batches.self c.answer_batch.new.self before.world new.world over (c.in_ok-answer_batch.ensures.stands t over.stands segments)) refl
-    (c.in_ok-close-in-End.ensures.at_rest t SHAPE (c.in_ok-answer_batch.ensures.stands t over.stands segments).stands)
+    let over = so_far.stands t wanted can in
+    let segments = room_left wanted first c.batches.self before.world c.requires.lines (omega (arith, so_far.counted, so_far.few)) can.segments over in
+    λ _. leaves wanted first c.answer_batch.new.self later new.world end.world after (over_then wanted first c.batches.self c.answer_batch.new.self before.world new.world over (c.in_ok-answer_batch.ensures.stands t wanted over.stands segments)) refl
+    (c.in_ok-close-in-End.ensures.at_rest t wanted (c.in_ok-answer_batch.ensures.stands t wanted over.stands segments).stands)
 
 pub returns-in_err-close-in-End-clause-fault : goal.returns-in_err-close-in-End-clause-fault
 returns-in_err-close-in-End-clause-fault g c t start same =

@@ -1,6 +1,7 @@
 use Rattle.pm_disk.specs.States.{IsLaterState}
 use Rattle.std.proofs.Common.{◌≡◌, ◌+◌, ◌-◌, ◌≤◌, length}
 use Rattle.pm_types.specs.declared.limits.TheConstants.{SCRIPT_BYTES_MAX, LINES_MAX}
+use Rattle.pm_types.specs.declared.shape.Shape.{Shape}
 use Rattle.pm_disk.specs.Moments.{AllMoments}
 use Rattle.pm_disk.specs.Worlds.{World}
 use Rattle.pm_script.specs.Reading.{rest_of, KnowsEnd}
@@ -30,9 +31,9 @@ invariant-batches g l =
       place : tells → rest_of l.input now.world ≡ after_lines l.input.lines old.world.input;
       progress : tells → (start : World) → SameConsole start old.world
           → Progress start now.world (script_of (rest_of l.input now.world)) first.engine.shape first.engine.map l.self;
-      stands : tells → CanRun first.engine old.world → IsAtRestAfter first l.self now.world;
-      moments : tells → (start : World) → SameConsole start old.world → CanRun first.engine old.world
-          → AllMoments old now (CrashHoldsAcknowledged start first.engine.shape first.engine.map l.self.engine.order);
+      stands : tells → (wanted : Shape) → CanRun wanted first.engine old.world → IsAtRestAfter wanted first l.self now.world;
+      moments : tells → (wanted : Shape) (start : World) → SameConsole start old.world → CanRun wanted first.engine old.world
+          → AllMoments old now (CrashHoldsAcknowledged wanted start first.engine.shape first.engine.map l.self.engine.order);
     }
 
 abbrev pub decreases-batches : goal.decreases-batches

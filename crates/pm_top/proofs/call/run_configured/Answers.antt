@@ -1,0 +1,130 @@
+use Rattle.std.proofs.Common.{◌≡◌, inl, inr, Some, Err, ap, sym, ◌∙◌, subst}
+use Rattle.std.specs.Prelude.{codes, ◌++◌}
+use Rattle.pm_disk.specs.Worlds.{World}
+use Rattle.pm_disk.proofs.Chain.{at_last}
+use Rattle.pm_config.specs.Names.{name_of}
+use Rattle.pm_engine.specs.Openings.{IsSame}
+use Rattle.pm_top.specs.Configurations.{AsksFor, config_fault, fault_config}
+use Rattle.pm_top.proofs.KeptFiles.{same_calls, say_calls, then_calls}
+use Rattle.pm_top.proofs.Opened.{crash_from, kept_moments, refused_moments}
+use Rattle.pm_top.proofs.Orders.{none_with_c}
+use Rattle.pm_top.proofs.Refusing.{AnswersNone, field_refused_run, idle_run, run_from, same_log}
+use Rattle.pm_top.proofs.call.run_configured.Goals as goal
+
+pub run-requires-clause-asked : goal.run-requires-clause-asked
+run-requires-clause-asked g c t =
+    let old = g.H.Device.history c.args.host.now in
+    let mid = g.H.Device.history c.read_config.new.host in
+    let first = c.read_config.ensures.same t in
+    let same : mid.world ≡ old.world = at_last old mid (IsSame old.world) (g.H.Device.sound c.read_config.new.host t) first in
+    subst (λ w. AsksFor w c.shape.result) (sym same) (subst (AsksFor old.world) (sym c.shape.ensures.asked) (c.in-Ok.ensures.asked t))
+
+pub returns-in-Ok-clause-run : goal.returns-in-Ok-clause-run
+returns-in-Ok-clause-run g c t =
+    let old = g.H.Device.history c.args.host.now in
+    let mid = g.H.Device.history c.read_config.new.host in
+    let first = c.read_config.ensures.same t in
+    let same : mid.world ≡ old.world = at_last old mid (IsSame old.world) (g.H.Device.sound c.read_config.new.host t) first in
+    let outcome = c.run.result in
+    run_from old mid (g.H.Device.history c.run.new.host) outcome.status outcome.lines outcome.order.items first same (c.run.ensures.run t)
+
+pub returns-in-Ok-clause-crash : goal.returns-in-Ok-clause-crash
+returns-in-Ok-clause-crash g c t =
+    let old = g.H.Device.history c.args.host.now in
+    let mid = g.H.Device.history c.read_config.new.host in
+    let first = c.read_config.ensures.same t in
+    let same : mid.world ≡ old.world = at_last old mid (IsSame old.world) (g.H.Device.sound c.read_config.new.host t) first in
+    crash_from old mid (g.H.Device.history c.run.new.host) c.run.result.order.items first same (c.run.ensures.crash t)
+
+pub returns-in-Ok-clause-files : goal.returns-in-Ok-clause-files
+returns-in-Ok-clause-files g c t =
+    let old = g.H.Device.history c.args.host.now in
+    let mid = g.H.Device.history c.read_config.new.host in
+    let first = c.read_config.ensures.same t in
+    let same : mid.world ≡ old.world = at_last old mid (IsSame old.world) (g.H.Device.sound c.read_config.new.host t) first in
+    then_calls old mid (g.H.Device.history c.run.new.host) (g.H.Device.sound c.read_config.new.host t) (same_calls old mid first) (c.run.ensures.files t)
+
+pub returns-in-Err-Failed-clause-run : goal.returns-in-Err-Failed-clause-run
+returns-in-Err-Failed-clause-run g c t =
+    let old = g.H.Device.history c.args.host.now in
+    let mid = g.H.Device.history c.read_config.new.host in
+    let first = c.read_config.ensures.same t in
+    let same : mid.world ≡ old.world = at_last old mid (IsSame old.world) (g.H.Device.sound c.read_config.new.host t) first in
+    let outcome = c.without.result in
+    idle_run old mid outcome.status outcome.lines outcome.order.items (inl c.without.ensures.status) (ap (λ (w : World). w.said) same) c.without.ensures.lines c.without.ensures.order (λ _. same_log old mid first)
+
+pub returns-in-Err-Failed-clause-crash : goal.returns-in-Err-Failed-clause-crash
+returns-in-Err-Failed-clause-crash g c t =
+    let old = g.H.Device.history c.args.host.now in
+    let mid = g.H.Device.history c.read_config.new.host in
+    let first = c.read_config.ensures.same t in
+    let same : mid.world ≡ old.world = at_last old mid (IsSame old.world) (g.H.Device.sound c.read_config.new.host t) first in
+    kept_moments old mid c.without.result.order.items first
+
+pub returns-in-Err-Failed-clause-files : goal.returns-in-Err-Failed-clause-files
+returns-in-Err-Failed-clause-files g c t =
+    let old = g.H.Device.history c.args.host.now in
+    let mid = g.H.Device.history c.read_config.new.host in
+    let first = c.read_config.ensures.same t in
+    let same : mid.world ≡ old.world = at_last old mid (IsSame old.world) (g.H.Device.sound c.read_config.new.host t) first in
+    same_calls old mid first
+
+pub returns-in-Err-Memory-clause-run : goal.returns-in-Err-Memory-clause-run
+returns-in-Err-Memory-clause-run g c t =
+    let old = g.H.Device.history c.args.host.now in
+    let mid = g.H.Device.history c.read_config.new.host in
+    let first = c.read_config.ensures.same t in
+    let same : mid.world ≡ old.world = at_last old mid (IsSame old.world) (g.H.Device.sound c.read_config.new.host t) first in
+    let outcome = c.without-in-Err-Memory.result in
+    idle_run old mid outcome.status outcome.lines outcome.order.items (inr c.without-in-Err-Memory.ensures.status) (ap (λ (w : World). w.said) same) c.without-in-Err-Memory.ensures.lines c.without-in-Err-Memory.ensures.order (λ _. same_log old mid first)
+
+pub returns-in-Err-Memory-clause-crash : goal.returns-in-Err-Memory-clause-crash
+returns-in-Err-Memory-clause-crash g c t =
+    let old = g.H.Device.history c.args.host.now in
+    let mid = g.H.Device.history c.read_config.new.host in
+    let first = c.read_config.ensures.same t in
+    let same : mid.world ≡ old.world = at_last old mid (IsSame old.world) (g.H.Device.sound c.read_config.new.host t) first in
+    kept_moments old mid c.without-in-Err-Memory.result.order.items first
+
+pub returns-in-Err-Memory-clause-files : goal.returns-in-Err-Memory-clause-files
+returns-in-Err-Memory-clause-files g c t =
+    let old = g.H.Device.history c.args.host.now in
+    let mid = g.H.Device.history c.read_config.new.host in
+    let first = c.read_config.ensures.same t in
+    let same : mid.world ≡ old.world = at_last old mid (IsSame old.world) (g.H.Device.sound c.read_config.new.host t) first in
+    same_calls old mid first
+
+pub returns-in-Err-Refused-clause-run : goal.returns-in-Err-Refused-clause-run
+returns-in-Err-Refused-clause-run g c t =
+    let old = g.H.Device.history c.args.host.now in
+    let mid = g.H.Device.history c.read_config.new.host in
+    let first = c.read_config.ensures.same t in
+    let same : mid.world ≡ old.world = at_last old mid (IsSame old.world) (g.H.Device.sound c.read_config.new.host t) first in
+    let printed = c.print_config_fault in
+    let new = g.H.Device.history printed.new.host in
+    let outcome = c.without-in-Err-Refused.result in
+    let is : config_fault mid.world ≡ Some c.in-Err-Refused.field = ap config_fault same ∙ c.in-Err-Refused.ensures.refused t c.in-Err-Refused.field (ap Err c.in-Err-Refused.field-0-is) in
+    run_from old mid new outcome.status outcome.lines outcome.order.items first same
+    (field_refused_run mid new outcome.status outcome.lines outcome.order.items c.in-Err-Refused.field is (subst AnswersNone (sym c.without-in-Err-Refused.ensures.status) printed.ensures.cases) (λ e. printed.ensures.misconfigured t (sym c.without-in-Err-Refused.ensures.status ∙ e)) (printed.ensures.moments t) c.without-in-Err-Refused.ensures.lines c.without-in-Err-Refused.ensures.order)
+
+pub returns-in-Err-Refused-clause-crash : goal.returns-in-Err-Refused-clause-crash
+returns-in-Err-Refused-clause-crash g c t =
+    let old = g.H.Device.history c.args.host.now in
+    let mid = g.H.Device.history c.read_config.new.host in
+    let first = c.read_config.ensures.same t in
+    let same : mid.world ≡ old.world = at_last old mid (IsSame old.world) (g.H.Device.sound c.read_config.new.host t) first in
+    let printed = c.print_config_fault in
+    let new = g.H.Device.history printed.new.host in
+    let outcome = c.without-in-Err-Refused.result in
+    crash_from old mid new outcome.order.items first same (refused_moments mid new outcome.order.items 99 (codes "onfig " ++ name_of c.in-Err-Refused.field ++ codes "\n") none_with_c (printed.ensures.moments t))
+
+pub returns-in-Err-Refused-clause-files : goal.returns-in-Err-Refused-clause-files
+returns-in-Err-Refused-clause-files g c t =
+    let old = g.H.Device.history c.args.host.now in
+    let mid = g.H.Device.history c.read_config.new.host in
+    let first = c.read_config.ensures.same t in
+    let same : mid.world ≡ old.world = at_last old mid (IsSame old.world) (g.H.Device.sound c.read_config.new.host t) first in
+    let printed = c.print_config_fault in
+    let new = g.H.Device.history printed.new.host in
+    let outcome = c.without-in-Err-Refused.result in
+    then_calls old mid new (g.H.Device.sound c.read_config.new.host t) (same_calls old mid first) (say_calls (fault_config c.in-Err-Refused.field) mid new (printed.ensures.moments t))
