@@ -3,9 +3,10 @@ use Rattle.std.proofs.Common.{ℕ, List, [], length, Result, refl, sym, ◌∙�
 use Rattle.std.specs.Prelude.{OnOk}
 use Rattle.std.proofs.lemmas.Result.{on_ok_weaker}
 use Rattle.pm_types.specs.declared.shape.Shape.{Shape}
-use Rattle.pm_disk.specs.Files.{bytes_of}
+use Rattle.pm_disk.specs.Files.{File, all_forced, bytes_of}
 use Rattle.pm_disk.specs.Moments.{History, IsHistory, Does, AllMoments}
 use Rattle.pm_disk.specs.Worlds.{World, log_forced}
+use Rattle.pm_disk.proofs.Families.{file_here}
 use Rattle.pm_disk.proofs.Chain.{started, does}
 use Rattle.pm_records.specs.LogFiles.{ChangesLog, LogGrowsBy}
 use Rattle.pm_records.proofs.QuietLog.{log_same}
@@ -14,7 +15,7 @@ use Rattle.pm_segments.proofs.Emptied.{forced_reads}
 use Rattle.pm_model.specs.declared.line.Line.{Line}
 use Rattle.pm_model.specs.Eval.{Pairs}
 use Rattle.pm_engine.specs.Batches.{RunsLines}
-use Rattle.pm_engine.specs.Engines.{Running, HasDone, IsAtRestWithin}
+use Rattle.pm_engine.specs.Engines.{Running, HasDone, IsAtRestWithin, LastIsForced}
 use Rattle.pm_engine.specs.Held.{CrashHoldsPrefix}
 use Rattle.pm_engine.proofs.DoneLines.{done_keeps, force_at_rest, force_quiet, forced_keeps, force_grows}
 use Rattle.pm_engine.proofs.Results.{ok_anyway}
@@ -34,6 +35,14 @@ module _ {T E : Type 0} (old new : History) (engine : Running) (result : Result 
     rises = omega arith;
     lasting = force_quiet wanted start done engine old.world goes;
   }) call.ok
+
+  pub forced_last : OnOk result (LastIsForced engine.log new.world)
+  forced_last =
+      let seg = engine.log.end.seg in
+      on_ok_weaker result (λ is. subst (LastIsForced engine.log) (sym is) (ap (λ (f : File). f.since) (file_here old.world.log seg (all_forced (old.world.log seg))))) call.ok
+
+  pub forced_grows : (wanted : Shape) (start : Pairs) (done : List Line) → HasDone wanted start done engine old.world → OnOk result (LogGrowsBy old.world new.world [])
+  forced_grows wanted start done goes = on_ok_weaker result (λ is. subst (λ w. LogGrowsBy old.world w []) (sym is) (force_grows wanted start done engine old.world goes)) call.ok
 
   pub forced_moments : (wanted : Shape) (start : Pairs) (done : List Line) → IsHistory old → HasDone wanted start done engine old.world → AllMoments old new (CrashHoldsPrefix wanted engine.shape start done)
   forced_moments wanted start done sound goes =
@@ -58,7 +67,7 @@ forced_runs tells old new engine number result call sound ends = record {
   within = omega arith;
   all = ok_anyway result _ refl;
   order = sym (append-nil engine.order);
-  grows = λ t wanted start done goes segments. on_ok_weaker result (λ is. subst (λ w. LogGrowsBy old.world w []) (sym is) (force_grows wanted start done engine old.world goes)) (call t).ok;
+  grows = λ t wanted start done goes segments. forced_grows old new engine result (call t) wanted start done goes;
   crash = λ t wanted start done goes segments. subst (λ ls. AllMoments old new (CrashHoldsPrefix wanted engine.shape start ls)) (sym (append-nil done)) (forced_moments old new engine result (call t) wanted start done (sound t) goes);
   log_only = λ t. forced_log old new engine result (call t) (sound t);
 }

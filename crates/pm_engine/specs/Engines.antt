@@ -43,6 +43,10 @@ pub record HasDone (wanted : Shape) (start : Pairs) (done : List Line) (engine :
 abbrev pub IsAtRest : Shape → Running → World → Type 0
 IsAtRest wanted engine world = HasDone wanted engine.map [] engine world
 
+-- nothing is pending of the segment in which the log ends; each one before it was forced when the log went on
+abbrev pub LastIsForced : LogEnd → World → Type 0
+LastIsForced log world = (world.log log.end.seg).since ≡ []
+
 -- there are numbers for so many segments more
 abbrev pub HasSegments : Running → ℕ → Type 0
 HasSegments engine count = engine.log.end.seg + count + 1 < 2 ^ 64

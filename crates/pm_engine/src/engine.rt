@@ -8,7 +8,7 @@ ghost use Rattle.pm_frame.specs.declared.limits.TheConstants.{PAYLOAD_MAX as lon
 ghost use Rattle.pm_disk.specs.Moments.{Does, AllMoments};
 ghost use Rattle.pm_disk.specs.States.{HasCause, IsUsable};
 ghost use Rattle.pm_disk.specs.Worlds.{log_forced};
-ghost use Rattle.pm_records.specs.LogFiles.{ChangesLog};
+ghost use Rattle.pm_records.specs.LogFiles.{ChangesLog, LogGrowsBy};
 ghost use Rattle.pm_records.specs.LogSteps.{DoesSteps};
 ghost use Rattle.pm_segments.specs.Appends.{grown, steps_of};
 ghost use Rattle.pm_segments.specs.Ends.{EndsThere};
@@ -17,7 +17,7 @@ ghost use Rattle.pm_model.specs.Batches.{HasCache};
 ghost use Rattle.pm_model.specs.Eval.{Pairs, reply_to, after, is_accepted};
 ghost use Rattle.pm_model.specs.Partitions.{ArePartitions};
 ghost use Rattle.pm_engine.specs.Batches.{HasPlainFault, RunsLines, HasReplied, noted};
-ghost use Rattle.pm_engine.specs.Engines.{HasDone, HasDoneWithin, IsAtRest, IsAtRestWithin, HasSegments};
+ghost use Rattle.pm_engine.specs.Engines.{HasDone, HasDoneWithin, IsAtRest, IsAtRestWithin, HasSegments, LastIsForced};
 ghost use Rattle.pm_engine.specs.Held.{CrashHoldsPrefix};
 ghost use Rattle.pm_engine.specs.Records.{record_of_line, IsPayloadOf, logical_frame};
 
@@ -102,6 +102,7 @@ impl Engine {
             IsAtRest wanted self.old (H.history host.old).world →
             HasSegments self.old (length lines.now) → OnOk result (IsAtRestWithin wanted
             (length lines.now) self.old self.new (H.history host.new).world) }
+        ensures forced { H.tells → OnOk result (LastIsForced self.new.log (H.history host.new).world) }
         ensures cause { HasPlainFault (H.state host.old) (H.state host.new) result }
     {
         run_lines(self, alloc, host, lines, first, replies)?;
@@ -121,6 +122,9 @@ impl Engine {
             IsAtRest wanted self.old (H.history host.old).world →
             AllMoments (H.history host.old) (H.history host.new)
             (CrashHoldsPrefix wanted self.old.shape self.old.map []) }
+        ensures grows { H.tells → (wanted : Shape) →
+            IsAtRest wanted self.old (H.history host.old).world →
+            OnOk result (LogGrowsBy (H.history host.old).world (H.history host.new).world []) }
         ensures log_only { H.tells → AllMoments (H.history host.old) (H.history host.new)
             (ChangesLog (H.history host.old).world) }
         ensures only_failed { IfErr result (λ fault. fault ≡ StoreFault.Failed) }

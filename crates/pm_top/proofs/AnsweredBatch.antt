@@ -1,17 +1,23 @@
 -- One batch of a run: the next lines are taken off the script, and done.
-use Rattle.std.proofs.Common.{◌≡◌, ℕ, ◌+◌, ◌≤◌, List, [], ◌++◌, ap, sym, ◌∙◌, subst, arith, append_assoc}
+use Rattle.std.proofs.Common.{◌≡◌, ℕ, ◌+◌, ◌≤◌, List, [], ◌++◌, ap, sym, ◌∙◌, subst, arith, append_assoc, length, length-append}
 use Rattle.pm_types.specs.declared.shape.Shape.{Shape}
 use Rattle.pm_disk.specs.Worlds.{World}
 use Rattle.pm_disk.specs.Moments.{History, AllMoments}
 use Rattle.pm_disk.proofs.Chain.{weaker, joined}
 use Rattle.pm_model.specs.declared.line.Line.{Line}
-use Rattle.pm_model.specs.Eval.{Pairs}
+use Rattle.pm_model.specs.Eval.{Pairs, after_all}
+use Rattle.pm_model.proofs.Runs.{after_all-append}
 use Rattle.pm_script.specs.Reading.{OnlyTakes}
+use Rattle.pm_records.specs.LogFiles.{LogGrowsBy}
+use Rattle.pm_records.proofs.Growing.{grows_twice}
+use Rattle.pm_engine.specs.Records.{logged}
 use Rattle.pm_engine.specs.Engines.{IsAtRest}
+use Rattle.pm_engine.proofs.Batching.{logged-append}
 use Rattle.pm_engine.proofs.DoneLines.{done_keeps}
 use Rattle.pm_top.specs.declared.run.Run.{Run}
 use Rattle.pm_top.specs.Crashes.{CrashHoldsAcknowledged}
-use Rattle.pm_top.specs.Runs.{Progress, KeepsRun, IsAtRestSince, IsAtRestAfter}
+use Rattle.pm_top.specs.Runs.{Progress, KeepsRun, IsAtRestSince}
+use Rattle.pm_top.proofs.AnsweredLines.{taken_grows}
 use Rattle.pm_top.proofs.Lasting.{keeps_rest, keeps_taken, order_longer}
 
 -- ---- what taking input leaves
@@ -45,6 +51,21 @@ pub then_moments : (wanted : Shape) (start : World) (shape : Shape) (pairs : Pai
 then_moments wanted start shape pairs old mid new order more later is first second =
     joined old mid new (CrashHoldsAcknowledged wanted start shape pairs later) (longer_moments wanted start shape pairs old mid order more later is first) second
 
--- a run goes on
-pub stands_then : (wanted : Shape) (before mid later : Run) (m n : ℕ) (world : World) → mid.lines ≡ before.lines + m → later.lines ≡ mid.lines + n → mid.engine.log.end.seg ≤ before.engine.log.end.seg + m → IsAtRestSince wanted mid later n world → IsAtRestAfter wanted before later world
-stands_then wanted before mid later m n world first second rises stands = record { stands = stands.stands; rises = omega (arith, first, second, rises, stands.rises) }
+-- some lines and then others
+pub since_both : (wanted : Shape) (before mid later : Run) (xs ys : List Line) (old done new : World) → mid.engine.shape ≡ before.engine.shape → IsAtRestSince wanted before mid xs old done → IsAtRestSince wanted mid later ys done new → IsAtRestSince wanted before later (xs ++ ys) old new
+since_both wanted before mid later xs ys old done new same first second =
+    let shape = before.engine.shape in
+    let pairs = before.engine.map in
+    let frames : logged shape xs pairs ++ logged mid.engine.shape ys mid.engine.map ≡ logged shape (xs ++ ys) pairs =
+    (λ i. logged shape xs pairs ++ logged (same i) ys (first.map i)) ∙ sym (logged-append shape xs ys pairs) in
+    record {
+      stands = second.stands;
+      rises = omega (arith, first.rises, second.rises, length-append xs ys);
+      map = second.map ∙ (λ i. after_all (same i) ys (first.map i)) ∙ sym (after_all-append shape xs ys pairs);
+      grows = subst (LogGrowsBy old new) frames (grows_twice old done new (logged shape xs pairs) (logged mid.engine.shape ys mid.engine.map) first.grows second.grows);
+    }
+
+-- lines after input was taken
+pub since_taken : (wanted : Shape) (before later : Run) (lines : List Line) (old mid new : World) → OnlyTakes old mid → IsAtRestSince wanted before later lines mid new → IsAtRestSince wanted before later lines old new
+since_taken wanted before later lines old mid new takes since =
+    record { stands = since.stands; rises = since.rises; map = since.map; grows = taken_grows old mid new (logged before.engine.shape lines before.engine.map) takes since.grows }

@@ -11,15 +11,16 @@ use Rattle.pm_model.specs.declared.reply.Reply.{Reply}
 use Rattle.pm_model.specs.Eval.{Pairs, replies_to, after_all, accepted}
 use Rattle.pm_script.specs.Reading.{OnlyTakes}
 use Rattle.pm_script.specs.Texts.{texts_of}
-use Rattle.pm_records.specs.LogFiles.{ChangesLog}
+use Rattle.pm_frame.specs.Frames.{Frame}
+use Rattle.pm_records.specs.LogFiles.{ChangesLog, LogGrowsBy}
 use Rattle.pm_engine.specs.Held.{CrashHoldsPrefix}
 use Rattle.pm_engine.specs.Engines.{Running, IsAtRest, HasSegments}
 use Rattle.pm_engine.specs.Batches.{RunsLines, HasReplied}
-use Rattle.pm_engine.proofs.DoneLines.{done_keeps}
+use Rattle.pm_engine.proofs.DoneLines.{done_keeps, rest_grows}
 use Rattle.pm_top.specs.declared.run.Run.{Run}
 use Rattle.pm_top.specs.Crashes.{CrashHoldsAcknowledged}
 use Rattle.pm_top.specs.Promises.{HasFailed, HasNoMemory}
-use Rattle.pm_top.specs.Runs.{Progress}
+use Rattle.pm_top.specs.Runs.{IsAtRestSince, Progress}
 use Rattle.pm_top.proofs.Lasting.{keeps_rest, keeps_doing, keeps_saying, keeps_said}
 use Rattle.pm_top.proofs.Progressing.{failed_unsaid, memory_unsaid}
 
@@ -59,6 +60,20 @@ taken_stands wanted engine old new takes s = subst (IsAtRest wanted engine) (sym
   before = s.before;
   quiet = s.quiet;
 }
+
+-- a log has grown as before where something was said since, or input taken
+pub said_grows : (old world : World) (bytes : List ℕ) (frames : List Frame) → LogGrowsBy old world frames → LogGrowsBy old (with_said bytes world) frames
+said_grows old world bytes frames g = record { before = g.before; was = g.was; added = g.added; now_is = g.now_is; added_are = g.added_are }
+
+pub taken_grows : (old mid new : World) (frames : List Frame) → OnlyTakes old mid → LogGrowsBy mid new frames → LogGrowsBy old new frames
+taken_grows old mid new frames takes g =
+    let h = subst (λ w. LogGrowsBy w new frames) takes.1 g in
+    record { before = h.before; was = h.was; added = h.added; now_is = h.now_is; added_are = h.added_are }
+
+-- no lines
+pub since_none : (wanted : Shape) (run : Run) (lines : List Line) (world : World) → lines ≡ [] → IsAtRest wanted run.engine world → IsAtRestSince wanted run run lines world world
+since_none wanted run lines world none stands = subst (λ ls. IsAtRestSince wanted run run ls world world) (sym none)
+    (record { stands = stands; rises = omega arith; map = refl; grows = rest_grows wanted run.engine.map [] run.engine world stands })
 
 -- before anything is done
 pub rest_moments : (wanted : Shape) (old : History) {start : World} {left : List Line} {shape : Shape} {pairs : Pairs} {run : Run} (progress : Progress start old.world left shape pairs run) → IsHistory old → IsAtRest wanted run.engine old.world

@@ -1,5 +1,5 @@
 -- What a run that is done leaves: a store that is sound, with nothing pending.
-use Rattle.std.proofs.Common.{◌≡◌, ◌+◌, ◌≤◌, List, [], ◌++◌, ap, sym, ◌∙◌, subst, arith}
+use Rattle.std.proofs.Common.{◌≡◌, ◌+◌, ◌≤◌, List, [], ◌∷◌, ◌++◌, ap, sym, ◌∙◌, subst, arith}
 use Rattle.pm_types.specs.declared.place.Place.{Place}
 use Rattle.pm_types.specs.declared.shape.Shape.{Shape}
 use Rattle.pm_types.specs.declared.limits.TheConstants.{LINES_MAX}
@@ -9,14 +9,17 @@ use Rattle.pm_frame.specs.Frames.{Frame}
 use Rattle.pm_model.specs.Eval.{Pairs, after_all}
 use Rattle.pm_records.specs.Logs.{place, all_frames}
 use Rattle.pm_records.specs.Logs.{after_frames}
-use Rattle.pm_records.specs.LogFiles.{EndIs}
+use Rattle.pm_records.specs.LogFiles.{EndIs, LogGrowsBy}
 use Rattle.pm_records.proofs.FrameGrammar.{frame_laws}
 use Rattle.pm_records.proofs.FileSteps.{plain_after}
 use Rattle.pm_records.proofs.HeldLog.{held_log}
 use Rattle.pm_records.proofs.Runs.{after_frames-append}
 use Rattle.pm_engine.specs.Engines.{Running, frames_of, IsAtRest}
 use Rattle.pm_engine.specs.Held.{IsHeld, Holds}
-use Rattle.pm_engine.specs.Openings.{HasMap}
+use Rattle.pm_engine.specs.Openings.{HasMap, OpensAtRest}
+use Rattle.pm_engine.specs.Records.{logged}
+use Rattle.pm_records.specs.FirstRecords.{restart_frame}
+use Rattle.pm_records.proofs.Growing.{grows_twice}
 use Rattle.pm_top.specs.declared.run.Run.{Run}
 use Rattle.pm_top.specs.Promises.{IsLeft}
 use Rattle.pm_top.specs.Runs.{SameFiles, LeavesRun, LeavesStore}
@@ -40,9 +43,9 @@ module _ (wanted : Shape) (engine : Running) (world : World) (s : IsAtRest wante
       ap (λ (q : Place). q.seg) (there ∙ plain_after w.at.seg w.at.off w.pending s.is_open.plain ∙ sym end)
 
 -- a script that is done leaves its store so
-pub leaves_store : (wanted : Shape) (start world : World) (before later : Run) → before.lines ≡ 0 → later.lines ≤ LINES_MAX → LeavesRun wanted start before.engine.shape before.engine.map before later world → LeavesStore wanted start world before.engine
+pub leaves_store : (wanted : Shape) (start opened world : World) (before later : Run) → before.lines ≡ 0 → later.lines ≤ LINES_MAX → LeavesRun wanted start opened before.engine.shape before.engine.map before later world → LeavesStore wanted start opened world before.engine
 unfolding stands_hold
-leaves_store wanted start world before later none few left =
+leaves_store wanted start opened world before later none few left =
     let stands = left.over.stands in
     let holds = stands_hold wanted later.engine world stands in
     let segment : (after_frames (place 1 0) holds.frames).seg ≡ later.engine.log.end.seg = stands_segment wanted later.engine world stands in
@@ -54,22 +57,27 @@ leaves_store wanted start world before later none few left =
       };
       lasting = left.lasting;
       rises = omega (arith, segment, left.over.rises, none, few);
+      grows = left.grows;
     }
 
--- seen from the store that was opened
-pub is_left : (wanted : Shape) (frames : List Frame) (old mid new : World) (engine : Running) (shape : Shape) (pairs : Pairs) → HasMap shape pairs engine → engine.log.end.seg ≤ (after_frames (place 1 0) frames).seg + 1 → NothingPending old → SameFiles old mid → SameFiles mid new
-    → LeavesStore wanted old new engine → IsLeft wanted frames 8388608 new shape (after_all shape (script_of old.input) pairs)
-is_left wanted frames old mid new engine shape pairs opens rises nothing first second left = record {
-  holds = record {
-    frames = left.holds.frames;
-    log = left.holds.log;
-    held = subst (λ (x : Shape × Pairs). IsHeld wanted left.holds.frames x.0 (after_all x.0 (script_of old.input) x.1)) (λ i. (opens.0 i, opens.1 i)) left.holds.held;
-  };
-  quiet = record {
-    log = left.lasting;
-    pages = λ part. subst (λ p. (p part).since ≡ []) (sym (second.pages ∙ first.pages)) (nothing.pages part);
-    starts = subst (λ f. f.since ≡ []) (sym (second.starts ∙ first.starts)) nothing.starts;
-    ends = subst (λ f. f.since ≡ []) (sym (second.ends ∙ first.ends)) nothing.ends;
-  };
-  rises = omega (arith, left.rises, rises);
-}
+-- seen from the store before it was opened
+pub is_left : (wanted : Shape) (frames : List Frame) (old mid new : World) (engine : Running) (shape : Shape) (pairs : Pairs) → HasMap shape pairs engine → OpensAtRest wanted frames old mid engine → NothingPending old → SameFiles old mid → SameFiles mid new
+    → LeavesStore wanted old mid new engine → IsLeft wanted frames old new shape pairs
+is_left wanted frames old mid new engine shape pairs opens opened nothing first second left =
+    let script = script_of old.input in
+    record {
+      holds = record {
+        frames = left.holds.frames;
+        log = left.holds.log;
+        held = subst (λ (x : Shape × Pairs). IsHeld wanted left.holds.frames x.0 (after_all x.0 script x.1)) (λ i. (opens.0 i, opens.1 i)) left.holds.held;
+      };
+      quiet = record {
+        log = left.lasting;
+        pages = λ part. subst (λ p. (p part).since ≡ []) (sym (second.pages ∙ first.pages)) (nothing.pages part);
+        starts = subst (λ f. f.since ≡ []) (sym (second.starts ∙ first.starts)) nothing.starts;
+        ends = subst (λ f. f.since ≡ []) (sym (second.ends ∙ first.ends)) nothing.ends;
+      };
+      grows = subst (λ (x : Shape × Pairs). LogGrowsBy old new (restart_frame x.0 ∷ logged x.0 script x.1)) (λ i. (opens.0 i, opens.1 i))
+          (grows_twice old mid new (restart_frame engine.shape ∷ []) (logged engine.shape script engine.map) opened.grows left.grows);
+      rises = omega (arith, left.rises, opened.rises);
+    }

@@ -169,7 +169,7 @@ run_from old mid new status lines order first same run = record {
   untouched = λ none.
       joined old mid new (SameLog old.world) (same_log old mid first)
       (subst (λ (w : World). ((shape : Shape) (pairs : Pairs) → CanOpen w shape pairs → ⊥) → AllMoments mid new (SameLog w)) same run.untouched none);
-  leaves = subst (λ (w : World). status ≡ Done → (shape : Shape) (pairs : Pairs) (start : IsStart (wanted_in w) w shape pairs) → IsLeft (wanted_in w) start.holds.frames (2 ^ 23) new.world shape (after_all shape (script_of w.input) pairs)) same run.leaves;
+  leaves = subst (λ (w : World). status ≡ Done → (shape : Shape) (pairs : Pairs) (start : IsStart (wanted_in w) w shape pairs) → IsLeft (wanted_in w) start.holds.frames w new.world shape pairs) same run.leaves;
   configured = subst (λ (w : World). ConfigurationIs status w new.world lines order) same run.configured;
   damaged = λ is. subst (λ (w : World). IsDamaged w new.world lines order) same (run.damaged is);
   long = λ is. subst (λ (w : World). PassesLimit w.input) same (run.long is);

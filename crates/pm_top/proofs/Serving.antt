@@ -1,5 +1,5 @@
 -- How a run over a script goes on batch after batch, and how it ends.
-use Rattle.std.proofs.Common.{◌≡◌, inl, inr, ℕ, ◌+◌, ◌≤◌, ◌^◌, List, [], ◌∷◌, ◌++◌, length, refl, ap, sym, ◌∙◌, subst, arith, append-nil, length-append}
+use Rattle.std.proofs.Common.{◌≡◌, inl, inr, ℕ, ◌+◌, ◌≤◌, ◌^◌, List, [], ◌∷◌, ◌++◌, length, take, refl, ap, sym, ◌∙◌, subst, arith, append-nil, length-append}
 use Rattle.pm_types.specs.declared.limits.TheConstants.{SCRIPT_BYTES_MAX, LINES_MAX}
 use Rattle.pm_types.specs.declared.shape.Shape.{Shape}
 use Rattle.pm_disk.specs.Worlds.{World}
@@ -8,9 +8,15 @@ use Rattle.pm_disk.proofs.Chain.{weaker}
 use Rattle.pm_model.specs.declared.line.Line.{Line}
 use Rattle.pm_model.specs.Eval.{Pairs, after_all}
 use Rattle.pm_script.specs.Reading.{Unread}
-use Rattle.pm_records.specs.LogFiles.{ChangesLog}
+use Rattle.pm_records.specs.LogFiles.{ChangesLog, LogGrowsBy}
+use Rattle.pm_records.proofs.Growing.{grows_twice}
+use Rattle.pm_engine.specs.Records.{logged}
+use Rattle.pm_engine.proofs.Batching.{logged-append}
+use Rattle.pm_engine.proofs.DoneLines.{rest_grows}
+use Rattle.std.proofs.lemmas.List.{take_at}
+use Rattle.pm_top.proofs.Orders.{take_none}
 use Rattle.pm_engine.specs.Held.{CrashHoldsPrefix}
-use Rattle.pm_engine.specs.Engines.{Running, IsAtRestWithin, HasSegments}
+use Rattle.pm_engine.specs.Engines.{Running, IsAtRest, IsAtRestWithin, HasSegments}
 use Rattle.pm_top.specs.declared.batch.Continuation.{Continuation}
 use Rattle.pm_top.specs.declared.batch.Continuation.TheVariants as then_comes
 use Rattle.pm_top.specs.declared.run.Run.{Run}
@@ -22,7 +28,7 @@ use Rattle.pm_top.specs.Served.{script_of}
 use Rattle.pm_top.proofs.AnsweredLines.{both}
 use Rattle.pm_top.proofs.TakenLines.{after_lines-add}
 use Rattle.pm_top.proofs.Lasting.{keeps_rest}
-use Rattle.pm_top.proofs.Progressing.{stopped}
+use Rattle.pm_top.proofs.Progressing.{done_is, stopped, take_more}
 
 -- ---- what a batch leaves to be read
 
@@ -82,6 +88,35 @@ module _ (continuation : Continuation) {old new : Unread} {rest now_rest : List 
         | inr past ↦ inr (omega (arith, past, left_bytes bytes, long))
       ])
 
+-- ---- what a batch logs
+
+-- the engine is at rest after a batch
+pub batch_stands : (continuation : Continuation) {old new : Unread} {rest now_rest : List ℕ} {world now : World} {before later : Run} → BatchIsAnswered continuation old new rest now_rest world now before later → (wanted : Shape) → IsAtRest wanted before.engine world → HasSegments before.engine 2048 → IsAtRestAfter wanted before later now
+batch_stands continuation answered wanted stands segments =
+    let since = answered.stands wanted stands segments in
+    record { stands = since.stands; rises = omega (arith, since.rises, answered.count) }
+
+-- the records of a batch stand after those of the lines before it
+pub batch_logs : (continuation : Continuation) {old new : Unread} {rest now_rest : List ℕ} {world now : World} {before later : Run} → BatchIsAnswered continuation old new rest now_rest world now before later → (wanted : Shape) → IsAtRest wanted before.engine world → HasSegments before.engine 2048
+    → (opened start : World) (shape : Shape) (pairs : Pairs) → Progress start world (script_of rest) shape pairs before → LogGrowsBy opened world (logged shape (take before.lines (script_of start.input)) pairs) → LogGrowsBy opened now (logged shape (take later.lines (script_of start.input)) pairs)
+batch_logs continuation {world = world} {now = now} {before = before} {later = later} answered wanted stands segments opened start shape pairs progress so_far =
+    let script = script_of start.input in
+    let lines = answered.lines in
+    let since = answered.stands wanted stands segments in
+    let all_are : take later.lines script ≡ progress.done ++ lines =
+    ap (λ n. take n script) answered.count ∙ take_more progress (length lines)
+    ∙ ap (λ l. progress.done ++ take (length lines) l) answered.taken.script
+    ∙ ap (λ l. progress.done ++ l) (take_at lines (script_of answered.left) (length lines) refl) in
+    let frames : logged shape (take before.lines script) pairs ++ logged before.engine.shape lines before.engine.map ≡ logged shape (take later.lines script) pairs =
+    (λ i. logged shape (done_is progress i) pairs ++ logged (progress.shape_is i) lines (progress.map i))
+    ∙ sym (logged-append shape progress.done lines pairs) ∙ ap (λ ls. logged shape ls pairs) (sym all_are) in
+    subst (LogGrowsBy opened now) frames (grows_twice opened world now (logged shape (take before.lines script) pairs) (logged before.engine.shape lines before.engine.map) so_far since.grows)
+
+-- before the first batch
+pub none_logged : (wanted : Shape) (run : Run) (opened start : World) → run.lines ≡ 0 → IsAtRest wanted run.engine opened → LogGrowsBy opened opened (logged run.engine.shape (take run.lines (script_of start.input)) run.engine.map)
+none_logged wanted run opened start none stands =
+    subst (LogGrowsBy opened opened) (ap (λ ls. logged run.engine.shape ls run.engine.map) (sym (ap (λ n. take n (script_of start.input)) none ∙ take_none (script_of start.input)))) (rest_grows wanted run.engine.map [] run.engine opened stands)
+
 -- ---- the end
 
 -- the log was forced
@@ -98,13 +133,18 @@ closed progress later new lines same said = record {
 }
 
 -- what is left when the script is done
-pub leaves : (wanted : Shape) {start now : World} {shape : Shape} {pairs : Pairs} (before run later : Run) (mid new : World) → Progress start now [] shape pairs later → IsAtRestAfter wanted before run mid → later.lines ≡ run.lines → IsAtRestWithin wanted 0 run.engine later.engine new
-    → LeavesRun wanted start shape pairs before later new
-leaves wanted {start = start} {shape = shape} {pairs = pairs} before run later mid new progress over lines on = record {
+pub leaves : (wanted : Shape) {start now : World} {shape : Shape} {pairs : Pairs} (before run later : Run) (opened mid new : World) → Progress start now [] shape pairs later → IsAtRestAfter wanted before run mid → later.lines ≡ run.lines → IsAtRestWithin wanted 0 run.engine later.engine new
+    → LogGrowsBy opened mid (logged shape (take run.lines (script_of start.input)) pairs) → LogGrowsBy mid new [] → LeavesRun wanted start opened shape pairs before later new
+leaves wanted {start = start} {shape = shape} {pairs = pairs} before run later opened mid new progress over lines on grown closing = record {
   over = record { stands = on.stands; rises = omega (arith, over.rises, on.rises, lines) };
   lasting = on.lasting;
   shape_is = progress.shape_is;
   map = progress.map ∙ ap (λ ls. after_all shape ls pairs) (sym (progress.script ∙ append-nil progress.done));
+  grows =
+      let script = script_of start.input in
+      let all : take run.lines script ≡ script = ap (λ n. take n script) (sym lines) ∙ done_is progress ∙ sym (progress.script ∙ append-nil progress.done) in
+      subst (LogGrowsBy opened new) (append-nil (logged shape (take run.lines script) pairs) ∙ ap (λ ls. logged shape ls pairs) all)
+      (grows_twice opened mid new (logged shape (take run.lines script) pairs) [] grown closing);
 }
 
 -- while the log is forced at the end

@@ -1,5 +1,5 @@
 -- What a run promises.
-use Rattle.std.specs.Prelude.{◌≡◌, ◌⊎◌, None, Some, ℕ, ◌+◌, ◌-◌, ◌≤◌, ◌^◌, List, [], ◌++◌, take, drop, length, codes, decimal}
+use Rattle.std.specs.Prelude.{◌≡◌, ◌⊎◌, None, Some, ℕ, ◌+◌, ◌-◌, ◌≤◌, ◌^◌, List, [], ◌∷◌, ◌++◌, take, drop, length, codes, decimal}
 use Rattle.pm_types.specs.declared.limits.TheConstants.{BATCH_LINES_MAX}
 use Rattle.pm_types.specs.declared.fault.Field.{Field}
 use Rattle.pm_types.specs.declared.place.Place.{Place}
@@ -12,8 +12,10 @@ use Rattle.pm_frame.specs.Frames.{Frame}
 use Rattle.pm_model.specs.declared.reply.Reply.{Reply}
 use Rattle.pm_model.specs.Eval.{Pairs, replies_to, after_all, accepted}
 use Rattle.pm_script.specs.Texts.{texts_of}
-use Rattle.pm_records.specs.Logs.{place}
-use Rattle.pm_records.specs.Logs.{after_frames}
+use Rattle.pm_records.specs.FirstRecords.{restart_frame}
+use Rattle.pm_records.specs.LogFiles.{LogGrowsBy}
+use Rattle.pm_records.specs.Logs.{after_frames, place}
+use Rattle.pm_engine.specs.Records.{logged}
 use Rattle.pm_engine.specs.Held.{Holds, HasNumbers}
 use Rattle.pm_engine.specs.Openings.{IsBadRecord, LogHolds, LogHoldsNothing}
 use Rattle.pm_top.specs.Configurations.{config_fault, fault_config, wanted_in}
@@ -106,11 +108,13 @@ abbrev pub StopIs : Stop → World → World → Shape → Pairs → ℕ → Lis
 StopIs stop.Done old new shape pairs lines order = IsDone old new shape pairs lines order
 StopIs stop.Limit old new shape pairs lines order = IsStopped old new shape pairs lines order []
 
--- The store is sound and holds this map, and nothing is pending. Its log has so many segments more at most.
-pub record IsLeft (wanted : Shape) (frames : List Frame) (more : ℕ) (new : World) (shape : Shape) (pairs : Pairs) : Type 0 where
-  pub holds : Holds wanted new shape pairs
+-- A run leaves a store that is sound and holds the map after its script, and of which nothing is pending. The log has the frames that
+-- it had, a RESTART and one record for each accepted line, in order, besides SEALs, in at most 2^23 segments more.
+pub record IsLeft (wanted : Shape) (frames : List Frame) (old new : World) (shape : Shape) (pairs : Pairs) : Type 0 where
+  pub holds : Holds wanted new shape (after_all shape (script_of old.input) pairs)
   pub quiet : NothingPending new
-  pub rises : (after_frames (place 1 0) holds.frames).seg ≤ (after_frames (place 1 0) frames).seg + more
+  pub grows : LogGrowsBy old new (restart_frame shape ∷ logged shape (script_of old.input) pairs)
+  pub rises : (after_frames (place 1 0) holds.frames).seg ≤ (after_frames (place 1 0) frames).seg + 2 ^ 23
 
 -- A run may begin: the store is sound and holds this map, its log has numbers for more segments, and nothing is pending.
 pub record IsStart (wanted : Shape) (world : World) (shape : Shape) (pairs : Pairs) : Type 0 where
@@ -190,7 +194,7 @@ pub record RunHolds (old new : History) (status : Status) (lines : ℕ) (order :
   pub untouched : ((shape : Shape) (pairs : Pairs) → CanOpen old.world shape pairs → ⊥) → AllMoments old new (SameLog old.world)
   -- a script that is done leaves a sound store for the next run
   pub leaves : status ≡ Done → (shape : Shape) (pairs : Pairs) (start : IsStart (wanted_in old.world) old.world shape pairs)
-      → IsLeft (wanted_in old.world) start.holds.frames (2 ^ 23) new.world shape (after_all shape (script_of old.world.input) pairs)
+      → IsLeft (wanted_in old.world) start.holds.frames old.world new.world shape pairs
   -- a field that is refused is named so, and a bad record too: the store is left as it is
   pub configured : ConfigurationIs status old.world new.world lines order
   pub damaged : status ≡ Damaged → IsDamaged old.world new.world lines order

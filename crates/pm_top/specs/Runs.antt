@@ -14,6 +14,8 @@ use Rattle.pm_segments.specs.Ends.{LogEnd, EndsThere}
 use Rattle.pm_records.specs.Logs.{place}
 use Rattle.pm_records.specs.Logs.{after_frames}
 use Rattle.pm_engine.specs.Engines.{Running, IsAtRest, HasSegments}
+use Rattle.pm_records.specs.LogFiles.{LogGrowsBy}
+use Rattle.pm_engine.specs.Records.{logged}
 use Rattle.pm_engine.specs.Held.{Holds}
 use Rattle.pm_top.specs.declared.batch.Continuation.{Continuation}
 use Rattle.pm_top.specs.declared.batch.Continuation.TheVariants as then_comes
@@ -78,10 +80,12 @@ pub record IsOpenAfter {T : Type 0} (old new : History) (log : LogEnd) (input : 
   pub end : OnOk result (EndsThere log new.world)
   pub input_end : OnOk result (KnowsEnd input new.world)
 
--- The engine of a run stands, its log in the same segment as an earlier one's or in the next so many.
-pub record IsAtRestSince (wanted : Shape) (before now : Run) (count : ℕ) (world : World) : Type 0 where
-  pub stands : IsAtRest wanted now.engine world
-  pub rises : now.engine.log.end.seg ≤ before.engine.log.end.seg + count
+-- The engine of a run is at rest after these lines: it has the map that they leave, and its log a record for each accepted one.
+pub record IsAtRestSince (wanted : Shape) (before now : Run) (lines : List Line) (old new : World) : Type 0 where
+  pub stands : IsAtRest wanted now.engine new
+  pub rises : now.engine.log.end.seg ≤ before.engine.log.end.seg + length lines
+  pub map : now.engine.map ≡ after_all before.engine.shape lines before.engine.map
+  pub grows : LogGrowsBy old new (logged before.engine.shape lines before.engine.map)
 
 -- A run over a whole script may begin: the engine stands, and there are numbers for as many segments as it may need.
 pub record CanRun (wanted : Shape) (engine : Running) (world : World) : Type 0 where
@@ -97,22 +101,26 @@ pub record BatchIsAnswered (continuation : Continuation) (old new : Unread) (res
   pub count : later.lines ≡ before.lines + length lines
   pub continues : ContinuationIs continuation at new left now_rest
   pub progress : (start : World) (shape : Shape) (pairs : Pairs) → Progress start world (script_of rest) shape pairs before → Progress start now (script_of left) shape pairs later
+  pub stands : (wanted : Shape) → IsAtRest wanted before.engine world → HasSegments before.engine 2048 → IsAtRestSince wanted before later lines world now
 
 -- the engine of a run stands, its log by at most as many segments further as lines were done
 pub record IsAtRestAfter (wanted : Shape) (before later : Run) (world : World) : Type 0 where
   pub stands : IsAtRest wanted later.engine world
   pub rises : later.engine.log.end.seg + before.lines ≤ before.engine.log.end.seg + later.lines
 
--- The script is done: the engine has the map that its lines leave, and nothing of its log is pending.
-pub record LeavesRun (wanted : Shape) (start : World) (shape : Shape) (pairs : Pairs) (before later : Run) (world : World) : Type 0 where
+-- The script is done: the engine has the map that its lines leave, nothing of its log is pending, and since it was opened its log
+-- has one record more for each accepted line.
+pub record LeavesRun (wanted : Shape) (start opened : World) (shape : Shape) (pairs : Pairs) (before later : Run) (world : World) : Type 0 where
   pub over : IsAtRestAfter wanted before later world
   pub lasting : (seg : ℕ) → (world.log seg).since ≡ []
   pub shape_is : later.engine.shape ≡ shape
   pub map : later.engine.map ≡ after_all shape (script_of start.input) pairs
+  pub grows : LogGrowsBy opened world (logged shape (script_of start.input) pairs)
 
--- A script is done whole over an engine's store: this is sound, holds the map that the lines leave, and nothing of its log is
--- pending.
-pub record LeavesStore (wanted : Shape) (start world : World) (engine : Running) : Type 0 where
+-- A script is done whole over an engine's store: this is sound, holds the map that the lines leave, nothing of its log is
+-- pending, and since it was opened its log has one record more for each accepted line.
+pub record LeavesStore (wanted : Shape) (start opened world : World) (engine : Running) : Type 0 where
   pub holds : Holds wanted world engine.shape (after_all engine.shape (script_of start.input) engine.map)
   pub lasting : (seg : ℕ) → (world.log seg).since ≡ []
   pub rises : (after_frames (place 1 0) holds.frames).seg ≤ engine.log.end.seg + LINES_MAX
+  pub grows : LogGrowsBy opened world (logged engine.shape (script_of start.input) engine.map)

@@ -190,7 +190,7 @@ fn answer_script<H: Host>(alloc: Global, host: &mut H, engine: Engine) -> Outcom
     ensures leaves { H.tells → result.status ≡ Status.Done → (wanted : Shape) (start : World) →
         SameConsole start (H.history host.old).world →
         CanRun wanted engine (H.history host.old).world →
-        LeavesStore wanted start (H.history host.new).world engine }
+        LeavesStore wanted start (H.history host.old).world (H.history host.new).world engine }
     ensures cause { HasScriptCause result.status (H.state host.old) (H.state host.new) }
 {
     let mut run = Run::new(alloc, engine);

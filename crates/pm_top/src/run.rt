@@ -1,11 +1,11 @@
 //! A run over a script, a batch at a time.
 
-ghost use Rattle.pm_disk.specs.States.{IsUsable};
+ghost use Rattle.pm_disk.specs.States.{HasCause, IsUsable};
 ghost use Rattle.std.specs.Prelude.{◌≡◌, ◌≤◌, ◌<◌, ◌+◌, ◌^◌, ℕ, List, [], ◌++◌, length, IfOk, OnOk, OnErr, IsErrOf};
 ghost use Rattle.std.specs.List.{All};
 ghost use Rattle.pm_types.specs.declared.limits.TheConstants.{LINES_MAX as most_lines, BATCH_LINES_MAX as most_batch};
 ghost use Rattle.pm_types.specs.declared.shape.Shape.{Shape};
-ghost use Rattle.pm_disk.specs.Moments.{AllMoments};
+ghost use Rattle.pm_disk.specs.Moments.{AllMoments, Says};
 ghost use Rattle.pm_disk.specs.Worlds.{World};
 ghost use Rattle.pm_model.specs.declared.line.Line.{Line};
 ghost use Rattle.pm_model.specs.Batches.{HasCache};
@@ -14,14 +14,14 @@ ghost use Rattle.pm_script.specs.Reading.{rest_of, KnowsEnd};
 ghost use Rattle.pm_script.specs.Texts.{texts_of};
 ghost use Rattle.pm_segments.specs.Ends.{EndsThere};
 ghost use Rattle.pm_engine.specs.Batches.{HasPlainFault};
-ghost use Rattle.pm_engine.specs.Engines.{IsAtRest, HasSegments};
+ghost use Rattle.pm_engine.specs.Engines.{IsAtRest, HasSegments, LastIsForced};
 ghost use Rattle.pm_top.specs.Crashes.{CrashHoldsAcknowledged};
 ghost use Rattle.pm_top.specs.Promises.{HasFailed, HasNoMemory, StopIs};
-ghost use Rattle.pm_top.specs.Runs.{CanRun, Progress, SameConsole, SameFiles, OnlyAnswers, KeepsRun, CountsBatch, IsOpenAfter, LinesAreAnswered, FaultIs, IsAtRestSince, IsAtRestAfter, BatchIsAnswered, LeavesRun};
+ghost use Rattle.pm_top.specs.Runs.{CanRun, Progress, SameConsole, SameFiles, OnlyAnswers, KeepsRun, CountsBatch, IsOpenAfter, LinesAreAnswered, FaultIs, IsAtRestSince, BatchIsAnswered, LeavesRun};
 ghost use Rattle.pm_top.specs.Served.{script_of};
 
 use crate::batch::{Continuation, next_batch};
-use pm_disk::Host;
+use pm_disk::{Failed, Host};
 use pm_engine::Engine;
 use pm_model::{Line, Reply};
 use pm_script::{Lines, print_reply};
@@ -85,7 +85,7 @@ impl Run {
             self.old.engine.shape self.old.engine.map self.new.engine.order) }
         ensures leaves { H.tells → (wanted : Shape) (start : World) → SameConsole start (H.history host.old).world →
             CanRun wanted self.old.engine (H.history host.old).world →
-            IfOk result (λ stop. stop ≡ Stop.Done → LeavesRun wanted start
+            IfOk result (λ stop. stop ≡ Stop.Done → LeavesRun wanted start (H.history host.old).world
             self.old.engine.shape self.old.engine.map self.old self.new (H.history host.new).world) }
         ensures cause { HasPlainFault (H.state host.old) (H.state host.new) result }
     {
@@ -130,9 +130,6 @@ impl Run {
             FaultIs start (H.history host.new).world shape pairs self.new result }
 
         // What a crash leaves.
-        ensures stands { H.tells → (wanted : Shape) → IsAtRest wanted self.old.engine (H.history host.old).world →
-            HasSegments self.old.engine 2048 →
-            OnOk result (IsAtRestAfter wanted self.old self.new (H.history host.new).world) }
         ensures moments { H.tells → (wanted : Shape) (start : World) (shape : Shape) (pairs : Pairs) →
             Progress start (H.history host.old).world
             (script_of (rest_of input.old (H.history host.old).world)) shape pairs self.old →
@@ -174,7 +171,8 @@ impl Run {
         // What a crash leaves.
         ensures stands { H.tells → (wanted : Shape) → IsAtRest wanted self.old.engine (H.history host.old).world →
             HasSegments self.old.engine (length lines.now) → OnOk result
-            (IsAtRestSince wanted self.old self.new (length lines.now) (H.history host.new).world) }
+            (IsAtRestSince wanted self.old self.new lines.now (H.history host.old).world
+            (H.history host.new).world) }
         ensures moments { H.tells → (wanted : Shape) (start : World) (left : List Line) (shape : Shape) (pairs : Pairs) →
             Progress start (H.history host.old).world (lines.now ++ left) shape pairs self.old →
             IsAtRest wanted self.old.engine (H.history host.old).world →
@@ -190,10 +188,20 @@ impl Run {
         self.engine
             .batch(alloc, host, lines, self.lines as u32 + 1, &mut replies)?;
         write_replies(&replies, &mut self.text)?;
-        host.print(&self.text)?;
+        print_replies(&self.engine, host, &self.text)?;
         self.lines += lines.len() as u64;
         Ok(())
     }
+}
+
+// Prints the texts of replies, once the segment in which the engine's log ends is forced.
+fn print_replies<H: Host>(engine: &Engine, host: &mut H, text: &[u8]) -> Result<(), Failed>
+    requires forced { H.tells → LastIsForced engine.now.log (H.history host.old).world }
+    ensures says { H.tells →
+        Says (H.history host.old) (H.history host.new) result text.now }
+    ensures cause { HasCause (H.state host.old) (H.state host.new) result }
+{
+    host.print(text)
 }
 
 // Writes the texts of replies in place of the bytes.

@@ -82,12 +82,12 @@ returns-clause-leaves g c t is wanted start same can =
     let mid = (g.H.Device.history c.serve.new.host).world in
     let new = (g.H.Device.history c.match-serve.host).world in
     let can_here : CanRun wanted engine old.world = subst (λ (e : Running). CanRun wanted e old.world) (sym c.new-run.ensures.engine) can in
-    let left : LeavesStore wanted start new engine = elim c.match-serve.branch [
+    let left : LeavesStore wanted start old.world new engine = elim c.match-serve.branch [
       | in-Ok-Done w ↦
           let done : IsDone start mid engine.shape engine.map lines order = subst (λ s. StopIs s start mid engine.shape engine.map lines order) w.in-Ok-Done.field-0-is (w.in-Ok-Done.ensures.stop t start same) in
           let few : lines ≤ LINES_MAX = omega (arith, done.all, done.limits.lines, length-map (lines_of start.input) line_of) in
-          subst (λ h. LeavesStore wanted start (g.H.Device.history h).world engine) (sym w.host-is)
-          (leaves_store wanted start mid run later c.new-run.ensures.lines few (w.in-Ok-Done.ensures.leaves t wanted start same can_here w.in-Ok-Done.field-0-is))
+          subst (λ h. LeavesStore wanted start old.world (g.H.Device.history h).world engine) (sym w.host-is)
+          (leaves_store wanted start old.world mid run later c.new-run.ensures.lines few (w.in-Ok-Done.ensures.leaves t wanted start same can_here w.in-Ok-Done.field-0-is))
       | in-Ok-Limit w ↦ absurd (elim w.print_limit_fault-status.ensures.cases [
         | inl long ↦ (let clash : 0 ≡ 6 = ap code_of (sym is ∙ w.status-is ∙ long) in omega (arith, clash))
         | inr failed ↦ (let clash : 0 ≡ 3 = ap code_of (sym is ∙ w.status-is ∙ failed) in omega (arith, clash))
@@ -95,7 +95,7 @@ returns-clause-leaves g c t is wanted start same can =
       | in-Err-Failed w ↦ absurd (let clash : 0 ≡ 3 = ap code_of (sym is ∙ w.status-is) in omega (arith, clash))
       | in-Err-Memory w ↦ absurd (let clash : 0 ≡ 4 = ap code_of (sym is ∙ w.status-is) in omega (arith, clash))
     ] in
-    subst (λ (e : Running). LeavesStore wanted start new e) c.new-run.ensures.engine left
+    subst (λ (e : Running). LeavesStore wanted start old.world new e) c.new-run.ensures.engine left
 
 pub returns-clause-files : goal.returns-clause-files
 returns-clause-files g c t =

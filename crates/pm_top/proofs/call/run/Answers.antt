@@ -43,12 +43,12 @@ returns-in-Ok-clause-run g c t =
           subst (λ (x : Shape × Pairs). OutcomeIs outcome.status old.world new.world x.0 x.1 outcome.lines outcome.order.items) (λ i. (maps.0 i, maps.1 i)) answered;
       opened = was_opened outcome.status old.world engine.shape engine.map can;
       untouched = λ none. absurd (none engine.shape engine.map can);
-      leaves = λ is. subst (λ (s : Shape). (shape : Shape) (pairs : Pairs) (start : IsStart s old.world shape pairs) → IsLeft s start.holds.frames (2 ^ 23) new.world shape (after_all shape (script_of old.world.input) pairs)) (sym asks.wanted_is)
+      leaves = λ is. subst (λ (s : Shape). (shape : Shape) (pairs : Pairs) (start : IsStart s old.world shape pairs) → IsLeft s start.holds.frames old.world new.world shape pairs) (sym asks.wanted_is)
           (λ shape pairs start.
           let stands = c.in-Ok.ensures.at_rest t shape pairs start.holds start.numbers start.quiet in
           let runs : CanRun wanted engine mid.world = record { stands = stands.at_rest; segments = omega (arith, stands.rises, start.numbers) } in
           let maps = opens_map wanted old.world mid.world engine shape pairs opens (sound_holds wanted old.world shape pairs start.holds) in
-          is_left wanted start.holds.frames old.world mid.world new.world engine shape pairs maps stands.rises start.quiet (at_last old mid (SameFiles old.world) (g.H.Device.sound c.open_store.new.host t) (log_calls old mid (c.open_store.ensures.log_only t))) (at_last mid new (SameFiles mid.world) (g.H.Device.sound c.answer_script.new.host t) (c.answer_script.ensures.files t))
+          is_left wanted start.holds.frames old.world mid.world new.world engine shape pairs maps stands start.quiet (at_last old mid (SameFiles old.world) (g.H.Device.sound c.open_store.new.host t) (log_calls old mid (c.open_store.ensures.log_only t))) (at_last mid new (SameFiles mid.world) (g.H.Device.sound c.answer_script.new.host t) (c.answer_script.ensures.files t))
           (c.answer_script.ensures.leaves t is wanted old.world (same_console old.world mid.world only) runs));
       configured = was_configured outcome.status old.world new.world outcome.lines outcome.order.items can.configured c.answer_script.ensures.cause.configured;
       damaged = λ is. absurd (c.answer_script.ensures.cause.sound is);

@@ -1,9 +1,9 @@
 use Rattle.std.proofs.Common.{◌+◌, ◌++◌, [], length, Ok, refl, sym, subst, arith, append-nil}
 use Rattle.pm_types.specs.declared.fault.StoreFault.{StoreFault}
 use Rattle.pm_engine.specs.Batches.{RunsLines}
-use Rattle.pm_engine.specs.Engines.{HasDoneWithin, IsAtRestWithin}
+use Rattle.pm_engine.specs.Engines.{HasDoneWithin, IsAtRestWithin, LastIsForced, Running}
 use Rattle.pm_engine.proofs.Batching.{DoneAfter, runs_more}
-use Rattle.pm_engine.proofs.Forcing.{forced_at_rest, forced_runs}
+use Rattle.pm_engine.proofs.Forcing.{forced_at_rest, forced_last, forced_runs}
 use Rattle.pm_engine.proofs.Results.{on_err, ok_holds}
 use Rattle.pm_engine.proofs.engine.Engine.batch.Goals as goal
 
@@ -57,3 +57,11 @@ returns-clause-at_rest g c t wanted rest segments =
     let forced = ok_holds c.force.result _ (IsAtRestWithin wanted 0 engine engine new.world) c.in_ok-force.was (forced_at_rest mid new engine c.force.result (c.force.ensures.does t) wanted start.map lines done.0) in
     let its : IsAtRestWithin wanted (length lines) start engine new.world = record { stands = forced.stands; rises = omega (arith, forced.rises, done.1); lasting = forced.lasting } in
     subst (λ x. IsAtRestWithin wanted (length lines) start x new.world) (sym c.force.ensures.same) its
+
+pub returns-clause-forced : goal.returns-clause-forced
+returns-clause-forced g c t =
+    let mid = g.H.Device.history c.run_lines.new.host in
+    let new = g.H.Device.history c.force.new.host in
+    let engine = c.run_lines.new.engine in
+    subst (λ (x : Running). LastIsForced x.log new.world) (sym c.force.ensures.same)
+    (ok_holds c.force.result _ (LastIsForced engine.log new.world) c.in_ok-force.was (forced_last mid new engine c.force.result (c.force.ensures.does t)))

@@ -5,13 +5,13 @@ use Rattle.pm_disk.proofs.Chain.{at_last}
 use Rattle.pm_model.specs.declared.line.Line.{Line}
 use Rattle.pm_script.specs.Reading.{rest_of, OnlyTakes}
 use Rattle.pm_engine.specs.Engines.{HasSegments}
-use Rattle.pm_top.specs.Runs.{Progress, OnlyAnswers}
+use Rattle.pm_top.specs.Runs.{IsAtRestSince, Progress, OnlyAnswers}
 use Rattle.pm_top.specs.Scripts.{ContinuationIs}
 use Rattle.pm_top.specs.Served.{script_of}
 use Rattle.pm_top.proofs.AnsweredLines.{taken_stands}
 use Rattle.pm_top.proofs.KeptFiles.{answer_calls, take_calls, then_calls}
 use Rattle.pm_top.proofs.Progressing.{failed_still, memory_still, progress_still}
-use Rattle.pm_top.proofs.AnsweredBatch.{keeps_both, taken_said, taken_moments, then_moments, stands_then}
+use Rattle.pm_top.proofs.AnsweredBatch.{keeps_both, taken_said, taken_moments, then_moments, since_both, since_taken}
 use Rattle.pm_top.proofs.run.Run.answer_batch.Goals as goal
 
 pub returns-in_err-batch-clause-keeps : goal.returns-in_err-batch-clause-keeps
@@ -156,6 +156,18 @@ returns-clause-answered g c t =
           let second : Progress start done.world (c.deref-2.result.now ++ left) shape pairs c.answer_lines.new.self =
           subst (λ ls. Progress start done.world (ls ++ left) shape pairs c.answer_lines.new.self) (sym c.deref-2.ensures.value) (c.in_ok-answer_lines.ensures.answered t start (batch.alone.items ++ left) shape pairs first).done in
           (c.in_ok-answer_lines-2.ensures.answered t start left shape pairs second).done;
+      stands = λ wanted stands segments.
+          let lines_few : length c.deref.result.now ≤ 1024 = omega (arith, c.in_ok-batch.ensures.batch.few, one) in
+          let stands_taken = taken_stands wanted c.args.self.now.engine old.world mid.world takes stands in
+          let first_room : HasSegments c.args.self.now.engine (length c.deref.result.now) = omega (arith, lines_few, segments) in
+          let done = (g.H.Device.history c.answer_lines.new.host).world in
+          let new = (g.H.Device.history c.answer_lines-2.new.host).world in
+          let since = c.in_ok-answer_lines.ensures.stands t wanted stands_taken first_room in
+          let second_room : HasSegments c.answer_lines.new.self.engine (length c.deref-2.result.now) = omega (arith, c.in_ok-batch.ensures.batch.one, two, lines_few, segments, since.rises) in
+          let more = c.in_ok-answer_lines-2.ensures.stands t wanted since.stands second_room in
+          subst (λ (x : List Line × List Line). IsAtRestSince wanted c.args.self.now c.answer_lines-2.new.self (x.0 ++ x.1) old.world new) (λ i. (c.deref.ensures.value i, c.deref-2.ensures.value i))
+          (since_both wanted c.args.self.now c.answer_lines.new.self c.answer_lines-2.new.self c.deref.result.now c.deref-2.result.now old.world done new c.answer_lines.ensures.keeps.shape
+          (since_taken wanted c.args.self.now c.answer_lines.new.self c.deref.result.now old.world mid.world done takes since) more);
     }
 
 pub returns-clause-fault : goal.returns-clause-fault
@@ -202,20 +214,6 @@ returns-clause-moments g c t wanted start shape pairs progress stands segments =
     let two : HasSegments c.answer_lines.new.self.engine (length c.deref-2.result.now) = omega (arith, alone_few, lines_few, segments, since.rises) in
     then_moments wanted start shape pairs old done (g.H.Device.history c.answer_lines-2.new.host) c.answer_lines.new.self.engine.order c.answer_lines-2.ensures.keeps.more c.answer_lines-2.new.self.engine.order c.answer_lines-2.ensures.keeps.order
     so_far (c.answer_lines-2.ensures.moments t wanted start left shape pairs second since.stands two)
-
-pub returns-clause-stands : goal.returns-clause-stands
-returns-clause-stands g c t wanted stands segments =
-    let old = g.H.Device.history c.args.host.now in
-    let mid = g.H.Device.history c.next_batch.new.host in
-    let takes = at_last old mid (OnlyTakes old.world) (g.H.Device.sound c.next_batch.new.host t) (c.next_batch.ensures.takes t) in
-    let lines_few : length c.deref.result.now ≤ 1024 = omega (arith, c.in_ok-batch.ensures.batch.few, ap (λ (l : List Line). length l) c.deref.ensures.value) in
-    let stands_taken = taken_stands wanted c.args.self.now.engine old.world mid.world takes stands in
-    let one : HasSegments c.args.self.now.engine (length c.deref.result.now) = omega (arith, lines_few, segments) in
-    let alone_few : length c.deref-2.result.now ≤ 1 = omega (arith, c.in_ok-batch.ensures.batch.one, ap (λ (l : List Line). length l) c.deref-2.ensures.value) in
-    let since = c.in_ok-answer_lines.ensures.stands t wanted stands_taken one in
-    let two : HasSegments c.answer_lines.new.self.engine (length c.deref-2.result.now) = omega (arith, alone_few, lines_few, segments, since.rises) in
-    stands_then wanted c.args.self.now c.answer_lines.new.self c.answer_lines-2.new.self (length c.deref.result.now) (length c.deref-2.result.now) (g.H.Device.history c.answer_lines-2.new.host).world
-    c.in_ok-answer_lines.ensures.lines c.in_ok-answer_lines-2.ensures.lines since.rises (c.in_ok-answer_lines-2.ensures.stands t wanted since.stands two)
 
 pub returns-clause-counted : goal.returns-clause-counted
 returns-clause-counted g c =

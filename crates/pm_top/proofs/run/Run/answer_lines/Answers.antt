@@ -5,11 +5,12 @@ use Rattle.pm_disk.specs.Worlds.{World}
 use Rattle.pm_disk.proofs.Chain.{at_last}
 use Rattle.pm_model.specs.Eval.{replies_to, accepted}
 use Rattle.pm_script.specs.Texts.{texts_of}
-use Rattle.pm_records.specs.LogFiles.{ChangesLog}
+use Rattle.pm_records.specs.LogFiles.{ChangesLog, LogGrowsBy}
+use Rattle.pm_engine.specs.Records.{logged}
 use Rattle.pm_engine.specs.Engines.{IsAtRest}
 use Rattle.pm_engine.proofs.Results.{ok_holds}
 use Rattle.pm_top.specs.Runs.{Progress}
-use Rattle.pm_top.proofs.AnsweredLines.{said_stands, rest_moments, failed_batch, memory_batch, batch_moments, all_tried, replied_all, saying_moments}
+use Rattle.pm_top.proofs.AnsweredLines.{said_grows, said_stands, since_none, rest_moments, failed_batch, memory_batch, batch_moments, all_tried, replied_all, saying_moments}
 use Rattle.pm_top.proofs.KeptFiles.{no_answers, log_answers, said_answers}
 use Rattle.pm_top.proofs.Progressing.{failed_still, memory_still, failed_saying, progress_more}
 use Rattle.pm_top.proofs.run.Run.answer_lines.Goals as goal
@@ -115,14 +116,14 @@ returns-in_err-write_replies-clause-moments g c t wanted start left shape pairs 
     let only = at_last old mid (ChangesLog old.world) (g.H.Device.sound c.batch.new.host t) (c.batch.ensures.runs.log_only t) in
     batch_moments g.H.Device.tells old mid run later lines c.batch.result tries left progress wanted t (c.batch.ensures.runs.log_only t) stands segments
 
-pub returns-in_err-print-clause-keeps : goal.returns-in_err-print-clause-keeps
-returns-in_err-print-clause-keeps g c =
+pub returns-in_err-print_replies-clause-keeps : goal.returns-in_err-print_replies-clause-keeps
+returns-in_err-print_replies-clause-keeps g c =
     let run = c.args.self.now in
     let tries = c.batch.ensures.runs in
     record { shape = c.batch.ensures.runs.shape; more = accepted run.engine.shape (run.lines + 1) (take tries.tried c.args.lines.now) run.engine.map; order = tries.order }
 
-pub returns-in_err-print-clause-answered : goal.returns-in_err-print-clause-answered
-returns-in_err-print-clause-answered g c t start left shape pairs progress =
+pub returns-in_err-print_replies-clause-answered : goal.returns-in_err-print_replies-clause-answered
+returns-in_err-print_replies-clause-answered g c t start left shape pairs progress =
     let old = g.H.Device.history c.args.host.now in
     let mid = g.H.Device.history c.batch.new.host in
     let run = c.args.self.now in
@@ -132,10 +133,10 @@ returns-in_err-print-clause-answered g c t start left shape pairs progress =
     let only = at_last old mid (ChangesLog old.world) (g.H.Device.sound c.batch.new.host t) (c.batch.ensures.runs.log_only t) in
     let empty : c.in_ok-replies.replies.items ≡ [] = search rules in
     let replies : c.batch.new.replies.items ≡ replies_to run.engine.shape lines run.engine.map = replied_all c.in_ok-replies.replies.items c.batch.new.replies.items run.engine.shape run.engine.map lines c.in_ok-batch.ensures.replied empty in
-    let new = g.H.Device.history c.print.new.self in
+    let new = g.H.Device.history c.print_replies.new.host in
     let all = ok_holds c.batch.result _ (tries.tried ≡ length lines) c.in_ok-batch.was tries.all in
     let text : c.deref-2.result.now ≡ texts_of (replies_to run.engine.shape lines run.engine.map) = c.deref-2.ensures.value ∙ c.in_ok-write_replies.ensures ∙ ap texts_of (c.deref.ensures.value ∙ replies) in
-    let part = (c.print.ensures.says t).part in
+    let part = (c.print_replies.ensures.says t).part in
     record {
       done = search rules;
       fault = record {
@@ -146,8 +147,8 @@ returns-in_err-print-clause-answered g c t start left shape pairs progress =
       };
     }
 
-pub returns-in_err-print-clause-moments : goal.returns-in_err-print-clause-moments
-returns-in_err-print-clause-moments g c t wanted start left shape pairs progress stands segments =
+pub returns-in_err-print_replies-clause-moments : goal.returns-in_err-print_replies-clause-moments
+returns-in_err-print_replies-clause-moments g c t wanted start left shape pairs progress stands segments =
     let old = g.H.Device.history c.args.host.now in
     let mid = g.H.Device.history c.batch.new.host in
     let run = c.args.self.now in
@@ -157,10 +158,10 @@ returns-in_err-print-clause-moments g c t wanted start left shape pairs progress
     let only = at_last old mid (ChangesLog old.world) (g.H.Device.sound c.batch.new.host t) (c.batch.ensures.runs.log_only t) in
     let empty : c.in_ok-replies.replies.items ≡ [] = search rules in
     let replies : c.batch.new.replies.items ≡ replies_to run.engine.shape lines run.engine.map = replied_all c.in_ok-replies.replies.items c.batch.new.replies.items run.engine.shape run.engine.map lines c.in_ok-batch.ensures.replied empty in
-    let new = g.H.Device.history c.print.new.self in
+    let new = g.H.Device.history c.print_replies.new.host in
     let all = ok_holds c.batch.result _ (tries.tried ≡ length lines) c.in_ok-batch.was tries.all in
     let text : c.deref-2.result.now ≡ texts_of (replies_to run.engine.shape lines run.engine.map) = c.deref-2.ensures.value ∙ c.in_ok-write_replies.ensures ∙ ap texts_of (c.deref.ensures.value ∙ replies) in
-    saying_moments g.H.Device.tells old mid run later lines c.batch.result tries left progress wanted new c.print.result c.deref-2.result.now all text (c.print.ensures.says t) only.said c.batch.ensures.runs.shape c.in_ok-batch.ensures.runs.map
+    saying_moments g.H.Device.tells old mid run later lines c.batch.result tries left progress wanted new c.print_replies.result c.deref-2.result.now all text (c.print_replies.ensures.says t) only.said c.batch.ensures.runs.shape c.in_ok-batch.ensures.runs.map
     (c.in_ok-batch.ensures.at_rest t wanted stands segments).stands (batch_moments g.H.Device.tells old mid run later lines c.batch.result tries left progress wanted t (c.batch.ensures.runs.log_only t) stands segments)
 
 pub returns-clause-keeps : goal.returns-clause-keeps
@@ -180,11 +181,11 @@ returns-clause-answered g c t start left shape pairs progress =
     let only = at_last old mid (ChangesLog old.world) (g.H.Device.sound c.batch.new.host t) (c.batch.ensures.runs.log_only t) in
     let empty : c.in_ok-replies.replies.items ≡ [] = search rules in
     let replies : c.batch.new.replies.items ≡ replies_to run.engine.shape lines run.engine.map = replied_all c.in_ok-replies.replies.items c.batch.new.replies.items run.engine.shape run.engine.map lines c.in_ok-batch.ensures.replied empty in
-    let new = g.H.Device.history c.print.new.self in
+    let new = g.H.Device.history c.print_replies.new.host in
     let all = ok_holds c.batch.result _ (tries.tried ≡ length lines) c.in_ok-batch.was tries.all in
     let text : c.deref-2.result.now ≡ texts_of (replies_to run.engine.shape lines run.engine.map) = c.deref-2.ensures.value ∙ c.in_ok-write_replies.ensures ∙ ap texts_of (c.deref.ensures.value ∙ replies) in
     let done = progress_more lines left progress new.world _
-    (ap (λ (w : World). w.said) (c.in_ok-print.ensures.says t).ok ∙ ap (λ (u : List ℕ). u ++ c.deref-2.result.now) only.said ∙ ap (λ x. old.world.said ++ x) text)
+    (ap (λ (w : World). w.said) (c.in_ok-print_replies.ensures.says t).ok ∙ ap (λ (u : List ℕ). u ++ c.deref-2.result.now) only.said ∙ ap (λ x. old.world.said ++ x) text)
     refl c.batch.ensures.runs.shape c.in_ok-batch.ensures.runs.map (all_tried g.H.Device.tells old mid run later lines c.batch.result tries left progress all) in
     record {
       done = done;
@@ -202,21 +203,34 @@ returns-clause-moments g c t wanted start left shape pairs progress stands segme
     let only = at_last old mid (ChangesLog old.world) (g.H.Device.sound c.batch.new.host t) (c.batch.ensures.runs.log_only t) in
     let empty : c.in_ok-replies.replies.items ≡ [] = search rules in
     let replies : c.batch.new.replies.items ≡ replies_to run.engine.shape lines run.engine.map = replied_all c.in_ok-replies.replies.items c.batch.new.replies.items run.engine.shape run.engine.map lines c.in_ok-batch.ensures.replied empty in
-    let new = g.H.Device.history c.print.new.self in
+    let new = g.H.Device.history c.print_replies.new.host in
     let all = ok_holds c.batch.result _ (tries.tried ≡ length lines) c.in_ok-batch.was tries.all in
     let text : c.deref-2.result.now ≡ texts_of (replies_to run.engine.shape lines run.engine.map) = c.deref-2.ensures.value ∙ c.in_ok-write_replies.ensures ∙ ap texts_of (c.deref.ensures.value ∙ replies) in
-    saying_moments g.H.Device.tells old mid run later lines c.batch.result tries left progress wanted new c.print.result c.deref-2.result.now all text (c.print.ensures.says t) only.said c.batch.ensures.runs.shape c.in_ok-batch.ensures.runs.map
+    saying_moments g.H.Device.tells old mid run later lines c.batch.result tries left progress wanted new c.print_replies.result c.deref-2.result.now all text (c.print_replies.ensures.says t) only.said c.batch.ensures.runs.shape c.in_ok-batch.ensures.runs.map
     (c.in_ok-batch.ensures.at_rest t wanted stands segments).stands (batch_moments g.H.Device.tells old mid run later lines c.batch.result tries left progress wanted t (c.batch.ensures.runs.log_only t) stands segments)
 
 pub returns-clause-stands : goal.returns-clause-stands
 returns-clause-stands g c t wanted stands segments =
+    let old = g.H.Device.history c.args.host.now in
     let mid = g.H.Device.history c.batch.new.host in
+    let run = c.args.self.now in
     let later = c.batch.new.self in
+    let lines = c.args.lines.now in
+    let text = c.deref-2.result.now in
     let done = c.in_ok-batch.ensures.at_rest t wanted stands segments in
+    let frames = logged run.engine.shape lines run.engine.map in
+    let grows = ok_holds c.batch.result _ (LogGrowsBy old.world mid.world frames) c.in_ok-batch.was (c.batch.ensures.runs.grows t wanted run.engine.map [] stands segments) in
     record {
-      stands = subst (IsAtRest wanted later) (sym (c.in_ok-print.ensures.says t).ok) (said_stands wanted later mid.world c.deref-2.result.now done.stands);
+      stands = subst (IsAtRest wanted later) (sym (c.in_ok-print_replies.ensures.says t).ok) (said_stands wanted later mid.world text done.stands);
       rises = done.rises;
+      map = c.in_ok-batch.ensures.runs.map;
+      grows = subst (λ w. LogGrowsBy old.world w frames) (sym (c.in_ok-print_replies.ensures.says t).ok) (said_grows old.world mid.world text frames grows);
     }
+
+pub returns-then-is_empty-clause-stands : goal.returns-then-is_empty-clause-stands
+returns-then-is_empty-clause-stands g c t wanted stands segments =
+    let none : c.args.lines.now ≡ [] = nil_from_length c.args.lines.now (eqb-true _ _ (sym c.is_empty.ensures ∙ c.if-is_empty.true)) in
+    since_none wanted c.args.self.now c.args.lines.now (g.H.Device.history c.args.host.now).world none stands
 
 pub returns-then-is_empty-clause-only_answers : goal.returns-then-is_empty-clause-only_answers
 returns-then-is_empty-clause-only_answers g c t =
@@ -234,14 +248,14 @@ pub returns-in_err-write_replies-clause-only_answers : goal.returns-in_err-write
 returns-in_err-write_replies-clause-only_answers g c t =
     log_answers (g.H.Device.history c.args.host.now) (g.H.Device.history c.batch.new.host) (c.batch.ensures.runs.log_only t)
 
-pub returns-in_err-print-clause-only_answers : goal.returns-in_err-print-clause-only_answers
-returns-in_err-print-clause-only_answers g c t =
+pub returns-in_err-print_replies-clause-only_answers : goal.returns-in_err-print_replies-clause-only_answers
+returns-in_err-print_replies-clause-only_answers g c t =
     let old = g.H.Device.history c.args.host.now in
     let mid = g.H.Device.history c.batch.new.host in
-    said_answers old mid (g.H.Device.history c.print.new.self) c.print.result c.deref-2.result.now (g.H.Device.sound c.batch.new.host t) (log_answers old mid (c.batch.ensures.runs.log_only t)) (c.print.ensures.says t)
+    said_answers old mid (g.H.Device.history c.print_replies.new.host) c.print_replies.result c.deref-2.result.now (g.H.Device.sound c.batch.new.host t) (log_answers old mid (c.batch.ensures.runs.log_only t)) (c.print_replies.ensures.says t)
 
 pub returns-clause-only_answers : goal.returns-clause-only_answers
 returns-clause-only_answers g c t =
     let old = g.H.Device.history c.args.host.now in
     let mid = g.H.Device.history c.batch.new.host in
-    said_answers old mid (g.H.Device.history c.print.new.self) c.print.result c.deref-2.result.now (g.H.Device.sound c.batch.new.host t) (log_answers old mid (c.batch.ensures.runs.log_only t)) (c.print.ensures.says t)
+    said_answers old mid (g.H.Device.history c.print_replies.new.host) c.print_replies.result c.deref-2.result.now (g.H.Device.sound c.batch.new.host t) (log_answers old mid (c.batch.ensures.runs.log_only t)) (c.print_replies.ensures.says t)

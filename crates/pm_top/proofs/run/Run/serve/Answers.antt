@@ -14,7 +14,7 @@ use Rattle.pm_top.specs.Served.{script_of}
 use Rattle.pm_top.proofs.AnsweredLines.{rest_moments}
 use Rattle.pm_top.proofs.KeptFiles.{log_calls, no_calls, then_calls}
 use Rattle.pm_top.proofs.Progressing.{begins, finished, failed_still, memory_still}
-use Rattle.pm_top.proofs.Serving.{more_place, more_bytes, more_limit, more_progress, end_none, end_progress, end_limit, over_stopped, closed, leaves, closing_moments, over_then, room_left, append_right}
+use Rattle.pm_top.proofs.Serving.{batch_logs, batch_stands, none_logged, more_place, more_bytes, more_limit, more_progress, end_none, end_progress, end_limit, over_stopped, closed, leaves, closing_moments, over_then, room_left, append_right}
 use Rattle.pm_top.proofs.AnsweredBatch.{then_moments}
 use Rattle.pm_script.proofs.LaterStates.{same_state}
 use Rattle.pm_top.proofs.LaterStates.{plain_later}
@@ -41,6 +41,7 @@ batches-init g c =
       progress = λ t start same. subst (λ (u : Unread). Progress start old.world (script_of (rest_of u old.world)) first.engine.shape first.engine.map first) (sym c.in_ok-input.ensures)
           (subst (λ (i : List ℕ). Progress start old.world (script_of i) first.engine.shape first.engine.map first) (sym same.input) (begins start old.world first same c.requires.lines c.requires.order));
       stands = λ t wanted can. record { stands = can.stands; rises = omega arith };
+      logged = λ t wanted start same can. none_logged wanted first old.world start c.requires.lines can.stands;
       moments = λ t wanted start same can. rest_moments wanted old (begins start old.world first same c.requires.lines c.requires.order) (g.H.Device.sound c.args.host.now t) can.stands;
     }
 
@@ -102,7 +103,11 @@ batches-preserved g c =
       stands = λ t wanted can.
           let over = so_far.stands t wanted can in
           let segments = room_left wanted first c.batches.self before.world c.requires.lines (omega (arith, so_far.counted, so_far.few)) can.segments over in
-          over_then wanted first c.batches.self c.answer_batch.new.self before.world new.world over (c.in_ok-answer_batch.ensures.stands t wanted over.stands segments);
+          over_then wanted first c.batches.self c.answer_batch.new.self before.world new.world over (batch_stands c.in_ok-answer_batch.field-0 (c.in_ok-answer_batch.ensures.answered t) wanted over.stands segments);
+      logged = λ t wanted start same can.
+          let over = so_far.stands t wanted can in
+          let segments = room_left wanted first c.batches.self before.world c.requires.lines (omega (arith, so_far.counted, so_far.few)) can.segments over in
+          batch_logs c.in_ok-answer_batch.field-0 (c.in_ok-answer_batch.ensures.answered t) wanted over.stands segments old.world start first.engine.shape first.engine.map (so_far.progress t start same) (so_far.logged t wanted start same can);
       moments = λ t wanted start same can.
           let over = so_far.stands t wanted can in
           let segments = room_left wanted first c.batches.self before.world c.requires.lines (omega (arith, so_far.counted, so_far.few)) can.segments over in
@@ -124,7 +129,7 @@ returns-in_err-close-in-End-clause-moments g c t wanted start same can =
     let end = g.H.Device.history c.close.new.host in
     let later : Run = record c.answer_batch.new.self { engine = c.close.new.self } in
     let progress = end_progress c.in_ok-answer_batch.field-0 (c.in_ok-answer_batch.ensures.answered t) old.world.input c.in-End.is start first.engine.shape first.engine.map (so_far.progress t start same) in
-    let closing = closing_moments wanted new end progress (c.close.ensures.crash t wanted (c.in_ok-answer_batch.ensures.stands t wanted over.stands segments).stands) (c.close.ensures.log_only t) in
+    let closing = closing_moments wanted new end progress (c.close.ensures.crash t wanted (batch_stands c.in_ok-answer_batch.field-0 (c.in_ok-answer_batch.ensures.answered t) wanted over.stands segments).stands) (c.close.ensures.log_only t) in
     then_moments wanted start first.engine.shape first.engine.map old new end c.answer_batch.new.self.engine.order [] c.close.new.self.order (ap (λ (r : Running). r.order) c.close.ensures.same ∙ sym (append-nil c.answer_batch.new.self.engine.order)) turned
     (subst (λ o. AllMoments new end (CrashHoldsAcknowledged wanted start first.engine.shape first.engine.map o)) (sym (ap (λ (r : Running). r.order) c.close.ensures.same)) closing)
 
@@ -142,7 +147,7 @@ returns-in-End-clause-moments g c t wanted start same can =
     let end = g.H.Device.history c.close.new.host in
     let later : Run = record c.answer_batch.new.self { engine = c.close.new.self } in
     let progress = end_progress c.in_ok-answer_batch.field-0 (c.in_ok-answer_batch.ensures.answered t) old.world.input c.in-End.is start first.engine.shape first.engine.map (so_far.progress t start same) in
-    let closing = closing_moments wanted new end progress (c.close.ensures.crash t wanted (c.in_ok-answer_batch.ensures.stands t wanted over.stands segments).stands) (c.close.ensures.log_only t) in
+    let closing = closing_moments wanted new end progress (c.close.ensures.crash t wanted (batch_stands c.in_ok-answer_batch.field-0 (c.in_ok-answer_batch.ensures.answered t) wanted over.stands segments).stands) (c.close.ensures.log_only t) in
     then_moments wanted start first.engine.shape first.engine.map old new end c.answer_batch.new.self.engine.order [] c.close.new.self.order (ap (λ (r : Running). r.order) c.close.ensures.same ∙ sym (append-nil c.answer_batch.new.self.engine.order)) turned
     (subst (λ o. AllMoments new end (CrashHoldsAcknowledged wanted start first.engine.shape first.engine.map o)) (sym (ap (λ (r : Running). r.order) c.close.ensures.same)) closing)
 
@@ -176,8 +181,10 @@ returns-in-End-clause-leaves g c t wanted start same can =
     let after = closed progress later end.world refl c.close.ensures.same only.said in
     let over = so_far.stands t wanted can in
     let segments = room_left wanted first c.batches.self before.world c.requires.lines (omega (arith, so_far.counted, so_far.few)) can.segments over in
-    λ _. leaves wanted first c.answer_batch.new.self later new.world end.world after (over_then wanted first c.batches.self c.answer_batch.new.self before.world new.world over (c.in_ok-answer_batch.ensures.stands t wanted over.stands segments)) refl
-    (c.in_ok-close-in-End.ensures.at_rest t wanted (c.in_ok-answer_batch.ensures.stands t wanted over.stands segments).stands)
+    let stands = batch_stands c.in_ok-answer_batch.field-0 (c.in_ok-answer_batch.ensures.answered t) wanted over.stands segments in
+    let grown = batch_logs c.in_ok-answer_batch.field-0 (c.in_ok-answer_batch.ensures.answered t) wanted over.stands segments old.world start first.engine.shape first.engine.map (so_far.progress t start same) (so_far.logged t wanted start same can) in
+    λ _. leaves wanted first c.answer_batch.new.self later old.world new.world end.world after (over_then wanted first c.batches.self c.answer_batch.new.self before.world new.world over (batch_stands c.in_ok-answer_batch.field-0 (c.in_ok-answer_batch.ensures.answered t) wanted over.stands segments)) refl
+    (c.in_ok-close-in-End.ensures.at_rest t wanted stands.stands) grown (c.in_ok-close-in-End.ensures.grows t wanted stands.stands)
 
 pub returns-in_err-close-in-End-clause-fault : goal.returns-in_err-close-in-End-clause-fault
 returns-in_err-close-in-End-clause-fault g c t start same =

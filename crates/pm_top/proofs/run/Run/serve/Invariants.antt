@@ -1,10 +1,12 @@
 use Rattle.pm_disk.specs.States.{IsLaterState}
-use Rattle.std.proofs.Common.{◌≡◌, ◌+◌, ◌-◌, ◌≤◌, length}
+use Rattle.std.proofs.Common.{◌≡◌, ◌+◌, ◌-◌, ◌≤◌, length, take}
 use Rattle.pm_types.specs.declared.limits.TheConstants.{SCRIPT_BYTES_MAX, LINES_MAX}
 use Rattle.pm_types.specs.declared.shape.Shape.{Shape}
 use Rattle.pm_disk.specs.Moments.{AllMoments}
 use Rattle.pm_disk.specs.Worlds.{World}
 use Rattle.pm_script.specs.Reading.{rest_of, KnowsEnd}
+use Rattle.pm_records.specs.LogFiles.{LogGrowsBy}
+use Rattle.pm_engine.specs.Records.{logged}
 use Rattle.pm_segments.specs.Ends.{EndsThere}
 use Rattle.pm_top.specs.Crashes.{CrashHoldsAcknowledged}
 use Rattle.pm_top.specs.Runs.{CanRun, Progress, SameConsole, SameFiles, IsAtRestAfter}
@@ -32,6 +34,8 @@ invariant-batches g l =
       progress : tells → (start : World) → SameConsole start old.world
           → Progress start now.world (script_of (rest_of l.input now.world)) first.engine.shape first.engine.map l.self;
       stands : tells → (wanted : Shape) → CanRun wanted first.engine old.world → IsAtRestAfter wanted first l.self now.world;
+      logged : tells → (wanted : Shape) (start : World) → SameConsole start old.world → CanRun wanted first.engine old.world
+          → LogGrowsBy old.world now.world (logged first.engine.shape (take l.self.lines (script_of start.input)) first.engine.map);
       moments : tells → (wanted : Shape) (start : World) → SameConsole start old.world → CanRun wanted first.engine old.world
           → AllMoments old now (CrashHoldsAcknowledged wanted start first.engine.shape first.engine.map l.self.engine.order);
     }
