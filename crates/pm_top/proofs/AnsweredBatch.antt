@@ -15,7 +15,7 @@ use Rattle.pm_engine.specs.Engines.{IsAtRest}
 use Rattle.pm_engine.proofs.Batching.{logged-append}
 use Rattle.pm_engine.proofs.DoneLines.{done_keeps}
 use Rattle.pm_top.specs.declared.run.Run.{Run}
-use Rattle.pm_top.specs.Crashes.{CrashHoldsAcknowledged}
+use Rattle.pm_top.specs.ScriptOrder.{CrashHoldsAcknowledged}
 use Rattle.pm_top.specs.Runs.{Progress, KeepsRun, IsAtRestSince}
 use Rattle.pm_top.proofs.AnsweredLines.{taken_grows}
 use Rattle.pm_top.proofs.Lasting.{keeps_rest, keeps_taken, order_longer}

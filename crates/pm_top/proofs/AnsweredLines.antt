@@ -18,8 +18,8 @@ use Rattle.pm_engine.specs.Engines.{Running, IsAtRest, HasSegments}
 use Rattle.pm_engine.specs.Batches.{RunsLines, HasReplied}
 use Rattle.pm_engine.proofs.DoneLines.{done_keeps, rest_grows}
 use Rattle.pm_top.specs.declared.run.Run.{Run}
-use Rattle.pm_top.specs.Crashes.{CrashHoldsAcknowledged}
-use Rattle.pm_top.specs.Promises.{HasFailed, HasNoMemory}
+use Rattle.pm_top.specs.ScriptOrder.{CrashHoldsAcknowledged}
+use Rattle.pm_top.specs.ScriptOrder.{HasFailed, HasNoMemory}
 use Rattle.pm_top.specs.Runs.{IsAtRestSince, Progress}
 use Rattle.pm_top.proofs.Lasting.{keeps_rest, keeps_doing, keeps_saying, keeps_said}
 use Rattle.pm_top.proofs.Progressing.{failed_unsaid, memory_unsaid}

@@ -7,7 +7,8 @@ use Rattle.pm_script.specs.Reading.{OnlyTakes}
 use Rattle.pm_records.specs.LogFiles.{ChangesLog}
 use Rattle.pm_engine.specs.Openings.{IsSame}
 use Rattle.pm_top.specs.Promises.{SaysPart}
-use Rattle.pm_top.specs.Runs.{SameFiles, OnlyAnswers}
+use Rattle.pm_top.specs.Promises.{SameFiles}
+use Rattle.pm_top.specs.Runs.{OnlyAnswers}
 
 pub files_same : (w : World) → SameFiles w w
 files_same w = record { pages = refl; starts = refl; ends = refl; config = refl }

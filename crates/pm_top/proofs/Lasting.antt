@@ -12,9 +12,15 @@ use Rattle.pm_script.specs.Reading.{OnlyTakes}
 use Rattle.pm_script.specs.Texts.{texts_of}
 use Rattle.pm_engine.specs.Held.{HoldsImage, CrashHoldsPrefix}
 use Rattle.pm_top.specs.declared.run.Run.{Run}
-use Rattle.pm_top.specs.Crashes.{CrashHoldsAcknowledged, HoldsAfter, begun, after_numbers, acknowledged}
-use Rattle.pm_top.specs.Promises.{replies_of, IsOrder, SaysPart}
+use Rattle.pm_top.specs.ScriptOrder.{CrashHoldsAcknowledged, HoldsAfter, after_numbers, acknowledged_count}
+use Rattle.pm_top.specs.Crashes.{begun}
+use Rattle.pm_top.specs.Promises.{replies_of, SaysPart}
+use Rattle.pm_top.specs.ScriptOrder.{IsOrder}
 use Rattle.pm_top.specs.Runs.{Progress}
+use Rattle.pm_top.specs.Crashes.{acknowledged}
+use Rattle.pm_top.specs.Crashes as promised
+use Rattle.pm_model.specs.Orders as orders
+use Rattle.std.specs.List.{All, Contains}
 use Rattle.pm_top.specs.Served.{script_of}
 use Rattle.pm_top.proofs.Orders.{after_accepted, begun-texts, begun_nothing, begun_within, take_none, none_acknowledged, BeginsNone, fault_line}
 use Rattle.pm_top.proofs.Progressing.{parted, script_len, take_more, order_so_far, order_more, first_ones, accepted_are, texts_are}
@@ -48,7 +54,7 @@ take_take (suc a) (suc b) (x ∷ xs) le = ap (λ ys. x ∷ ys) (take_take a b xs
 
 -- what holds the map after the first so many lines, where no more than these are acknowledged, and the order has at least these
 holds_after : (wanted : Shape) (start : World) (shape : Shape) (pairs : Pairs) (order : List ℕ) (w : World) (image : Image) (k d : ℕ) → k + d ≤ length (script_of start.input) → IsOrder shape start.input pairs (k + d) order
-    → acknowledged start shape pairs w ≤ length (accepted shape 1 (take k (script_of start.input)) pairs) → HoldsImage wanted image shape (after_all shape (take k (script_of start.input)) pairs)
+    → acknowledged_count start shape pairs w ≤ length (accepted shape 1 (take k (script_of start.input)) pairs) → HoldsImage wanted image shape (after_all shape (take k (script_of start.input)) pairs)
     → HoldsAfter wanted start shape pairs order w image
 holds_after wanted start shape pairs order w image k d within is has holds =
     let script = script_of start.input in
@@ -90,22 +96,32 @@ keeps_taken wanted shape pairs lines old w takes keeps = subst (CrashHoldsPrefix
 only_map : (wanted : Shape) (shape : Shape) (pairs : Pairs) (image : Image) → (count : ℕ) × (count ≤ 0) × HoldsImage wanted image shape (after_all shape (take count []) pairs) → HoldsImage wanted image shape pairs
 only_map wanted shape pairs image h = subst (HoldsImage wanted image shape) (ap (λ ls. after_all shape ls pairs) (take_all h.0 [] (omega arith))) h.2
 
--- ---- at the start
+-- ---- while no line is answered
 
 -- nothing was said
-pub start_keeps : (wanted : Shape) (start : World) (shape : Shape) (pairs : Pairs) (order : List ℕ) (w : World) → w.said ≡ start.said → CrashHoldsPrefix wanted shape pairs [] w → CrashHoldsAcknowledged wanted start shape pairs order w
-start_keeps wanted start shape pairs order w same keeps image leaves honest =
+pub none_said : (start : World) (shape : Shape) (pairs : Pairs) (w : World) → w.said ≡ start.said → acknowledged start shape pairs w ≡ []
+none_said start shape pairs w same =
     let script = script_of start.input in
     let nothing : drop (length start.said) w.said ≡ [] = ap (drop (length start.said)) (same ∙ sym (append-nil start.said)) ∙ drop_at start.said [] (length start.said) refl in
-    let none : acknowledged start shape pairs w ≡ 0 =
-    ap (λ b. length (accepted shape 1 (take (begun (replies_to shape script pairs) b) script) pairs)) nothing
-    ∙ ap (λ n. length (accepted shape 1 (take n script) pairs)) (begun_nothing (replies_to shape script pairs)) ∙ ap (λ ls. length (accepted shape 1 ls pairs)) (take_none script) in
-    record {
-      count = 0;
-      fits = omega arith;
-      has = omega (arith, none);
-      holds = subst (λ o. HoldsImage wanted image shape (after_numbers shape o script pairs)) (sym (take_none order)) (only_map wanted shape pairs image (keeps image leaves honest));
-    }
+    ap (λ b. accepted shape 1 (take (begun (replies_to shape script pairs) b) script) pairs) nothing
+    ∙ ap (λ n. accepted shape 1 (take n script) pairs) (begun_nothing (replies_to shape script pairs)) ∙ ap (λ ls. accepted shape 1 ls pairs) (take_none script)
+
+-- a fault was told
+pub none_refused : (start : World) (shape : Shape) (pairs : Pairs) (c : ℕ) (bytes : List ℕ) (n : ℕ) → BeginsNone c → acknowledged start shape pairs (with_said (take n (fault_line c bytes)) start) ≡ []
+none_refused start shape pairs c bytes n none_with =
+    let script = script_of start.input in
+    let said = take n (fault_line c bytes) in
+    let after_text : drop (length start.said) (start.said ++ said) ≡ said = drop_at start.said said (length start.said) refl in
+    ap (λ b. accepted shape 1 (take (begun (replies_to shape script pairs) b) script) pairs) after_text
+    ∙ none_acknowledged shape 1 script pairs n c bytes none_with
+
+-- so a crash leaves the map of the start
+pub idle_keeps : (wanted : Shape) (start : World) (shape : Shape) (pairs : Pairs) (order : List ℕ) (w : World) → acknowledged start shape pairs w ≡ [] → CrashHoldsPrefix wanted shape pairs [] w → promised.CrashHoldsAcknowledged wanted start shape pairs order w
+idle_keeps wanted start shape pairs order w none keeps image leaves honest = record {
+  count = 0;
+  has = subst (λ (ns : List ℕ). All (Contains (take 0 order)) ns) (sym none) (λ k d few. absurd (omega (arith, few)));
+  holds = subst (λ (o : List ℕ). HoldsImage wanted image shape (orders.after_numbers shape o 1 (script_of start.input) pairs)) (sym (take_none order)) (only_map wanted shape pairs image (keeps image leaves honest));
+}
 
 -- ---- on the way
 
@@ -130,7 +146,7 @@ module _ {start now : World} {left : List Line} {shape : Shape} {pairs : Pairs} 
 
   -- no more lines are acknowledged
   acknowledged_within : (w : World) (tail : List ℕ) (k : ℕ) → w.said ≡ now.said ++ tail → run.lines + begun (replies_to shape left run.engine.map) tail ≤ k → k ≤ length (script_of start.input)
-      → acknowledged start shape pairs w ≤ length (accepted shape 1 (take k (script_of start.input)) pairs)
+      → acknowledged_count start shape pairs w ≤ length (accepted shape 1 (take k (script_of start.input)) pairs)
   acknowledged_within w tail k is le within =
       accepted_le shape (script_of start.input) pairs (begun (replies_of shape start.input pairs) (drop (length start.said) w.said)) k (omega (arith, le, begun_since w tail is)) within
 
@@ -198,21 +214,3 @@ module _ {start now : World} {shape : Shape} {pairs : Pairs} {run : Run} (lines 
       holds_after wanted start shape pairs order w image k 0 (omega (arith, within)) (subst (λ m. IsOrder shape start.input pairs m order) sum all_order)
       (acknowledged_within progress w tail k (said ∙ ap (λ t. now.said ++ take n t) (texts_are lines left progress)) (omega (arith, few)) within)
       (subst (HoldsImage wanted image shape) (sym map) holds)
-
--- ---- while a fault is told
-
--- the words or the configuration are refused
-pub refused_keeps : (wanted : Shape) (start : World) (shape : Shape) (pairs : Pairs) (order : List ℕ) (w : World) (c : ℕ) (bytes : List ℕ) → BeginsNone c → CrashHoldsPrefix wanted shape pairs [] start → SaysPart (fault_line c bytes) start w → CrashHoldsAcknowledged wanted start shape pairs order w
-refused_keeps wanted start shape pairs order w c bytes none_with keeps part = subst (CrashHoldsAcknowledged wanted start shape pairs order) (sym part.1) (λ image leaves honest.
-    let script = script_of start.input in
-    let said = take part.0 (fault_line c bytes) in
-    let after_text : drop (length start.said) (start.said ++ said) ≡ said = drop_at start.said said (length start.said) refl in
-    let none : acknowledged start shape pairs (with_said said start) ≡ 0 =
-    ap (λ b. length (accepted shape 1 (take (begun (replies_to shape script pairs) b) script) pairs)) after_text
-    ∙ ap length (none_acknowledged shape 1 script pairs part.0 c bytes none_with) in
-    record {
-      count = 0;
-      fits = omega arith;
-      has = omega (arith, none);
-      holds = subst (λ o. HoldsImage wanted image shape (after_numbers shape o script pairs)) (sym (take_none order)) (only_map wanted shape pairs image (keeps_said wanted shape pairs [] said start keeps image leaves honest));
-    })

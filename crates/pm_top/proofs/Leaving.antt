@@ -22,7 +22,8 @@ use Rattle.pm_records.specs.FirstRecords.{restart_frame}
 use Rattle.pm_records.proofs.Growing.{grows_twice}
 use Rattle.pm_top.specs.declared.run.Run.{Run}
 use Rattle.pm_top.specs.Promises.{IsLeft}
-use Rattle.pm_top.specs.Runs.{SameFiles, LeavesRun, LeavesStore}
+use Rattle.pm_top.specs.Promises.{SameFiles}
+use Rattle.pm_top.specs.Runs.{LeavesRun, LeavesStore}
 use Rattle.pm_top.specs.Served.{script_of}
 
 module _ (wanted : Shape) (engine : Running) (world : World) (s : IsAtRest wanted engine world) where

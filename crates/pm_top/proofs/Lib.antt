@@ -9,6 +9,7 @@ pub mod Limits
 pub mod Opened
 pub mod Orders
 pub mod PrintedLimit
+pub mod Ordered
 pub mod Progressing
 pub mod Refusing
 pub mod Says

@@ -10,7 +10,7 @@ use Rattle.pm_top.specs.declared.status.Status.{Status}
 use Rattle.pm_top.specs.declared.status.Status.TheVariants.{Done, Usage, Misconfigured, Failed, Memory, Damaged, Long}
 use Rattle.pm_top.specs.Promises.{Completes, ConfigurationIs, OutcomeIs, RunHolds}
 use Rattle.pm_top.specs.Configurations.{config_fault}
-use Rattle.pm_top.specs.Scripts.{IsWithinLimits, PassesLimit}
+use Rattle.pm_top.specs.Limits.{IsWithinLimits, PassesLimit}
 
 -- a script doesn't both pass a limit and keep both
 limits_clash : (input : List ℕ) → PassesLimit input → IsWithinLimits input → ⊥

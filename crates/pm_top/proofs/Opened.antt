@@ -1,5 +1,5 @@
 -- What a crash leaves before a store is opened, and meanwhile.
-use Rattle.std.proofs.Common.{◌≡◌, ℕ, List, [], Result, refl, subst, sym, ◌⊎◌, inl, inr}
+use Rattle.std.proofs.Common.{◌≡◌, ℕ, List, [], take, Result, refl, subst, sym, ◌⊎◌, inl, inr}
 use Rattle.std.specs.Prelude.{codes}
 use Rattle.pm_types.specs.declared.shape.Shape.{Shape}
 use Rattle.pm_disk.specs.Worlds.{World, with_said}
@@ -17,14 +17,14 @@ use Rattle.pm_top.specs.declared.status.Status.TheVariants.{Usage, Failed}
 use Rattle.pm_top.specs.Promises.{HoldsAtEachMoment, IsStart, RefusalIs, SaysPart}
 use Rattle.pm_top.specs.Runs.{SameConsole}
 use Rattle.pm_top.proofs.AnsweredLines.{both}
-use Rattle.pm_top.proofs.Lasting.{start_keeps, refused_keeps}
+use Rattle.pm_top.proofs.Lasting.{idle_keeps, keeps_said, none_refused, none_said}
 use Rattle.pm_top.proofs.Orders.{BeginsNone, fault_line}
 
 pub opening_moments : (wanted : Shape) (old mid : History) (shape : Shape) (pairs : Pairs) (order : List ℕ) → AllMoments old mid (CrashHoldsPrefix wanted shape pairs []) → AllMoments old mid (ChangesLog old.world) → AllMoments old mid (CrashHoldsAcknowledged wanted old.world shape pairs order)
 opening_moments wanted old mid shape pairs order keeps only =
     let Q : World → Type 0 = CrashHoldsPrefix wanted shape pairs [] in
     weaker old mid (λ w. Q w × ChangesLog old.world w) (CrashHoldsAcknowledged wanted old.world shape pairs order)
-    (λ w is. start_keeps wanted old.world shape pairs order w is.1.said is.0) (both old mid Q (ChangesLog old.world) keeps only)
+    (λ w is. idle_keeps wanted old.world shape pairs order w (none_said old.world shape pairs w is.1.said) is.0) (both old mid Q (ChangesLog old.world) keeps only)
 
 pub same_console : (old mid : World) → ChangesLog old mid → SameConsole old mid
 same_console old mid only = record { said = only.said; input = only.input }
@@ -43,14 +43,16 @@ pub kept_moments : (old mid : History) (order : List ℕ) → AllMoments old mid
 kept_moments old mid order same shape pairs start =
     let wanted = wanted_in old.world in
     weaker old mid (IsSame old.world) (CrashHoldsAcknowledged wanted old.world shape pairs order)
-    (λ w is. subst (CrashHoldsAcknowledged wanted old.world shape pairs order) (sym is) (start_keeps wanted old.world shape pairs order old.world refl (rest_keeps wanted old.world shape pairs start))) same
+    (λ w is. subst (CrashHoldsAcknowledged wanted old.world shape pairs order) (sym is) (idle_keeps wanted old.world shape pairs order old.world (none_said old.world shape pairs old.world refl) (rest_keeps wanted old.world shape pairs start))) same
 
 -- a fault is told, and nothing else happens
 pub refused_moments : (old new : History) (order : List ℕ) (c : ℕ) (bytes : List ℕ) → BeginsNone c → AllMoments old new (SaysPart (fault_line c bytes) old.world) → HoldsAtEachMoment old new order
 refused_moments old new order c bytes none all shape pairs start =
     let wanted = wanted_in old.world in
     weaker old new (SaysPart (fault_line c bytes) old.world) (CrashHoldsAcknowledged wanted old.world shape pairs order)
-    (λ w part. refused_keeps wanted old.world shape pairs order w c bytes none (rest_keeps wanted old.world shape pairs start) part) all
+    (λ w part. subst (CrashHoldsAcknowledged wanted old.world shape pairs order) (sym part.1)
+    (idle_keeps wanted old.world shape pairs order (with_said (take part.0 (fault_line c bytes)) old.world) (none_refused old.world shape pairs c bytes part.0 none)
+    (keeps_said wanted shape pairs [] (take part.0 (fault_line c bytes)) old.world (rest_keeps wanted old.world shape pairs start)))) all
 
 -- the calls that come after ones that changed nothing
 pub crash_from : (old mid new : History) (order : List ℕ) → AllMoments old mid (IsSame old.world) → mid.world ≡ old.world → HoldsAtEachMoment mid new order → HoldsAtEachMoment old new order

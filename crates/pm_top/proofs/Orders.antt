@@ -16,7 +16,8 @@ use Rattle.pm_model.specs.Eval.{Pairs, found, reply_to, after, is_accepted, repl
 use Rattle.pm_types.specs.declared.shape.Shape.{Shape}
 use Rattle.pm_model.proofs.Runs.{after-not_accepted}
 use Rattle.pm_script.specs.Texts.{text_of, texts_of}
-use Rattle.pm_top.specs.Crashes.{begun, after_numbers}
+use Rattle.pm_top.specs.Crashes.{begun}
+use Rattle.pm_top.specs.ScriptOrder.{after_numbers}
 
 -- the first none of a list
 pub take_none : {A : Type 0} (xs : List A) → take 0 xs ≡ []

@@ -11,10 +11,12 @@ use Rattle.pm_model.specs.declared.line.Line.{Line}
 use Rattle.pm_model.specs.Eval.{Pairs, replies_to, after_all, accepted}
 use Rattle.pm_model.proofs.Runs.{replies_to-append, length-replies_to, accepted-append}
 use Rattle.pm_script.specs.Texts.{texts_of}
-use Rattle.pm_top.specs.Crashes.{CrashHoldsAcknowledged, acknowledged, begun}
+use Rattle.pm_top.specs.ScriptOrder.{CrashHoldsAcknowledged, acknowledged_count}
+use Rattle.pm_top.specs.Crashes.{begun}
 use Rattle.pm_top.specs.declared.status.Status.{Status}
 use Rattle.pm_top.specs.declared.status.Status.TheVariants.{Failed, Long}
-use Rattle.pm_top.specs.Promises.{HasAnswered, HasFailed, IsStopped, SaysPart, replies_of, OutcomeIs}
+use Rattle.pm_top.specs.Promises.{HasAnswered, SaysPart, replies_of}
+use Rattle.pm_top.specs.ScriptOrder.{HasFailed, IsStopped, OutcomeIs}
 use Rattle.pm_top.specs.Served.{script_of}
 use Rattle.pm_top.proofs.Orders.{begun-texts, begun_nothing, take_none, none_acknowledged, none_with_l}
 
@@ -78,7 +80,7 @@ module _ (old w : World) (shape : Shape) (pairs : Pairs) (lines : ℕ) (tail : L
       ∙ take_at (replies_to shape first pairs) (replies_to shape others (after_all shape first pairs)) lines count
 
   acknowledged_is : accepted shape (1 + length first) (take (begun (replies_to shape others (after_all shape first pairs)) tail) others) (after_all shape first pairs) ≡ []
-      → acknowledged old shape pairs w ≡ length (accepted shape 1 first pairs)
+      → acknowledged_count old shape pairs w ≡ length (accepted shape 1 first pairs)
   acknowledged_is none =
       let texts = texts_of (take lines (replies_of shape old.input pairs)) in
       let after_text : drop (length old.said) w.said ≡ texts_of (replies_to shape first pairs) ++ tail =
@@ -101,7 +103,7 @@ told_keeps wanted old mid shape pairs lines order w answers part keeps =
     (ap (λ n. accepted shape (1 + length head) (take n more) map) (begun_nothing (replies_to shape more map)) ∙ ap (λ ls. accepted shape (1 + length head) ls map) (take_none more)) in
     let after_text = acknowledged_is old now shape pairs lines tail (more_said old mid now shape pairs lines tail answers refl)
     (none_acknowledged shape (1 + length head) more map part.0 108 (codes "ong\n") none_with_l) in
-    let same : acknowledged old shape pairs now ≡ acknowledged old shape pairs mid = after_text ∙ sym before in
+    let same : acknowledged_count old shape pairs now ≡ acknowledged_count old shape pairs mid = after_text ∙ sym before in
     subst (λ v. CrashHoldsAcknowledged wanted old shape pairs order v) (sym part.1) (λ image leaves honest.
     let h = keeps image (record { log = leaves.log; pages = leaves.pages; starts = leaves.starts; ends = leaves.ends }) (record { frames = honest.frames }) in
     record { count = h.count; fits = h.fits; has = omega (arith, h.has, same); holds = h.holds })

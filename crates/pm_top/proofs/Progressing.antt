@@ -13,9 +13,10 @@ use Rattle.pm_model.proofs.Runs.{replies_to-append, after_all-append, length-rep
 use Rattle.pm_script.specs.Lines.{lines_of, after_line}
 use Rattle.pm_script.specs.Texts.{text_of, texts_of}
 use Rattle.pm_top.specs.declared.run.Run.{Run}
-use Rattle.pm_top.specs.Promises.{replies_of, HasAnswered, IsOrder, HasTried, IsDone, HasFailed, HasNoMemory, IsStopped}
+use Rattle.pm_top.specs.Promises.{replies_of, HasAnswered}
+use Rattle.pm_top.specs.ScriptOrder.{IsOrder, HasTried, IsDone, HasFailed, HasNoMemory, IsStopped}
 use Rattle.pm_top.specs.Runs.{Progress, SameConsole}
-use Rattle.pm_top.specs.Scripts.{after_lines}
+use Rattle.pm_top.specs.Limits.{after_lines}
 use Rattle.pm_top.specs.Served.{line_of, script_of}
 use Rattle.pm_top.proofs.TakenLines.{after_lines-more}
 use Rattle.pm_top.proofs.ServedLines.{script_of-first}

@@ -14,10 +14,12 @@ use Rattle.pm_engine.specs.StoredShapes.{shape_fault}
 use Rattle.pm_top.specs.Configurations.{AsksFor, config_fault, fault_config, wanted_in}
 use Rattle.pm_top.specs.declared.status.Status.{Status}
 use Rattle.pm_top.specs.declared.status.Status.TheVariants.{Done, Usage, Misconfigured, Failed, Memory, Damaged, Long}
-use Rattle.pm_top.specs.Promises.{CanOpen, ConfigurationIs, HasAnswered, HasTried, replies_of, IsDamaged, IsLeft, IsMisconfigured, IsStart, OutcomeIs, RunHolds, SameLog, fault_record, SaysPart, WasOpened}
-use Rattle.pm_top.specs.Scripts.{PassesLimit}
+use Rattle.pm_top.specs.Promises.{CanOpen, ConfigurationIs, HasAnswered, replies_of, IsDamaged, IsLeft, IsMisconfigured, IsStart, OutcomeIs, RunHolds, SameLog, fault_record, SaysPart, WasOpened}
+use Rattle.pm_top.specs.Limits.{PassesLimit}
+use Rattle.pm_top.specs.ScriptOrder as one
 use Rattle.pm_top.specs.Served.{script_of}
 use Rattle.pm_top.specs.Statuses.{code_of}
+use Rattle.pm_top.proofs.Ordered.{outcome_is}
 use Rattle.pm_top.proofs.Orders.{take_none}
 
 -- no line was answered
@@ -42,17 +44,17 @@ none_answered old new shape pairs same =
       said = same ∙ sym (append-nil (old.said ++ texts_of (take 0 replies)) ∙ ap (λ rs. old.said ++ texts_of rs) (take_none replies) ∙ append-nil old.said);
     }
 
-none_tried : (old : World) (shape : Shape) (pairs : Pairs) → HasTried shape old.input pairs 0 []
+none_tried : (old : World) (shape : Shape) (pairs : Pairs) → one.HasTried shape old.input pairs 0 []
 none_tried old shape pairs = record { many = 0; from = omega arith; to = omega arith; within = omega arith; order_is = ap (λ ls. accepted shape 1 ls pairs) (sym (take_none (script_of old.input))) }
 
 -- a call failed, or memory ran out
 pub none_done : (status : Status) (old new : World) (shape : Shape) (pairs : Pairs) (lines : ℕ) (order : List ℕ) → (status ≡ Failed) ⊎ (status ≡ Memory) → new.said ≡ old.said → lines ≡ 0 → order ≡ [] → OutcomeIs status old new shape pairs lines order
 none_done status old new shape pairs lines order cases same none no_order =
     subst (λ (x : ℕ × List ℕ). OutcomeIs status old new shape pairs x.0 x.1) (λ i. (sym none i, sym no_order i))
-    (elim cases [
-      | inl is ↦ subst (λ s. OutcomeIs s old new shape pairs 0 []) (sym is) (record { tail = []; answers = none_answered old new shape pairs same; tried = none_tried old shape pairs; prefix = (0, inl refl) })
-      | inr is ↦ subst (λ s. OutcomeIs s old new shape pairs 0 []) (sym is) (record { answers = none_answered old new shape pairs same; tried = none_tried old shape pairs })
-    ])
+    (outcome_is status old new shape pairs 0 [] (elim cases [
+      | inl is ↦ subst (λ s. one.OutcomeIs s old new shape pairs 0 []) (sym is) (record { tail = []; answers = none_answered old new shape pairs same; tried = none_tried old shape pairs; prefix = (0, inl refl) })
+      | inr is ↦ subst (λ s. one.OutcomeIs s old new shape pairs 0 []) (sym is) (record { answers = none_answered old new shape pairs same; tried = none_tried old shape pairs })
+    ]))
 
 -- what such a run promises
 pub none_run : (old new : History) (status : Status) (lines : ℕ) (order : List ℕ) → AnswersNone status → (status ≡ Misconfigured → IsMisconfigured old.world new.world lines order)

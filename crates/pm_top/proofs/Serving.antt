@@ -20,10 +20,11 @@ use Rattle.pm_engine.specs.Engines.{Running, IsAtRest, IsAtRestWithin, HasSegmen
 use Rattle.pm_top.specs.declared.batch.Continuation.{Continuation}
 use Rattle.pm_top.specs.declared.batch.Continuation.TheVariants as then_comes
 use Rattle.pm_top.specs.declared.run.Run.{Run}
-use Rattle.pm_top.specs.Crashes.{CrashHoldsAcknowledged}
-use Rattle.pm_top.specs.Promises.{IsStopped}
+use Rattle.pm_top.specs.ScriptOrder.{CrashHoldsAcknowledged}
+use Rattle.pm_top.specs.ScriptOrder.{IsStopped}
 use Rattle.pm_top.specs.Runs.{Progress, IsAtRestAfter, BatchIsAnswered, LeavesRun}
-use Rattle.pm_top.specs.Scripts.{after_lines, ContinuationIs}
+use Rattle.pm_top.specs.Limits.{after_lines}
+use Rattle.pm_top.specs.Scripts.{ContinuationIs}
 use Rattle.pm_top.specs.Served.{script_of}
 use Rattle.pm_top.proofs.AnsweredLines.{both}
 use Rattle.pm_top.proofs.TakenLines.{after_lines-add}

@@ -5,7 +5,8 @@ use Rattle.pm_model.specs.declared.line.Line.{Line}
 use Rattle.pm_model.specs.Batches.{HasCache}
 use Rattle.pm_script.specs.Lines.{after_line}
 use Rattle.pm_script.specs.Reading.{Unread}
-use Rattle.pm_top.specs.Scripts.{after_lines, ReadsLine, LinesAreTaken, BatchIsTaken, ContinuationIs, batch_lines}
+use Rattle.pm_top.specs.Limits.{after_lines}
+use Rattle.pm_top.specs.Scripts.{ReadsLine, LinesAreTaken, BatchIsTaken, ContinuationIs, batch_lines}
 use Rattle.pm_top.specs.declared.batch.Batch.{Batch}
 use Rattle.pm_top.specs.Served.{script_of}
 use Rattle.pm_top.proofs.ServedLines.{script_of-first}

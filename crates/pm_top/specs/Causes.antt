@@ -1,10 +1,8 @@
 -- When each status comes, and which folder is bound, as every host reports it.
-use Rattle.std.specs.Prelude.{◌≡◌, ◌≢◌, ◌⊎◌, ℕ, List, Some, false, IsTrue, IsErrOf, Result}
-use Rattle.pm_disk.specs.States.{DeviceState, IsLaterState, Rose}
-use Rattle.pm_top.specs.declared.configuration.ConfigError.{ConfigError}
-use Rattle.pm_top.specs.declared.configuration.ConfigError.TheVariants as unread
+use Rattle.std.specs.Prelude.{◌≡◌, ◌⊎◌, ℕ, List, Some, false, IsTrue}
+use Rattle.pm_disk.specs.States.{DeviceState, Rose}
 use Rattle.pm_top.specs.declared.status.Status.{Status}
-use Rattle.pm_top.specs.declared.status.Status.TheVariants.{Usage, Misconfigured, Failed, Damaged}
+use Rattle.pm_top.specs.declared.status.Status.TheVariants.{Usage, Failed}
 use Rattle.pm_top.specs.Words.{is_command, folder_in}
 
 -- Which folder is bound after a call. Where the words are a command it is their second word, or, where it couldn't be bound, the
@@ -18,20 +16,3 @@ pub record HasStatusCause (words : List (List ℕ)) (status : Status) (before no
   pub usage : status ≡ Usage → is_command words ≡ false
   pub refused : is_command words ≡ false → (status ≡ Usage) ⊎ (status ≡ Failed)
   pub failed : status ≡ Failed → Rose before now
-
--- the same of a configuration that is read
-pub record HasConfigCause {T : Type 0} (before now : DeviceState) (result : Result T ConfigError) : Type 0 where
-  pub failed : IsErrOf result unread.Failed → Rose before now
-  pub state : IsLaterState before now
-
--- the same of a run over the folder that is bound
-pub record HasRunCause (status : Status) (before now : DeviceState) : Type 0 where
-  pub known : status ≢ Usage
-  pub failed : status ≡ Failed → Rose before now
-  pub state : IsLaterState before now
-
--- the same of a script over a store that is open
-pub record HasScriptCause (status : Status) (before now : DeviceState) : Type 0 where
-  pub run : HasRunCause status before now
-  pub sound : status ≢ Damaged
-  pub configured : status ≢ Misconfigured

@@ -1,8 +1,11 @@
 pub mod Causes
 pub mod Configurations
 pub mod Crashes
+pub mod Limits
 pub mod Promises
+pub mod RunCauses
 pub mod Runs
+pub mod ScriptOrder
 pub mod Scripts
 pub mod Served
 pub mod Statuses

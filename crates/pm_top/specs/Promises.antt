@@ -10,7 +10,8 @@ use Rattle.pm_disk.specs.States.{DeviceState, Rose}
 use Rattle.pm_disk.specs.Worlds.{World, with_said}
 use Rattle.pm_frame.specs.Frames.{Frame}
 use Rattle.pm_model.specs.declared.reply.Reply.{Reply}
-use Rattle.pm_model.specs.Eval.{Pairs, replies_to, after_all, accepted}
+use Rattle.pm_model.specs.Eval.{Pairs, replies_to, after_all}
+use Rattle.pm_model.specs.Orders.{HasAccepted, HasTried}
 use Rattle.pm_script.specs.Texts.{texts_of}
 use Rattle.pm_records.specs.FirstRecords.{restart_frame}
 use Rattle.pm_records.specs.LogFiles.{LogGrowsBy}
@@ -19,17 +20,22 @@ use Rattle.pm_engine.specs.Records.{logged}
 use Rattle.pm_engine.specs.Held.{Holds, HasNumbers}
 use Rattle.pm_engine.specs.Openings.{IsBadRecord, LogHolds, LogHoldsNothing}
 use Rattle.pm_top.specs.Configurations.{config_fault, fault_config, wanted_in}
-use Rattle.pm_top.specs.declared.run.Stop.{Stop}
-use Rattle.pm_top.specs.declared.run.Stop.TheVariants as stop
 use Rattle.pm_top.specs.declared.status.Status.{Status}
 use Rattle.pm_top.specs.declared.status.Status.TheVariants.{Done, Usage, Misconfigured, Failed, Memory, Damaged, Long}
 use Rattle.pm_top.specs.Crashes.{CrashHoldsAcknowledged}
-use Rattle.pm_top.specs.Scripts.{IsWithinLimits, PassesLimit, AreWithin}
+use Rattle.pm_top.specs.Limits.{IsWithinLimits, PassesLimit, AreWithin}
 use Rattle.pm_top.specs.Served.{script_of}
 
 -- the replies to the whole script, over the map of the start
 abbrev pub replies_of : Shape → List ℕ → Pairs → List Reply
 replies_of shape input pairs = replies_to shape (script_of input) pairs
+
+-- no file but the log is other than it was
+pub record SameFiles (old new : World) : Type 0 where
+  pub pages : new.pages ≡ old.pages
+  pub starts : new.starts ≡ old.starts
+  pub ends : new.ends ≡ old.ends
+  pub config : new.config ≡ old.config
 
 -- no segment of the log is other than it was
 abbrev pub SameLog : World → World → Type 0
@@ -44,17 +50,13 @@ pub record HasAnswered (old new : World) (shape : Shape) (pairs : Pairs) (lines 
   pub within : lines ≤ length (script_of old.input)
   pub said : new.said ≡ old.said ++ texts_of (take lines (replies_of shape old.input pairs)) ++ tail
 
--- the order has the numbers of the accepted ones among the first lines
+-- the numbers are an order of the accepted ones among the first lines, and of no others
 abbrev pub IsOrder : Shape → List ℕ → Pairs → ℕ → List ℕ → Type 0
-IsOrder shape input pairs lines order = order ≡ accepted shape 1 (take lines (script_of input)) pairs
+IsOrder shape input pairs lines order = HasTried shape 1 (script_of input) pairs lines 0 order
 
--- the order has the numbers of the accepted ones among the lines that were answered, and among some next ones, all of one batch
-pub record HasTried (shape : Shape) (input : List ℕ) (pairs : Pairs) (lines : ℕ) (order : List ℕ) : Type 0 where
-  pub many : ℕ
-  pub from : lines ≤ many
-  pub to : many ≤ lines + BATCH_LINES_MAX
-  pub within : many ≤ length (script_of input)
-  pub order_is : IsOrder shape input pairs many order
+-- the same of the lines that were answered, and of some more of the next batch
+abbrev pub IsOrderOfTried : Shape → List ℕ → Pairs → ℕ → List ℕ → Type 0
+IsOrderOfTried shape input pairs lines order = HasTried shape 1 (script_of input) pairs lines BATCH_LINES_MAX order
 
 -- the script was answered whole
 pub record IsDone (old new : World) (shape : Shape) (pairs : Pairs) (lines : ℕ) (order : List ℕ) : Type 0 where
@@ -68,18 +70,21 @@ pub record IsDone (old new : World) (shape : Shape) (pairs : Pairs) (lines : ℕ
 abbrev pub IsTail : List Reply → List ℕ → Type 0
 IsTail next tail = (n : ℕ) × ((tail ≡ take n (texts_of next)) ⊎ (tail ≡ take n (codes "fault long\n")))
 
--- A call failed after the replies to the first lines. What was said after them belongs to the replies to the lines of the next
--- batch, and to none that wasn't done.
+-- A call failed after the replies to the first lines. What was said after them belongs to the replies to some lines of the next
+-- batch, of which the order has the accepted ones, or to a fault line.
 pub record HasFailed (old new : World) (shape : Shape) (pairs : Pairs) (lines : ℕ) (order : List ℕ) : Type 0 where
   pub tail : List ℕ
   pub answers : HasAnswered old new shape pairs lines tail
-  pub tried : HasTried shape old.input pairs lines order
-  pub prefix : IsTail (take (tried.many - lines) (drop lines (replies_of shape old.input pairs))) tail
+  pub order_is : IsOrderOfTried shape old.input pairs lines order
+  pub more : ℕ
+  pub few : more ≤ BATCH_LINES_MAX
+  pub done : HasAccepted shape 1 (script_of old.input) pairs (lines + more) order
+  pub prefix : IsTail (take more (drop lines (replies_of shape old.input pairs))) tail
 
 -- memory ran out after the replies to the first lines
 pub record HasNoMemory (old new : World) (shape : Shape) (pairs : Pairs) (lines : ℕ) (order : List ℕ) : Type 0 where
   pub answers : HasAnswered old new shape pairs lines []
-  pub tried : HasTried shape old.input pairs lines order
+  pub order_is : IsOrderOfTried shape old.input pairs lines order
 
 -- all lines that are ended within both limits were answered, and this was said after their replies
 pub record IsStopped (old new : World) (shape : Shape) (pairs : Pairs) (lines : ℕ) (order : List ℕ) (tail : List ℕ) : Type 0 where
@@ -102,11 +107,6 @@ OutcomeIs Failed old new shape pairs lines order = HasFailed old new shape pairs
 OutcomeIs Memory old new shape pairs lines order = HasNoMemory old new shape pairs lines order
 OutcomeIs Damaged old new shape pairs lines order = ⊥
 OutcomeIs Long old new shape pairs lines order = IsStopped old new shape pairs lines order (codes "fault long\n")
-
--- what is said of it before a limit is told
-abbrev pub StopIs : Stop → World → World → Shape → Pairs → ℕ → List ℕ → Type 0
-StopIs stop.Done old new shape pairs lines order = IsDone old new shape pairs lines order
-StopIs stop.Limit old new shape pairs lines order = IsStopped old new shape pairs lines order []
 
 -- A run leaves a store that is sound and holds the map after its script, and of which nothing is pending. The log has the frames that
 -- it had, a RESTART and one record for each accepted line, in order, besides SEALs, in at most 2^23 segments more.

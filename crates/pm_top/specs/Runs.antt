@@ -20,7 +20,8 @@ use Rattle.pm_engine.specs.Held.{Holds}
 use Rattle.pm_top.specs.declared.batch.Continuation.{Continuation}
 use Rattle.pm_top.specs.declared.batch.Continuation.TheVariants as then_comes
 use Rattle.pm_top.specs.declared.run.Run.{Run}
-use Rattle.pm_top.specs.Promises.{HasFailed, HasNoMemory}
+use Rattle.pm_top.specs.Promises.{SameFiles}
+use Rattle.pm_top.specs.ScriptOrder.{HasFailed, HasNoMemory}
 use Rattle.pm_top.specs.Scripts.{LinesAreTaken, ContinuationIs}
 use Rattle.pm_top.specs.Served.{script_of}
 
@@ -28,13 +29,6 @@ use Rattle.pm_top.specs.Served.{script_of}
 pub record SameConsole (start now : World) : Type 0 where
   pub said : now.said ≡ start.said
   pub input : now.input ≡ start.input
-
--- no file but the log is other than it was
-pub record SameFiles (old new : World) : Type 0 where
-  pub pages : new.pages ≡ old.pages
-  pub starts : new.starts ≡ old.starts
-  pub ends : new.ends ≡ old.ends
-  pub config : new.config ≡ old.config
 
 -- no file but the log is other than it was, and no input was taken
 pub record OnlyAnswers (old new : World) : Type 0 where

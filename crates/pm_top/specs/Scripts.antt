@@ -1,8 +1,9 @@
--- Whole scripts: their limits, and how their lines are taken one by one.
+-- How the lines of a script are taken one by one.
 use Rattle.std.specs.Prelude.{◌≡◌, ◌⊎◌, ℕ, zero, suc, ◌+◌, ◌≤◌, ◌<◌, List, [], ◌++◌, length, Bool, not, ◌&&◌, ◌||◌, nat_lt}
 use Rattle.std.specs.List.{All}
 use Rattle.pm_types.specs.declared.limits.TheConstants.{SCRIPT_BYTES_MAX, LINES_MAX, BATCH_LINES_MAX}
-use Rattle.pm_script.specs.Lines.{lines_of, first_line, after_line}
+use Rattle.pm_script.specs.Lines.{first_line}
+use Rattle.pm_top.specs.Limits.{after_lines}
 use Rattle.pm_top.specs.Served.{line_of, script_of}
 use Rattle.pm_script.specs.Reading.{Unread, has_next, TakesLine, IsAtEnd, IsOver, CountsLine}
 use Rattle.pm_model.specs.declared.line.Line.{Line}
@@ -12,26 +13,6 @@ use Rattle.pm_top.specs.declared.batch.Continuation.{Continuation}
 use Rattle.pm_top.specs.declared.batch.Continuation.TheVariants as then_comes
 use Rattle.pm_top.specs.declared.script.NextLine.{NextLine}
 use Rattle.pm_top.specs.declared.script.NextLine.TheVariants as next
-
--- a script that is within both limits
-pub record IsWithinLimits (input : List ℕ) : Type 0 where
-  pub bytes : length input ≤ SCRIPT_BYTES_MAX
-  pub lines : length (lines_of input) ≤ LINES_MAX
-
--- a script that passes a limit
-abbrev pub PassesLimit : List ℕ → Type 0
-PassesLimit input = (SCRIPT_BYTES_MAX < length input) ⊎ (LINES_MAX < length (lines_of input))
-
--- what stands after the first lines
-abbrev pub after_lines : ℕ → List ℕ → List ℕ
-after_lines zero bytes = bytes
-after_lines (suc n) bytes = after_lines n (after_line bytes)
-
--- so many lines are ended within both limits, and the next one isn't
-pub record AreWithin (input : List ℕ) (lines : ℕ) : Type 0 where
-  pub few : lines ≤ LINES_MAX
-  pub short : length input ≤ SCRIPT_BYTES_MAX + length (after_lines lines input)
-  pub no_more : (lines ≡ LINES_MAX) ⊎ (SCRIPT_BYTES_MAX + length (after_lines (suc lines) input) < length input)
 
 -- the first line was taken, and says this
 pub record ReadsLine (old new : Unread) (rest now_rest : List ℕ) (line : Line) : Type 0 where

@@ -7,11 +7,14 @@ ghost use Rattle.pm_disk.specs.Moments.{AllMoments};
 ghost use Rattle.pm_disk.specs.States.{IsUsable};
 ghost use Rattle.pm_disk.specs.Worlds.{World};
 ghost use Rattle.pm_segments.specs.Ends.{EndsThere};
-ghost use Rattle.pm_top.specs.Causes.{BindsFolder, HasRunCause, HasScriptCause, HasStatusCause};
+ghost use Rattle.pm_top.specs.Causes.{BindsFolder, HasStatusCause};
+ghost use Rattle.pm_top.specs.RunCauses.{HasRunCause, HasScriptCause};
 ghost use Rattle.pm_top.specs.Configurations.{AsksFor};
-ghost use Rattle.pm_top.specs.Promises.{Completes, HoldsAtEachMoment, OutcomeIs, RefusalIs, RunHolds};
-ghost use Rattle.pm_top.specs.Runs.{CanRun, SameConsole, SameFiles, LeavesStore};
-ghost use Rattle.pm_top.specs.Crashes.{CrashHoldsAcknowledged};
+ghost use Rattle.pm_top.specs.Promises.{Completes, HoldsAtEachMoment, RefusalIs, RunHolds};
+ghost use Rattle.pm_top.specs.ScriptOrder.{OutcomeIs};
+ghost use Rattle.pm_top.specs.Runs.{CanRun, SameConsole, LeavesStore};
+ghost use Rattle.pm_top.specs.Promises.{SameFiles};
+ghost use Rattle.pm_top.specs.ScriptOrder.{CrashHoldsAcknowledged};
 ghost use Rattle.pm_top.specs.Statuses.{status_of, code_of};
 ghost use Rattle.pm_top.specs.Words.{is_command};
 

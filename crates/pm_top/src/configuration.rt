@@ -8,7 +8,7 @@ ghost use Rattle.pm_config.specs.declared.limits.TheConstants.{CONFIG_BYTES_MAX 
 ghost use Rattle.pm_config.specs.Limits.{IsConfig};
 ghost use Rattle.pm_engine.specs.Batches.{HasPlainFault};
 ghost use Rattle.pm_engine.specs.Openings.{IsSame};
-ghost use Rattle.pm_top.specs.Causes.{HasConfigCause};
+ghost use Rattle.pm_top.specs.RunCauses.{HasConfigCause};
 ghost use Rattle.pm_top.specs.Configurations.{AsksFor, config_fault};
 
 use pm_config::{CONFIG_BYTES_MAX, Config, ConfigFault, read_config_text};

@@ -15,9 +15,10 @@ ghost use Rattle.pm_script.specs.Texts.{texts_of};
 ghost use Rattle.pm_segments.specs.Ends.{EndsThere};
 ghost use Rattle.pm_engine.specs.Batches.{HasPlainFault};
 ghost use Rattle.pm_engine.specs.Engines.{IsAtRest, HasSegments, LastIsForced};
-ghost use Rattle.pm_top.specs.Crashes.{CrashHoldsAcknowledged};
-ghost use Rattle.pm_top.specs.Promises.{HasFailed, HasNoMemory, StopIs};
-ghost use Rattle.pm_top.specs.Runs.{CanRun, Progress, SameConsole, SameFiles, OnlyAnswers, KeepsRun, CountsBatch, IsOpenAfter, LinesAreAnswered, FaultIs, IsAtRestSince, BatchIsAnswered, LeavesRun};
+ghost use Rattle.pm_top.specs.ScriptOrder.{CrashHoldsAcknowledged};
+ghost use Rattle.pm_top.specs.ScriptOrder.{HasFailed, HasNoMemory, StopIs};
+ghost use Rattle.pm_top.specs.Runs.{CanRun, Progress, SameConsole, OnlyAnswers, KeepsRun, CountsBatch, IsOpenAfter, LinesAreAnswered, FaultIs, IsAtRestSince, BatchIsAnswered, LeavesRun};
+ghost use Rattle.pm_top.specs.Promises.{SameFiles};
 ghost use Rattle.pm_top.specs.Served.{script_of};
 
 use crate::batch::{Continuation, next_batch};

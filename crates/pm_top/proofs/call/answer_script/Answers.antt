@@ -8,9 +8,11 @@ use Rattle.pm_disk.proofs.Chain.{at_last}
 use Rattle.pm_script.specs.Lines.{lines_of}
 use Rattle.pm_engine.specs.Engines.{Running}
 use Rattle.pm_top.specs.declared.status.Status.{Status}
-use Rattle.pm_top.specs.Crashes.{CrashHoldsAcknowledged}
-use Rattle.pm_top.specs.Promises.{OutcomeIs, StopIs, IsDone, IsStopped, SaysPart}
-use Rattle.pm_top.specs.Runs.{CanRun, LeavesStore, SameFiles}
+use Rattle.pm_top.specs.ScriptOrder.{CrashHoldsAcknowledged}
+use Rattle.pm_top.specs.ScriptOrder.{OutcomeIs, StopIs, IsDone, IsStopped}
+use Rattle.pm_top.specs.Promises.{SaysPart}
+use Rattle.pm_top.specs.Runs.{CanRun, LeavesStore}
+use Rattle.pm_top.specs.Promises.{SameFiles}
 use Rattle.pm_top.specs.Served.{line_of}
 use Rattle.pm_top.specs.Statuses.{code_of}
 use Rattle.pm_top.proofs.KeptFiles.{say_calls, then_calls}

@@ -16,10 +16,12 @@ use Rattle.pm_top.specs.Configurations.{AsksFor, config_fault, fault_config}
 use Rattle.pm_top.specs.Crashes.{CrashHoldsAcknowledged}
 use Rattle.pm_top.specs.Promises.{CanOpen, OutcomeIs, fault_record, IsStart, IsLeft}
 use Rattle.pm_top.specs.Served.{script_of}
-use Rattle.pm_top.specs.Runs.{CanRun, SameFiles}
+use Rattle.pm_top.specs.Runs.{CanRun}
+use Rattle.pm_top.specs.Promises.{SameFiles}
 use Rattle.pm_top.proofs.KeptFiles.{log_calls, same_calls, say_calls, then_calls}
 use Rattle.pm_top.proofs.Leaving.{is_left}
 use Rattle.pm_top.proofs.Opened.{crash_from, opening_moments, refused_moments, same_console}
+use Rattle.pm_top.proofs.Ordered.{moments_keep, outcome_is, outcome_order}
 use Rattle.pm_top.proofs.Orders.{none_with_c}
 use Rattle.pm_top.proofs.Refusing.{AnswersNone, can_not_open, damaged_run, field_refused_run, idle_run, opens_log, run_from, same_log, was_configured, was_opened}
 use Rattle.pm_top.proofs.call.run.Goals as goal
@@ -36,7 +38,8 @@ returns-in-Ok-clause-run g c t =
     let engine = c.in-Ok.engine in
     let opens = c.in-Ok.ensures.opens t in
     let can : CanOpen old.world engine.shape engine.map = record { configured = asks.fault_is ∙ c.in-Ok.ensures.alike t; log = subst (λ s. LogHolds s old.world engine.shape engine.map) (sym asks.wanted_is) (opens_hold wanted old.world mid.world engine opens) } in
-    let answered = c.answer_script.ensures.outcome t old.world (same_console old.world mid.world only) in
+    let ordered = c.answer_script.ensures.outcome t old.world (same_console old.world mid.world only) in
+    let answered : OutcomeIs outcome.status old.world new.world engine.shape engine.map outcome.lines outcome.order.items = outcome_is outcome.status old.world new.world engine.shape engine.map outcome.lines outcome.order.items ordered in
     record {
       outcome = λ shape pairs it.
           let maps = opens_map wanted old.world mid.world engine shape pairs opens (opens_log old.world wanted shape pairs asks it) in
@@ -72,8 +75,9 @@ returns-in-Ok-clause-crash g c t =
     let K : World → Type 0 = CrashHoldsAcknowledged wanted old.world shape pairs order in
     let stands = c.in-Ok.ensures.at_rest t shape pairs start.holds start.numbers start.quiet in
     let runs : CanRun wanted engine mid.world = record { stands = stands.at_rest; segments = omega (arith, stands.rises, start.numbers) } in
+    let its = outcome_order outcome.status old.world new.world engine.shape engine.map outcome.lines order (c.answer_script.ensures.outcome t old.world (same_console old.world mid.world only)) in
     let second : AllMoments mid new K = subst (λ (x : Shape × Pairs). AllMoments mid new (CrashHoldsAcknowledged wanted old.world x.0 x.1 order)) (λ i. (maps.0 i, maps.1 i))
-    (c.answer_script.ensures.moments t wanted old.world (same_console old.world mid.world only) runs) in
+    (moments_keep wanted old.world mid new engine.shape engine.map its.0 order its.1 (c.answer_script.ensures.moments t wanted old.world (same_console old.world mid.world only) runs)) in
     joined old mid new K (opening_moments wanted old mid shape pairs order (c.open_store.ensures.crash t shape pairs start.holds start.numbers start.quiet) (c.open_store.ensures.log_only t)) second
     in
     subst (λ (s : Shape). (shape : Shape) (pairs : Pairs) → IsStart s old.world shape pairs → AllMoments old new (CrashHoldsAcknowledged s old.world shape pairs order)) (sym asks.wanted_is) keeps

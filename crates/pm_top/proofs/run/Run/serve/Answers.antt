@@ -7,9 +7,9 @@ use Rattle.pm_script.specs.Reading.{rest_of, Unread}
 use Rattle.pm_records.specs.LogFiles.{ChangesLog}
 use Rattle.pm_engine.specs.Engines.{Running}
 use Rattle.pm_top.specs.declared.run.Run.{Run}
-use Rattle.pm_top.specs.Crashes.{CrashHoldsAcknowledged}
+use Rattle.pm_top.specs.ScriptOrder.{CrashHoldsAcknowledged}
 use Rattle.pm_top.specs.Runs.{Progress}
-use Rattle.pm_top.specs.Scripts.{after_lines}
+use Rattle.pm_top.specs.Limits.{after_lines}
 use Rattle.pm_top.specs.Served.{script_of}
 use Rattle.pm_top.proofs.AnsweredLines.{rest_moments}
 use Rattle.pm_top.proofs.KeptFiles.{log_calls, no_calls, then_calls}

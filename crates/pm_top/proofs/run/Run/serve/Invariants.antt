@@ -8,9 +8,10 @@ use Rattle.pm_script.specs.Reading.{rest_of, KnowsEnd}
 use Rattle.pm_records.specs.LogFiles.{LogGrowsBy}
 use Rattle.pm_engine.specs.Records.{logged}
 use Rattle.pm_segments.specs.Ends.{EndsThere}
-use Rattle.pm_top.specs.Crashes.{CrashHoldsAcknowledged}
-use Rattle.pm_top.specs.Runs.{CanRun, Progress, SameConsole, SameFiles, IsAtRestAfter}
-use Rattle.pm_top.specs.Scripts.{after_lines}
+use Rattle.pm_top.specs.ScriptOrder.{CrashHoldsAcknowledged}
+use Rattle.pm_top.specs.Runs.{CanRun, Progress, SameConsole, IsAtRestAfter}
+use Rattle.pm_top.specs.Promises.{SameFiles}
+use Rattle.pm_top.specs.Limits.{after_lines}
 use Rattle.pm_top.specs.Served.{script_of}
 use Rattle.pm_top.proofs.run.Run.serve.Given as goal
 
