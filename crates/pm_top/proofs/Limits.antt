@@ -8,7 +8,7 @@ use Rattle.pm_disk.specs.Worlds.{World}
 use Rattle.pm_model.specs.Eval.{Pairs}
 use Rattle.pm_top.specs.declared.status.Status.{Status}
 use Rattle.pm_top.specs.declared.status.Status.TheVariants.{Done, Usage, Misconfigured, Failed, Memory, Damaged, Long}
-use Rattle.pm_top.specs.Promises.{Completes, ConfigurationIs, OutcomeIs, RunHolds}
+use Rattle.pm_top.specs.Promises.{Completes, OutcomeIs, RunHolds}
 use Rattle.pm_top.specs.Configurations.{config_fault}
 use Rattle.pm_top.specs.Limits.{IsWithinLimits, PassesLimit}
 
@@ -39,20 +39,20 @@ limit_or_memory Damaged old new shape pairs lines order outcome passes sound = a
 limit_or_memory Long old new shape pairs lines order outcome passes sound = inl refl
 
 -- where a field is refused, and with no failure, that is reported, or memory runs out
-field_or_memory : (status : Status) (old new : World) (lines : ℕ) (order : List ℕ) (field : Field) → ConfigurationIs status old new lines order → config_fault old ≡ Some field → (status ≡ Failed → ⊥) → (status ≡ Usage → ⊥)
+field_or_memory : (status : Status) (old new : History) (lines : ℕ) (order : List ℕ) (field : Field) → RunHolds old new status lines order → config_fault old.world ≡ Some field → (status ≡ Failed → ⊥) → (status ≡ Usage → ⊥)
     → (status ≡ Misconfigured) ⊎ (status ≡ Memory)
-field_or_memory Done old new lines order field none is sound known = absurd (let both : Some field ≡ None = sym is ∙ none in cc)
-field_or_memory Usage old new lines order field none is sound known = absurd (known refl)
-field_or_memory Misconfigured old new lines order field none is sound known = inl refl
-field_or_memory Failed old new lines order field none is sound known = absurd (sound refl)
-field_or_memory Memory old new lines order field none is sound known = inr refl
-field_or_memory Damaged old new lines order field none is sound known = absurd (let both : Some field ≡ None = sym is ∙ none in cc)
-field_or_memory Long old new lines order field none is sound known = absurd (let both : Some field ≡ None = sym is ∙ none in cc)
+field_or_memory Done old new lines order field run is sound known = absurd (let can = run.opened (inl refl) in let both : Some field ≡ None = sym is ∙ can.2.configured in cc)
+field_or_memory Usage old new lines order field run is sound known = absurd (known refl)
+field_or_memory Misconfigured old new lines order field run is sound known = inl refl
+field_or_memory Failed old new lines order field run is sound known = absurd (sound refl)
+field_or_memory Memory old new lines order field run is sound known = inr refl
+field_or_memory Damaged old new lines order field run is sound known = absurd (let both : Some field ≡ None = sym is ∙ (run.damaged refl).configured in cc)
+field_or_memory Long old new lines order field run is sound known = absurd (let can = run.opened (inr refl) in let both : Some field ≡ None = sym is ∙ can.2.configured in cc)
 
 -- so a run is complete
 pub completes : (old new : History) (status : Status) (lines : ℕ) (order : List ℕ) (before now : DeviceState) → RunHolds old new status lines order → (status ≡ Usage → ⊥) → (status ≡ Failed → Rose before now) → Completes status old.world before now
 completes old new status lines order before now run known failed = record {
-  refused = λ field is none. field_or_memory status old.world new.world lines order field run.configured is (λ e. none (failed e)) known;
+  refused = λ field is none. field_or_memory status old new lines order field run is (λ e. none (failed e)) known;
   within = λ shape pairs can within none. whole_or_memory status old.world new.world shape pairs lines order (run.outcome shape pairs can) within (λ is. none (failed is));
   passes = λ shape pairs can passes none. limit_or_memory status old.world new.world shape pairs lines order (run.outcome shape pairs can) passes (λ is. none (failed is));
 }

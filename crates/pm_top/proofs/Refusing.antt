@@ -14,8 +14,7 @@ use Rattle.pm_engine.specs.StoredShapes.{shape_fault}
 use Rattle.pm_top.specs.Configurations.{AsksFor, config_fault, fault_config, wanted_in}
 use Rattle.pm_top.specs.declared.status.Status.{Status}
 use Rattle.pm_top.specs.declared.status.Status.TheVariants.{Done, Usage, Misconfigured, Failed, Memory, Damaged, Long}
-use Rattle.pm_top.specs.Promises.{CanOpen, ConfigurationIs, HasAnswered, replies_of, IsDamaged, IsLeft, IsMisconfigured, IsStart, OutcomeIs, RunHolds, SameLog, fault_record, SaysPart, WasOpened}
-use Rattle.pm_top.specs.Limits.{PassesLimit}
+use Rattle.pm_top.specs.Promises.{CanOpen, HasAnswered, replies_of, IsDamaged, IsLeft, IsMisconfigured, IsStart, OutcomeIs, RunHolds, SameLog, fault_record, SaysPart}
 use Rattle.pm_top.specs.ScriptOrder as one
 use Rattle.pm_top.specs.Served.{script_of}
 use Rattle.pm_top.specs.Statuses.{code_of}
@@ -62,18 +61,14 @@ pub none_run : (old new : History) (status : Status) (lines : ℕ) (order : List
     → (((shape : Shape) (pairs : Pairs) → CanOpen old.world shape pairs → ⊥) → AllMoments old new (SameLog old.world)) → RunHolds old new status lines order
 none_run old new status lines order cases refused outcome untouched = record {
   outcome = outcome;
-  opened = none_is status (λ s. WasOpened s old.world) cases tt tt tt;
+  opened = λ answered. absurd (elim answered [
+    | inl is ↦ isnt status Done cases is (λ e. omega (arith, e)) (λ e. omega (arith, e)) (λ e. omega (arith, e))
+    | inr is ↦ isnt status Long cases is (λ e. omega (arith, e)) (λ e. omega (arith, e)) (λ e. omega (arith, e))
+  ]);
   untouched = untouched;
   leaves = λ is. absurd (isnt status Done cases is (λ e. omega (arith, e)) (λ e. omega (arith, e)) (λ e. omega (arith, e)));
-  configured = elim cases [
-    | inl is ↦ subst (λ s. ConfigurationIs s old.world new.world lines order) (sym is) (refused is)
-    | inr more ↦ elim more [
-      | inl is ↦ subst (λ s. ConfigurationIs s old.world new.world lines order) (sym is) tt
-      | inr is ↦ subst (λ s. ConfigurationIs s old.world new.world lines order) (sym is) tt
-    ]
-  ];
+  misconfigured = refused;
   damaged = λ is. absurd (isnt status Damaged cases is (λ e. omega (arith, e)) (λ e. omega (arith, e)) (λ e. omega (arith, e)));
-  long = λ is. absurd (isnt status Long cases is (λ e. omega (arith, e)) (λ e. omega (arith, e)) (λ e. omega (arith, e)));
 }
 
 -- a call failed, or memory ran out, before anything was said
@@ -112,40 +107,25 @@ damaged_run old new status lines order wanted at asks bad nothing alike cases sa
     elim cases [ inl is ↦ subst P (sym is) a | inr more ↦ elim more [ inl is ↦ subst P (sym is) b | inr is ↦ subst P (sym is) c ] ] in
     record {
       outcome = λ shape pairs can. absurd (empty shape pairs can);
-      opened = was (λ s. WasOpened s old.world) tt tt tt;
+      opened = λ answered. absurd (was (λ s. (s ≡ Done) ⊎ (s ≡ Long) → ⊥)
+          (λ e. elim e [ inl is ↦ (let clash : 5 ≡ 0 = ap code_of is in omega (arith, clash)) | inr is ↦ (let clash : 5 ≡ 6 = ap code_of is in omega (arith, clash)) ])
+          (λ e. elim e [ inl is ↦ (let clash : 3 ≡ 0 = ap code_of is in omega (arith, clash)) | inr is ↦ (let clash : 3 ≡ 6 = ap code_of is in omega (arith, clash)) ])
+          (λ e. elim e [ inl is ↦ (let clash : 4 ≡ 0 = ap code_of is in omega (arith, clash)) | inr is ↦ (let clash : 4 ≡ 6 = ap code_of is in omega (arith, clash)) ]) answered);
       untouched = λ _. said_log old new (fault_record at) all;
       leaves = λ is shape pairs start. absurd (nothing shape pairs (subst (λ s. LogHolds s old.world shape pairs) asks.wanted_is (sound_holds (wanted_in old.world) old.world shape pairs start.holds)));
-      configured = was (λ s. ConfigurationIs s old.world new.world lines order) (asks.fault_is ∙ alike) tt tt;
+      misconfigured = λ is. absurd (was (λ s. s ≡ Misconfigured → ⊥) (λ e. (let clash : 5 ≡ 2 = ap code_of e in omega (arith, clash))) (λ e. (let clash : 3 ≡ 2 = ap code_of e in omega (arith, clash))) (λ e. (let clash : 4 ≡ 2 = ap code_of e in omega (arith, clash))) is);
       damaged = λ is. record {
         at = at;
+        configured = asks.fault_is ∙ alike;
         record_is = subst (λ s. IsBadRecord s old.world at) (sym asks.wanted_is) bad;
         unsound = subst (λ s. LogHoldsNothing s old.world) (sym asks.wanted_is) nothing;
         now = said is;
         none = none;
         order_is = no_order;
       };
-      long = λ is. absurd (was (λ s. s ≡ Long → ⊥) (λ e. (let clash : 5 ≡ 6 = ap code_of e in omega (arith, clash))) (λ e. (let clash : 3 ≡ 6 = ap code_of e in omega (arith, clash))) (λ e. (let clash : 4 ≡ 6 = ap code_of e in omega (arith, clash))) is);
     }
 
 -- ---- a run that opens the store
-
-pub was_opened : (status : Status) (world : World) (shape : Shape) (pairs : Pairs) → CanOpen world shape pairs → WasOpened status world
-was_opened Done world shape pairs can = (shape, pairs, can)
-was_opened Usage world shape pairs can = tt
-was_opened Misconfigured world shape pairs can = tt
-was_opened Failed world shape pairs can = tt
-was_opened Memory world shape pairs can = tt
-was_opened Damaged world shape pairs can = tt
-was_opened Long world shape pairs can = (shape, pairs, can)
-
-pub was_configured : (status : Status) (old new : World) (lines : ℕ) (order : List ℕ) → config_fault old ≡ None → (status ≡ Misconfigured → ⊥) → ConfigurationIs status old new lines order
-was_configured Done old new lines order none known = none
-was_configured Usage old new lines order none known = tt
-was_configured Misconfigured old new lines order none known = absurd (known refl)
-was_configured Failed old new lines order none known = tt
-was_configured Memory old new lines order none known = tt
-was_configured Damaged old new lines order none known = none
-was_configured Long old new lines order none known = none
 
 option_cases : (o : Option Field) → ((field : Field) × (o ≡ Some field)) ⊎ (o ≡ None)
 option_cases None = inr refl
@@ -167,12 +147,11 @@ opens_log world wanted shape pairs asks can = subst (λ s. LogHolds s world shap
 pub run_from : (old mid new : History) (status : Status) (lines : ℕ) (order : List ℕ) → AllMoments old mid (IsSame old.world) → mid.world ≡ old.world → RunHolds mid new status lines order → RunHolds old new status lines order
 run_from old mid new status lines order first same run = record {
   outcome = subst (λ (w : World). (shape : Shape) (pairs : Pairs) → CanOpen w shape pairs → OutcomeIs status w new.world shape pairs lines order) same run.outcome;
-  opened = subst (WasOpened status) same run.opened;
+  opened = subst (λ (w : World). (status ≡ Done) ⊎ (status ≡ Long) → (shape : Shape) × (pairs : Pairs) × CanOpen w shape pairs) same run.opened;
   untouched = λ none.
       joined old mid new (SameLog old.world) (same_log old mid first)
       (subst (λ (w : World). ((shape : Shape) (pairs : Pairs) → CanOpen w shape pairs → ⊥) → AllMoments mid new (SameLog w)) same run.untouched none);
   leaves = subst (λ (w : World). status ≡ Done → (shape : Shape) (pairs : Pairs) (start : IsStart (wanted_in w) w shape pairs) → IsLeft (wanted_in w) start.holds.frames w new.world shape pairs) same run.leaves;
-  configured = subst (λ (w : World). ConfigurationIs status w new.world lines order) same run.configured;
+  misconfigured = λ is. subst (λ (w : World). IsMisconfigured w new.world lines order) same (run.misconfigured is);
   damaged = λ is. subst (λ (w : World). IsDamaged w new.world lines order) same (run.damaged is);
-  long = λ is. subst (λ (w : World). PassesLimit w.input) same (run.long is);
 }

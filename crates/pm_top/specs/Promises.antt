@@ -137,6 +137,7 @@ pub record IsMisconfigured (old new : World) (lines : ℕ) (order : List ℕ) : 
 -- a record of the log is bad, so that the store isn't sound: it was named, and nothing was changed
 pub record IsDamaged (old new : World) (lines : ℕ) (order : List ℕ) : Type 0 where
   pub at : Place
+  pub configured : config_fault old ≡ None
   pub record_is : IsBadRecord (wanted_in old) old at
   pub unsound : LogHoldsNothing (wanted_in old) old
   pub now : new ≡ with_said (fault_record at) old
@@ -165,40 +166,19 @@ RefusalIs Memory old new lines order = ⊥
 RefusalIs Damaged old new lines order = ⊥
 RefusalIs Long old new lines order = ⊥
 
--- whether a field of the configuration was refused, as far as a status says it
-abbrev pub ConfigurationIs : Status → World → World → ℕ → List ℕ → Type 0
-ConfigurationIs Done old new lines order = config_fault old ≡ None
-ConfigurationIs Usage old new lines order = Unit {0}
-ConfigurationIs Misconfigured old new lines order = IsMisconfigured old new lines order
-ConfigurationIs Failed old new lines order = Unit {0}
-ConfigurationIs Memory old new lines order = Unit {0}
-ConfigurationIs Damaged old new lines order = config_fault old ≡ None
-ConfigurationIs Long old new lines order = config_fault old ≡ None
-
--- the store was opened, as far as a status says it
-abbrev pub WasOpened : Status → World → Type 0
-WasOpened Done world = (shape : Shape) × (pairs : Pairs) × CanOpen world shape pairs
-WasOpened Usage world = Unit {0}
-WasOpened Misconfigured world = Unit {0}
-WasOpened Failed world = Unit {0}
-WasOpened Memory world = Unit {0}
-WasOpened Damaged world = Unit {0}
-WasOpened Long world = (shape : Shape) × (pairs : Pairs) × CanOpen world shape pairs
-
 -- What a run promises, by its status.
 pub record RunHolds (old new : History) (status : Status) (lines : ℕ) (order : List ℕ) : Type 0 where
   -- over a store that it opens: which lines are answered, and with what
   pub outcome : (shape : Shape) (pairs : Pairs) → CanOpen old.world shape pairs → OutcomeIs status old.world new.world shape pairs lines order
   -- a script is answered only over such a store, and no other one is changed
-  pub opened : WasOpened status old.world
+  pub opened : (status ≡ Done) ⊎ (status ≡ Long) → (shape : Shape) × (pairs : Pairs) × CanOpen old.world shape pairs
   pub untouched : ((shape : Shape) (pairs : Pairs) → CanOpen old.world shape pairs → ⊥) → AllMoments old new (SameLog old.world)
   -- a script that is done leaves a sound store for the next run
   pub leaves : status ≡ Done → (shape : Shape) (pairs : Pairs) (start : IsStart (wanted_in old.world) old.world shape pairs)
       → IsLeft (wanted_in old.world) start.holds.frames old.world new.world shape pairs
   -- a field that is refused is named so, and a bad record too: the store is left as it is
-  pub configured : ConfigurationIs status old.world new.world lines order
+  pub misconfigured : status ≡ Misconfigured → IsMisconfigured old.world new.world lines order
   pub damaged : status ≡ Damaged → IsDamaged old.world new.world lines order
-  pub long : status ≡ Long → PassesLimit old.world.input
 
 -- at each moment a crash leaves a sound store, which holds what was acknowledged
 abbrev pub HoldsAtEachMoment : History → History → List ℕ → Type 0

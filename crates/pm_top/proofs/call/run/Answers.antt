@@ -23,7 +23,7 @@ use Rattle.pm_top.proofs.Leaving.{is_left}
 use Rattle.pm_top.proofs.Opened.{crash_from, opening_moments, refused_moments, same_console}
 use Rattle.pm_top.proofs.Ordered.{moments_keep, outcome_is, outcome_order}
 use Rattle.pm_top.proofs.Orders.{none_with_c}
-use Rattle.pm_top.proofs.Refusing.{AnswersNone, can_not_open, damaged_run, field_refused_run, idle_run, opens_log, run_from, same_log, was_configured, was_opened}
+use Rattle.pm_top.proofs.Refusing.{AnswersNone, can_not_open, damaged_run, field_refused_run, idle_run, opens_log, run_from, same_log}
 use Rattle.pm_top.proofs.call.run.Goals as goal
 
 pub returns-in-Ok-clause-run : goal.returns-in-Ok-clause-run
@@ -44,7 +44,7 @@ returns-in-Ok-clause-run g c t =
       outcome = λ shape pairs it.
           let maps = opens_map wanted old.world mid.world engine shape pairs opens (opens_log old.world wanted shape pairs asks it) in
           subst (λ (x : Shape × Pairs). OutcomeIs outcome.status old.world new.world x.0 x.1 outcome.lines outcome.order.items) (λ i. (maps.0 i, maps.1 i)) answered;
-      opened = was_opened outcome.status old.world engine.shape engine.map can;
+      opened = λ _. (engine.shape, engine.map, can);
       untouched = λ none. absurd (none engine.shape engine.map can);
       leaves = λ is. subst (λ (s : Shape). (shape : Shape) (pairs : Pairs) (start : IsStart s old.world shape pairs) → IsLeft s start.holds.frames old.world new.world shape pairs) (sym asks.wanted_is)
           (λ shape pairs start.
@@ -53,9 +53,8 @@ returns-in-Ok-clause-run g c t =
           let maps = opens_map wanted old.world mid.world engine shape pairs opens (sound_holds wanted old.world shape pairs start.holds) in
           is_left wanted start.holds.frames old.world mid.world new.world engine shape pairs maps stands start.quiet (at_last old mid (SameFiles old.world) (g.H.Device.sound c.open_store.new.host t) (log_calls old mid (c.open_store.ensures.log_only t))) (at_last mid new (SameFiles mid.world) (g.H.Device.sound c.answer_script.new.host t) (c.answer_script.ensures.files t))
           (c.answer_script.ensures.leaves t is wanted old.world (same_console old.world mid.world only) runs));
-      configured = was_configured outcome.status old.world new.world outcome.lines outcome.order.items can.configured c.answer_script.ensures.cause.configured;
+      misconfigured = λ is. absurd (c.answer_script.ensures.cause.configured is);
       damaged = λ is. absurd (c.answer_script.ensures.cause.sound is);
-      long = λ is. (let stopped = subst (λ s. OutcomeIs s old.world new.world engine.shape engine.map outcome.lines outcome.order.items) is answered in stopped.passes);
     }
 
 pub returns-in-Ok-clause-crash : goal.returns-in-Ok-clause-crash
