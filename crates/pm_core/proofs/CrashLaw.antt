@@ -14,6 +14,7 @@ use Rattle.pm_core.specs.Stands.{Stands}
 use Rattle.pm_core.specs.Machine.{DiskStep, OnLog, WriteStart, ForceStart, WritePage, ForcePages, WriteEnd, ForceEnd, Say, log_state, next_state, next_world, Can, CanAll, states, worlds}
 use Rattle.pm_core.specs.Starts.{appended}
 use Rattle.pm_core.specs.Prefixes.{KeepsPrefix}
+use Rattle.pm_core.specs.Calls.{MakesPrefix}
 use Rattle.pm_core.proofs.Images.{image_law}
 use Rattle.pm_core.proofs.LogSteps.{log_step}
 use Rattle.pm_core.proofs.MarkSteps.{force_start_step, force_end_step, write_start_step}
@@ -142,3 +143,41 @@ law_of_state wanted told s w ts stands can k image leaves honest =
 pub said_of_state : (wanted : Shape) (told : List ℕ → ℕ) (s : State) (w : World) (ts : List DiskStep) → Stands wanted told s w → CanAll told ts s w → (k : ℕ)
     → told (worlds (take k ts) s w).said ≤ length (states (take k ts) s w).order
 said_of_state wanted told s w ts stands can k = (run_stands wanted told (take k ts) s w stands (can_front told k ts s w can)).said
+
+-- the lasting order only grows
+log_grows : (t : Step) (s : State) → length s.order ≤ length (log_state t s).order
+log_grows CutTail s = omega arith
+log_grows (Append f) s = omega arith
+log_grows Force s = omega (arith, length-append s.order s.pending)
+log_grows NextSegment s = omega arith
+log_grows (DropSegment seg) s = omega arith
+log_grows (ForceSegment seg) s = omega arith
+
+step_grows : (t : DiskStep) (s : State) (w : World) → length s.order ≤ length (next_state t s w).order
+step_grows (OnLog step) s w = log_grows step s
+step_grows (WriteStart mark rebuilt) s w = omega arith
+step_grows ForceStart s w = omega arith
+step_grows (WritePage page gap bytes) s w = omega arith
+step_grows (ForcePages part) s w = omega arith
+step_grows (WriteEnd mark) s w = omega arith
+step_grows ForceEnd s w = omega arith
+step_grows (Say bytes) s w = omega arith
+
+pub run_grows : (ts : List DiskStep) (s : State) (w : World) → length s.order ≤ length (states ts s w).order
+run_grows [] s w = omega arith
+run_grows (t ∷ ts) s w = omega (arith, step_grows t s w, run_grows ts (next_state t s w) (next_world t s w))
+
+-- The same of a call that makes these steps, or a prefix of them.
+pub law_of_call : (wanted : Shape) (told : List ℕ → ℕ) (s : State) (w : World) (ts : List DiskStep) → Stands wanted told s w → CanAll told ts s w → (now : World) → MakesPrefix ts s w now → (image : Image)
+    → LeavesAll now image → IsTrueImage now image → KeepsPrefix wanted s.shape s.first (appended (states ts s w)) (length s.order) image
+law_of_call wanted told s w ts stands can now some image leaves honest =
+    let k = some.0 in
+    let law = law_of_state wanted told s w ts stands can k image (subst (λ (v : World). LeavesAll v image) some.2 leaves) (subst (λ (v : World). IsTrueImage v image) some.2 honest) in
+    record {
+      map = law.map;
+      sound = law.sound;
+      count = law.count;
+      has = omega (arith, law.has, run_grows (take k ts) s w);
+      fits = law.fits;
+      is = law.is;
+    }

@@ -115,7 +115,7 @@ states-append : (xs ys : List DiskStep) (s : State) (w : World) → states (xs +
 states-append [] ys s w = refl
 states-append (x ∷ xs) ys s w = states-append xs ys (next_state x s w) (next_world x s w)
 
-can-append : (told : List ℕ → ℕ) (xs ys : List DiskStep) (s : State) (w : World) → CanAll told xs s w → CanAll told ys (states xs s w) (worlds xs s w) → CanAll told (xs ++ ys) s w
+pub can-append : (told : List ℕ → ℕ) (xs ys : List DiskStep) (s : State) (w : World) → CanAll told xs s w → CanAll told ys (states xs s w) (worlds xs s w) → CanAll told (xs ++ ys) s w
 can-append told [] ys s w one two = two
 can-append told (x ∷ xs) ys s w one two = (one.0, can-append told xs ys (next_state x s w) (next_world x s w) one.1 two)
 

@@ -1,10 +1,12 @@
 pub mod CrashLaw
+pub mod Finishing
 pub mod Images
 pub mod InForce
 pub mod Joins
 pub mod Junk
 pub mod LeftPages
 pub mod LogSteps
+pub mod Making
 pub mod MarkSteps
 pub mod NoFiles
 pub mod One
@@ -13,5 +15,6 @@ pub mod Ranges
 pub mod Rebuilt
 pub mod Replaying
 pub mod Saying
+pub mod Sets
 pub mod Starting
 pub mod WithoutStart

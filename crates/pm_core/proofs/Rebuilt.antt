@@ -31,7 +31,7 @@ then_some f None x is = let none : None ≡ Some x = is in absurd cc
 then_some f (Some y) x is = (y, refl, is)
 
 -- a page in the shape is changed by its own records alone
-found_some : (b : Bool) (start mid : Partitions) (page : PageId) (found : Option (List ℕ))
+pub found_some : (b : Bool) (start mid : Partitions) (page : PageId) (found : Option (List ℕ))
     → (let o : Option Partitions = if b then option_map (with_page start page) found else Some start in o) ≡ Some mid
     → ((b ≡ true) × ((now : List ℕ) × (found ≡ Some now) × (with_page start page now ≡ mid))) ⊎ ((b ≡ false) × (start ≡ mid))
 found_some true start mid page found is = inl (refl, map_some (with_page start page) found mid is)

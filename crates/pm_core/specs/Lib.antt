@@ -1,7 +1,9 @@
 pub mod BasePages
+pub mod Calls
 pub mod Held
 pub mod LogAlone
 pub mod PageLaws
+pub mod PageSets
 pub mod Prefixes
 pub mod Replays
 pub mod Machine

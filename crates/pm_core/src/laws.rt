@@ -15,7 +15,11 @@ ghost use Rattle.pm_core.specs.Held.{HoldsWith};
 ghost use Rattle.pm_core.specs.LogAlone.{LogHolds, LogIsAlone};
 ghost use Rattle.pm_core.specs.Sound.{Sound, SoundImage, IsTrueImage};
 ghost use Rattle.pm_core.specs.States.{State};
-ghost use Rattle.pm_core.specs.Machine.{DiskStep, CanAll, states, worlds};
+ghost use Rattle.pm_core.specs.Machine.{DiskStep, CanStart, CanAll, states, worlds};
+ghost use Rattle.pm_core.specs.Calls.{MakesPrefix, begin_steps, finish_steps, CanFinish};
+ghost use Rattle.pm_core.specs.Stands.{Stands};
+ghost use Rattle.pm_types.specs.declared.page_id.PageId.{PageId};
+ghost use Rattle.pm_types.specs.declared.shape.Mark.{Mark};
 ghost use Rattle.pm_core.specs.Rounds.{PageStep, on_log, on_pages, joined};
 ghost use Rattle.pm_core.specs.Starts.{CanBegin, start_state, appended};
 ghost use Rattle.pm_core.specs.Prefixes.{KeepsPrefix};
@@ -92,4 +96,33 @@ pub fn a_round_leaves_a_prefix()
         → IsTrueImage (joined now (worlds (take j (on_log logged)) mid now) (worlds (take k (on_pages paged)) mid now)) image
         → KeepsPrefix wanted shape pairs (appended (states (on_log logged) mid now))
         (length (states (take j (on_log logged)) mid now).order) image }
+{}
+
+/// A sound disk with nothing pending is as the machine's first state says, and after steps that meet their guards a disk is as the
+/// state after them says.
+pub fn a_disk_stands_for_its_state()
+    ensures first { (wanted : Shape) (told : List ℕ → ℕ) (world : World) (shape : Shape) (pairs : Pairs)
+        → (can : CanBegin wanted told world shape pairs)
+        → Stands wanted told (start_state wanted world shape pairs can.sound) world }
+    ensures later { (wanted : Shape) (told : List ℕ → ℕ) (s : State) (world : World) (steps : List DiskStep)
+        → Stands wanted told s world → CanAll told steps s world → Stands wanted told (states steps s world) (worlds steps s world) }
+{}
+
+/// The crash law of one call. Where a disk is as a state says, and a call makes steps that meet their guards, or a prefix of them:
+/// whatever a crash leaves then is sound, and holds the map after a prefix of the appended records that has all that were forced
+/// before the call.
+pub fn a_call_leaves_a_prefix()
+    ensures map { (wanted : Shape) (told : List ℕ → ℕ) (s : State) (world : World) (steps : List DiskStep)
+        → Stands wanted told s world → CanAll told steps s world → (now : World) → MakesPrefix steps s world now
+        → (image : Image) → LeavesAll now image → IsTrueImage now image
+        → KeepsPrefix wanted s.shape s.first (appended (states steps s world)) (length s.order) image }
+{}
+
+/// The steps of a checkpoint's calls meet their guards: those of `Idle::begin` where its start marker may be written, and those of
+/// `Begun::finish` where each page that the log rebuilds is in its file.
+pub fn a_checkpoint_meets_its_guards()
+    ensures begin { (told : List ℕ → ℕ) (mark : Mark) (rebuilt : Partitions) (s : State) (world : World)
+        → CanStart mark rebuilt s world → CanAll told (begin_steps mark rebuilt) s world }
+    ensures finish { (wanted : Shape) (told : List ℕ → ℕ) (mark : Mark) (pages : List PageId) (s : State) (world : World)
+        → Stands wanted told s world → CanFinish mark pages s world → CanAll told (finish_steps mark pages) s world }
 {}
