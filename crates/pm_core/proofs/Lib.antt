@@ -1,4 +1,5 @@
 pub mod CrashLaw
+pub mod Exhibits
 pub mod Finishing
 pub mod Images
 pub mod InForce

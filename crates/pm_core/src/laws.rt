@@ -8,10 +8,10 @@ ghost use Rattle.pm_disk.specs.Images.{Image, LeavesAll};
 ghost use Rattle.pm_disk.specs.Worlds.{World, empty_world};
 ghost use Rattle.pm_model.specs.Eval.{Pairs};
 ghost use Rattle.pm_records.specs.Records.{Record, Restart};
-ghost use Rattle.pm_marks.specs.InForce.{Checkpoint};
+ghost use Rattle.pm_marks.specs.InForce.{Checkpoint, Started, Ended};
 ghost use Rattle.pm_core.specs.BasePages.{Partitions, base_of, rebuilt_from, since_restart};
 ghost use Rattle.pm_core.specs.PageLaws.{Grows, after_record};
-ghost use Rattle.pm_core.specs.Held.{HoldsWith};
+ghost use Rattle.pm_core.specs.Held.{HoldsWith, in_force};
 ghost use Rattle.pm_core.specs.LogAlone.{LogHolds, LogIsAlone};
 ghost use Rattle.pm_core.specs.Sound.{Sound, SoundImage, IsTrueImage};
 ghost use Rattle.pm_core.specs.States.{State};
@@ -125,4 +125,12 @@ pub fn a_checkpoint_meets_its_guards()
         → CanStart mark rebuilt s world → CanAll told (begin_steps mark rebuilt) s world }
     ensures finish { (wanted : Shape) (told : List ℕ → ℕ) (mark : Mark) (pages : List PageId) (s : State) (world : World)
         → Stands wanted told s world → CanFinish mark pages s world → CanAll told (finish_steps mark pages) s world }
+{}
+
+/// There are sound stores with a checkpoint in force, of each shape that a store may have: one with its end marker, and one without.
+pub fn stores_with_a_checkpoint_are_sound()
+    ensures ended { (wanted shape : Shape) → IsShape shape
+        → (image : Image) × (mark : Mark) × (in_force image ≡ Ended mark) × SoundImage wanted image shape empty }
+    ensures started { (wanted shape : Shape) → IsShape shape
+        → (image : Image) × (mark : Mark) × (in_force image ≡ Started mark) × SoundImage wanted image shape empty }
 {}
