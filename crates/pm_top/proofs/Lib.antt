@@ -1,5 +1,6 @@
 pub mod AnsweredBatch
 pub mod AnsweredLines
+pub mod Chained
 pub mod Configured
 pub mod KeptFiles
 pub mod Lasting

@@ -1,4 +1,5 @@
 pub mod Causes
+pub mod Chains
 pub mod Configurations
 pub mod Crashes
 pub mod Limits

@@ -5,6 +5,7 @@ mod batch;
 mod call;
 mod configuration;
 mod fault_lines;
+mod laws;
 mod report;
 mod run;
 mod script;
@@ -12,4 +13,8 @@ mod status;
 mod words;
 
 pub use call::top;
+pub use laws::{
+    a_fresh_folder_is_a_start, runs_and_crashes_follow_each_other, what_a_crash_leaves_is_a_start,
+    what_a_done_run_leaves_is_a_start,
+};
 pub use report::Report;
