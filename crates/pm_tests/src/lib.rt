@@ -13,6 +13,8 @@ mod consoles;
 #[cfg(test)]
 mod crashes;
 #[cfg(test)]
+mod folders;
+#[cfg(test)]
 mod forces;
 #[cfg(test)]
 mod hosts;
@@ -34,5 +36,7 @@ mod runs;
 mod scripts;
 #[cfg(test)]
 mod stores;
+#[cfg(test)]
+mod torn;
 #[cfg(test)]
 mod traces;
