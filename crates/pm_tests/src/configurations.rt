@@ -7,17 +7,17 @@ use std::test::Fail;
 
 /// Configurations that are refused, each with what is printed.
 const REFUSED: [(&[u8], &[u8]); 12] = [
-    (
-        b"{\"workers\":1,\"frames\":63}",
-        b"fault config frames\n",
-    ),
+    (b"{\"workers\":1,\"frames\":63}", b"fault config frames\n"),
     (b"{\"page_size\":1000}", b"fault config page_size\n"),
     (b"{\"pages\":1}", b"fault config unknown\n"),
     (b"[1]", b"fault config text\n"),
     (b" ", b"fault config text\n"),
     (b"{\"partitions\":0}", b"fault config partitions\n"),
     (b"{\"max_rows\":400001}", b"fault config max_rows\n"),
-    (b"{\"segment_bytes\":65535}", b"fault config segment_bytes\n"),
+    (
+        b"{\"segment_bytes\":65535}",
+        b"fault config segment_bytes\n",
+    ),
     (b"{\"workers\":9}", b"fault config workers\n"),
     (b"{\"buffer_pages\":1e3}", b"fault config buffer_pages\n"),
     (
@@ -145,7 +145,12 @@ fn the_shape_is_compared_before_records_are_replayed(rt: HostRuntime) -> Result<
     let run = run_fresh_over(&rt, b"", disk)?;
     assert_eq!(rt; run.report.status, 2);
     assert_eq!(rt; run.host.said(), b"fault config partitions\n".as_slice());
-    let again = run_configured(&rt, b"{\"max_rows\": 1, \"partitions\": 1}", b"", run.disk(&rt)?)?;
+    let again = run_configured(
+        &rt,
+        b"{\"max_rows\": 1, \"partitions\": 1}",
+        b"",
+        run.disk(&rt)?,
+    )?;
     assert_eq!(rt; again.report.status, 5);
     assert_eq!(rt; again.host.said(), b"fault record 1:67\n".as_slice());
     Ok(())

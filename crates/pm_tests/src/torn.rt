@@ -81,7 +81,11 @@ fn look_for_none(
     let disk = stopped.host.image(rt.alloc(), pick)?;
     let run = run_over(rt, b"get 0 b\nget 0 c\n", disk)?;
     assert_eq!(rt; run.report.status, 0, "{stop} {pick:?}");
-    assert_eq!(rt; run.host.said(), b"none\nnone\n".as_slice(), "{stop} {pick:?}");
+    assert_eq!(rt;
+        run.host.said(),
+        b"none\nnone\n".as_slice(),
+        "{stop} {pick:?}"
+    );
     Ok(())
 }
 

@@ -1,19 +1,19 @@
 -- What a run or a crash leaves is a start for the next run.
-use Rattle.std.proofs.Common.{◌≡◌, ◌⊎◌, inl, inr, ℕ, ◌+◌, ◌<◌, ◌^◌, List, [], ◌∷◌, ◌++◌, map, length, take, Option, Some, None, refl, sym, ◌∙◌, ap, subst, arith}
+use Rattle.std.proofs.Common.{◌≡◌, ◌⊎◌, inl, inr, ℕ, ◌+◌, ◌<◌, ◌^◌, List, [], ◌∷◌, take, None, refl, sym, ◌∙◌, ap, subst, arith}
 use Rattle.std.specs.FinMap.{empty}
 use Rattle.pm_types.specs.declared.shape.Shape.{Shape}
 use Rattle.pm_disk.specs.Files.{File, bytes_of, content}
 use Rattle.pm_disk.specs.Images.{Image, NothingPending}
 use Rattle.pm_disk.specs.Worlds.{World}
-use Rattle.pm_frame.specs.Frames.{Frame, frame_at, named_frame}
+use Rattle.pm_frame.specs.Frames.{frame_at, named_frame}
 use Rattle.pm_model.specs.declared.line.Line.{Line}
 use Rattle.pm_model.specs.Eval.{Pairs, after, after_all}
 use Rattle.pm_model.specs.Orders.{after_numbers, line_at}
 use Rattle.pm_model.proofs.Runs.{after_all-append}
 use Rattle.pm_records.specs.LogFiles.{contents}
 use Rattle.pm_records.specs.Logs.{all_frames, after_frames, place}
-use Rattle.pm_engine.specs.Held.{HasNumbers, Holds, HoldsImage, HoldsIn}
-use Rattle.pm_top.specs.Chains.{Follows, HasCrashed, IsFoundAfter, IsFresh, SameDisk, Stage, WasDone, found_last, left_file, lines_kept, lines_with}
+use Rattle.pm_engine.specs.Held.{HasNumbers, HoldsImage, HoldsIn}
+use Rattle.pm_top.specs.Chains.{Follows, HasCrashed, IsFoundAfter, IsFresh, SameDisk, Stage, WasDone, found_last, lines_kept, lines_with}
 use Rattle.pm_top.specs.Promises.{IsLeft, IsStart}
 use Rattle.pm_top.specs.Served.{script_of}
 

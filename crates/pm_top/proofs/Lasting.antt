@@ -14,7 +14,7 @@ use Rattle.pm_engine.specs.Held.{HoldsImage, CrashHoldsPrefix}
 use Rattle.pm_top.specs.declared.run.Run.{Run}
 use Rattle.pm_top.specs.ScriptOrder.{CrashHoldsAcknowledged, HoldsAfter, after_numbers, acknowledged_count}
 use Rattle.pm_top.specs.Crashes.{begun}
-use Rattle.pm_top.specs.Promises.{replies_of, SaysPart}
+use Rattle.pm_top.specs.Promises.{replies_of}
 use Rattle.pm_top.specs.ScriptOrder.{IsOrder}
 use Rattle.pm_top.specs.Runs.{Progress}
 use Rattle.pm_top.specs.Crashes.{acknowledged}

@@ -1,5 +1,5 @@
 -- What a run that is done leaves: a store that is sound, with nothing pending.
-use Rattle.std.proofs.Common.{◌≡◌, ◌+◌, ◌≤◌, List, [], ◌∷◌, ◌++◌, ap, sym, ◌∙◌, subst, arith}
+use Rattle.std.proofs.Common.{◌≡◌, ◌≤◌, List, [], ◌∷◌, ◌++◌, ap, sym, ◌∙◌, subst, arith}
 use Rattle.pm_types.specs.declared.place.Place.{Place}
 use Rattle.pm_types.specs.declared.shape.Shape.{Shape}
 use Rattle.pm_types.specs.declared.limits.TheConstants.{LINES_MAX}

@@ -1,5 +1,5 @@
 -- A run that logs in the script's order keeps what is promised of every order.
-use Rattle.std.proofs.Common.{◌≡◌, ℕ, ◌+◌, ◌-◌, ◌≤◌, List, [], ◌∷◌, length, take, drop, refl, ap, sym, ◌∙◌, subst, arith}
+use Rattle.std.proofs.Common.{◌≡◌, ℕ, ◌+◌, ◌-◌, ◌≤◌, List, [], ◌∷◌, length, take, drop, refl, ap, sym, subst, arith}
 use Rattle.std.specs.List.{All, Contains}
 use Rattle.pm_types.specs.declared.limits.TheConstants.{BATCH_LINES_MAX}
 use Rattle.pm_types.specs.declared.shape.Shape.{Shape}
@@ -15,7 +15,7 @@ use Rattle.pm_engine.specs.Held.{HoldsImage}
 use Rattle.pm_top.specs.declared.status.Status.{Status}
 use Rattle.pm_top.specs.declared.status.Status.TheVariants.{Done, Usage, Misconfigured, Failed, Memory, Damaged, Long}
 use Rattle.pm_top.specs.Crashes.{CrashHoldsAcknowledged, begun}
-use Rattle.pm_top.specs.Promises.{IsOrder, IsOrderOfTried, IsTail, OutcomeIs, replies_of}
+use Rattle.pm_top.specs.Promises.{IsOrder, IsOrderOfTried, OutcomeIs}
 use Rattle.pm_top.specs.ScriptOrder as one
 use Rattle.pm_top.specs.Served.{script_of}
 

@@ -1,19 +1,19 @@
 -- Runs that answer no line, and what follows of a run whose first calls changed nothing.
-use Rattle.std.proofs.Common.{◌≡◌, ◌⊎◌, inl, inr, ℕ, ◌^◌, List, [], ◌++◌, take, Option, Some, None, refl, sym, ap, ◌∙◌, subst, append-nil, arith}
+use Rattle.std.proofs.Common.{◌≡◌, ◌⊎◌, inl, inr, ℕ, List, [], ◌++◌, take, Option, Some, None, refl, sym, ap, ◌∙◌, subst, append-nil, arith}
 use Rattle.pm_types.specs.declared.fault.Field.{Field}
 use Rattle.pm_types.specs.declared.place.Place.{Place}
 use Rattle.pm_types.specs.declared.shape.Shape.{Shape}
 use Rattle.pm_disk.specs.Worlds.{World, with_said}
 use Rattle.pm_disk.specs.Moments.{History, AllMoments}
 use Rattle.pm_disk.proofs.Chain.{joined, weaker}
-use Rattle.pm_model.specs.Eval.{Pairs, accepted, after_all}
+use Rattle.pm_model.specs.Eval.{Pairs, accepted}
 use Rattle.pm_script.specs.Texts.{texts_of}
 use Rattle.pm_engine.specs.Openings.{CanNotOpen, IsBadRecord, IsSame, LogHolds, LogHoldsNothing}
 use Rattle.pm_engine.proofs.Opening.{sound_holds}
 use Rattle.pm_engine.specs.StoredShapes.{shape_fault}
 use Rattle.pm_top.specs.Configurations.{AsksFor, config_fault, fault_config, wanted_in}
 use Rattle.pm_top.specs.declared.status.Status.{Status}
-use Rattle.pm_top.specs.declared.status.Status.TheVariants.{Done, Usage, Misconfigured, Failed, Memory, Damaged, Long}
+use Rattle.pm_top.specs.declared.status.Status.TheVariants.{Done, Misconfigured, Failed, Memory, Damaged, Long}
 use Rattle.pm_top.specs.Promises.{CanOpen, HasAnswered, replies_of, IsDamaged, IsLeft, IsMisconfigured, IsStart, OutcomeIs, RunHolds, SameLog, fault_record, SaysPart}
 use Rattle.pm_top.specs.ScriptOrder as one
 use Rattle.pm_top.specs.Served.{script_of}

@@ -1,5 +1,5 @@
 -- How the lines of a script are taken one by one.
-use Rattle.std.specs.Prelude.{◌≡◌, ◌⊎◌, ℕ, zero, suc, ◌+◌, ◌≤◌, ◌<◌, List, [], ◌++◌, length, Bool, not, ◌&&◌, ◌||◌, nat_lt}
+use Rattle.std.specs.Prelude.{◌≡◌, ℕ, ◌+◌, ◌≤◌, ◌<◌, List, [], ◌++◌, length, Bool, not, ◌&&◌, ◌||◌, nat_lt}
 use Rattle.std.specs.List.{All}
 use Rattle.pm_types.specs.declared.limits.TheConstants.{SCRIPT_BYTES_MAX, LINES_MAX, BATCH_LINES_MAX}
 use Rattle.pm_script.specs.Lines.{first_line}

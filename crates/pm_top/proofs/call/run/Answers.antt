@@ -1,4 +1,4 @@
-use Rattle.std.proofs.Common.{◌≡◌, ◌⊎◌, ◌^◌, inl, inr, Some, None, Err, ap, sym, ◌∙◌, subst, arith}
+use Rattle.std.proofs.Common.{◌≡◌, ◌⊎◌, inl, inr, Some, None, Err, ap, sym, ◌∙◌, subst, arith}
 use Rattle.std.specs.Prelude.{codes, ◌++◌}
 use Rattle.pm_types.specs.declared.fault.OpenFault.TheVariants.{Store}
 use Rattle.pm_types.specs.declared.shape.Shape.{Shape}
@@ -6,7 +6,7 @@ use Rattle.pm_disk.specs.Moments.{AllMoments}
 use Rattle.pm_disk.specs.Worlds.{World}
 use Rattle.pm_disk.proofs.Chain.{at_last, joined}
 use Rattle.pm_config.specs.Names.{name_of}
-use Rattle.pm_model.specs.Eval.{Pairs, after_all}
+use Rattle.pm_model.specs.Eval.{Pairs}
 use Rattle.pm_records.specs.LogFiles.{ChangesLog}
 use Rattle.pm_engine.specs.Openings.{IsBadRecord, IsSame, LogHolds, LogHoldsNothing}
 use Rattle.pm_engine.specs.StoredShapes.{ComparesShape, shape_fault}
@@ -15,7 +15,6 @@ use Rattle.pm_top.specs.declared.status.Status.TheVariants.{Failed, Memory, Dama
 use Rattle.pm_top.specs.Configurations.{AsksFor, config_fault, fault_config}
 use Rattle.pm_top.specs.Crashes.{CrashHoldsAcknowledged}
 use Rattle.pm_top.specs.Promises.{CanOpen, OutcomeIs, fault_record, IsStart, IsLeft}
-use Rattle.pm_top.specs.Served.{script_of}
 use Rattle.pm_top.specs.Runs.{CanRun}
 use Rattle.pm_top.specs.Promises.{SameFiles}
 use Rattle.pm_top.proofs.KeptFiles.{log_calls, same_calls, say_calls, then_calls}
