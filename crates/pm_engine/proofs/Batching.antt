@@ -22,9 +22,11 @@ use Rattle.pm_engine.specs.Batches.{RunsLines}
 use Rattle.pm_engine.specs.Engines.{Running, HasDone, HasDoneWithin, HasSegments}
 use Rattle.pm_engine.specs.Held.{CrashHoldsPrefix}
 use Rattle.pm_engine.specs.Records.{line_frames, logged}
+use Rattle.pm_engine.specs.Engines.{SameAbove}
+use Rattle.pm_engine.proofs.Above.{above_less, above_then}
 use Rattle.pm_engine.proofs.DoneLines.{done_keeps, keeps_more_lines, rest_grows}
 use Rattle.pm_engine.proofs.Results.{ok_holds}
-use Rattle.pm_engine.proofs.Trying.{log_still}
+use Rattle.pm_engine.proofs.Trying.{above_still, log_still}
 
 -- the first none of a list
 pub take_none : {A : Type 0} (xs : List A) → take 0 xs ≡ []
@@ -61,6 +63,16 @@ pub log_joined : (old mid new : History) → AllMoments old mid (ChangesLog old.
 log_joined old mid new before here more =
     joined old mid new (ChangesLog old.world) before (weaker mid new (ChangesLog mid.world) (ChangesLog old.world) (λ w only. log_then old.world mid.world w here only) more)
 
+pub above_joined : (first second most : ℕ) (old mid new : History) → first ≤ most → second ≤ most → IsHistory mid → AllMoments old mid (SameAbove first old.world) → AllMoments mid new (SameAbove second mid.world) → AllMoments old new (SameAbove most old.world)
+above_joined first second most old mid new few more sound before after =
+    let P : World → Type 0 = SameAbove most old.world in
+    let start : AllMoments old mid P = weaker old mid (SameAbove first old.world) P (λ w same. above_less first most old.world w few same) before in
+    joined old mid new P start
+    (weaker mid new (SameAbove second mid.world) P (λ w same. above_then most old.world mid.world w (at_last old mid P sound start) (above_less second most mid.world w more same)) after)
+
+pub above_after : (most more : ℕ) (old mid new : History) → more ≤ most → IsHistory mid → AllMoments old mid (SameAbove most old.world) → AllMoments mid new (SameAbove more mid.world) → AllMoments old new (SameAbove most old.world)
+above_after most more old mid new few sound before after = above_joined most more most old mid new (omega arith) few sound before after
+
 -- what holds of an engine after lines
 abbrev pub DoneAfter : Type 0 → World → World → Running → Running → List Line → Type 0
 DoneAfter tells old new before now lines = tells → (wanted : Shape) (start : Pairs) (done : List Line) → HasDone wanted start done before old → HasSegments before (length lines)
@@ -80,6 +92,8 @@ runs_none tells old start first sound ends = record {
   crash = λ t wanted from done goes segments.
       started old (CrashHoldsPrefix wanted start.shape from (done ++ [])) (sound t) (keeps_more_lines wanted start.shape from done [] old.world (done_keeps wanted from done start old.world goes));
   log_only = λ t. log_still old (sound t);
+  rises = omega arith;
+  above = λ t. above_still (start.log.end.seg + length {A = Line} []) old (sound t);
 }
 
 pub done_none : (tells : Type 0) (old : History) (start : Running) → DoneAfter tells old.world old.world start start []
@@ -153,6 +167,10 @@ module _ (tells : Type 0) (old mid new : History) (start engine now : Running) (
           (more.grows t wanted from (done ++ xs) first_done.0 (few_more segments first_done.1)));
       crash = crashes;
       log_only = λ t. log_joined old mid new (before.log_only t) (at_last old mid (ChangesLog old.world) (sound t) (before.log_only t)) (more.log_only t);
+      rises = so _ (on_ok_weaker r (λ is. omega (arith, is, before.rises, length-append xs ys)) more.rises);
+      above = λ t.
+          above_joined (start.log.end.seg + length xs) (engine.log.end.seg + length ys) (start.log.end.seg + length (xs ++ ys)) old mid new (omega (arith, length-append xs ys)) (omega (arith, before.rises, length-append xs ys)) (sound t)
+          (before.above t) (more.above t);
     }
 
 -- a fault came before the last line
@@ -173,4 +191,7 @@ runs_part tells old new start now first lines m answer failed le runs =
       grows = λ t wanted from done goes segments. failed _;
       crash = λ t wanted from done goes segments. subst (λ ls. AllMoments old new (CrashHoldsPrefix wanted start.shape from (done ++ ls))) same (runs.crash t wanted from done goes (omega (arith, segments, long, le)));
       log_only = runs.log_only;
+      rises = failed _;
+      above = λ t. weaker old new (SameAbove (start.log.end.seg + length (take m lines)) old.world) (SameAbove (start.log.end.seg + length lines) old.world)
+          (λ w same. above_less (start.log.end.seg + length (take m lines)) (start.log.end.seg + length lines) old.world w (omega (arith, long, le)) same) (runs.above t);
     }

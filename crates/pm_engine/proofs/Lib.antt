@@ -1,3 +1,4 @@
+pub mod Above
 pub mod Applying
 pub mod Batching
 pub mod DoneLines

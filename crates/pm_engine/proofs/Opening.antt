@@ -71,6 +71,10 @@ end_within wanted old end replay all = subst (λ (p : Place). p.off ≤ length (
 pub reads_hold : (wanted : Shape) (old : World) (end : Place) (replay : Replay) → ReadsAll wanted old end replay → LogHolds wanted old replay.shape replay.map
 reads_hold wanted old end replay all = record { frames = all.frames; log = all.log; held = all.held }
 
+-- it was read up to its end
+pub read_end : (wanted : Shape) (old : World) (end : Place) (replay : Replay) → ReadsAll wanted old end replay → (frames : List Frame) → IsLogFrom all_frames (contents old.log) (place 1 0) frames → end ≡ after_frames (place 1 0) frames
+read_end wanted old end replay all frames log = all.ends ∙ ap (after_frames (place 1 0)) (one_log all_frames (contents old.log) (place 1 0) all.frames frames all.log log)
+
 -- so does a sound store's
 pub sound_holds : (wanted : Shape) (old : World) (shape : Shape) (pairs : Pairs) → Holds wanted old shape pairs → LogHolds wanted old shape pairs
 sound_holds wanted old shape pairs holds = record { frames = holds.frames; log = holds.log.log; held = holds.held }

@@ -1,5 +1,5 @@
 -- What one line does, by how far it came.
-use Rattle.std.proofs.Common.{◌≡◌, ℕ, ◌≤◌, List, [], ◌∷◌, ◌++◌, take, Result, refl, sym, ◌∙◌, ap, subst, arith, Bool, true, false, append-nil}
+use Rattle.std.proofs.Common.{◌≡◌, ℕ, ◌+◌, ◌≤◌, List, [], ◌∷◌, ◌++◌, length, take, Result, refl, sym, ◌∙◌, ap, subst, arith, Bool, true, false, append-nil}
 use Rattle.std.specs.Prelude.{not, OnOk, if◌then◌else◌}
 use Rattle.std.proofs.lemmas.Result.{on_ok_weaker}
 use Rattle.pm_frame.specs.Frames.{Frame}
@@ -17,6 +17,10 @@ use Rattle.pm_engine.specs.Batches.{noted, RunsLines}
 use Rattle.pm_engine.specs.Engines.{Running}
 use Rattle.pm_engine.specs.Held.{CrashHoldsPrefix}
 use Rattle.pm_engine.specs.Records.{logical_frame, line_frames, logged}
+use Rattle.pm_segments.specs.Appends.{grown}
+use Rattle.pm_segments.specs.Ends.{LogEnd}
+use Rattle.pm_engine.specs.Engines.{SameAbove}
+use Rattle.pm_engine.proofs.Above.{above_less, above_same, append_within, grown_rises, prefix_above}
 use Rattle.pm_engine.proofs.DoneLines.{LogsLine, tried_line, done_keeps, keeps_more_lines, append_keeps, append_grows, rest_grows}
 use Rattle.pm_engine.proofs.Results.{on_ok_both, ok_anyway}
 
@@ -62,6 +66,18 @@ log_steps old new before payload tried moments =
     let steps = steps_of tried before.log (logical_frame payload) in
     weaker old new (DoesPrefix steps before.log.end old.world) (ChangesLog old.world) (λ w some. prefix_changes steps before.log.end old.world w some) moments
 
+-- ---- what is above the log
+
+pub above_still : (most : ℕ) (old : History) → IsHistory old → AllMoments old old (SameAbove most old.world)
+above_still most old sound = started old (SameAbove most old.world) sound (above_same most old.world)
+
+above_steps : (old new : History) (before : Running) (payload : List ℕ) (tried : Bool) (most : ℕ) → before.log.end.seg + 1 ≤ most → AllMoments old new (DoesPrefix (steps_of tried before.log (logical_frame payload)) before.log.end old.world) → AllMoments old new (SameAbove most old.world)
+above_steps old new before payload tried most few moments =
+    let frame = logical_frame payload in
+    let steps = steps_of tried before.log frame in
+    weaker old new (DoesPrefix steps before.log.end old.world) (SameAbove most old.world)
+    (λ w some. above_less (before.log.end.seg + 1) most old.world w few (prefix_above (before.log.end.seg + 1) steps before.log.end old.world w (append_within tried before.log frame) some)) moments
+
 -- ---- one line
 
 module _ {T E : Type 0} (tells : Type 0) (old : History) (before now : Running) (number : ℕ) (line : Line) (result : Result T E) where
@@ -80,12 +96,14 @@ module _ {T E : Type 0} (tells : Type 0) (old : History) (before now : Running) 
         started old (CrashHoldsPrefix wanted before.shape start (done ++ [])) (sound t)
         (keeps_more_lines wanted before.shape start done [] old.world (done_keeps wanted start done before old.world goes));
     log_only = λ t. log_still old (sound t);
+    rises = failed _;
+    above = λ t. above_still (before.log.end.seg + length (line ∷ [])) old (sound t);
   }
 
   -- the line isn't accepted, and has no record
-  pub unlogged_run : is_accepted before.shape line before.map ≡ false → now.shape ≡ before.shape → OnOk result (now.map ≡ after before.shape line before.map) → (tells → OnOk result (EndsThere now.log old.world)) → now.order ≡ before.order
+  pub unlogged_run : is_accepted before.shape line before.map ≡ false → now.shape ≡ before.shape → now.log ≡ before.log → OnOk result (now.map ≡ after before.shape line before.map) → (tells → OnOk result (EndsThere now.log old.world)) → now.order ≡ before.order
       → (tells → IsHistory old) → RunsLines {T = T} {E = E} tells old old before now number (line ∷ []) result
-  unlogged_run refused shapes maps ends orders sound = record {
+  unlogged_run refused shapes logs maps ends orders sound = record {
     shape = shapes;
     map = maps;
     end = ends;
@@ -99,14 +117,16 @@ module _ {T E : Type 0} (tells : Type 0) (old : History) (before now : Running) 
         started old (CrashHoldsPrefix wanted before.shape start (done ++ line ∷ [])) (sound t)
         (keeps_more_lines wanted before.shape start done (line ∷ []) old.world (done_keeps wanted start done before old.world goes));
     log_only = λ t. log_still old (sound t);
+    rises = ok_anyway result _ (omega (arith, ap (λ (l : LogEnd). l.end.seg) logs));
+    above = λ t. above_still (before.log.end.seg + length (line ∷ [])) old (sound t);
   }
 
   -- its record was appended, or its write was tried, or only what comes before that
-  pub append_run : (new : History) (payload : List ℕ) (tried : Bool) → is_accepted before.shape line before.map ≡ true → LogsLine before.shape line before.map payload → now.shape ≡ before.shape → OnOk result (now.map ≡ after before.shape line before.map)
+  pub append_run : (new : History) (payload : List ℕ) (tried : Bool) → is_accepted before.shape line before.map ≡ true → LogsLine before.shape line before.map payload → now.shape ≡ before.shape → OnOk result (now.log ≡ grown before.log (logical_frame payload)) → OnOk result (now.map ≡ after before.shape line before.map)
       → (tells → OnOk result (EndsThere now.log new.world)) → now.order ≡ before.order ++ noted tried number → OnOk result (tried ≡ true)
       → (tells → OnOk result (new.world ≡ world_after (steps_of tried before.log (logical_frame payload)) before.log.end old.world))
       → (tells → AllMoments old new (DoesPrefix (steps_of tried before.log (logical_frame payload)) before.log.end old.world)) → RunsLines {T = T} {E = E} tells old new before now number (line ∷ []) result
-  append_run new payload tried is logs shapes maps ends orders done_all worlds moments = record {
+  append_run new payload tried is logs shapes grows maps ends orders done_all worlds moments = record {
     shape = shapes;
     map = maps;
     end = ends;
@@ -123,4 +143,6 @@ module _ {T E : Type 0} (tells : Type 0) (old : History) (before now : Running) 
         weaker old new (DoesPrefix (steps_of tried before.log (logical_frame payload)) before.log.end old.world) (CrashHoldsPrefix wanted before.shape start (done ++ take (count_of tried) (line ∷ [])))
         (λ w some. subst (λ ls. CrashHoldsPrefix wanted before.shape start (done ++ ls) w) (tried_is tried line) (append_keeps wanted start done before line payload old.world goes logs segments tried w some)) (moments t);
     log_only = λ t. log_steps old new before payload tried (moments t);
+    rises = on_ok_weaker result (λ is. omega (arith, ap (λ (l : LogEnd). l.end.seg) is, grown_rises before.log (logical_frame payload))) grows;
+    above = λ t. above_steps old new before payload tried (before.log.end.seg + length (line ∷ [])) (omega arith) (moments t);
   }

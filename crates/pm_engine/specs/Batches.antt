@@ -1,5 +1,5 @@
 -- What a batch of lines does.
-use Rattle.std.specs.Prelude.{◌≡◌, ◌≤◌, ℕ, List, [], ◌∷◌, ◌++◌, length, take, Bool, if◌then◌else◌, Result, OnOk, IsErrOf, IfErr}
+use Rattle.std.specs.Prelude.{◌≡◌, ◌≤◌, ◌+◌, ℕ, List, [], ◌∷◌, ◌++◌, length, take, Bool, if◌then◌else◌, Result, OnOk, IsErrOf, IfErr}
 use Rattle.pm_types.specs.declared.fault.StoreFault.{StoreFault}
 use Rattle.pm_types.specs.declared.fault.StoreFault.TheVariants.{Failed, Memory, BadPage, BadRecord}
 use Rattle.pm_types.specs.declared.fault.OpenFault.{OpenFault}
@@ -14,7 +14,7 @@ use Rattle.pm_segments.specs.Ends.{EndsThere}
 use Rattle.pm_model.specs.declared.line.Line.{Line}
 use Rattle.pm_model.specs.declared.reply.Reply.{Reply}
 use Rattle.pm_model.specs.Eval.{Pairs, accepted, after_all, replies_to}
-use Rattle.pm_engine.specs.Engines.{Running, HasDone, HasSegments}
+use Rattle.pm_engine.specs.Engines.{Running, HasDone, HasSegments, SameAbove}
 use Rattle.pm_engine.specs.Held.{CrashHoldsPrefix}
 use Rattle.pm_engine.specs.Records.{logged}
 
@@ -70,6 +70,9 @@ pub record RunsLines {T E : Type 0} (tells : Type 0) (old new : History) (before
   pub crash : tells → (wanted : Shape) (start : Pairs) (done : List Line) → HasDone wanted start done before old.world → HasSegments before (length lines)
       → AllMoments old new (CrashHoldsPrefix wanted before.shape start (done ++ take tried lines))
   pub log_only : tells → AllMoments old new (ChangesLog old.world)
+  -- The log goes on by at most as many segments as there are lines.
+  pub rises : OnOk result (now.log.end.seg ≤ before.log.end.seg + length lines)
+  pub above : tells → AllMoments old new (SameAbove (before.log.end.seg + length lines) old.world)
 
 -- The replies to lines over a map were appended: at `Ok` to all of them, and at an `Err` to a prefix.
 pub record HasReplied {T E : Type 0} (shape : Shape) (pairs : Pairs) (lines : List Line) (before now : List Reply) (result : Result T E) : Type 0 where

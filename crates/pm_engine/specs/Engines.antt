@@ -47,6 +47,10 @@ IsAtRest wanted engine world = HasDone wanted engine.map [] engine world
 abbrev pub LastIsForced : LogEnd → World → Type 0
 LastIsForced log world = (world.log log.end.seg).since ≡ []
 
+-- no segment above this one is other than it was
+abbrev pub SameAbove : ℕ → World → World → Type 0
+SameAbove most old new = (seg : ℕ) → most < seg → new.log seg ≡ old.log seg
+
 -- there are numbers for so many segments more
 abbrev pub HasSegments : Running → ℕ → Type 0
 HasSegments engine count = engine.log.end.seg + count + 1 < 2 ^ 64

@@ -17,7 +17,7 @@ ghost use Rattle.pm_model.specs.Batches.{HasCache};
 ghost use Rattle.pm_model.specs.Eval.{Pairs, reply_to, after, is_accepted};
 ghost use Rattle.pm_model.specs.Partitions.{ArePartitions};
 ghost use Rattle.pm_engine.specs.Batches.{HasPlainFault, RunsLines, HasReplied, noted};
-ghost use Rattle.pm_engine.specs.Engines.{HasDone, HasDoneWithin, IsAtRest, IsAtRestWithin, HasSegments, LastIsForced};
+ghost use Rattle.pm_engine.specs.Engines.{HasDone, HasDoneWithin, IsAtRest, IsAtRestWithin, HasSegments, LastIsForced, SameAbove};
 ghost use Rattle.pm_engine.specs.Held.{CrashHoldsPrefix};
 ghost use Rattle.pm_engine.specs.Records.{record_of_line, IsPayloadOf, logical_frame};
 
@@ -127,6 +127,8 @@ impl Engine {
             OnOk result (LogGrowsBy (H.history host.old).world (H.history host.new).world []) }
         ensures log_only { H.tells → AllMoments (H.history host.old) (H.history host.new)
             (ChangesLog (H.history host.old).world) }
+        ensures above { H.tells → AllMoments (H.history host.old) (H.history host.new)
+            (SameAbove self.old.log.end.seg (H.history host.old).world) }
         ensures only_failed { IfErr result (λ fault. fault ≡ StoreFault.Failed) }
         ensures cause { HasCause (H.state host.old) (H.state host.new) result }
     {

@@ -1,7 +1,7 @@
 //! How a store is opened.
 
 ghost use Rattle.pm_disk.specs.States.{IsUsable};
-ghost use Rattle.std.specs.Prelude.{◌≡◌, ◌+◌, ◌<◌, ◌≤◌, [], None, false, IfOk, IfErr, OnOk, IsErrOf};
+ghost use Rattle.std.specs.Prelude.{◌≡◌, ◌+◌, ◌<◌, ◌≤◌, List, [], None, false, IfOk, IfErr, OnOk, IsErrOf};
 ghost use Rattle.std.specs.FinMap.{empty};
 ghost use Rattle.pm_types.specs.declared.place.Place.{Place};
 ghost use Rattle.pm_types.specs.declared.shape.Shape.{Shape};
@@ -10,8 +10,10 @@ ghost use Rattle.pm_types.specs.Shapes.{IsShape};
 ghost use Rattle.pm_disk.specs.Images.{NothingPending};
 ghost use Rattle.pm_disk.specs.Moments.{Does, AllMoments};
 ghost use Rattle.pm_model.specs.Eval.{Pairs};
-ghost use Rattle.pm_records.specs.LogFiles.{ChangesLog};
-ghost use Rattle.pm_records.specs.Logs.{place, after_frames};
+ghost use Rattle.pm_frame.specs.Frames.{Frame};
+ghost use Rattle.pm_records.specs.LogFiles.{ChangesLog, contents};
+ghost use Rattle.pm_records.specs.Logs.{IsLogFrom, all_frames, place, after_frames};
+ghost use Rattle.pm_engine.specs.Engines.{SameAbove};
 ghost use Rattle.pm_segments.specs.Ends.{EndsThere};
 ghost use Rattle.pm_segments.specs.Scans.{IsAhead};
 ghost use Rattle.pm_engine.specs.Batches.{HasOpenFault, HasStoreFault};
@@ -67,6 +69,10 @@ impl Engine {
             AllMoments (H.history host.old) (H.history host.new) (CrashHoldsPrefix wanted shape pairs []) }
         ensures log_only { H.tells → AllMoments (H.history host.old) (H.history host.new)
             (ChangesLog (H.history host.old).world) }
+        ensures above { H.tells → (frames : List Frame) →
+            IsLogFrom all_frames (contents (H.history host.old).world.log) (place 1 0) frames →
+            AllMoments (H.history host.old) (H.history host.new)
+            (SameAbove ((after_frames (place 1 0) frames).seg + 1) (H.history host.old).world) }
 
         // A store whose shape differs or whose log can't be replayed is left as it is, at each moment.
         ensures untouched { H.tells → CanNotOpen wanted (H.history host.old).world →
@@ -97,6 +103,10 @@ impl Engine {
             AllMoments (H.history host.old) (H.history host.new) (CrashHoldsPrefix wanted shape pairs []) }
         ensures log_only { H.tells → AllMoments (H.history host.old) (H.history host.new)
             (ChangesLog (H.history host.old).world) }
+        ensures above { H.tells → (frames : List Frame) →
+            IsLogFrom all_frames (contents (H.history host.old).world.log) (place 1 0) frames →
+            AllMoments (H.history host.old) (H.history host.new)
+            (SameAbove ((after_frames (place 1 0) frames).seg + 1) (H.history host.old).world) }
         ensures untouched { H.tells → LogHoldsNothing wanted (H.history host.old).world →
             AllMoments (H.history host.old) (H.history host.new) (IsSame (H.history host.old).world) }
         ensures cause { HasStoreFault (H.state host.old) (H.state host.new) result }

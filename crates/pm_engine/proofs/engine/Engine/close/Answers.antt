@@ -1,7 +1,7 @@
 use Rattle.std.proofs.Common.{[], sym, subst}
 use Rattle.pm_records.specs.LogFiles.{LogGrowsBy}
 use Rattle.pm_engine.specs.Engines.{IsAtRestWithin}
-use Rattle.pm_engine.proofs.Forcing.{forced_at_rest, forced_grows, forced_moments, forced_log}
+use Rattle.pm_engine.proofs.Forcing.{forced_above, forced_at_rest, forced_grows, forced_moments, forced_log}
 use Rattle.pm_engine.proofs.Results.{ok_holds}
 use Rattle.pm_engine.proofs.engine.Engine.close.Goals as goal
 
@@ -35,3 +35,11 @@ returns-clause-grows g c t wanted rest =
     let new = g.H.Device.history c.force.new.host in
     let before = c.args.self.now in
     ok_holds c.force.result _ (LogGrowsBy old.world new.world []) c.in_ok-force.was (forced_grows old new before c.force.result (c.force.ensures.does t) wanted before.map [] rest)
+
+pub returns-in_err-force-clause-above : goal.returns-in_err-force-clause-above
+returns-in_err-force-clause-above g c t =
+    forced_above (g.H.Device.history c.args.host.now) (g.H.Device.history c.force.new.host) c.args.self.now c.force.result (c.force.ensures.does t) (g.H.Device.sound c.args.host.now t)
+
+pub returns-clause-above : goal.returns-clause-above
+returns-clause-above g c t =
+    forced_above (g.H.Device.history c.args.host.now) (g.H.Device.history c.force.new.host) c.args.self.now c.force.result (c.force.ensures.does t) (g.H.Device.sound c.args.host.now t)

@@ -1,4 +1,4 @@
-use Rattle.std.proofs.Common.{rules, ◌≡◌, ◌≤◌, length, refl, [], sym, ap, subst, true}
+use Rattle.std.proofs.Common.{rules, ◌≡◌, ◌+◌, ◌≤◌, arith, length, refl, [], sym, ap, subst, true}
 use Rattle.std.specs.Prelude.{IsErrOf}
 use Rattle.pm_types.specs.declared.fault.StoreFault.TheVariants.{BadRecord}
 use Rattle.pm_frame.specs.declared.kinds.TheConstants.{RESTART}
@@ -13,7 +13,13 @@ use Rattle.pm_records.proofs.QuietLog.{log_same, log_then, prefix_changes}
 use Rattle.pm_segments.specs.Appends.{steps_of}
 use Rattle.pm_engine.specs.Held.{CrashHoldsPrefix}
 use Rattle.pm_engine.specs.Openings.{IsSame, ReadsAll, IsBadStore, OpensWith, OpensAtRest}
-use Rattle.pm_engine.proofs.Opening.{end_within, reads_hold, sound_keeps, cut_all, some_all, opened_at_rest, opens_with}
+use Rattle.pm_types.specs.declared.place.Place.{Place}
+use Rattle.pm_records.specs.Logs.{after_frames, place}
+use Rattle.pm_segments.specs.Ends.{LogEnd}
+use Rattle.pm_engine.specs.Engines.{SameAbove}
+use Rattle.pm_engine.proofs.Above.{above_same, append_within, cut_within, prefix_above}
+use Rattle.pm_engine.proofs.Batching.{above_after}
+use Rattle.pm_engine.proofs.Opening.{read_end, end_within, reads_hold, sound_keeps, cut_all, some_all, opened_at_rest, opens_with}
 use Rattle.pm_engine.proofs.engine.Engine.open_log.Goals as goal
 
 pub returns-in_err-end-clause-bad : goal.returns-in_err-end-clause-bad
@@ -177,3 +183,69 @@ returns-clause-untouched g c t none =
     let old = g.H.Device.history c.args.host.now in
     let reads = subst (λ s. ReadsAll s old.world c.in_ok-end.end c.read_log.new.replay) c.new-replay.ensures.shape (c.in_ok-end.ensures.reads t) in
     absurd (none c.read_log.new.replay.shape c.read_log.new.replay.map (reads_hold c.args.wanted old.world c.in_ok-end.end c.read_log.new.replay reads))
+
+pub returns-in_err-end-clause-above : goal.returns-in_err-end-clause-above
+returns-in_err-end-clause-above g c t frames log =
+    let old = g.H.Device.history c.args.host.now in
+    let mid = g.H.Device.history c.read_log.new.host in
+    let most = (after_frames (place 1 0) frames).seg + 1 in
+    let P : World → Type 0 = SameAbove most old.world in
+    let first : AllMoments old mid P = weaker old mid (IsSame old.world) P (λ w is. subst P (sym is) (above_same most old.world)) (c.read_log.ensures.same t) in
+    first
+
+pub returns-in_err-log-clause-above : goal.returns-in_err-log-clause-above
+returns-in_err-log-clause-above g c t frames log =
+    let old = g.H.Device.history c.args.host.now in
+    let mid = g.H.Device.history c.read_log.new.host in
+    let most = (after_frames (place 1 0) frames).seg + 1 in
+    let P : World → Type 0 = SameAbove most old.world in
+    let first : AllMoments old mid P = weaker old mid (IsSame old.world) P (λ w is. subst P (sym is) (above_same most old.world)) (c.read_log.ensures.same t) in
+    let cut = g.H.Device.history c.cut_tail.new.dev in
+    let end = c.in_ok-end.end in
+    let reads = subst (λ s. ReadsAll s old.world end c.read_log.new.replay) c.new-replay.ensures.shape (c.in_ok-end.ensures.reads t) in
+    let there : end ≡ after_frames (place 1 0) frames = read_end c.args.wanted old.world end c.read_log.new.replay reads frames log in
+    let cuts : AllMoments mid cut (SameAbove end.seg mid.world) = weaker mid cut (DoesPrefix cut_steps end mid.world) (SameAbove end.seg mid.world) (λ w some. prefix_above end.seg cut_steps end mid.world w (cut_within end) some) (c.cut_tail.ensures.steps t).moments in
+    let second : AllMoments old cut P = above_after most end.seg old mid cut (omega (arith, ap (λ (p : Place). p.seg) there)) (g.H.Device.sound c.read_log.new.host t) first cuts in
+    second
+
+pub returns-in_err-append-clause-above : goal.returns-in_err-append-clause-above
+returns-in_err-append-clause-above g c t frames log =
+    let old = g.H.Device.history c.args.host.now in
+    let mid = g.H.Device.history c.read_log.new.host in
+    let most = (after_frames (place 1 0) frames).seg + 1 in
+    let P : World → Type 0 = SameAbove most old.world in
+    let first : AllMoments old mid P = weaker old mid (IsSame old.world) P (λ w is. subst P (sym is) (above_same most old.world)) (c.read_log.ensures.same t) in
+    let cut = g.H.Device.history c.cut_tail.new.dev in
+    let end = c.in_ok-end.end in
+    let reads = subst (λ s. ReadsAll s old.world end c.read_log.new.replay) c.new-replay.ensures.shape (c.in_ok-end.ensures.reads t) in
+    let there : end ≡ after_frames (place 1 0) frames = read_end c.args.wanted old.world end c.read_log.new.replay reads frames log in
+    let cuts : AllMoments mid cut (SameAbove end.seg mid.world) = weaker mid cut (DoesPrefix cut_steps end mid.world) (SameAbove end.seg mid.world) (λ w some. prefix_above end.seg cut_steps end mid.world w (cut_within end) some) (c.cut_tail.ensures.steps t).moments in
+    let second : AllMoments old cut P = above_after most end.seg old mid cut (omega (arith, ap (λ (p : Place). p.seg) there)) (g.H.Device.sound c.read_log.new.host t) first cuts in
+    let new = g.H.Device.history c.append.new.dev in
+    let its = c.in_ok-log.log in
+    let frame : Frame = record { kind = RESTART; payload = c.restart_payload.result } in
+    let steps = steps_of c.append.new.self.tried its frame in
+    let starts : its.end ≡ end = ap (λ (l : LogEnd). l.end) c.in_ok-log.ensures.log in
+    let appends : AllMoments cut new (SameAbove (its.end.seg + 1) cut.world) = weaker cut new (DoesPrefix steps its.end cut.world) (SameAbove (its.end.seg + 1) cut.world) (λ w some. prefix_above (its.end.seg + 1) steps its.end cut.world w (append_within c.append.new.self.tried its frame) some) (c.append.ensures.steps t).moments in
+    above_after most (its.end.seg + 1) old cut new (omega (arith, ap (λ (p : Place). p.seg) there, ap (λ (p : Place). p.seg) starts)) (g.H.Device.sound c.cut_tail.new.dev t) second appends
+
+pub returns-clause-above : goal.returns-clause-above
+returns-clause-above g c t frames log =
+    let old = g.H.Device.history c.args.host.now in
+    let mid = g.H.Device.history c.read_log.new.host in
+    let most = (after_frames (place 1 0) frames).seg + 1 in
+    let P : World → Type 0 = SameAbove most old.world in
+    let first : AllMoments old mid P = weaker old mid (IsSame old.world) P (λ w is. subst P (sym is) (above_same most old.world)) (c.read_log.ensures.same t) in
+    let cut = g.H.Device.history c.cut_tail.new.dev in
+    let end = c.in_ok-end.end in
+    let reads = subst (λ s. ReadsAll s old.world end c.read_log.new.replay) c.new-replay.ensures.shape (c.in_ok-end.ensures.reads t) in
+    let there : end ≡ after_frames (place 1 0) frames = read_end c.args.wanted old.world end c.read_log.new.replay reads frames log in
+    let cuts : AllMoments mid cut (SameAbove end.seg mid.world) = weaker mid cut (DoesPrefix cut_steps end mid.world) (SameAbove end.seg mid.world) (λ w some. prefix_above end.seg cut_steps end mid.world w (cut_within end) some) (c.cut_tail.ensures.steps t).moments in
+    let second : AllMoments old cut P = above_after most end.seg old mid cut (omega (arith, ap (λ (p : Place). p.seg) there)) (g.H.Device.sound c.read_log.new.host t) first cuts in
+    let new = g.H.Device.history c.append.new.dev in
+    let its = c.in_ok-log.log in
+    let frame : Frame = record { kind = RESTART; payload = c.restart_payload.result } in
+    let steps = steps_of c.append.new.self.tried its frame in
+    let starts : its.end ≡ end = ap (λ (l : LogEnd). l.end) c.in_ok-log.ensures.log in
+    let appends : AllMoments cut new (SameAbove (its.end.seg + 1) cut.world) = weaker cut new (DoesPrefix steps its.end cut.world) (SameAbove (its.end.seg + 1) cut.world) (λ w some. prefix_above (its.end.seg + 1) steps its.end cut.world w (append_within c.append.new.self.tried its frame) some) (c.append.ensures.steps t).moments in
+    above_after most (its.end.seg + 1) old cut new (omega (arith, ap (λ (p : Place). p.seg) there, ap (λ (p : Place). p.seg) starts)) (g.H.Device.sound c.cut_tail.new.dev t) second appends

@@ -1,4 +1,4 @@
-use Rattle.std.proofs.Common.{rules, ◌≡◌, inl, inr, [], Some, None, sym, ◌∙◌, subst}
+use Rattle.std.proofs.Common.{◌+◌, rules, ◌≡◌, inl, inr, [], Some, None, sym, ◌∙◌, subst}
 use Rattle.std.specs.Prelude.{IsErrOf}
 use Rattle.pm_types.specs.declared.fault.OpenFault.TheVariants.{Store}
 use Rattle.pm_types.specs.declared.fault.StoreFault.TheVariants.{BadRecord}
@@ -11,6 +11,10 @@ use Rattle.pm_records.proofs.QuietLog.{log_same}
 use Rattle.pm_engine.specs.Held.{Holds, HasNumbers, CrashHoldsPrefix}
 use Rattle.pm_engine.specs.Openings.{IsBadStore, IsSame, LogHoldsNothing, OpensAtRest, OpensWith}
 use Rattle.pm_engine.specs.StoredShapes.{shape_fault}
+use Rattle.pm_records.specs.LogFiles.{contents}
+use Rattle.pm_records.specs.Logs.{IsLogFrom, after_frames, all_frames, place}
+use Rattle.pm_engine.specs.Engines.{SameAbove}
+use Rattle.pm_engine.proofs.Above.{above_same}
 use Rattle.pm_engine.proofs.Opening.{sound_keeps}
 use Rattle.pm_engine.proofs.engine.Engine.open_store.Goals as goal
 
@@ -129,3 +133,34 @@ returns-clause-at_rest g c t shape pairs holds numbered quiet =
     let new = g.H.Device.history c.open_log.new.host in
     let wanted = c.args.wanted in
     subst (λ w. (h : Holds wanted w shape pairs) → HasNumbers h.frames → NothingPending w → OpensAtRest wanted h.frames w new.world c.in_ok-open_log.field-0) same (c.in_ok-open_log.ensures.at_rest t shape pairs) holds numbered quiet
+
+pub returns-in_err-compare_shape-clause-above : goal.returns-in_err-compare_shape-clause-above
+returns-in_err-compare_shape-clause-above g c t frames log =
+    let old = g.H.Device.history c.args.host.now in
+    let mid = g.H.Device.history c.compare_shape.new.host in
+    let most = (after_frames (place 1 0) frames).seg + 1 in
+    let P : World → Type 0 = SameAbove most old.world in
+    let first : AllMoments old mid P = weaker old mid (IsSame old.world) P (λ w is. subst P (sym is) (above_same most old.world)) (c.compare_shape.ensures.same t) in
+    first
+
+pub returns-in_err-open_log-clause-above : goal.returns-in_err-open_log-clause-above
+returns-in_err-open_log-clause-above g c t frames log =
+    let old = g.H.Device.history c.args.host.now in
+    let mid = g.H.Device.history c.compare_shape.new.host in
+    let most = (after_frames (place 1 0) frames).seg + 1 in
+    let P : World → Type 0 = SameAbove most old.world in
+    let first : AllMoments old mid P = weaker old mid (IsSame old.world) P (λ w is. subst P (sym is) (above_same most old.world)) (c.compare_shape.ensures.same t) in
+    let same : mid.world ≡ old.world = at_last old mid (IsSame old.world) (g.H.Device.sound c.compare_shape.new.host t) (c.compare_shape.ensures.same t) in
+    let new = g.H.Device.history c.open_log.new.host in
+    joined old mid new P first (subst (λ w. IsLogFrom all_frames (contents w.log) (place 1 0) frames → AllMoments mid new (SameAbove most w)) same (c.open_log.ensures.above t frames) log)
+
+pub returns-clause-above : goal.returns-clause-above
+returns-clause-above g c t frames log =
+    let old = g.H.Device.history c.args.host.now in
+    let mid = g.H.Device.history c.compare_shape.new.host in
+    let most = (after_frames (place 1 0) frames).seg + 1 in
+    let P : World → Type 0 = SameAbove most old.world in
+    let first : AllMoments old mid P = weaker old mid (IsSame old.world) P (λ w is. subst P (sym is) (above_same most old.world)) (c.compare_shape.ensures.same t) in
+    let same : mid.world ≡ old.world = at_last old mid (IsSame old.world) (g.H.Device.sound c.compare_shape.new.host t) (c.compare_shape.ensures.same t) in
+    let new = g.H.Device.history c.open_log.new.host in
+    joined old mid new P first (subst (λ w. IsLogFrom all_frames (contents w.log) (place 1 0) frames → AllMoments mid new (SameAbove most w)) same (c.open_log.ensures.above t frames) log)

@@ -22,7 +22,7 @@ returns-then-not-answer-clause-runs g c =
     let line = c.args.line.now in
     unlogged_run g.H.Device.tells (g.H.Device.history c.args.host.now) c.args.self.now _ c.args.number line _
     (subst (λ (r : Running). is_accepted r.shape line r.map ≡ false) c.self.view_is (sym c.in_ok-answer.ensures.accepted ∙ not_true _ c.if-not-answer.true))
-    (ap (λ (r : Running). r.shape) c.self.view_is)
+    (ap (λ (r : Running). r.shape) c.self.view_is) (ap (λ (r : Running). r.log) c.self.view_is)
     (c.in_ok-answer.ensures.map ∙ ap (λ (r : Running). after r.shape line r.map) c.self.view_is)
     (λ t. subst (λ (r : Running). EndsThere r.log (g.H.Device.history c.args.host.now).world) (sym c.self.view_is) (c.requires.end t))
     (c.prepare.ensures.order ∙ ap (λ (r : Running). r.order) c.self.view_is) (g.H.Device.sound c.args.host.now)
@@ -55,7 +55,7 @@ returns-in_err-append-clause-runs g c =
     append_run g.H.Device.tells old c.args.self.now _ c.args.number line _ new payload tried
     (subst (λ (r : Running). is_accepted r.shape line r.map ≡ true) c.self.view_is accepted)
     (subst (λ (r : Running). LogsLine r.shape line r.map payload) c.self.view_is logs)
-    (ap (λ (r : Running). r.shape) c.self.view_is) (failed _) (λ t. failed _)
+    (ap (λ (r : Running). r.shape) c.self.view_is) (failed _) (failed _) (λ t. failed _)
     (c.append.ensures.order ∙ ap (λ o. o ++ noted tried c.args.number) (c.prepare.ensures.order ∙ ap (λ (r : Running). r.order) c.self.view_is)) (failed _) (λ t. failed _)
     (λ t. subst (λ (r : Running). AllMoments old new (DoesPrefix (steps_of tried r.log frame) r.log.end old.world)) c.self.view_is (c.append.ensures.steps t).moments)
 
@@ -72,7 +72,7 @@ returns-clause-runs g c =
     append_run g.H.Device.tells old c.args.self.now _ c.args.number line _ new payload tried
     (subst (λ (r : Running). is_accepted r.shape line r.map ≡ true) c.self.view_is accepted)
     (subst (λ (r : Running). LogsLine r.shape line r.map payload) c.self.view_is logs)
-    (ap (λ (r : Running). r.shape) c.self.view_is)
+    (ap (λ (r : Running). r.shape) c.self.view_is) (c.in_ok-append.ensures.grown ∙ ap (λ (r : Running). grown r.log frame) c.self.view_is)
     (c.in_ok-answer.ensures.map ∙ ap (λ (r : Running). after r.shape line r.map) c.self.view_is)
     (λ t. c.in_ok-append.ensures.ends t)
     (c.append.ensures.order ∙ ap (λ o. o ++ noted tried c.args.number) (c.prepare.ensures.order ∙ ap (λ (r : Running). r.order) c.self.view_is)) c.in_ok-append.ensures.tried
