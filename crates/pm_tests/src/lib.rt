@@ -22,6 +22,8 @@ pub mod lock_clients;
 #[cfg(test)]
 mod logs;
 #[cfg(test)]
+mod markers;
+#[cfg(test)]
 mod noted;
 pub mod pages;
 #[cfg(test)]
