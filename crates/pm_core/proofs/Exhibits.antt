@@ -14,7 +14,6 @@ use Rattle.pm_types.proofs.PageSizeBounds.{page_size_bounds}
 use Rattle.pm_disk.specs.Files.{bytes_of}
 use Rattle.pm_disk.specs.Images.{Image}
 use Rattle.pm_frame.specs.Frames.{Frame, frame_bytes, frame_at}
-use Rattle.pm_frame.specs.declared.kinds.TheConstants.{CP_BEGIN, RESTART}
 use Rattle.pm_frame.proofs.FrameAt.{frame_at-bytes, length-frame_bytes, IsFrame-from}
 use Rattle.pm_model.specs.Eval.{Pairs}
 use Rattle.pm_records.specs.Shapes.{shape_bytes}
@@ -31,6 +30,7 @@ use Rattle.pm_marks.specs.InForce.{Checkpoint, Started, Ended, checkpoint_in}
 use Rattle.pm_marks.proofs.SlotMarks.{mark_in-bytes, mark_at-short, zeros_are_none, length-slot_bytes}
 use Rattle.pm_core.specs.BasePages.{Partitions, no_pages, page_in_file, pages_of, laid_over, base_of, counted, rebuilt_from, since_restart, rebuilt_of, Rebuilds}
 use Rattle.pm_core.specs.Held.{in_force, log_in, pairs_in}
+use Rattle.pm_core.specs.FirstRun.{restart_frame, begin_frame, first_mark}
 use Rattle.pm_core.specs.Sound.{SoundWith, SoundImage}
 use Rattle.pm_core.specs.Stands.{IsInForce}
 use Rattle.pm_core.proofs.InForce.{slot_cases}
@@ -140,21 +140,21 @@ module _ (shape : Shape) (shaped : IsShape shape) where
   some_bytes = some_page shape shaped
 
   abbrev pub restart : Frame
-  restart = record { kind = RESTART; payload = payload_of (Restart shape) }
+  restart = restart_frame shape
 
   abbrev pub begin : Frame
-  begin = record { kind = CP_BEGIN; payload = payload_of (CpBegin 1 (place 1 78)) }
+  begin = begin_frame
 
   abbrev pub segment : List ℕ
   segment = frame_bytes (place 1 0) restart ++ frame_bytes (place 1 37) begin
 
   abbrev pub started_mark : Mark
-  started_mark = record { number = 1; begin = place 1 37; replay = place 1 78; from = place 1 0; shape = shape }
+  started_mark = first_mark shape
 
   abbrev pub started_image : Image
   started_image = record { log = λ seg. if seg == 1 then Some segment else None; pages = λ part. None; starts = Some (file_of started_mark); ends = None }
 
-  may_start : IsMark started_mark
+  pub may_start : IsMark started_mark
   may_start = record {
     numbered = omega arith;
     number_fits = omega arith;
@@ -167,17 +167,17 @@ module _ (shape : Shape) (shaped : IsShape shape) where
   pub started : in_force started_image ≡ Started started_mark
   started = says_started started_mark may_start refl
 
-  restart_is : record_in restart ≡ Some (Restart shape)
+  pub restart_is : record_in restart ≡ Some (Restart shape)
   restart_is = record_of-payload (Restart shape) shaped
 
-  begin_is : record_in begin ≡ Some (CpBegin 1 (place 1 78))
+  pub begin_is : record_in begin ≡ Some (CpBegin 1 (place 1 78))
   begin_is = record_of-payload (CpBegin 1 (place 1 78)) (IsRecord-from (CpBegin 1 (place 1 78)) refl)
 
-  restart_len : length restart.payload ≡ 16
+  pub restart_len : length restart.payload ≡ 16
   unfolding payload_of shape_bytes
   restart_len = refl
 
-  begin_len : length begin.payload ≡ 20
+  pub begin_len : length begin.payload ≡ 20
   unfolding payload_of
   begin_len = refl
 
@@ -203,13 +203,13 @@ module _ (shape : Shape) (shaped : IsShape shape) where
     begin_len,
   ))
 
-  restart_next : next_place (place 1 0) restart ≡ place 1 37
+  pub restart_next : next_place (place 1 0) restart ≡ place 1 37
   restart_next = ap (λ n. place 1 (0 + (n + 21))) restart_len
 
-  begin_next : next_place (place 1 37) begin ≡ place 1 78
+  pub begin_next : next_place (place 1 37) begin ≡ place 1 78
   begin_next = ap (λ n. place 1 (37 + (n + 21))) begin_len
 
-  rebuilt_none : rebuilt_of shape (restart ∷ []) ≡ Some no_pages
+  pub rebuilt_none : rebuilt_of shape (restart ∷ []) ≡ Some no_pages
   unfolding rebuilt_of
   rebuilt_none =
       ap (λ (o : Option Record). option_and_then (λ records. rebuilt_from shape (since_restart records))
@@ -232,7 +232,7 @@ module _ (shape : Shape) (shaped : IsShape shape) where
     | inr not_one ↦ ap (λ (b : Bool). bytes_of (let o : Option (List ℕ) = if b then Some segment else None in o)) not_one
   ]
 
-  started_bases : base_of (Started started_mark) no_pages (λ part. None) ≡ no_pages
+  pub started_bases : base_of (Started started_mark) no_pages (λ part. None) ≡ no_pages
   started_bases = no_file shape.page_size some_bytes
 
   started_is_sound : (wanted : Shape) → SoundWith wanted (Started started_mark) started_image shape empty

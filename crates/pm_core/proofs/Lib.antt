@@ -1,6 +1,7 @@
 pub mod CrashLaw
 pub mod Exhibits
 pub mod Finishing
+pub mod FirstRun
 pub mod Images
 pub mod InForce
 pub mod Joins

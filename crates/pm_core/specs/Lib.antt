@@ -1,12 +1,13 @@
 pub mod BasePages
 pub mod Calls
+pub mod FirstRun
 pub mod Held
 pub mod LogAlone
+pub mod Machine
 pub mod PageLaws
 pub mod PageSets
 pub mod Prefixes
 pub mod Replays
-pub mod Machine
 pub mod Rounds
 pub mod Sound
 pub mod Stands

@@ -1,11 +1,13 @@
 //! Laws on disks and on runs of the disk machine. The functions do nothing: their contracts are the laws.
 
-ghost use Rattle.std.specs.Prelude.{◌≡◌, ◌↔◌, ◌<◌, ◌≤◌, ℕ, List, length, take, Option, None, ◌∷◌, ◌++◌, Some, fold};
+ghost use Rattle.std.specs.Prelude.{◌≡◌, ◌⊎◌, ◌↔◌, ◌+◌, ◌<◌, ◌≤◌, ℕ, List, length, take, Option, None, ◌∷◌, ◌++◌, Some, fold};
 ghost use Rattle.std.specs.FinMap.{empty};
 ghost use Rattle.pm_types.specs.declared.shape.Shape.{Shape};
 ghost use Rattle.pm_types.specs.Shapes.{IsShape};
 ghost use Rattle.pm_disk.specs.Images.{Image, LeavesAll};
-ghost use Rattle.pm_disk.specs.Worlds.{World, empty_world};
+ghost use Rattle.pm_disk.specs.Files.{File, bytes_of, content};
+ghost use Rattle.pm_disk.specs.Worlds.{World, empty_world, slot_at};
+ghost use Rattle.pm_disk.specs.declared.mark.TheConstants.{SLOT_LEN};
 ghost use Rattle.pm_model.specs.Eval.{Pairs};
 ghost use Rattle.pm_records.specs.Records.{Record, Restart};
 ghost use Rattle.pm_marks.specs.InForce.{Checkpoint, Started, Ended};
@@ -15,7 +17,8 @@ ghost use Rattle.pm_core.specs.Held.{HoldsWith, in_force};
 ghost use Rattle.pm_core.specs.LogAlone.{LogHolds, LogIsAlone};
 ghost use Rattle.pm_core.specs.Sound.{Sound, SoundImage, IsTrueImage};
 ghost use Rattle.pm_core.specs.States.{State};
-ghost use Rattle.pm_core.specs.Machine.{DiskStep, CanStart, CanAll, states, worlds};
+ghost use Rattle.pm_core.specs.Machine.{DiskStep, OthersStay, CanStart, CanAll, states, worlds};
+ghost use Rattle.pm_core.specs.FirstRun.{first_mark, first_run};
 ghost use Rattle.pm_core.specs.Calls.{MakesPrefix, begin_steps, finish_steps, CanFinish};
 ghost use Rattle.pm_core.specs.Stands.{Stands};
 ghost use Rattle.pm_types.specs.declared.page_id.PageId.{PageId};
@@ -133,4 +136,22 @@ pub fn stores_with_a_checkpoint_are_sound()
         → (image : Image) × (mark : Mark) × (in_force image ≡ Ended mark) × SoundImage wanted image shape empty }
     ensures started { (wanted shape : Shape) → IsShape shape
         → (image : Image) × (mark : Mark) × (in_force image ≡ Started mark) × SoundImage wanted image shape empty }
+{}
+
+/// There is a run that meets its guards, from a folder without files: the log is begun, a checkpoint begins and ends, a segment is
+/// dropped, a byte is said, and the log goes on in its next segment.
+pub fn a_run_meets_its_guards()
+    ensures begins { (shape : Shape) → IsShape shape → CanBegin shape length empty_world shape empty }
+    ensures run { (shape : Shape) → IsShape shape → (can : CanBegin shape length empty_world shape empty)
+        → CanAll length (first_run shape) (start_state shape empty_world shape empty can.sound) empty_world }
+    ensures ends { (shape : Shape) → IsShape shape → (can : CanBegin shape length empty_world shape empty)
+        → (states (first_run shape) (start_state shape empty_world shape empty can.sound) empty_world).now.checkpoint
+        ≡ Ended (first_mark shape) }
+{}
+
+/// A marker's write leaves the other slot as it reads, where each slot of the file is there in full or not at all.
+pub fn a_marker_leaves_the_other()
+    ensures { (mark : Mark) (file : File) → ((slot : ℕ) → slot < 2
+        → (slot_at slot + SLOT_LEN ≤ length (bytes_of (content file))) ⊎ (length (bytes_of (content file)) ≤ slot_at slot))
+        → OthersStay mark file }
 {}
