@@ -12,6 +12,7 @@ pub mod Making
 pub mod MarkSteps
 pub mod NoFiles
 pub mod One
+pub mod OnePage
 pub mod PageSteps
 pub mod Ranges
 pub mod Rebuilt

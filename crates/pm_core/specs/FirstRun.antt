@@ -1,5 +1,5 @@
 -- A run of the disk machine from a folder without files, with a checkpoint in it.
-use Rattle.std.specs.Prelude.{ℕ, List, [], ◌∷◌, ◌++◌}
+use Rattle.std.specs.Prelude.{ℕ, ◌-◌, List, [], ◌∷◌, ◌++◌, replicate}
 use Rattle.pm_types.specs.declared.shape.Mark.{Mark}
 use Rattle.pm_types.specs.declared.shape.Shape.{Shape}
 use Rattle.pm_frame.specs.Frames.{Frame}
@@ -43,3 +43,7 @@ log_goes_on =
 -- one after the other
 abbrev pub first_run : Shape → List DiskStep
 first_run shape = log_begun shape ++ (checkpoint_made shape ++ log_goes_on)
+
+-- the first page of the first partition, where it has no other one: its name, its kind, and 1 for its page count
+abbrev pub first_page : ℕ → List ℕ
+first_page size = 0 ∷ 0 ∷ 0 ∷ 0 ∷ 0 ∷ 0 ∷ 1 ∷ 0 ∷ 1 ∷ (replicate 155 0 ++ (1 ∷ 0 ∷ 0 ∷ 0 ∷ replicate (size - 168) 0))
