@@ -90,7 +90,7 @@ stage_start wanted shape start pairs stage run = elim run [
       let script = script_of start.input in
       let numbers = take crashed.kept.count crashed.order in
       subst (λ m. IsStart wanted stage.next shape m) (numbers_leave shape numbers script pairs ∙ ap (λ ls. after_all shape ls pairs) (sym crashed.lines_are))
-      (crash_start wanted shape crashed.image stage.next (after_numbers shape numbers 1 script pairs) crashed.kept.holds crashed.few crashed.found)
+      (crash_start wanted shape crashed.image stage.next (after_numbers shape numbers 1 script pairs) crashed.kept.holds (omega (arith, crashed.kept.rises, crashed.few)) crashed.found)
 ]
 
 pub chain : (wanted shape : Shape) (start : World) (pairs : Pairs) (stages : List Stage) → IsStart wanted start shape pairs → Follows wanted shape start pairs stages → IsStart wanted (found_last start stages) shape (after_all shape (lines_kept stages) pairs)

@@ -1,14 +1,12 @@
 -- Runs of calls that change no file but the log.
 use Rattle.std.proofs.Common.{ℕ, List, Result, refl, sym, ◌∙◌, subst}
 use Rattle.pm_disk.specs.Worlds.{World}
-use Rattle.pm_disk.specs.Moments.{History, IsHistory, AllMoments, Does, Says}
-use Rattle.pm_disk.proofs.Chain.{started, does, says, joined, weaker, at_last}
-use Rattle.pm_script.specs.Reading.{OnlyTakes}
+use Rattle.pm_disk.specs.Moments.{History, IsHistory, AllMoments, Does}
+use Rattle.pm_disk.proofs.Chain.{started, does, joined, weaker, at_last}
 use Rattle.pm_records.specs.LogFiles.{ChangesLog}
 use Rattle.pm_engine.specs.Openings.{IsSame}
 use Rattle.pm_top.specs.Promises.{SaysPart}
 use Rattle.pm_top.specs.Promises.{SameFiles}
-use Rattle.pm_top.specs.Runs.{OnlyAnswers}
 
 pub files_same : (w : World) → SameFiles w w
 files_same w = record { pages = refl; starts = refl; ends = refl; config = refl }
@@ -33,10 +31,6 @@ log_calls old new only =
 pub same_calls : (old new : History) → AllMoments old new (IsSame old.world) → AllMoments old new (SameFiles old.world)
 same_calls old new same = weaker old new (IsSame old.world) (SameFiles old.world) (λ w is. subst (SameFiles old.world) (sym is) (files_same old.world)) same
 
-pub take_calls : (old new : History) → AllMoments old new (OnlyTakes old.world) → AllMoments old new (SameFiles old.world)
-take_calls old new takes =
-    weaker old new (OnlyTakes old.world) (SameFiles old.world) (λ w is. subst (SameFiles old.world) (sym is.1) (record { pages = refl; starts = refl; ends = refl; config = refl })) takes
-
 pub say_calls : (text : List ℕ) (old new : History) → AllMoments old new (SaysPart text old.world) → AllMoments old new (SameFiles old.world)
 say_calls text old new part =
     weaker old new (SaysPart text old.world) (SameFiles old.world) (λ w is. subst (SameFiles old.world) (sym is.1) (record { pages = refl; starts = refl; ends = refl; config = refl })) part
@@ -51,22 +45,3 @@ pub then_calls : (old mid new : History) → IsHistory mid → AllMoments old mi
 then_calls old mid new sound first second =
     joined old mid new (SameFiles old.world) first
     (weaker mid new (SameFiles mid.world) (SameFiles old.world) (λ w is. files_then old.world mid.world w (at_last old mid (SameFiles old.world) sound first) is) second)
-
--- ---- the calls that answer lines
-
-pub no_answers : (h : History) → IsHistory h → AllMoments h h (OnlyAnswers h.world)
-no_answers h sound = started h (OnlyAnswers h.world) sound (record { files = files_same h.world; input = refl })
-
-pub log_answers : (old new : History) → AllMoments old new (ChangesLog old.world) → AllMoments old new (OnlyAnswers old.world)
-log_answers old new only =
-    weaker old new (ChangesLog old.world) (OnlyAnswers old.world)
-    (λ w is. record { files = record { pages = is.pages; starts = is.starts; ends = is.ends; config = is.config }; input = is.input }) only
-
-pub said_answers : {T E : Type 0} (old mid new : History) (result : Result T E) (text : List ℕ) → IsHistory mid → AllMoments old mid (OnlyAnswers old.world) → Says mid new result text → AllMoments old new (OnlyAnswers old.world)
-said_answers old mid new result text sound so_far call =
-    let here = at_last old mid (OnlyAnswers old.world) sound so_far in
-    says old mid new result text (OnlyAnswers old.world) so_far call
-    (λ k le. record { files = record { pages = here.files.pages; starts = here.files.starts; ends = here.files.ends; config = here.files.config }; input = here.input })
-
-pub answer_calls : (old new : History) → AllMoments old new (OnlyAnswers old.world) → AllMoments old new (SameFiles old.world)
-answer_calls old new only = weaker old new (OnlyAnswers old.world) (SameFiles old.world) (λ w is. is.files) only

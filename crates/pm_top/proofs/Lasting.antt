@@ -18,7 +18,7 @@ use Rattle.pm_top.specs.Promises.{replies_of}
 use Rattle.pm_top.specs.ScriptOrder.{IsOrder}
 use Rattle.pm_top.specs.Runs.{Progress}
 use Rattle.pm_top.specs.Crashes.{acknowledged}
-use Rattle.pm_top.specs.Crashes as promised
+use Rattle.pm_top.specs.ScriptOrder as one
 use Rattle.pm_model.specs.Orders as orders
 use Rattle.std.specs.List.{All, Contains}
 use Rattle.pm_top.specs.Served.{script_of}
@@ -116,7 +116,7 @@ none_refused start shape pairs c bytes n none_with =
     ∙ none_acknowledged shape 1 script pairs n c bytes none_with
 
 -- so a crash leaves the map of the start
-pub idle_keeps : (wanted : Shape) (start : World) (shape : Shape) (pairs : Pairs) (order : List ℕ) (w : World) → acknowledged start shape pairs w ≡ [] → CrashHoldsPrefix wanted shape pairs [] w → promised.CrashHoldsAcknowledged wanted start shape pairs order w
+pub idle_keeps : (wanted : Shape) (start : World) (shape : Shape) (pairs : Pairs) (order : List ℕ) (w : World) → acknowledged start shape pairs w ≡ [] → CrashHoldsPrefix wanted shape pairs [] w → one.CrashHoldsSome wanted start shape pairs order w
 idle_keeps wanted start shape pairs order w none keeps image leaves honest = record {
   count = 0;
   has = subst (λ (ns : List ℕ). All (Contains (take 0 order)) ns) (sym none) (λ k d few. absurd (omega (arith, few)));

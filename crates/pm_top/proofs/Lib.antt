@@ -1,8 +1,10 @@
 pub mod AnsweredBatch
 pub mod AnsweredLines
+pub mod Bounded
 pub mod Chained
 pub mod Configured
 pub mod KeptFiles
+pub mod KeptLogs
 pub mod Lasting
 pub mod LaterStates
 pub mod Leaving

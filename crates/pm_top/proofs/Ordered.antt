@@ -14,7 +14,7 @@ use Rattle.pm_model.proofs.OrderLaws.{script_tried, as_many_has}
 use Rattle.pm_engine.specs.Held.{HoldsImage}
 use Rattle.pm_top.specs.declared.status.Status.{Status}
 use Rattle.pm_top.specs.declared.status.Status.TheVariants.{Done, Usage, Misconfigured, Failed, Memory, Damaged, Long}
-use Rattle.pm_top.specs.Crashes.{CrashHoldsAcknowledged, begun}
+use Rattle.pm_top.specs.Crashes.{begun}
 use Rattle.pm_top.specs.Promises.{IsOrder, IsOrderOfTried, OutcomeIs}
 use Rattle.pm_top.specs.ScriptOrder as one
 use Rattle.pm_top.specs.Served.{script_of}
@@ -68,7 +68,7 @@ same_after : (shape : Shape) (numbers : List ℕ) (script : List Line) (pairs : 
 same_after shape [] script pairs = refl
 same_after shape (number ∷ numbers) script pairs = same_after shape numbers script (after shape (line_at 1 script number) pairs)
 
-keeps : (wanted : Shape) (old now : World) (shape : Shape) (pairs : Pairs) (many : ℕ) (order : List ℕ) → one.IsOrder shape old.input pairs many order → one.CrashHoldsAcknowledged wanted old shape pairs order now → CrashHoldsAcknowledged wanted old shape pairs order now
+keeps : (wanted : Shape) (old now : World) (shape : Shape) (pairs : Pairs) (many : ℕ) (order : List ℕ) → one.IsOrder shape old.input pairs many order → one.CrashHoldsAcknowledged wanted old shape pairs order now → one.CrashHoldsSome wanted old shape pairs order now
 keeps wanted old now shape pairs many order is held image leaves honest =
     let h = held image leaves honest in
     let script = script_of old.input in
@@ -80,6 +80,6 @@ keeps wanted old now shape pairs many order is held image leaves honest =
       holds = subst (λ (m : Pairs). HoldsImage wanted image shape m) (same_after shape (take h.count order) script pairs) h.holds;
     }
 
-pub moments_keep : (wanted : Shape) (start : World) (old new : History) (shape : Shape) (pairs : Pairs) (many : ℕ) (order : List ℕ) → one.IsOrder shape start.input pairs many order → AllMoments old new (one.CrashHoldsAcknowledged wanted start shape pairs order) → AllMoments old new (CrashHoldsAcknowledged wanted start shape pairs order)
+pub moments_keep : (wanted : Shape) (start : World) (old new : History) (shape : Shape) (pairs : Pairs) (many : ℕ) (order : List ℕ) → one.IsOrder shape start.input pairs many order → AllMoments old new (one.CrashHoldsAcknowledged wanted start shape pairs order) → AllMoments old new (one.CrashHoldsSome wanted start shape pairs order)
 moments_keep wanted start old new shape pairs many order is all =
-    weaker old new (one.CrashHoldsAcknowledged wanted start shape pairs order) (CrashHoldsAcknowledged wanted start shape pairs order) (λ w held. keeps wanted start w shape pairs many order is held) all
+    weaker old new (one.CrashHoldsAcknowledged wanted start shape pairs order) (one.CrashHoldsSome wanted start shape pairs order) (λ w held. keeps wanted start w shape pairs many order is held) all

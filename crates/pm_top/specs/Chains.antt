@@ -8,7 +8,7 @@ use Rattle.pm_model.specs.declared.line.Line.{Line}
 use Rattle.pm_model.specs.Eval.{Pairs, after_all}
 use Rattle.pm_model.specs.Orders.{line_at}
 use Rattle.pm_records.specs.Logs.{after_frames, place}
-use Rattle.pm_engine.specs.Held.{HasNumbers, IsTrueImage}
+use Rattle.pm_engine.specs.Held.{IsTrueImage}
 use Rattle.pm_top.specs.Crashes.{HoldsAfter}
 use Rattle.pm_top.specs.Promises.{IsLeft, IsStart}
 use Rattle.pm_top.specs.Served.{script_of}
@@ -59,13 +59,14 @@ pub record WasDone (wanted shape : Shape) (start : World) (pairs : Pairs) (stage
 -- A run ended by a crash at a moment, and left this image, as `top` promises of it: a prefix of its order counts, which has each line
 -- that was acknowledged.
 pub record HasCrashed (wanted shape : Shape) (start : World) (pairs : Pairs) (stage : Stage) : Type 0 where
+  pub begins : IsStart wanted start shape pairs
+  pub few : (after_frames (place 1 0) begins.holds.frames).seg + 2 ^ 24 < 2 ^ 62
   pub order : List ℕ
   pub now : World
   pub image : Image
   pub leaves : LeavesAll now image
   pub honest : IsTrueImage now image
-  pub kept : HoldsAfter wanted start shape pairs order now image
-  pub few : HasNumbers kept.holds.frames
+  pub kept : HoldsAfter wanted ((after_frames (place 1 0) begins.holds.frames).seg + 2 ^ 24) start shape pairs order now image
   pub found : IsFoundAfter image stage.next
   pub lines_are : stage.lines ≡ lines_with (script_of start.input) (take kept.count order)
 

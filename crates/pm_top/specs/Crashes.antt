@@ -1,5 +1,5 @@
 -- What a crash at any moment of a run leaves.
-use Rattle.std.specs.Prelude.{ℕ, ◌+◌, List, [], ◌∷◌, length, take, drop, if◌then◌else◌}
+use Rattle.std.specs.Prelude.{ℕ, ◌+◌, ◌≤◌, List, [], ◌∷◌, length, take, drop, if◌then◌else◌}
 use Rattle.std.specs.Bool.{nat_eq}
 use Rattle.std.specs.List.{All, Contains, starts_with}
 use Rattle.pm_types.specs.declared.shape.Shape.{Shape}
@@ -8,6 +8,7 @@ use Rattle.pm_disk.specs.Images.{Image, LeavesAll}
 use Rattle.pm_model.specs.declared.reply.Reply.{Reply}
 use Rattle.pm_model.specs.Eval.{Pairs, replies_to, accepted}
 use Rattle.pm_model.specs.Orders.{after_numbers}
+use Rattle.pm_records.specs.Logs.{after_frames, place}
 use Rattle.pm_script.specs.Texts.{text_of}
 use Rattle.pm_engine.specs.Held.{HoldsImage, IsTrueImage}
 use Rattle.pm_top.specs.Served.{script_of}
@@ -25,13 +26,14 @@ acknowledged old shape pairs now =
     accepted shape 1 (take (begun (replies_to shape script pairs) (drop (length old.said) now.said)) script) pairs
 
 -- What a crash left is sound, and holds the map of the start after the lines of a prefix of the order, which has each one that was
--- acknowledged.
-pub record HoldsAfter (wanted : Shape) (old : World) (shape : Shape) (pairs : Pairs) (order : List ℕ) (now : World) (image : Image) : Type 0 where
+-- acknowledged. Its log ends at most in this segment.
+pub record HoldsAfter (wanted : Shape) (most : ℕ) (old : World) (shape : Shape) (pairs : Pairs) (order : List ℕ) (now : World) (image : Image) : Type 0 where
   pub count : ℕ
   pub has : All (Contains (take count order)) (acknowledged old shape pairs now)
   pub holds : HoldsImage wanted image shape (after_numbers shape (take count order) 1 (script_of old.input) pairs)
+  pub rises : (after_frames (place 1 0) holds.frames).seg ≤ most
 
 -- whatever a crash at this moment leaves, as long as no sum is right by chance, keeps what was acknowledged
-abbrev pub CrashHoldsAcknowledged : Shape → World → Shape → Pairs → List ℕ → World → Type 0
-CrashHoldsAcknowledged wanted old shape pairs order now =
-    (image : Image) → LeavesAll now image → IsTrueImage now image → HoldsAfter wanted old shape pairs order now image
+abbrev pub CrashHoldsAcknowledged : Shape → ℕ → World → Shape → Pairs → List ℕ → World → Type 0
+CrashHoldsAcknowledged wanted most old shape pairs order now =
+    (image : Image) → LeavesAll now image → IsTrueImage now image → HoldsAfter wanted most old shape pairs order now image

@@ -180,11 +180,11 @@ pub record RunHolds (old new : History) (status : Status) (lines : ℕ) (order :
   pub misconfigured : status ≡ Misconfigured → IsMisconfigured old.world new.world lines order
   pub damaged : status ≡ Damaged → IsDamaged old.world new.world lines order
 
--- at each moment a crash leaves a sound store, which holds what was acknowledged
+-- at each moment a crash leaves a sound store, which holds what was acknowledged, its log in at most 2^24 segments more
 abbrev pub HoldsAtEachMoment : History → History → List ℕ → Type 0
 HoldsAtEachMoment old new order =
-    (shape : Shape) (pairs : Pairs) → IsStart (wanted_in old.world) old.world shape pairs
-    → AllMoments old new (CrashHoldsAcknowledged (wanted_in old.world) old.world shape pairs order)
+    (shape : Shape) (pairs : Pairs) (start : IsStart (wanted_in old.world) old.world shape pairs)
+    → AllMoments old new (CrashHoldsAcknowledged (wanted_in old.world) ((after_frames (place 1 0) start.holds.frames).seg + 2 ^ 24) old.world shape pairs order)
 
 -- Where no call fails: a field of the configuration that is refused is named, and a script over a store that is opened is answered
 -- whole, or the limit that it passes is reported, unless memory runs out.

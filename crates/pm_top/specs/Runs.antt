@@ -13,7 +13,7 @@ use Rattle.pm_script.specs.Texts.{texts_of}
 use Rattle.pm_segments.specs.Ends.{LogEnd, EndsThere}
 use Rattle.pm_records.specs.Logs.{place}
 use Rattle.pm_records.specs.Logs.{after_frames}
-use Rattle.pm_engine.specs.Engines.{Running, IsAtRest, HasSegments}
+use Rattle.pm_engine.specs.Engines.{Running, IsAtRest, HasSegments, SameAbove}
 use Rattle.pm_records.specs.LogFiles.{LogGrowsBy}
 use Rattle.pm_engine.specs.Records.{logged}
 use Rattle.pm_engine.specs.Held.{Holds}
@@ -30,9 +30,14 @@ pub record SameConsole (start now : World) : Type 0 where
   pub said : now.said ≡ start.said
   pub input : now.input ≡ start.input
 
--- no file but the log is other than it was, and no input was taken
-pub record OnlyAnswers (old new : World) : Type 0 where
+-- no file but the log is other than it was, nor a segment above this one
+pub record KeepsFiles (most : ℕ) (old new : World) : Type 0 where
   pub files : SameFiles old new
+  pub above : SameAbove most old new
+
+-- the same, and no input was taken
+pub record OnlyAnswers (most : ℕ) (old new : World) : Type 0 where
+  pub kept : KeepsFiles most old new
   pub input : new.input ≡ old.input
 
 -- A run goes on with a store of the same shape, and its order has what it had.
@@ -66,11 +71,12 @@ pub record CountsBatch (continuation : Continuation) (input : Unread) (before no
   pub few : now.lines ≤ LINES_MAX
   pub same : continuation ≡ then_comes.More → now.lines ≡ input.lines
   pub some : continuation ≡ then_comes.More → before.lines < now.lines
+  pub rises : now.engine.log.end.seg + before.lines ≤ before.engine.log.end.seg + now.lines
 
--- At no moment was another file than the log changed. Where no fault came, the log ends there, and what is known of the input's
+-- At no moment was another file than the log changed, nor a segment above this one. Where no fault came, the log ends there, and what is known of the input's
 -- end holds.
-pub record IsOpenAfter {T : Type 0} (old new : History) (log : LogEnd) (input : Unread) (result : Result T StoreFault) : Type 0 where
-  pub files : AllMoments old new (SameFiles old.world)
+pub record IsOpenAfter {T : Type 0} (most : ℕ) (old new : History) (log : LogEnd) (input : Unread) (result : Result T StoreFault) : Type 0 where
+  pub files : AllMoments old new (KeepsFiles most old.world)
   pub end : OnOk result (EndsThere log new.world)
   pub input_end : OnOk result (KnowsEnd input new.world)
 

@@ -12,7 +12,9 @@ use Rattle.pm_top.specs.declared.run.Stop.{Stop}
 use Rattle.pm_top.specs.declared.run.Stop.TheVariants as stop
 use Rattle.pm_top.specs.declared.status.Status.{Status}
 use Rattle.pm_top.specs.declared.status.Status.TheVariants.{Done, Usage, Misconfigured, Failed, Memory, Damaged, Long}
-use Rattle.pm_top.specs.Crashes.{begun}
+use Rattle.pm_model.specs.Orders as orders
+use Rattle.std.specs.List.{All, Contains}
+use Rattle.pm_top.specs.Crashes.{acknowledged, begun}
 use Rattle.pm_top.specs.Limits.{AreWithin, IsWithinLimits, PassesLimit}
 use Rattle.pm_top.specs.Promises.{HasAnswered, IsTail, replies_of}
 use Rattle.pm_top.specs.Served.{script_of}
@@ -96,3 +98,13 @@ pub record HoldsAfter (wanted : Shape) (old : World) (shape : Shape) (pairs : Pa
 abbrev pub CrashHoldsAcknowledged : Shape → World → Shape → Pairs → List ℕ → World → Type 0
 CrashHoldsAcknowledged wanted old shape pairs order now =
     (image : Image) → LeavesAll now image → IsTrueImage now image → HoldsAfter wanted old shape pairs order now image
+
+-- the same by the numbers of any order, without a bound on the log
+pub record HoldsSome (wanted : Shape) (old : World) (shape : Shape) (pairs : Pairs) (order : List ℕ) (now : World) (image : Image) : Type 0 where
+  pub count : ℕ
+  pub has : All (Contains (take count order)) (acknowledged old shape pairs now)
+  pub holds : HoldsImage wanted image shape (orders.after_numbers shape (take count order) 1 (script_of old.input) pairs)
+
+abbrev pub CrashHoldsSome : Shape → World → Shape → Pairs → List ℕ → World → Type 0
+CrashHoldsSome wanted old shape pairs order now =
+    (image : Image) → LeavesAll now image → IsTrueImage now image → HoldsSome wanted old shape pairs order now image

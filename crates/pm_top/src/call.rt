@@ -1,6 +1,6 @@
 //! The top call.
 
-ghost use Rattle.std.specs.Prelude.{◌≡◌, [], map, false, IsTrue, string_bytes};
+ghost use Rattle.std.specs.Prelude.{◌≡◌, ◌+◌, ◌^◌, [], map, false, IsTrue, string_bytes};
 ghost use Rattle.pm_types.specs.declared.shape.Shape.{Shape};
 ghost use Rattle.pm_types.specs.Shapes.{IsShape};
 ghost use Rattle.pm_disk.specs.Moments.{AllMoments};
@@ -12,7 +12,7 @@ ghost use Rattle.pm_top.specs.RunCauses.{HasRunCause, HasScriptCause};
 ghost use Rattle.pm_top.specs.Configurations.{AsksFor};
 ghost use Rattle.pm_top.specs.Promises.{Completes, HoldsAtEachMoment, RefusalIs, RunHolds};
 ghost use Rattle.pm_top.specs.ScriptOrder.{OutcomeIs};
-ghost use Rattle.pm_top.specs.Runs.{CanRun, SameConsole, LeavesStore};
+ghost use Rattle.pm_top.specs.Runs.{CanRun, KeepsFiles, SameConsole, LeavesStore};
 ghost use Rattle.pm_top.specs.Promises.{SameFiles};
 ghost use Rattle.pm_top.specs.ScriptOrder.{CrashHoldsAcknowledged};
 ghost use Rattle.pm_top.specs.Statuses.{status_of, code_of};
@@ -181,8 +181,8 @@ fn answer_script<H: Host>(alloc: Global, host: &mut H, engine: Engine) -> Outcom
     requires usable { IsUsable (H.state host.old) }
     requires order { engine.order ≡ [] }
     requires end { H.tells → EndsThere engine.log (H.history host.old).world }
-    ensures files { H.tells → AllMoments (H.history host.old) (H.history host.new) (SameFiles
-        (H.history host.old).world) }
+    ensures files { H.tells → AllMoments (H.history host.old) (H.history host.new)
+        (KeepsFiles (engine.log.end.seg + 2 ^ 23) (H.history host.old).world) }
     ensures outcome { H.tells → (start : World) → SameConsole start (H.history host.old).world →
         OutcomeIs result.status start (H.history host.new).world engine.shape engine.map
         result.lines result.order.items }

@@ -17,8 +17,7 @@ ghost use Rattle.pm_engine.specs.Batches.{HasPlainFault};
 ghost use Rattle.pm_engine.specs.Engines.{IsAtRest, HasSegments, LastIsForced};
 ghost use Rattle.pm_top.specs.ScriptOrder.{CrashHoldsAcknowledged};
 ghost use Rattle.pm_top.specs.ScriptOrder.{HasFailed, HasNoMemory, StopIs};
-ghost use Rattle.pm_top.specs.Runs.{CanRun, Progress, SameConsole, OnlyAnswers, KeepsRun, CountsBatch, IsOpenAfter, LinesAreAnswered, FaultIs, IsAtRestSince, BatchIsAnswered, LeavesRun};
-ghost use Rattle.pm_top.specs.Promises.{SameFiles};
+ghost use Rattle.pm_top.specs.Runs.{CanRun, KeepsFiles, Progress, SameConsole, OnlyAnswers, KeepsRun, CountsBatch, IsOpenAfter, LinesAreAnswered, FaultIs, IsAtRestSince, BatchIsAnswered, LeavesRun};
 ghost use Rattle.pm_top.specs.Served.{script_of};
 
 use crate::batch::{Continuation, next_batch};
@@ -68,8 +67,8 @@ impl Run {
         requires lines { self.old.lines ≡ 0 }
         requires order { self.old.engine.order ≡ [] }
         requires end { H.tells → EndsThere self.old.engine.log (H.history host.old).world }
-        ensures files { H.tells → AllMoments (H.history host.old) (H.history host.new) (SameFiles
-            (H.history host.old).world) }
+        ensures files { H.tells → AllMoments (H.history host.old) (H.history host.new)
+            (KeepsFiles (self.old.engine.log.end.seg + 2 ^ 23) (H.history host.old).world) }
 
         // What was answered.
         ensures stop { H.tells → (start : World) → SameConsole start (H.history host.old).world →
@@ -117,8 +116,8 @@ impl Run {
         requires input_end { H.tells → KnowsEnd input.old (H.history host.old).world }
         ensures keeps { KeepsRun self.old self.new }
         ensures counted { IfOk result (λ continuation. CountsBatch continuation input.new self.old self.new) }
-        ensures open { H.tells → IsOpenAfter (H.history host.old) (H.history host.new)
-            self.new.engine.log input.new result }
+        ensures open { H.tells → IsOpenAfter (self.old.engine.log.end.seg + 2048)
+            (H.history host.old) (H.history host.new) self.new.engine.log input.new result }
 
         // What was answered.
         ensures answered { H.tells → IfOk result (λ continuation. BatchIsAnswered continuation
@@ -161,8 +160,10 @@ impl Run {
         ensures keeps { KeepsRun self.old self.new }
         ensures lines { OnOk result (self.new.lines ≡ self.old.lines + length lines.now) }
         ensures end { H.tells → OnOk result (EndsThere self.new.engine.log (H.history host.new).world) }
-        ensures only_answers { H.tells → AllMoments (H.history host.old) (H.history host.new) (OnlyAnswers
-            (H.history host.old).world) }
+        ensures rises { OnOk result
+            (self.new.engine.log.end.seg ≤ self.old.engine.log.end.seg + length lines.now) }
+        ensures only_answers { H.tells → AllMoments (H.history host.old) (H.history host.new)
+            (OnlyAnswers (self.old.engine.log.end.seg + length lines.now) (H.history host.old).world) }
 
         // What was answered.
         ensures answered { H.tells → (start : World) (left : List Line) (shape : Shape) (pairs : Pairs) →

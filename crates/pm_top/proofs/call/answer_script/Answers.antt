@@ -1,4 +1,4 @@
-use Rattle.std.proofs.Common.{◌≡◌, inl, inr, ℕ, ◌≤◌, List, [], Err, ap, sym, ◌∙◌, subst, arith}
+use Rattle.std.proofs.Common.{◌≡◌, inl, inr, ℕ, ◌+◌, ◌≤◌, List, [], Err, ap, sym, ◌∙◌, subst, arith}
 use Rattle.std.specs.Prelude.{codes}
 use Rattle.std.proofs.lemmas.List.{length-map}
 use Rattle.pm_types.specs.declared.limits.TheConstants.{LINES_MAX}
@@ -11,11 +11,10 @@ use Rattle.pm_top.specs.declared.status.Status.{Status}
 use Rattle.pm_top.specs.ScriptOrder.{CrashHoldsAcknowledged}
 use Rattle.pm_top.specs.ScriptOrder.{OutcomeIs, StopIs, IsDone, IsStopped}
 use Rattle.pm_top.specs.Promises.{SaysPart}
-use Rattle.pm_top.specs.Runs.{CanRun, LeavesStore}
-use Rattle.pm_top.specs.Promises.{SameFiles}
+use Rattle.pm_top.specs.Runs.{CanRun, KeepsFiles, LeavesStore}
 use Rattle.pm_top.specs.Served.{line_of}
 use Rattle.pm_top.specs.Statuses.{code_of}
-use Rattle.pm_top.proofs.KeptFiles.{say_calls, then_calls}
+use Rattle.pm_top.proofs.KeptLogs.{keep_say, keep_then}
 use Rattle.pm_top.proofs.Leaving.{leaves_store}
 use Rattle.pm_top.proofs.PrintedLimit.{ends_long, limit_moments}
 use Rattle.pm_top.proofs.call.answer_script.Goals.{in-Ok-Done, in-Ok-Limit, in-Err-Failed, in-Err-Memory}
@@ -103,15 +102,17 @@ pub returns-clause-files : goal.returns-clause-files
 returns-clause-files g c t =
     let old = g.H.Device.history c.args.host.now in
     let mid = g.H.Device.history c.serve.new.host in
-    let K : World → Type 0 = SameFiles old.world in
+    let most : ℕ = c.new-run.result.engine.log.end.seg + 8388608 in
+    let K : World → Type 0 = KeepsFiles most old.world in
     let served : AllMoments old mid K = c.serve.ensures.files t in
-    elim c.match-serve.branch [
+    let all : AllMoments old (g.H.Device.history c.match-serve.host) K = elim c.match-serve.branch [
       | in-Ok-Done w ↦ subst (λ h. AllMoments old (g.H.Device.history h) K) (sym w.host-is) served
       | in-Ok-Limit w ↦
           let printed = w.print_limit_fault-status in
           let new = g.H.Device.history printed.new.host in
           subst (λ h. AllMoments old (g.H.Device.history h) K) (sym w.host-is)
-          (then_calls old mid new (g.H.Device.sound c.serve.new.host t) served (say_calls (codes "fault long\n") mid new (printed.ensures.moments t)))
+          (keep_then most most most old mid new (omega arith) (omega arith) (g.H.Device.sound c.serve.new.host t) served (keep_say most (codes "fault long\n") mid new (printed.ensures.moments t)))
       | in-Err-Failed w ↦ subst (λ h. AllMoments old (g.H.Device.history h) K) (sym w.host-is) served
       | in-Err-Memory w ↦ subst (λ h. AllMoments old (g.H.Device.history h) K) (sym w.host-is) served
-    ]
+    ] in
+    subst (λ (e : Running). AllMoments old (g.H.Device.history c.match-serve.host) (KeepsFiles (e.log.end.seg + 8388608) old.world)) c.new-run.ensures.engine all

@@ -1,4 +1,4 @@
-use Rattle.std.proofs.Common.{rules, ◌≡◌, ◌≤◌, ◌++◌, List, [], length, refl, sym, ap, ◌∙◌, subst, arith, append_assoc, append-nil, length-append}
+use Rattle.std.proofs.Common.{rules, ◌≡◌, ℕ, ◌+◌, ◌≤◌, ◌++◌, List, [], length, refl, sym, ap, ◌∙◌, subst, arith, append_assoc, append-nil, length-append}
 use Rattle.std.specs.Prelude.{IsErrOf}
 use Rattle.pm_types.specs.declared.fault.StoreFault.TheVariants.{Failed, Memory}
 use Rattle.pm_disk.proofs.Chain.{at_last}
@@ -9,7 +9,7 @@ use Rattle.pm_top.specs.Runs.{IsAtRestSince, Progress, OnlyAnswers}
 use Rattle.pm_top.specs.Scripts.{ContinuationIs}
 use Rattle.pm_top.specs.Served.{script_of}
 use Rattle.pm_top.proofs.AnsweredLines.{taken_stands}
-use Rattle.pm_top.proofs.KeptFiles.{answer_calls, take_calls, then_calls}
+use Rattle.pm_top.proofs.KeptLogs.{keep_answers, keep_take, keep_then}
 use Rattle.pm_top.proofs.Progressing.{failed_still, memory_still, progress_still}
 use Rattle.pm_top.proofs.AnsweredBatch.{keeps_both, taken_said, taken_moments, then_moments, since_both, since_taken}
 use Rattle.pm_top.proofs.run.Run.answer_batch.Goals as goal
@@ -137,8 +137,8 @@ returns-clause-answered g c t =
     let all = length-append batch.lines.items batch.alone.items in
     let its = c.in_ok-batch.ensures.taken t in
     let input : (g.H.Device.history c.answer_lines-2.new.host).world.input ≡ mid.world.input =
-    (at_last (g.H.Device.history c.answer_lines.new.host) (g.H.Device.history c.answer_lines-2.new.host) (OnlyAnswers (g.H.Device.history c.answer_lines.new.host).world) (g.H.Device.sound c.answer_lines-2.new.host t) (c.answer_lines-2.ensures.only_answers t)).input
-    ∙ (at_last mid (g.H.Device.history c.answer_lines.new.host) (OnlyAnswers mid.world) (g.H.Device.sound c.answer_lines.new.host t) (c.answer_lines.ensures.only_answers t)).input in
+    (at_last (g.H.Device.history c.answer_lines.new.host) (g.H.Device.history c.answer_lines-2.new.host) (OnlyAnswers (c.answer_lines.new.self.engine.log.end.seg + length c.deref-2.result.now) (g.H.Device.history c.answer_lines.new.host).world) (g.H.Device.sound c.answer_lines-2.new.host t) (c.answer_lines-2.ensures.only_answers t)).input
+    ∙ (at_last mid (g.H.Device.history c.answer_lines.new.host) (OnlyAnswers (c.args.self.now.engine.log.end.seg + length c.deref.result.now) mid.world) (g.H.Device.sound c.answer_lines.new.host t) (c.answer_lines.ensures.only_answers t)).input in
     record {
       lines = batch.lines.items ++ batch.alone.items;
       at = its.at;
@@ -226,20 +226,25 @@ returns-clause-counted g c =
       few = omega (arith, counts.few (omega (arith, c.requires.counted, c.requires.few)), c.requires.counted, c.in_ok-answer_lines.ensures.lines, c.in_ok-answer_lines-2.ensures.lines, one, two, all);
       same = λ is. omega (arith, counts.lines is, c.requires.counted, c.in_ok-answer_lines.ensures.lines, c.in_ok-answer_lines-2.ensures.lines, one, two, all);
       some = λ is. omega (arith, c.in_ok-batch.ensures.batch.some is, c.in_ok-answer_lines.ensures.lines, c.in_ok-answer_lines-2.ensures.lines, one, two, all);
+      rises = omega (arith, c.in_ok-answer_lines.ensures.lines, c.in_ok-answer_lines-2.ensures.lines, c.in_ok-answer_lines.ensures.rises, c.in_ok-answer_lines-2.ensures.rises);
     }
 
 pub returns-in_err-batch-clause-open : goal.returns-in_err-batch-clause-open
 returns-in_err-batch-clause-open g c t =
     let old = g.H.Device.history c.args.host.now in
     let mid = g.H.Device.history c.next_batch.new.host in
-    record { files = take_calls old mid (c.next_batch.ensures.takes t); end = search rules; input_end = search rules }
+    record { files = keep_take (c.args.self.now.engine.log.end.seg + 2048) old mid (c.next_batch.ensures.takes t); end = search rules; input_end = search rules }
 
 pub returns-in_err-answer_lines-clause-open : goal.returns-in_err-answer_lines-clause-open
 returns-in_err-answer_lines-clause-open g c t =
     let old = g.H.Device.history c.args.host.now in
     let mid = g.H.Device.history c.next_batch.new.host in
     let done = g.H.Device.history c.answer_lines.new.host in
-    let first = then_calls old mid done (g.H.Device.sound c.next_batch.new.host t) (take_calls old mid (c.next_batch.ensures.takes t)) (answer_calls mid done (c.answer_lines.ensures.only_answers t)) in
+    let run = c.args.self.now in
+    let most : ℕ = run.engine.log.end.seg + 2048 in
+    let one : ℕ = run.engine.log.end.seg + length c.deref.result.now in
+    let lines_few : length c.deref.result.now ≤ 1024 = omega (arith, c.in_ok-batch.ensures.batch.few, ap (λ (l : List Line). length l) c.deref.ensures.value) in
+    let first = keep_then most most one old mid done (omega arith) (omega (arith, lines_few)) (g.H.Device.sound c.next_batch.new.host t) (keep_take most old mid (c.next_batch.ensures.takes t)) (keep_answers one mid done (c.answer_lines.ensures.only_answers t)) in
     record { files = first; end = search rules; input_end = search rules }
 
 pub returns-in_err-answer_lines-2-clause-open : goal.returns-in_err-answer_lines-2-clause-open
@@ -247,9 +252,15 @@ returns-in_err-answer_lines-2-clause-open g c t =
     let old = g.H.Device.history c.args.host.now in
     let mid = g.H.Device.history c.next_batch.new.host in
     let done = g.H.Device.history c.answer_lines.new.host in
-    let first = then_calls old mid done (g.H.Device.sound c.next_batch.new.host t) (take_calls old mid (c.next_batch.ensures.takes t)) (answer_calls mid done (c.answer_lines.ensures.only_answers t)) in
+    let run = c.args.self.now in
+    let most : ℕ = run.engine.log.end.seg + 2048 in
+    let one : ℕ = run.engine.log.end.seg + length c.deref.result.now in
+    let lines_few : length c.deref.result.now ≤ 1024 = omega (arith, c.in_ok-batch.ensures.batch.few, ap (λ (l : List Line). length l) c.deref.ensures.value) in
+    let first = keep_then most most one old mid done (omega arith) (omega (arith, lines_few)) (g.H.Device.sound c.next_batch.new.host t) (keep_take most old mid (c.next_batch.ensures.takes t)) (keep_answers one mid done (c.answer_lines.ensures.only_answers t)) in
     let new = g.H.Device.history c.answer_lines-2.new.host in
-    let both = then_calls old done new (g.H.Device.sound c.answer_lines.new.host t) first (answer_calls done new (c.answer_lines-2.ensures.only_answers t)) in
+    let alone_few : length c.deref-2.result.now ≤ 1 = omega (arith, c.in_ok-batch.ensures.batch.one, ap (λ (l : List Line). length l) c.deref-2.ensures.value) in
+    let two : ℕ = c.answer_lines.new.self.engine.log.end.seg + length c.deref-2.result.now in
+    let both = keep_then most most two old done new (omega arith) (omega (arith, lines_few, alone_few, c.in_ok-answer_lines.ensures.rises)) (g.H.Device.sound c.answer_lines.new.host t) first (keep_answers two done new (c.answer_lines-2.ensures.only_answers t)) in
     record { files = both; end = search rules; input_end = search rules }
 
 pub returns-clause-open : goal.returns-clause-open
@@ -257,12 +268,18 @@ returns-clause-open g c t =
     let old = g.H.Device.history c.args.host.now in
     let mid = g.H.Device.history c.next_batch.new.host in
     let done = g.H.Device.history c.answer_lines.new.host in
-    let first = then_calls old mid done (g.H.Device.sound c.next_batch.new.host t) (take_calls old mid (c.next_batch.ensures.takes t)) (answer_calls mid done (c.answer_lines.ensures.only_answers t)) in
+    let run = c.args.self.now in
+    let most : ℕ = run.engine.log.end.seg + 2048 in
+    let one : ℕ = run.engine.log.end.seg + length c.deref.result.now in
+    let lines_few : length c.deref.result.now ≤ 1024 = omega (arith, c.in_ok-batch.ensures.batch.few, ap (λ (l : List Line). length l) c.deref.ensures.value) in
+    let first = keep_then most most one old mid done (omega arith) (omega (arith, lines_few)) (g.H.Device.sound c.next_batch.new.host t) (keep_take most old mid (c.next_batch.ensures.takes t)) (keep_answers one mid done (c.answer_lines.ensures.only_answers t)) in
     let new = g.H.Device.history c.answer_lines-2.new.host in
-    let both = then_calls old done new (g.H.Device.sound c.answer_lines.new.host t) first (answer_calls done new (c.answer_lines-2.ensures.only_answers t)) in
+    let alone_few : length c.deref-2.result.now ≤ 1 = omega (arith, c.in_ok-batch.ensures.batch.one, ap (λ (l : List Line). length l) c.deref-2.ensures.value) in
+    let two : ℕ = c.answer_lines.new.self.engine.log.end.seg + length c.deref-2.result.now in
+    let both = keep_then most most two old done new (omega arith) (omega (arith, lines_few, alone_few, c.in_ok-answer_lines.ensures.rises)) (g.H.Device.sound c.answer_lines.new.host t) first (keep_answers two done new (c.answer_lines-2.ensures.only_answers t)) in
     let input : (g.H.Device.history c.answer_lines-2.new.host).world.input ≡ mid.world.input =
-    (at_last (g.H.Device.history c.answer_lines.new.host) (g.H.Device.history c.answer_lines-2.new.host) (OnlyAnswers (g.H.Device.history c.answer_lines.new.host).world) (g.H.Device.sound c.answer_lines-2.new.host t) (c.answer_lines-2.ensures.only_answers t)).input
-    ∙ (at_last mid (g.H.Device.history c.answer_lines.new.host) (OnlyAnswers mid.world) (g.H.Device.sound c.answer_lines.new.host t) (c.answer_lines.ensures.only_answers t)).input in
+    (at_last (g.H.Device.history c.answer_lines.new.host) (g.H.Device.history c.answer_lines-2.new.host) (OnlyAnswers (c.answer_lines.new.self.engine.log.end.seg + length c.deref-2.result.now) (g.H.Device.history c.answer_lines.new.host).world) (g.H.Device.sound c.answer_lines-2.new.host t) (c.answer_lines-2.ensures.only_answers t)).input
+    ∙ (at_last mid (g.H.Device.history c.answer_lines.new.host) (OnlyAnswers (c.args.self.now.engine.log.end.seg + length c.deref.result.now) mid.world) (g.H.Device.sound c.answer_lines.new.host t) (c.answer_lines.ensures.only_answers t)).input in
     record {
       files = both;
       end = c.in_ok-answer_lines-2.ensures.end t;

@@ -11,7 +11,7 @@ use Rattle.pm_engine.specs.Engines.{IsAtRest}
 use Rattle.pm_engine.proofs.Results.{ok_holds}
 use Rattle.pm_top.specs.Runs.{Progress}
 use Rattle.pm_top.proofs.AnsweredLines.{said_grows, said_stands, since_none, rest_moments, failed_batch, memory_batch, batch_moments, all_tried, replied_all, saying_moments}
-use Rattle.pm_top.proofs.KeptFiles.{no_answers, log_answers, said_answers}
+use Rattle.pm_top.proofs.KeptLogs.{answers_none, answers_log, answers_said}
 use Rattle.pm_top.proofs.Progressing.{failed_still, memory_still, failed_saying, progress_more}
 use Rattle.pm_top.proofs.run.Run.answer_lines.Goals as goal
 
@@ -234,28 +234,28 @@ returns-then-is_empty-clause-stands g c t wanted stands segments =
 
 pub returns-then-is_empty-clause-only_answers : goal.returns-then-is_empty-clause-only_answers
 returns-then-is_empty-clause-only_answers g c t =
-    no_answers (g.H.Device.history c.args.host.now) (g.H.Device.sound c.args.host.now t)
+    answers_none (c.args.self.now.engine.log.end.seg + length c.args.lines.now) (g.H.Device.history c.args.host.now) (g.H.Device.sound c.args.host.now t)
 
 pub returns-in_err-replies-clause-only_answers : goal.returns-in_err-replies-clause-only_answers
 returns-in_err-replies-clause-only_answers g c t =
-    no_answers (g.H.Device.history c.args.host.now) (g.H.Device.sound c.args.host.now t)
+    answers_none (c.args.self.now.engine.log.end.seg + length c.args.lines.now) (g.H.Device.history c.args.host.now) (g.H.Device.sound c.args.host.now t)
 
 pub returns-in_err-batch-clause-only_answers : goal.returns-in_err-batch-clause-only_answers
 returns-in_err-batch-clause-only_answers g c t =
-    log_answers (g.H.Device.history c.args.host.now) (g.H.Device.history c.batch.new.host) (c.batch.ensures.runs.log_only t)
+    answers_log (c.args.self.now.engine.log.end.seg + length c.args.lines.now) (g.H.Device.history c.args.host.now) (g.H.Device.history c.batch.new.host) (c.batch.ensures.runs.log_only t) (c.batch.ensures.runs.above t)
 
 pub returns-in_err-write_replies-clause-only_answers : goal.returns-in_err-write_replies-clause-only_answers
 returns-in_err-write_replies-clause-only_answers g c t =
-    log_answers (g.H.Device.history c.args.host.now) (g.H.Device.history c.batch.new.host) (c.batch.ensures.runs.log_only t)
+    answers_log (c.args.self.now.engine.log.end.seg + length c.args.lines.now) (g.H.Device.history c.args.host.now) (g.H.Device.history c.batch.new.host) (c.batch.ensures.runs.log_only t) (c.batch.ensures.runs.above t)
 
 pub returns-in_err-print_replies-clause-only_answers : goal.returns-in_err-print_replies-clause-only_answers
 returns-in_err-print_replies-clause-only_answers g c t =
     let old = g.H.Device.history c.args.host.now in
     let mid = g.H.Device.history c.batch.new.host in
-    said_answers old mid (g.H.Device.history c.print_replies.new.host) c.print_replies.result c.deref-2.result.now (g.H.Device.sound c.batch.new.host t) (log_answers old mid (c.batch.ensures.runs.log_only t)) (c.print_replies.ensures.says t)
+    answers_said (c.args.self.now.engine.log.end.seg + length c.args.lines.now) old mid (g.H.Device.history c.print_replies.new.host) c.print_replies.result c.deref-2.result.now (g.H.Device.sound c.batch.new.host t) (answers_log (c.args.self.now.engine.log.end.seg + length c.args.lines.now) old mid (c.batch.ensures.runs.log_only t) (c.batch.ensures.runs.above t)) (c.print_replies.ensures.says t)
 
 pub returns-clause-only_answers : goal.returns-clause-only_answers
 returns-clause-only_answers g c t =
     let old = g.H.Device.history c.args.host.now in
     let mid = g.H.Device.history c.batch.new.host in
-    said_answers old mid (g.H.Device.history c.print_replies.new.host) c.print_replies.result c.deref-2.result.now (g.H.Device.sound c.batch.new.host t) (log_answers old mid (c.batch.ensures.runs.log_only t)) (c.print_replies.ensures.says t)
+    answers_said (c.args.self.now.engine.log.end.seg + length c.args.lines.now) old mid (g.H.Device.history c.print_replies.new.host) c.print_replies.result c.deref-2.result.now (g.H.Device.sound c.batch.new.host t) (answers_log (c.args.self.now.engine.log.end.seg + length c.args.lines.now) old mid (c.batch.ensures.runs.log_only t) (c.batch.ensures.runs.above t)) (c.print_replies.ensures.says t)

@@ -12,7 +12,7 @@ use Rattle.pm_top.specs.Runs.{Progress}
 use Rattle.pm_top.specs.Limits.{after_lines}
 use Rattle.pm_top.specs.Served.{script_of}
 use Rattle.pm_top.proofs.AnsweredLines.{rest_moments}
-use Rattle.pm_top.proofs.KeptFiles.{log_calls, no_calls, then_calls}
+use Rattle.pm_top.proofs.KeptLogs.{keep_log, keep_none, keep_then}
 use Rattle.pm_top.proofs.Progressing.{begins, finished, failed_still, memory_still}
 use Rattle.pm_top.proofs.Serving.{batch_logs, batch_stands, none_logged, more_place, more_bytes, more_limit, more_progress, end_none, end_progress, end_limit, over_stopped, closed, leaves, closing_moments, over_then, room_left, append_right}
 use Rattle.pm_top.proofs.AnsweredBatch.{then_moments}
@@ -35,7 +35,8 @@ batches-init g c =
       input_end = λ t ended. search rules;
       limit = λ t. omega (arith, ap (λ (u : Unread). u.bytes) c.in_ok-input.ensures);
       end = λ t. c.requires.end t;
-      files = λ t. no_calls old (g.H.Device.sound c.args.host.now t);
+      files = λ t. keep_none (first.engine.log.end.seg + 8388608) old (g.H.Device.sound c.args.host.now t);
+      rises = omega arith;
       bytes = λ t. subst (λ (u : Unread). u.bytes + length (rest_of u old.world) ≡ length old.world.input) (sym c.in_ok-input.ensures) (omega arith);
       place = λ t. subst (λ (u : Unread). rest_of u old.world ≡ after_lines u.lines old.world.input) (sym c.in_ok-input.ensures) refl;
       progress = λ t start same. subst (λ (u : Unread). Progress start old.world (script_of (rest_of u old.world)) first.engine.shape first.engine.map first) (sym c.in_ok-input.ensures)
@@ -96,7 +97,8 @@ batches-preserved g c =
       input_end = λ t. (c.in_ok-answer_batch.ensures.open t).input_end;
       limit = λ t. more_limit c.in_ok-answer_batch.field-0 (c.in_ok-answer_batch.ensures.answered t) old.world.input c.in-More.is (so_far.limit t);
       end = λ t. (c.in_ok-answer_batch.ensures.open t).end;
-      files = λ t. then_calls old before new (g.H.Device.sound c.batches.host t) (so_far.files t) (c.answer_batch.ensures.open t).files;
+      files = λ t. keep_then (first.engine.log.end.seg + 8388608) (first.engine.log.end.seg + 8388608) (c.batches.self.engine.log.end.seg + 2048) old before new (omega arith) (omega (arith, so_far.rises, so_far.counted, so_far.few)) (g.H.Device.sound c.batches.host t) (so_far.files t) (c.answer_batch.ensures.open t).files;
+      rises = omega (arith, so_far.rises, c.in_ok-answer_batch.ensures.counted.rises);
       bytes = λ t. more_bytes c.in_ok-answer_batch.field-0 (c.in_ok-answer_batch.ensures.answered t) old.world.input c.in-More.is (so_far.bytes t);
       place = λ t. more_place c.in_ok-answer_batch.field-0 (c.in_ok-answer_batch.ensures.answered t) old.world.input c.in-More.is so_far.counted lines (so_far.place t);
       progress = λ t start same. more_progress c.in_ok-answer_batch.field-0 (c.in_ok-answer_batch.ensures.answered t) old.world.input c.in-More.is start first.engine.shape first.engine.map (so_far.progress t start same);
@@ -217,14 +219,17 @@ returns-in-End-clause-fault g c t start same = record { failed = search rules; m
 
 pub returns-in_err-input-clause-files : goal.returns-in_err-input-clause-files
 returns-in_err-input-clause-files g c t =
-    no_calls (g.H.Device.history c.args.host.now) (g.H.Device.sound c.args.host.now t)
+    keep_none (c.args.self.now.engine.log.end.seg + 8388608) (g.H.Device.history c.args.host.now) (g.H.Device.sound c.args.host.now t)
 
 pub returns-in_err-answer_batch-clause-files : goal.returns-in_err-answer_batch-clause-files
 returns-in_err-answer_batch-clause-files g c t =
     let old = g.H.Device.history c.args.host.now in
     let before = g.H.Device.history c.batches.host in
     let new = g.H.Device.history c.answer_batch.new.host in
-    let answered = then_calls old before new (g.H.Device.sound c.batches.host t) (c.batches.invariant.files t) (c.answer_batch.ensures.open t).files in
+    let first = c.args.self.now in
+    let so_far = c.batches.invariant in
+    let most : ℕ = first.engine.log.end.seg + 8388608 in
+    let answered = keep_then most most (c.batches.self.engine.log.end.seg + 2048) old before new (omega arith) (omega (arith, so_far.rises, so_far.counted, so_far.few)) (g.H.Device.sound c.batches.host t) (so_far.files t) (c.answer_batch.ensures.open t).files in
     answered
 
 pub returns-in-Over-clause-files : goal.returns-in-Over-clause-files
@@ -232,7 +237,10 @@ returns-in-Over-clause-files g c t =
     let old = g.H.Device.history c.args.host.now in
     let before = g.H.Device.history c.batches.host in
     let new = g.H.Device.history c.answer_batch.new.host in
-    let answered = then_calls old before new (g.H.Device.sound c.batches.host t) (c.batches.invariant.files t) (c.answer_batch.ensures.open t).files in
+    let first = c.args.self.now in
+    let so_far = c.batches.invariant in
+    let most : ℕ = first.engine.log.end.seg + 8388608 in
+    let answered = keep_then most most (c.batches.self.engine.log.end.seg + 2048) old before new (omega arith) (omega (arith, so_far.rises, so_far.counted, so_far.few)) (g.H.Device.sound c.batches.host t) (so_far.files t) (c.answer_batch.ensures.open t).files in
     answered
 
 pub returns-in_err-close-in-End-clause-files : goal.returns-in_err-close-in-End-clause-files
@@ -240,15 +248,25 @@ returns-in_err-close-in-End-clause-files g c t =
     let old = g.H.Device.history c.args.host.now in
     let before = g.H.Device.history c.batches.host in
     let new = g.H.Device.history c.answer_batch.new.host in
-    let answered = then_calls old before new (g.H.Device.sound c.batches.host t) (c.batches.invariant.files t) (c.answer_batch.ensures.open t).files in
+    let first = c.args.self.now in
+    let so_far = c.batches.invariant in
+    let most : ℕ = first.engine.log.end.seg + 8388608 in
+    let answered = keep_then most most (c.batches.self.engine.log.end.seg + 2048) old before new (omega arith) (omega (arith, so_far.rises, so_far.counted, so_far.few)) (g.H.Device.sound c.batches.host t) (so_far.files t) (c.answer_batch.ensures.open t).files in
     let end = g.H.Device.history c.close.new.host in
-    then_calls old new end (g.H.Device.sound c.answer_batch.new.host t) answered (log_calls new end (c.close.ensures.log_only t))
+    let last : ℕ = c.answer_batch.new.self.engine.log.end.seg in
+    let counted = c.in_ok-answer_batch.ensures.counted in
+    keep_then most most last old new end (omega arith) (omega (arith, so_far.rises, counted.rises, counted.few)) (g.H.Device.sound c.answer_batch.new.host t) answered (keep_log last new end (c.close.ensures.log_only t) (c.close.ensures.above t))
 
 pub returns-in-End-clause-files : goal.returns-in-End-clause-files
 returns-in-End-clause-files g c t =
     let old = g.H.Device.history c.args.host.now in
     let before = g.H.Device.history c.batches.host in
     let new = g.H.Device.history c.answer_batch.new.host in
-    let answered = then_calls old before new (g.H.Device.sound c.batches.host t) (c.batches.invariant.files t) (c.answer_batch.ensures.open t).files in
+    let first = c.args.self.now in
+    let so_far = c.batches.invariant in
+    let most : ℕ = first.engine.log.end.seg + 8388608 in
+    let answered = keep_then most most (c.batches.self.engine.log.end.seg + 2048) old before new (omega arith) (omega (arith, so_far.rises, so_far.counted, so_far.few)) (g.H.Device.sound c.batches.host t) (so_far.files t) (c.answer_batch.ensures.open t).files in
     let end = g.H.Device.history c.close.new.host in
-    then_calls old new end (g.H.Device.sound c.answer_batch.new.host t) answered (log_calls new end (c.close.ensures.log_only t))
+    let last : ℕ = c.answer_batch.new.self.engine.log.end.seg in
+    let counted = c.in_ok-answer_batch.ensures.counted in
+    keep_then most most last old new end (omega arith) (omega (arith, so_far.rises, counted.rises, counted.few)) (g.H.Device.sound c.answer_batch.new.host t) answered (keep_log last new end (c.close.ensures.log_only t) (c.close.ensures.above t))

@@ -1,5 +1,5 @@
 use Rattle.pm_disk.specs.States.{IsLaterState}
-use Rattle.std.proofs.Common.{◌≡◌, ◌+◌, ◌-◌, ◌≤◌, length, take}
+use Rattle.std.proofs.Common.{◌≡◌, ◌+◌, ◌-◌, ◌≤◌, ◌^◌, length, take}
 use Rattle.pm_types.specs.declared.limits.TheConstants.{SCRIPT_BYTES_MAX, LINES_MAX}
 use Rattle.pm_types.specs.declared.shape.Shape.{Shape}
 use Rattle.pm_disk.specs.Moments.{AllMoments}
@@ -9,8 +9,7 @@ use Rattle.pm_records.specs.LogFiles.{LogGrowsBy}
 use Rattle.pm_engine.specs.Records.{logged}
 use Rattle.pm_segments.specs.Ends.{EndsThere}
 use Rattle.pm_top.specs.ScriptOrder.{CrashHoldsAcknowledged}
-use Rattle.pm_top.specs.Runs.{CanRun, Progress, SameConsole, IsAtRestAfter}
-use Rattle.pm_top.specs.Promises.{SameFiles}
+use Rattle.pm_top.specs.Runs.{CanRun, KeepsFiles, Progress, SameConsole, IsAtRestAfter}
 use Rattle.pm_top.specs.Limits.{after_lines}
 use Rattle.pm_top.specs.Served.{script_of}
 use Rattle.pm_top.proofs.run.Run.serve.Given as goal
@@ -29,7 +28,8 @@ invariant-batches g l =
       limit : tells → l.input.bytes ≤ SCRIPT_BYTES_MAX;
       input_end : tells → KnowsEnd l.input now.world;
       end : tells → EndsThere l.self.engine.log now.world;
-      files : tells → AllMoments old now (SameFiles old.world);
+      files : tells → AllMoments old now (KeepsFiles (first.engine.log.end.seg + 2 ^ 23) old.world);
+      rises : l.self.engine.log.end.seg ≤ first.engine.log.end.seg + l.self.lines;
       bytes : tells → l.input.bytes + length (rest_of l.input now.world) ≡ length old.world.input;
       place : tells → rest_of l.input now.world ≡ after_lines l.input.lines old.world.input;
       progress : tells → (start : World) → SameConsole start old.world
