@@ -1,31 +1,40 @@
 -- What a run or a crash leaves is a start for the next run.
-use Rattle.std.proofs.Common.{◌≡◌, ◌⊎◌, inl, inr, ℕ, ◌+◌, ◌<◌, ◌^◌, List, [], ◌∷◌, take, None, refl, sym, ◌∙◌, ap, subst, arith}
+use Rattle.std.proofs.Common.{ℕ, ◌+◌, ◌*◌, ◌<◌, ◌≤◌, ◌^◌, length, ◌≡◌, ◌⊎◌, inl, inr, List, [], ◌∷◌, ◌++◌, take, Option, None, refl, sym, ◌∙◌, ap, subst, arith}
 use Rattle.std.specs.FinMap.{empty}
 use Rattle.pm_types.specs.declared.shape.Shape.{Shape}
 use Rattle.pm_disk.specs.Files.{File, bytes_of, content}
 use Rattle.pm_disk.specs.Images.{Image, NothingPending}
 use Rattle.pm_disk.specs.Worlds.{World}
-use Rattle.pm_frame.specs.Frames.{frame_at, named_frame}
+use Rattle.pm_frame.specs.Frames.{Frame, frame_at, named_frame}
 use Rattle.pm_model.specs.declared.line.Line.{Line}
 use Rattle.pm_model.specs.Eval.{Pairs, after, after_all}
 use Rattle.pm_model.specs.Orders.{after_numbers, line_at}
 use Rattle.pm_model.proofs.Runs.{after_all-append}
 use Rattle.pm_records.specs.LogFiles.{contents}
+use Rattle.pm_records.proofs.Runs.{one_log}
 use Rattle.pm_records.specs.Logs.{all_frames, after_frames, place}
 use Rattle.pm_engine.specs.Held.{HasNumbers, HoldsImage, HoldsIn}
 use Rattle.pm_top.specs.Chains.{Follows, HasCrashed, IsFoundAfter, IsFresh, SameDisk, Stage, WasDone, found_last, lines_kept, lines_with}
 use Rattle.pm_top.specs.Promises.{IsLeft, IsStart}
 use Rattle.pm_top.specs.Served.{script_of}
 
+-- the segment in which the log ends
+abbrev last_seg : {wanted : Shape} {world : World} {shape : Shape} {pairs : Pairs} → IsStart wanted world shape pairs → ℕ
+last_seg start = (after_frames (place 1 0) start.holds.frames).seg
+
+-- a start at which the log ends in this segment
+abbrev StartsIn : Shape → World → Shape → Pairs → ℕ → Type 0
+StartsIn wanted world shape pairs seg = (start : IsStart wanted world shape pairs) × (last_seg start ≡ seg)
+
 -- the same bytes hold the same, with the same frames
-start_from : (wanted : Shape) (bytes : ℕ → List ℕ) (world : World) (shape : Shape) (pairs : Pairs) (holds : HoldsIn wanted bytes shape pairs) → HasNumbers holds.frames → bytes ≡ contents world.log → NothingPending world → IsStart wanted world shape pairs
+start_from : (wanted : Shape) (bytes : ℕ → List ℕ) (world : World) (shape : Shape) (pairs : Pairs) (holds : HoldsIn wanted bytes shape pairs) → HasNumbers holds.frames → bytes ≡ contents world.log → NothingPending world → StartsIn wanted world shape pairs (after_frames (place 1 0) holds.frames).seg
 start_from wanted bytes world shape pairs holds few same quiet =
-    subst (λ b. (h : HoldsIn wanted b shape pairs) → HasNumbers h.frames → b ≡ contents world.log → IsStart wanted world shape pairs) (sym same)
-    (λ h numbers _. record { holds = h; numbers = numbers; quiet = quiet }) holds few same
+    subst (λ b. (h : HoldsIn wanted b shape pairs) → HasNumbers h.frames → b ≡ contents world.log → StartsIn wanted world shape pairs (after_frames (place 1 0) h.frames).seg) (sym same)
+    (λ h numbers _. (record { holds = h; numbers = numbers; quiet = quiet }, refl)) holds few same
 
 -- ---- what a crash leaves
 
-pub crash_start : (wanted shape : Shape) (image : Image) (world : World) (pairs : Pairs) (holds : HoldsImage wanted image shape pairs) → HasNumbers holds.frames → IsFoundAfter image world → IsStart wanted world shape pairs
+crash_start : (wanted shape : Shape) (image : Image) (world : World) (pairs : Pairs) (holds : HoldsImage wanted image shape pairs) → HasNumbers holds.frames → IsFoundAfter image world → StartsIn wanted world shape pairs (after_frames (place 1 0) holds.frames).seg
 crash_start wanted shape image world pairs holds few found =
     start_from wanted (λ seg. bytes_of (image.log seg)) world shape pairs holds few (λ i seg. sym (ap (λ (f : File). bytes_of (content f)) (found.log seg)) i)
     record {
@@ -37,8 +46,8 @@ crash_start wanted shape image world pairs holds few found =
 
 -- ---- what a done run leaves
 
-pub done_start : (wanted shape : Shape) (old new world : World) (pairs : Pairs) (start : IsStart wanted old shape pairs) → (after_frames (place 1 0) start.holds.frames).seg + 2 ^ 23 < 2 ^ 62 → IsLeft wanted start.holds.frames old new shape pairs → SameDisk new world
-    → IsStart wanted world shape (after_all shape (script_of old.input) pairs)
+done_start : (wanted shape : Shape) (old new world : World) (pairs : Pairs) (start : IsStart wanted old shape pairs) → (after_frames (place 1 0) start.holds.frames).seg + 2 ^ 23 < 2 ^ 62 → (left : IsLeft wanted start.holds.frames old new shape pairs) → SameDisk new world
+    → StartsIn wanted world shape (after_all shape (script_of old.input) pairs) (after_frames (place 1 0) left.holds.frames).seg
 done_start wanted shape old new world pairs start few left same =
     start_from wanted (contents new.log) world shape (after_all shape (script_of old.input) pairs) left.holds (omega (arith, left.rises, few)) (λ i seg. sym (ap (λ (f : File). bytes_of (content f)) (same.log seg)) i)
     record {
@@ -83,18 +92,48 @@ numbers_leave : (shape : Shape) (numbers : List ℕ) (script : List Line) (pairs
 numbers_leave shape [] script pairs = refl
 numbers_leave shape (n ∷ numbers) script pairs = numbers_leave shape numbers script (after shape (line_at 1 script n) pairs)
 
-stage_start : (wanted shape : Shape) (start : World) (pairs : Pairs) (stage : Stage) → WasDone wanted shape start pairs stage ⊎ HasCrashed wanted shape start pairs stage → IsStart wanted stage.next shape (after_all shape stage.lines pairs)
-stage_start wanted shape start pairs stage run = elim run [
-  | inl done ↦ subst (λ ls. IsStart wanted stage.next shape (after_all shape ls pairs)) (sym done.lines_are) (done_start wanted shape start done.new stage.next pairs done.begins done.few done.left done.found)
+-- two starts over one world have the same frames
+same_frames : (wanted : Shape) (world : World) (shape : Shape) (pairs : Pairs) (one other : IsStart wanted world shape pairs) → one.holds.frames ≡ other.holds.frames
+same_frames wanted world shape pairs one other = one_log all_frames (contents world.log) (place 1 0) one.holds.frames other.holds.frames one.holds.log.log other.holds.log.log
+
+same_seg : (wanted : Shape) (world : World) (shape : Shape) (pairs : Pairs) (one other : IsStart wanted world shape pairs) → last_seg one ≡ last_seg other
+same_seg wanted world shape pairs one other = ap (λ (fs : List Frame). (after_frames (place 1 0) fs).seg) (same_frames wanted world shape pairs one other)
+
+-- the next run begins over a log that is at most so many segments longer
+abbrev NextStart : Shape → Shape → World → Pairs → ℕ → Type 0
+NextStart wanted shape next pairs most = (start : IsStart wanted next shape pairs) × (last_seg start ≤ most + 16777216)
+
+stage_start : (wanted shape : Shape) (start : World) (pairs : Pairs) (stage : Stage) (begins : IsStart wanted start shape pairs) → last_seg begins + 16777216 < 4611686018427387904 → WasDone wanted shape start pairs stage ⊎ HasCrashed wanted shape start pairs stage
+    → NextStart wanted shape stage.next (after_all shape stage.lines pairs) (last_seg begins)
+stage_start wanted shape start pairs stage begins few run = elim run [
+  | inl done ↦
+      let same = same_seg wanted start shape pairs done.begins begins in
+      let next = done_start wanted shape start done.new stage.next pairs done.begins (omega (arith, few, same)) done.left done.found in
+      let its : NextStart wanted shape stage.next (after_all shape (script_of start.input) pairs) (last_seg begins) = (next.0, omega (arith, next.1, done.left.rises, same)) in
+      subst (λ ls. NextStart wanted shape stage.next (after_all shape ls pairs) (last_seg begins)) (sym done.lines_are) its
   | inr crashed ↦
+      let same = same_seg wanted start shape pairs crashed.begins begins in
       let script = script_of start.input in
       let numbers = take crashed.kept.count crashed.order in
-      subst (λ m. IsStart wanted stage.next shape m) (numbers_leave shape numbers script pairs ∙ ap (λ ls. after_all shape ls pairs) (sym crashed.lines_are))
-      (crash_start wanted shape crashed.image stage.next (after_numbers shape numbers 1 script pairs) crashed.kept.holds (omega (arith, crashed.kept.rises, crashed.few)) crashed.found)
+      let next = crash_start wanted shape crashed.image stage.next (after_numbers shape numbers 1 script pairs) crashed.kept.holds (omega (arith, crashed.kept.rises, few, same)) crashed.found in
+      let its : NextStart wanted shape stage.next (after_numbers shape numbers 1 script pairs) (last_seg begins) = (next.0, omega (arith, next.1, crashed.kept.rises, same)) in
+      subst (λ m. NextStart wanted shape stage.next m (last_seg begins)) (numbers_leave shape numbers script pairs ∙ ap (λ ls. after_all shape ls pairs) (sym crashed.lines_are)) its
 ]
 
-pub chain : (wanted shape : Shape) (start : World) (pairs : Pairs) (stages : List Stage) → IsStart wanted start shape pairs → Follows wanted shape start pairs stages → IsStart wanted (found_last start stages) shape (after_all shape (lines_kept stages) pairs)
-chain wanted shape start pairs [] begins follows = begins
-chain wanted shape start pairs (stage ∷ stages) begins follows =
+pub chain : (wanted shape : Shape) (start : World) (pairs : Pairs) (stages : List Stage) (begins : IsStart wanted start shape pairs) → last_seg begins + 16777216 * length stages < 4611686018427387904 → Follows wanted shape start pairs stages
+    → IsStart wanted (found_last start stages) shape (after_all shape (lines_kept stages) pairs)
+chain wanted shape start pairs [] begins few follows = begins
+chain wanted shape start pairs (stage ∷ stages) begins few follows =
+    let count : length (stage ∷ stages) ≡ length stages + 1 = omega arith in
+    let next = stage_start wanted shape start pairs stage begins (omega (arith, few, count)) follows.0 in
     subst (λ m. IsStart wanted (found_last stage.next stages) shape m) (sym (after_all-append shape stage.lines (lines_kept stages) pairs))
-    (chain wanted shape stage.next (after_all shape stage.lines pairs) stages (stage_start wanted shape start pairs stage follows.0) follows.1)
+    (chain wanted shape stage.next (after_all shape stage.lines pairs) stages next.0 (omega (arith, few, count, next.1)) follows.1)
+
+-- ---- the laws
+
+pub crash_law : (wanted shape : Shape) (image : Image) (world : World) (pairs : Pairs) (holds : HoldsImage wanted image shape pairs) → HasNumbers holds.frames → IsFoundAfter image world → IsStart wanted world shape pairs
+crash_law wanted shape image world pairs holds few found = (crash_start wanted shape image world pairs holds few found).0
+
+pub done_law : (wanted shape : Shape) (old new world : World) (pairs : Pairs) (start : IsStart wanted old shape pairs) → (after_frames (place 1 0) start.holds.frames).seg + 2 ^ 23 < 2 ^ 62 → IsLeft wanted start.holds.frames old new shape pairs → SameDisk new world
+    → IsStart wanted world shape (after_all shape (script_of old.input) pairs)
+done_law wanted shape old new world pairs start few left same = (done_start wanted shape old new world pairs start few left same).0

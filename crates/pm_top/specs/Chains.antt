@@ -1,5 +1,5 @@
 -- Runs and crashes that follow each other over one store.
-use Rattle.std.specs.Prelude.{◌≡◌, ◌⊎◌, ◌+◌, ◌<◌, ◌^◌, ℕ, List, [], ◌∷◌, ◌++◌, map, take, Option}
+use Rattle.std.specs.Prelude.{◌≡◌, ◌⊎◌, ◌+◌, ◌^◌, ℕ, List, [], ◌∷◌, ◌++◌, map, take, Option}
 use Rattle.pm_types.specs.declared.shape.Shape.{Shape}
 use Rattle.pm_disk.specs.Files.{File, absent}
 use Rattle.pm_disk.specs.Images.{Image, LeavesAll}
@@ -50,7 +50,6 @@ lines_with script numbers = map (line_at 1 script) numbers
 -- A run was done, and left this store, as `top` promises of it: all its lines count.
 pub record WasDone (wanted shape : Shape) (start : World) (pairs : Pairs) (stage : Stage) : Type 0 where
   pub begins : IsStart wanted start shape pairs
-  pub few : (after_frames (place 1 0) begins.holds.frames).seg + 2 ^ 23 < 2 ^ 62
   pub new : World
   pub left : IsLeft wanted begins.holds.frames start new shape pairs
   pub found : SameDisk new stage.next
@@ -60,7 +59,6 @@ pub record WasDone (wanted shape : Shape) (start : World) (pairs : Pairs) (stage
 -- that was acknowledged.
 pub record HasCrashed (wanted shape : Shape) (start : World) (pairs : Pairs) (stage : Stage) : Type 0 where
   pub begins : IsStart wanted start shape pairs
-  pub few : (after_frames (place 1 0) begins.holds.frames).seg + 2 ^ 24 < 2 ^ 62
   pub order : List ℕ
   pub now : World
   pub image : Image

@@ -1,6 +1,6 @@
 //! Runs and crashes follow each other. The functions do nothing: each states a law of the definitions that `top` promises by.
 
-ghost use Rattle.std.specs.Prelude.{◌≡◌, ◌+◌, ◌<◌, ◌^◌, List};
+ghost use Rattle.std.specs.Prelude.{◌≡◌, ◌+◌, ◌*◌, ◌<◌, ◌^◌, List, length};
 ghost use Rattle.std.specs.FinMap.{empty};
 ghost use Rattle.pm_types.specs.declared.shape.Shape.{Shape};
 ghost use Rattle.pm_disk.specs.Images.{Image};
@@ -35,9 +35,11 @@ pub fn what_a_crash_leaves_is_a_start()
 
 /// Over any sequence of runs and crashes the store is one over which a run may begin, and it holds the map after the lines that
 /// count, run after run: of a run that was done all its lines, and of one that crashed a prefix of its order, which has each line that
-/// was acknowledged.
+/// was acknowledged. The log needs numbers for 2^24 segments for each run.
 pub fn runs_and_crashes_follow_each_other()
     ensures { (wanted shape : Shape) (start : World) (pairs : Pairs) (stages : List Stage)
-        → IsStart wanted start shape pairs → Follows wanted shape start pairs stages
+        → (begins : IsStart wanted start shape pairs)
+        → (after_frames (place 1 0) begins.holds.frames).seg + 2 ^ 24 * length stages < 2 ^ 62
+        → Follows wanted shape start pairs stages
         → IsStart wanted (found_last start stages) shape (after_all shape (lines_kept stages) pairs) }
 {}
