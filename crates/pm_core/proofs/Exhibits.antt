@@ -1,5 +1,5 @@
 -- Stores that are sound with a checkpoint: an ended one without a log, and one that was only begun.
-use Rattle.std.proofs.Common.{◌≡◌, inl, inr, ℕ, ◌+◌, ◌*◌, ◌<◌, ◌≤◌, List, [], ◌∷◌, ◌++◌, length, take, drop, Option, Some, None, Bool, true, false, refl, sym, ap, subst, ◌∙◌, arith}
+use Rattle.std.proofs.Common.{◌≡◌, inl, inr, ℕ, ◌+◌, ◌*◌, ◌<◌, ◌≤◌, List, [], ◌∷◌, ◌++◌, length, drop, Option, Some, None, Bool, true, false, refl, sym, ap, subst, ◌∙◌, arith}
 use Rattle.std.specs.Prelude.{◌==◌, nat_le, if◌then◌else◌, replicate, IsSome}
 use Rattle.std.specs.FinMap.{empty}
 use Rattle.std.specs.Option.{option_map, option_and_then}
@@ -14,23 +14,24 @@ use Rattle.pm_types.proofs.PageSizeBounds.{page_size_bounds}
 use Rattle.pm_disk.specs.Files.{bytes_of}
 use Rattle.pm_disk.specs.Images.{Image}
 use Rattle.pm_frame.specs.Frames.{Frame, frame_bytes, frame_at}
+use Rattle.pm_frame.specs.declared.kinds.TheConstants.{CP_BEGIN}
 use Rattle.pm_frame.proofs.FrameAt.{frame_at-bytes, length-frame_bytes, IsFrame-from}
 use Rattle.pm_model.specs.Eval.{Pairs}
 use Rattle.pm_records.specs.Shapes.{shape_bytes}
 use Rattle.pm_records.specs.Records.{Record, CpBegin, Restart, payload_of}
 use Rattle.pm_records.proofs.GrammarTests.{IsRecord-from}
 use Rattle.pm_records.proofs.RecordOf.{record_of-payload}
-use Rattle.pm_records.specs.Logs.{place, all_frames, record_in, next_place, is_seal}
+use Rattle.pm_records.specs.Logs.{place, all_frames, record_in, next_place}
 use Rattle.pm_records.proofs.FrameGrammar.{frame_laws}
-use Rattle.pm_records.proofs.Runs.{none_past, bool_cases, next-plain, plain_goes_on}
+use Rattle.pm_records.proofs.Runs.{none_past, bool_cases}
 use Rattle.pm_pages.specs.Rows.{Partition}
 use Rattle.pm_pages.specs.WellFormed.{IsWellFormed}
 use Rattle.pm_marks.specs.Slots.{IsMark, IsMarkPlace, slot_of, slot_bytes, bytes_in_slot, mark_at}
-use Rattle.pm_marks.specs.InForce.{Checkpoint, Started, Ended, checkpoint_in}
+use Rattle.pm_marks.specs.InForce.{Started, Ended, checkpoint_in}
 use Rattle.pm_marks.proofs.SlotMarks.{mark_in-bytes, mark_at-short, zeros_are_none, length-slot_bytes}
 use Rattle.pm_core.specs.BasePages.{Partitions, no_pages, page_in_file, pages_of, laid_over, base_of, counted, rebuilt_from, since_restart, rebuilt_of, Rebuilds}
 use Rattle.pm_core.specs.Held.{in_force, log_in, pairs_in}
-use Rattle.pm_core.specs.FirstRun.{restart_frame, begin_frame, first_mark}
+use Rattle.pm_core.specs.FirstRun.{restart_frame}
 use Rattle.pm_core.specs.Sound.{SoundWith, SoundImage}
 use Rattle.pm_core.specs.Stands.{IsInForce}
 use Rattle.pm_core.proofs.InForce.{slot_cases}
@@ -143,18 +144,18 @@ module _ (shape : Shape) (shaped : IsShape shape) where
   restart = restart_frame shape
 
   abbrev pub begin : Frame
-  begin = begin_frame
+  begin = record { kind = CP_BEGIN; payload = payload_of (CpBegin 1 (place 1 78)) }
 
   abbrev pub segment : List ℕ
   segment = frame_bytes (place 1 0) restart ++ frame_bytes (place 1 37) begin
 
   abbrev pub started_mark : Mark
-  started_mark = first_mark shape
+  started_mark = record { number = 1; begin = place 1 37; replay = place 1 78; from = place 1 0; shape = shape }
 
   abbrev pub started_image : Image
   started_image = record { log = λ seg. if seg == 1 then Some segment else None; pages = λ part. None; starts = Some (file_of started_mark); ends = None }
 
-  pub may_start : IsMark started_mark
+  may_start : IsMark started_mark
   may_start = record {
     numbered = omega arith;
     number_fits = omega arith;
@@ -170,14 +171,14 @@ module _ (shape : Shape) (shaped : IsShape shape) where
   pub restart_is : record_in restart ≡ Some (Restart shape)
   restart_is = record_of-payload (Restart shape) shaped
 
-  pub begin_is : record_in begin ≡ Some (CpBegin 1 (place 1 78))
+  begin_is : record_in begin ≡ Some (CpBegin 1 (place 1 78))
   begin_is = record_of-payload (CpBegin 1 (place 1 78)) (IsRecord-from (CpBegin 1 (place 1 78)) refl)
 
   pub restart_len : length restart.payload ≡ 16
   unfolding payload_of shape_bytes
   restart_len = refl
 
-  pub begin_len : length begin.payload ≡ 20
+  begin_len : length begin.payload ≡ 20
   unfolding payload_of
   begin_len = refl
 
@@ -206,10 +207,10 @@ module _ (shape : Shape) (shaped : IsShape shape) where
   pub restart_next : next_place (place 1 0) restart ≡ place 1 37
   restart_next = ap (λ n. place 1 (0 + (n + 21))) restart_len
 
-  pub begin_next : next_place (place 1 37) begin ≡ place 1 78
+  begin_next : next_place (place 1 37) begin ≡ place 1 78
   begin_next = ap (λ n. place 1 (37 + (n + 21))) begin_len
 
-  pub rebuilt_none : rebuilt_of shape (restart ∷ []) ≡ Some no_pages
+  rebuilt_none : rebuilt_of shape (restart ∷ []) ≡ Some no_pages
   unfolding rebuilt_of
   rebuilt_none =
       ap (λ (o : Option Record). option_and_then (λ records. rebuilt_from shape (since_restart records))
@@ -232,7 +233,7 @@ module _ (shape : Shape) (shaped : IsShape shape) where
     | inr not_one ↦ ap (λ (b : Bool). bytes_of (let o : Option (List ℕ) = if b then Some segment else None in o)) not_one
   ]
 
-  pub started_bases : base_of (Started started_mark) no_pages (λ part. None) ≡ no_pages
+  started_bases : base_of (Started started_mark) no_pages (λ part. None) ≡ no_pages
   started_bases = no_file shape.page_size some_bytes
 
   started_is_sound : (wanted : Shape) → SoundWith wanted (Started started_mark) started_image shape empty

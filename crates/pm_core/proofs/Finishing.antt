@@ -1,7 +1,7 @@
 -- A checkpoint's calls meet the guards of their steps.
 use Rattle.std.proofs.Common.{◌≡◌, ◌⊎◌, inl, inr, ℕ, zero, suc, ◌+◌, ◌<◌, ◌≤◌, List, [], ◌∷◌, ◌++◌, Option, Some, None, Bool, true, false, refl, sym, ◌∙◌, ap, subst, arith}
 use Rattle.std.specs.Prelude.{◌&&◌, ◌==◌, nat_lt, fold, if◌then◌else◌, IsSome, is_some}
-use Rattle.std.specs.Option.{option_map, option_and_then}
+use Rattle.std.specs.Option.{option_and_then}
 use Rattle.std.proofs.lemmas.Bool.{and_parts, eqb-true, ltb-true, cases_eq}
 use Rattle.std.proofs.lemmas.Option.{same_Some}
 use Rattle.pm_types.specs.declared.limits.TheConstants.{PARTITIONS_MAX}
@@ -11,20 +11,18 @@ use Rattle.pm_types.specs.declared.shape.Mark.{Mark}
 use Rattle.pm_types.specs.declared.shape.Shape.{Shape}
 use Rattle.pm_types.specs.Ids.{part_of_id, index_of_id}
 use Rattle.pm_frame.specs.Frames.{Frame}
-use Rattle.pm_disk.specs.Files.{File, bytes_of, content, all_forced}
+use Rattle.pm_disk.specs.Files.{File, content, all_forced}
 use Rattle.pm_disk.specs.Worlds.{World, pages_forced}
-use Rattle.pm_disk.proofs.Families.{file_here, file_there, file_cases}
+use Rattle.pm_disk.proofs.Families.{file_here, file_cases}
 use Rattle.pm_disk.proofs.Files.{quiet_content}
 use Rattle.pm_records.specs.Records.{Record, Logical, Snapshot, Delta, CpBegin, Restart, Seal}
-use Rattle.pm_records.proofs.Runs.{bool_cases, option_cases}
-use Rattle.pm_marks.specs.Slots.{IsMark}
 use Rattle.pm_marks.specs.InForce.{Checkpoint, NoStart, Started, Ended}
 use Rattle.pm_core.specs.BasePages.{Partitions, no_pages, with_page, whole, patched, page_in_file, rebuilt_by, rebuilt_from, since_restart, records_in, rebuilt_of}
 use Rattle.pm_core.specs.Calls.{begin_steps, force_steps, finish_steps, CanFinish}
-use Rattle.pm_core.specs.Machine.{DiskStep, WriteStart, ForceStart, ForcePages, WriteEnd, ForceEnd, OthersStay, CanStart, CanEnd, CanAll, next_world, states, worlds}
+use Rattle.pm_core.specs.Machine.{DiskStep, ForcePages, WriteEnd, ForceEnd, OthersStay, CanStart, CanEnd, CanAll, states, worlds}
 use Rattle.pm_core.specs.PageSets.{has_part}
-use Rattle.pm_core.specs.States.{State, View}
-use Rattle.pm_core.specs.Stands.{IsViewOf, RebuiltIsLasting, IsGood, Stands}
+use Rattle.pm_core.specs.States.{State}
+use Rattle.pm_core.specs.Stands.{IsViewOf, RebuiltIsLasting, Stands}
 use Rattle.pm_core.proofs.Joins.{can-append}
 use Rattle.pm_core.proofs.Rebuilt.{found_some}
 use Rattle.pm_core.proofs.Sets.{part_of_page}

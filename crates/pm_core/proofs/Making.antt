@@ -1,6 +1,6 @@
 -- How steps of the machine that calls make follow each other.
-use Rattle.std.proofs.Common.{◌≡◌, ℕ, zero, suc, ◌+◌, ◌≤◌, List, [], ◌∷◌, ◌++◌, length, take, refl, sym, ◌∙◌, ap, subst, arith, length-append, append_assoc, Result, Ok, Err, Bool, true, false}
-use Rattle.std.specs.Prelude.{OnOk, IsErr, ◌⊎◌, if◌then◌else◌}
+use Rattle.std.proofs.Common.{◌≡◌, ℕ, zero, suc, ◌+◌, List, [], ◌∷◌, ◌++◌, length, take, refl, sym, ◌∙◌, ap, subst, arith, length-append, append_assoc, Result, Ok, Err, Bool, true, false}
+use Rattle.std.specs.Prelude.{OnOk, IsErr, if◌then◌else◌}
 use Rattle.std.proofs.Common.{inl, inr}
 use Rattle.std.proofs.lemmas.List.{take-append-le}
 use Rattle.std.proofs.Math.Seq.{take-append-add, take-length}
@@ -10,10 +10,10 @@ use Rattle.pm_disk.specs.declared.mark.MarkFile.TheVariants as mark_file
 use Rattle.pm_disk.specs.Worlds.{World}
 use Rattle.pm_disk.specs.Moments.{History, IsHistory, Does, AllMoments}
 use Rattle.pm_disk.proofs.Chain.{started, does, joined, weaker}
-use Rattle.pm_marks.specs.MarkWrites.{WritesMark, WritesMarkSoFar, mark_written, mark_forced}
+use Rattle.pm_marks.specs.MarkWrites.{WritesMarkSoFar}
 use Rattle.pm_core.specs.BasePages.{Partitions}
-use Rattle.pm_core.specs.Machine.{DiskStep, WriteStart, ForceStart, WriteEnd, ForceEnd, ForcePages, next_state, next_world, states, worlds}
-use Rattle.pm_core.specs.Calls.{MakesPrefix, MakesSteps, begin_steps, force_steps, finish_steps}
+use Rattle.pm_core.specs.Machine.{DiskStep, WriteEnd, ForceEnd, ForcePages, next_state, next_world, states, worlds}
+use Rattle.pm_core.specs.Calls.{MakesPrefix, MakesSteps, begin_steps, force_steps}
 use Rattle.pm_core.specs.PageSets.{has_part}
 use Rattle.pm_core.specs.States.{State}
 

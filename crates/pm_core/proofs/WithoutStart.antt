@@ -26,11 +26,11 @@ none_in_force page_size image none =
     ap (λ o. checkpoint_of (higher o (mark_at 1 starts)) ends) (none.starts 0) ∙ ap (λ o. checkpoint_of o ends) (none.starts 1)
 
 -- nothing comes of items of which each gives nothing
-flat_none : {X A : Type 0} (f : X → List A) (xs : List X) → ((x : X) → f x ≡ []) → flat_map f xs ≡ []
+pub flat_none : {X A : Type 0} (f : X → List A) (xs : List X) → ((x : X) → f x ≡ []) → flat_map f xs ≡ []
 flat_none f [] none = refl
 flat_none f (x ∷ xs) none = ap (λ front. front ++ flat_map f xs) (none x) ∙ flat_none f xs none
 
-none_either : (b : Bool) → (let o : Option (List ℕ) = if b then None else None in o) ≡ None
+pub none_either : (b : Bool) → (let o : Option (List ℕ) = if b then None else None in o) ≡ None
 none_either true = refl
 none_either false = refl
 

@@ -1,38 +1,66 @@
--- A run of the disk machine from a folder without files, with a checkpoint in it.
-use Rattle.std.specs.Prelude.{ℕ, ◌-◌, List, [], ◌∷◌, ◌++◌, replicate}
+-- A run of the disk machine from a folder without files, with a checkpoint of one page in it.
+use Rattle.std.specs.Prelude.{ℕ, ◌+◌, ◌-◌, List, [], ◌∷◌, ◌++◌, replicate}
+use Rattle.pm_types.specs.declared.page_id.PageId.{PageId}
 use Rattle.pm_types.specs.declared.shape.Mark.{Mark}
 use Rattle.pm_types.specs.declared.shape.Shape.{Shape}
+use Rattle.pm_types.specs.Ids.{page_id}
 use Rattle.pm_frame.specs.Frames.{Frame}
-use Rattle.pm_frame.specs.declared.kinds.TheConstants.{CP_BEGIN, RESTART, SEAL}
-use Rattle.pm_records.specs.Records.{Restart, CpBegin, Seal, payload_of}
+use Rattle.pm_records.specs.Records.{Record, Snapshot, CpBegin, Restart, Seal, kind_of, payload_of}
 use Rattle.pm_records.specs.Logs.{place}
 use Rattle.pm_records.specs.LogSteps.{CutTail, Append, Force, NextSegment, DropSegment, ForceSegment}
-use Rattle.pm_core.specs.BasePages.{no_pages}
-use Rattle.pm_core.specs.Machine.{DiskStep, OnLog, WriteStart, ForceStart, ForcePages, WriteEnd, ForceEnd, Say}
+use Rattle.pm_core.specs.BasePages.{Partitions, no_pages, with_page}
+use Rattle.pm_core.specs.Machine.{DiskStep, OnLog, WriteStart, ForceStart, WritePage, ForcePages, WriteEnd, ForceEnd, Say}
 
--- the first frame of a log
+-- the first page of the first partition, where it has no other one: its name, its kind, and 1 for its page count
+abbrev pub first_page : ℕ → List ℕ
+first_page size = 0 ∷ 0 ∷ 0 ∷ 0 ∷ 0 ∷ 0 ∷ 1 ∷ 0 ∷ 1 ∷ (replicate 155 0 ++ (1 ∷ 0 ∷ 0 ∷ 0 ∷ replicate (size - 168) 0))
+
+-- its name
+abbrev pub first_id : PageId
+first_id = page_id 0 0
+
+-- no other page is rebuilt
+abbrev pub first_rebuilt : Shape → Partitions
+first_rebuilt shape = with_page no_pages first_id (first_page shape.page_size)
+
+-- the frame of a record
+abbrev pub frame_of : Record → Frame
+frame_of found = record { kind = kind_of found; payload = payload_of found }
+
+-- the log's frames: its RESTART, the page, and the begin of the checkpoint
 abbrev pub restart_frame : Shape → Frame
-restart_frame shape = record { kind = RESTART; payload = payload_of (Restart shape) }
+restart_frame shape = frame_of (Restart shape)
 
--- the frame after it begins a checkpoint
-abbrev pub begin_frame : Frame
-begin_frame = record { kind = CP_BEGIN; payload = payload_of (CpBegin 1 (place 1 78)) }
+abbrev pub page_frame : Shape → Frame
+page_frame shape = frame_of (Snapshot first_id (first_page shape.page_size))
 
--- and its mark
-abbrev pub first_mark : Shape → Mark
-first_mark shape = record { number = 1; begin = place 1 37; replay = place 1 78; from = place 1 0; shape = shape }
+abbrev pub begin_frame : Shape → Frame
+begin_frame shape = frame_of (CpBegin 1 (place 1 (107 + shape.page_size)))
 
 abbrev pub seal_frame : Frame
-seal_frame = record { kind = SEAL; payload = payload_of Seal }
+seal_frame = frame_of Seal
+
+-- the checkpoint's mark
+abbrev pub first_mark : Shape → Mark
+first_mark shape = record {
+  number = 1;
+  begin = place 1 (66 + shape.page_size);
+  replay = place 1 (107 + shape.page_size);
+  from = place 1 0;
+  shape = shape;
+}
 
 -- the log is opened and begun, and forced
 abbrev pub log_begun : Shape → List DiskStep
-log_begun shape = OnLog CutTail ∷ OnLog Force ∷ OnLog (Append (restart_frame shape)) ∷ OnLog (Append begin_frame) ∷ OnLog Force ∷ []
+log_begun shape =
+    OnLog CutTail ∷ OnLog Force ∷ OnLog (Append (restart_frame shape)) ∷ OnLog (Append (page_frame shape))
+    ∷ OnLog (Append (begin_frame shape)) ∷ OnLog Force ∷ []
 
--- the checkpoint begins and ends
+-- the checkpoint begins, its page is written, and it ends
 abbrev pub checkpoint_made : Shape → List DiskStep
 checkpoint_made shape =
-    WriteStart (first_mark shape) no_pages ∷ ForceStart ∷ ForcePages 0 ∷ WriteEnd (first_mark shape) ∷ ForceEnd ∷ []
+    WriteStart (first_mark shape) (first_rebuilt shape) ∷ ForceStart ∷ WritePage first_id [] (first_page shape.page_size)
+    ∷ ForcePages 0 ∷ WriteEnd (first_mark shape) ∷ ForceEnd ∷ []
 
 -- a segment below the checkpoint's is dropped, a byte is said, and the log goes on in the next segment
 abbrev pub log_goes_on : List DiskStep
@@ -43,7 +71,3 @@ log_goes_on =
 -- one after the other
 abbrev pub first_run : Shape → List DiskStep
 first_run shape = log_begun shape ++ (checkpoint_made shape ++ log_goes_on)
-
--- the first page of the first partition, where it has no other one: its name, its kind, and 1 for its page count
-abbrev pub first_page : ℕ → List ℕ
-first_page size = 0 ∷ 0 ∷ 0 ∷ 0 ∷ 0 ∷ 0 ∷ 1 ∷ 0 ∷ 1 ∷ (replicate 155 0 ++ (1 ∷ 0 ∷ 0 ∷ 0 ∷ replicate (size - 168) 0))

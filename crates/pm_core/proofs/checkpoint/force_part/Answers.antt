@@ -1,6 +1,6 @@
-use Rattle.std.proofs.Common.{◌≡◌, [], ◌∷◌, true, sym, ◌∙◌, subst, ap}
+use Rattle.std.proofs.Common.{sym, ◌∙◌, subst, ap}
 use Rattle.pm_disk.specs.Moments.{AllMoments}
-use Rattle.pm_core.specs.Calls.{MakesPrefix, MakesSteps, force_steps}
+use Rattle.pm_core.specs.Calls.{MakesPrefix, force_steps}
 use Rattle.pm_core.specs.Machine.{ForcePages, worlds}
 use Rattle.pm_core.proofs.Making.{moments_one, broke_off, forces_one, forces_no, makes_none}
 use Rattle.pm_core.proofs.checkpoint.force_part.Goals as goal

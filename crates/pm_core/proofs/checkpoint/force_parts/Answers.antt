@@ -1,7 +1,7 @@
-use Rattle.std.proofs.Common.{◌≡◌, ◌+◌, ◌-◌, [], ◌++◌, refl, sym, ◌∙◌, ap, subst, arith, rules}
+use Rattle.std.proofs.Common.{◌≡◌, ◌+◌, ◌-◌, ◌++◌, refl, sym, ◌∙◌, ap, subst, arith}
 use Rattle.pm_types.specs.declared.limits.TheConstants.{PARTITIONS_MAX}
 use Rattle.pm_disk.specs.Moments.{AllMoments}
-use Rattle.pm_core.specs.Calls.{MakesPrefix, MakesSteps, force_steps}
+use Rattle.pm_core.specs.Calls.{MakesPrefix, force_steps}
 use Rattle.pm_core.specs.Machine.{states, worlds}
 use Rattle.pm_core.proofs.Making.{makes_none, moments_first, moments_joined, world_joined, broke_off, forces_none, forces_more, forces-append}
 use Rattle.pm_core.proofs.checkpoint.force_parts.Goals as goal

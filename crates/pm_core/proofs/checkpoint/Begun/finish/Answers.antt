@@ -1,4 +1,4 @@
-use Rattle.std.proofs.Common.{◌≡◌, ◌++◌, [], ◌∷◌, List, ap, subst, sym, ◌∙◌}
+use Rattle.std.proofs.Common.{◌≡◌, List, ap, subst, ◌∙◌}
 use Rattle.pm_types.specs.declared.limits.TheConstants.{PARTITIONS_MAX}
 use Rattle.pm_types.specs.declared.page_id.PageId.{PageId}
 use Rattle.pm_types.specs.declared.shape.Mark.{Mark}

@@ -1,4 +1,3 @@
-use Rattle.std.proofs.Common.{◌≡◌, [], ◌∷◌}
 use Rattle.pm_core.specs.Calls.{begin_steps}
 use Rattle.pm_core.proofs.Making.{start_moments, broke_off}
 use Rattle.pm_core.proofs.checkpoint.Idle.begin.Goals as goal
