@@ -164,6 +164,17 @@ round_law wanted told s w ls ps stands can may j k image leaves honest =
     keeps_more wanted s (states (take j (on_log ls)) s w) (appended (states (take j (on_log ls)) s w)) more.0 (appended (states (on_log ls) s w)) (length (states (take j (on_log ls)) s w).order) image
     (run_start (take j (on_log ls)) s w) more.1 taken
 
+-- After both lists the disk is as the state after the log's steps says.
+pub round_stands : (wanted : Shape) (told : List ℕ → ℕ) (s : State) (w : World) (ls : List Step) (ps : List PageStep) → Stands wanted told s w → CanAll told (on_log ls) s w → CanAll told (on_pages ps) s w
+    → Stands wanted told (states (on_log ls) s w) (joined w (worlds (on_log ls) s w) (worlds (on_pages ps) s w))
+round_stands wanted told s w ls ps stands can may =
+    let mid = states (on_log ls) s w in
+    let both : CanAll told (on_log ls ++ on_pages ps) s w =
+    can-append told (on_log ls) (on_pages ps) s w can (pages_can told ps s mid w (worlds (on_log ls) s w) (logs_same ls s w) may) in
+    let state : states (on_log ls ++ on_pages ps) s w ≡ mid = states-append (on_log ls) (on_pages ps) s w ∙ (pages_after ps mid (worlds (on_log ls) s w)).0 in
+    subst (λ (v : World). Stands wanted told mid v) (joined_world ls ps s w)
+    (subst (λ (r : State). Stands wanted told r (worlds (on_log ls ++ on_pages ps) s w)) state (run_stands wanted told (on_log ls ++ on_pages ps) s w stands both))
+
 -- The same after a run from a sound disk.
 pub round_of_run : (wanted : Shape) (told : List ℕ → ℕ) (world : World) (shape : Shape) (pairs : Pairs) (can : CanBegin wanted told world shape pairs) (steps : List DiskStep)
     → CanAll told steps (start_state wanted world shape pairs can.sound) world → (mid : State) → mid ≡ states steps (start_state wanted world shape pairs can.sound) world

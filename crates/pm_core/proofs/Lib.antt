@@ -7,6 +7,7 @@ pub mod InForce
 pub mod Joins
 pub mod Junk
 pub mod LeftPages
+pub mod LogCalls
 pub mod LogSteps
 pub mod Making
 pub mod MarkSteps

@@ -26,7 +26,7 @@ ghost use Rattle.pm_types.specs.declared.shape.Mark.{Mark};
 ghost use Rattle.pm_core.specs.Rounds.{PageStep, on_log, on_pages, joined};
 ghost use Rattle.pm_core.specs.Starts.{CanBegin, start_state, appended};
 ghost use Rattle.pm_core.specs.Prefixes.{KeepsPrefix};
-ghost use Rattle.pm_records.specs.LogSteps.{Step};
+ghost use Rattle.pm_records.specs.LogSteps.{Step, world_after, DoesPrefix};
 
 /// A folder without files is sound, and holds the empty map and the wanted shape.
 pub fn a_folder_without_files_is_sound()
@@ -87,6 +87,8 @@ pub fn a_crash_leaves_a_prefix()
 /// The crash law of a round. After steps that meet their guards, steps of the log and steps of the pages are made side by side, of
 /// which each list meets its guards by itself: at each pair of a moment of the one and a moment of the other, whatever a crash
 /// leaves is sound, and holds the map after a prefix of the appended records that has all that were forced by then.
+///
+/// The same holds of a disk that is as a state says, and after the round it is as the state after the log's steps says.
 pub fn a_round_leaves_a_prefix()
     ensures map { (wanted : Shape) (told : List ℕ → ℕ) (world : World) (shape : Shape) (pairs : Pairs)
         → (can : CanBegin wanted told world shape pairs) → (steps : List DiskStep)
@@ -99,6 +101,16 @@ pub fn a_round_leaves_a_prefix()
         → IsTrueImage (joined now (worlds (take j (on_log logged)) mid now) (worlds (take k (on_pages paged)) mid now)) image
         → KeepsPrefix wanted shape pairs (appended (states (on_log logged) mid now))
         (length (states (take j (on_log logged)) mid now).order) image }
+    ensures here { (wanted : Shape) (told : List ℕ → ℕ) (s : State) (world : World) (logged : List Step) (paged : List PageStep)
+        → Stands wanted told s world → CanAll told (on_log logged) s world → CanAll told (on_pages paged) s world → (j k : ℕ) (image : Image)
+        → LeavesAll (joined world (worlds (take j (on_log logged)) s world) (worlds (take k (on_pages paged)) s world)) image
+        → IsTrueImage (joined world (worlds (take j (on_log logged)) s world) (worlds (take k (on_pages paged)) s world)) image
+        → KeepsPrefix wanted s.shape s.first (appended (states (on_log logged) s world))
+        (length (states (take j (on_log logged)) s world).order) image }
+    ensures after { (wanted : Shape) (told : List ℕ → ℕ) (s : State) (world : World) (logged : List Step) (paged : List PageStep)
+        → Stands wanted told s world → CanAll told (on_log logged) s world → CanAll told (on_pages paged) s world
+        → Stands wanted told (states (on_log logged) s world)
+        (joined world (worlds (on_log logged) s world) (worlds (on_pages paged) s world)) }
 {}
 
 /// A sound disk with nothing pending is as the machine's first state says, and after steps that meet their guards a disk is as the
@@ -154,4 +166,11 @@ pub fn a_marker_leaves_the_other()
     ensures { (mark : Mark) (file : File) → ((slot : ℕ) → slot < 2
         → (slot_at slot + SLOT_LEN ≤ length (bytes_of (content file))) ⊎ (length (bytes_of (content file)) ≤ slot_at slot))
         → OthersStay mark file }
+{}
+
+/// Steps of the log, one after the other, are steps of the machine: so what `pm_segments` promises of a call is what the law asks.
+pub fn calls_of_the_log_are_steps()
+    ensures worlds { (steps : List Step) (s : State) (world : World) → worlds (on_log steps) s world ≡ world_after steps s.end world }
+    ensures moment { (steps : List Step) (s : State) (world now : World) → DoesPrefix steps s.end world now
+        → MakesPrefix (on_log steps) s world now }
 {}
