@@ -63,12 +63,12 @@ fn a_put_over_an_older_log_is_there_once_its_frame_is_whole(rt: HostRuntime) -> 
 fn log_without_first(rt: &(impl Abort + AllocGlobal)) -> Result<Vec<u8>, Fail> {
     let script = b"put 0 a 12345678\nput 0 b 2\nput 0 c 3\n";
     let run = stop_before_force(rt, script, MemDisk::empty(rt.alloc()), 11)?;
-    let mut log = log_left(rt, &run, Pick::Kept)?;
+    let log = log_left(rt, &run, Pick::Kept)?;
     assert_eq!(rt; log.len(), 134);
-    for at in 37..74 {
-        log[at] = 0;
-    }
-    Ok(log)
+    let mut torn = Vec::from_slice(rt.alloc(), &log[..37])?;
+    torn.resize(74, 0)?;
+    torn.extend_from_slice(&log[74..])?;
+    Ok(torn)
 }
 
 /// Restarts over what a crash left, and looks that neither of the later puts is there.
