@@ -194,6 +194,11 @@ some_bytes (Some was) h = (was, refl)
 pub edits_lent : (T : Type 0) (a b c : Paged) (i : ℕ) (before patch : Coverage) (change : List ℕ → List ℕ → Type 0) → RewritesPage a b i before patch change → NotesPatch T b c i patch → EditsPages T a c (λ j. j ≡ i) 0
 edits_lent T a b c i before patch change writes notes = edits_written T a b c i writes.was writes.now patch writes.is writes.writes notes writes.noted.outside
 
+-- a patch that is the whole page covers each of its bytes
+pub whole_covers : (size : ℕ) (o : Option Coverage) → IsSomeAnd o (IsWhole size) → (k : ℕ) → k < size → CoversByte o k
+whole_covers size None whole k lt = absurd whole
+whole_covers size (Some patch) whole k lt = inl (whole.whole, omega (arith, whole.size, lt))
+
 -- a page was made anew
 pub edits_made : (T : Type 0) (a b : Paged) (i : ℕ) → MakesPage T a b i → EditsPages T a b (λ j. j ≡ i) 1
 edits_made T a b i makes = record {
@@ -202,20 +207,16 @@ edits_made T a b i makes = record {
   asked = makes.room.others;
   lent = makes.lent;
   covers = λ j k lt h. elim (cases_eq j i) [
-    | inl e ↦ subst (λ n. CoversByte (b.patch n) k) (sym e) (whole_covers (b.patch i) makes.whole k lt)
+    | inl e ↦ subst (λ n. CoversByte (b.patch n) k) (sym e) (whole_covers a.page_size (b.patch i) makes.whole k lt)
     | inr ne ↦ subst (λ o. CoversByte o k) (sym (makes.patches j ne)) h
   ];
   covered = λ j k lt told out. elim (cases_eq j i) [
-    | inl e ↦ absurd (out (subst (λ n. CoversByte (b.patch n) k) (sym e) (whole_covers (b.patch i) makes.whole k lt)))
+    | inl e ↦ absurd (out (subst (λ n. CoversByte (b.patch n) k) (sym e) (whole_covers a.page_size (b.patch i) makes.whole k lt)))
     | inr ne ↦ ap (λ o. slice_index (bytes_of o) k) (makes.pages j ne told)
   ];
   spare = makes.room.most;
   same = makes.same;
 }
-  where
-    whole_covers : (o : Option Coverage) → IsSomeAnd o (IsWhole a.page_size) → (k : ℕ) → k < a.page_size → CoversByte o k
-    whole_covers None whole k lt = absurd whole
-    whole_covers (Some patch) whole k lt = inl (whole.whole, omega (arith, whole.size, lt))
 
 -- a page that was asked for before was made anew
 pub edits_remade : (T : Type 0) (a b : Paged) (i : ℕ) → IsTrue (a.asked i) → MakesPage T a b i → EditsPages T a b (λ j. j ≡ i) 0
@@ -232,16 +233,16 @@ edits_remade T a b i before makes =
       same = x.same;
     }
 
--- bytes were written on a page of which the patch is the whole page
-pub edits_whole : (T : Type 0) (a b : Paged) (i : ℕ) (now : List ℕ) → IsSomeAnd (a.patch i) (IsWhole a.page_size) → WritesPage a b i now → EditsPages T a b (λ j. j ≡ i) 0
-edits_whole T a b i now whole writes = record {
+-- bytes were written on a page that its patch covers as a whole
+pub edits_covered : (T : Type 0) (a b : Paged) (i : ℕ) (now : List ℕ) → ((k : ℕ) → k < a.page_size → CoversByte (a.patch i) k) → WritesPage a b i now → EditsPages T a b (λ j. j ≡ i) 0
+edits_covered T a b i now whole writes = record {
   others = λ j told out. writes.pages j ∙ away j out;
   known = λ j h. writes.known j ∙ h;
   asked = λ j h. writes.asked j ∙ h;
   lent = λ j h. writes.lent j ∙ h;
   covers = λ j k lt h. subst (λ o. CoversByte o k) (sym (writes.patches j)) h;
   covered = λ j k lt told out. elim (cases_eq j i) [
-    | inl e ↦ absurd (out (subst (λ o. CoversByte o k) (sym (writes.patches j)) (subst (λ n. CoversByte (a.patch n) k) (sym e) (whole_covers (a.patch i) whole k lt))))
+    | inl e ↦ absurd (out (subst (λ o. CoversByte o k) (sym (writes.patches j)) (subst (λ n. CoversByte (a.patch n) k) (sym e) (whole k lt))))
     | inr ne ↦ ap (λ o. slice_index (bytes_of o) k) (writes.pages j ∙ away j ne)
   ];
   spare = omega (arith, writes.spare);
@@ -251,6 +252,6 @@ edits_whole T a b i now whole writes = record {
     away : (j : ℕ) → (j ≡ i → ⊥) → with_page a.pages i now j ≡ a.pages j
     away j out = simp (ne_eqb j i out) refl
 
-    whole_covers : (o : Option Coverage) → IsSomeAnd o (IsWhole a.page_size) → (k : ℕ) → k < a.page_size → CoversByte o k
-    whole_covers None whole k lt = absurd whole
-    whole_covers (Some patch) whole k lt = inl (whole.whole, omega (arith, whole.size, lt))
+-- bytes were written on a page of which the patch is the whole page
+pub edits_whole : (T : Type 0) (a b : Paged) (i : ℕ) (now : List ℕ) → IsSomeAnd (a.patch i) (IsWhole a.page_size) → WritesPage a b i now → EditsPages T a b (λ j. j ≡ i) 0
+edits_whole T a b i now whole writes = edits_covered T a b i now (λ k lt. whole_covers a.page_size (a.patch i) whole k lt) writes

@@ -13,7 +13,7 @@ use Rattle.pm_meta.specs.MetaPages.{field_of, next_of, IsStoredReuse}
 use Rattle.pm_pages.specs.Paged.{Paged, IsTold, IsWhole, MakesPage, WritesPage, IsBadPage, IsAfterGap, HasPageCause, HasGapCause, with_page}
 use Rattle.pm_pages.specs.Edits.{LooksAtPages, EditsPages, HasMeta, IsNumberIn}
 use Rattle.pm_pages.specs.SparePages.{IsMetaOr, SetsNumber, MetaBecomes, Takes, TakesPage, GivesPage, IsReuseIn, HasTakeCause}
-use Rattle.pm_pages.proofs.EditedPages.{edits_then, edits_more, edits_made, edits_looked, edits_whole, told_still}
+use Rattle.pm_pages.proofs.EditedPages.{edits_then, edits_more, edits_made, edits_looked, edits_whole, told_still, whole_covers}
 
 -- the meta page is at hand still
 pub meta_looked : (T : Type 0) (a b : Paged) (m : ℕ) → LooksAtPages T a b m → HasMeta a → HasMeta b
@@ -66,6 +66,7 @@ takes_made T a b c i slot value n some meta makes first edits sets takes =
       edits = edits_more T a c (λ j. (j ≡ i) ⊎ (j ≡ 0)) (IsMetaOr i) (n + 0) n (λ j h. elim h [ inl e ↦ inr e | inr e ↦ inl e ]) (omega arith) (edits_then T a b c (λ j. j ≡ i) (λ j. j ≡ 0) n 0 first edits);
       zeros = edits.others i told_i none ∙ makes.here;
       lent = record { known = edits.known i makes.lends.known; asked = edits.asked i makes.lends.asked; lent = edits.lent i makes.lends.lent; there = subst IsSome (sym (edits.others i told_i none)) makes.lends.there };
+      covered = λ k lt. edits.covers i k (omega (arith, lt, makes.same.page_size)) (whole_covers a.page_size (b.patch i) makes.whole k lt);
       meta = record { known = edits.known 0 (makes.known 0 meta.known); asked = edits.asked 0 (makes.room.others 0 meta.asked); there = subst IsSome (sym sets.after) refl };
       numbers = record { was = sets.was; now = sets.now; before = before; after = sets.after; change = takes sets.was sets.now before sets.change };
     }
@@ -79,6 +80,7 @@ takes_looked T a b c m n i meta looks takes =
       edits = edits_more T a c (λ j. IsMetaOr i j ⊎ IsMetaOr i j) (IsMetaOr i) (m + n) (m + n) (λ j h. elim h [ inl e ↦ e | inr e ↦ e ]) (omega arith) (edits_then T a b c (IsMetaOr i) (IsMetaOr i) m n (edits_looked T a b (IsMetaOr i) m looks) takes.edits);
       zeros = takes.zeros ∙ ap (λ n. Some (replicate n 0)) looks.same.page_size;
       lent = takes.lent;
+      covered = λ k lt. takes.covered k (omega (arith, lt, looks.same.page_size));
       meta = takes.meta;
       numbers = record {
         was = takes.numbers.was;

@@ -1,5 +1,5 @@
--- Pages that are taken for a new use, and pages that are given back: the reuse chain's first page is the next one that is taken,
--- and where the chain is empty the page count rises.
+-- Pages that are taken for a new use, and pages that are given back: the reuse chain's first page is the next one
+-- that is taken, and where the chain is empty the page count rises.
 use Rattle.std.specs.Prelude.{◌≡◌, ◌≢◌, ℕ, ◌+◌, ◌-◌, ◌^◌, ◌<◌, ◌≤◌, ◌⊎◌, List, Some, Result, IsErrOf, replicate}
 use Rattle.pm_types.specs.declared.page_id.PageId.{PageId}
 use Rattle.pm_types.specs.declared.fault.PageFault.{PageFault}
@@ -11,7 +11,7 @@ use Rattle.pm_meta.specs.declared.slots.MetaSlot.{MetaSlot}
 use Rattle.pm_meta.specs.declared.slots.MetaSlot.TheVariants.{Reuse, Pages}
 use Rattle.pm_meta.specs.MetaPages.{field_of, next_of, IsSlot, IsStoredReuse}
 use Rattle.pm_pages.specs.Rows.{kind_of}
-use Rattle.pm_pages.specs.Paged.{Paged, IsTold, IsInHand, IsLent, IsBadPage, IsAfterGap}
+use Rattle.pm_pages.specs.Paged.{Paged, IsTold, IsInHand, IsLent, CoversByte, IsBadPage, IsAfterGap}
 use Rattle.pm_pages.specs.Edits.{EditsPages, HasMeta}
 
 -- page 0, and page i
@@ -50,13 +50,14 @@ pub record TakesNext (i : ℕ) (was now : List ℕ) : Type 0 where
 abbrev pub Takes : Type 0 → Paged → ℕ → List ℕ → List ℕ → Type 0
 Takes T old i was now = TakesReused T old i was now ⊎ TakesNext i was now
 
--- Page i was taken: it is all zeros, and lent to be written. No other page but the meta page was changed. At most so many pages
--- were asked for that weren't before.
+-- Page i was taken: it is all zeros, lent to be written, and covered by its patch as a whole. No other page but the
+-- meta page was changed. At most so many pages were asked for that weren't before.
 pub record TakesPage (T : Type 0) (old new : Paged) (most i : ℕ) : Type 0 where
   pub some : 1 ≤ i
   pub edits : EditsPages T old new (IsMetaOr i) most
   pub zeros : new.pages i ≡ Some (replicate old.page_size 0)
   pub lent : IsLent new i
+  pub covered : (k : ℕ) → k < old.page_size → CoversByte (new.patch i) k
   pub meta : HasMeta new
   pub numbers : MetaBecomes old new (Takes T old i)
 
@@ -82,8 +83,8 @@ pub record IsReuseIn (p : Paged) (i next : ℕ) : Type 0 where
   pub kind : kind_of page ≡ REUSE_KIND
   pub is : next ≡ next_of page
 
--- The meta page, which has this name, names no page that can be taken: its page count is 0 or the largest number, or the reuse chain's
--- first page is past it or of another use.
+-- The meta page, which has this name, names no page that can be taken: its page count is 0 or the largest number, or
+-- the reuse chain's first page is past it or of another use.
 pub record NamesNoSpare (p : Paged) (id : PageId) : Type 0 where
   pub name : id ≡ page_id p.part 0
   pub meta : List ℕ
@@ -91,7 +92,8 @@ pub record NamesNoSpare (p : Paged) (id : PageId) : Type 0 where
   pub wrong : (field_of meta Pages ≡ 0) ⊎ (field_of meta Pages ≡ 2 ^ 32 - 1)
       ⊎ (field_of meta Pages ≤ field_of meta Reuse) ⊎ IsOfOtherUse p (field_of meta Reuse)
 
--- a call of the disk failed; or the meta page names no page that can be taken, or a page is bad, or the one before it isn't there
+-- a call of the disk failed; or the meta page names no page that can be taken, or a page is bad, or the one before it
+-- isn't there
 pub record HasTakeCause {R : Type 0} (T : Type 0) (old new : Paged) (result : Result R PageFault) : Type 0 where
   pub failed : IsErrOf result Failed → HasRisen old.faults new.faults
   pub bad : (id : PageId) → IsErrOf result (BadPage id)

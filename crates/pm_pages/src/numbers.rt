@@ -58,8 +58,8 @@ pub fn number<P: Pages>(pages: &mut P, slot: MetaSlot) -> Result<u32, PageFault>
     }
 }
 
-/// Sets a number of the meta page, which was asked for before. It fails only where a call on the disk failed, and changes
-/// nothing then.
+/// Sets a number of the meta page, which was asked for before. It fails only where a call on the disk failed, and
+/// changes nothing then.
 pub fn set_number<P: Pages>(pages: &mut P, slot: MetaSlot, value: u32) -> Result<(), PageFault>
     requires ready { P.ready pages.old }
     requires meta { HasMeta (P.seen pages.old) }

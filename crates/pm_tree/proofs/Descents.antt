@@ -21,7 +21,8 @@ use Rattle.pm_pages.specs.Rows.{bytes_of}
 use Rattle.pm_tree.specs.Maps.{get_in}
 use Rattle.pm_tree.specs.Steps.{IsChildFor, IsPath, IsLook, NamesNoNode, HasLookCause}
 use Rattle.pm_tree.specs.Indexes.{AnswersFrom, IsIndex}
-use Rattle.pm_tree.proofs.Decoded.{first_entry, nodes_in, items_under, kid, kid_is, tree_to, tree_from, items_same, Each, IsTreeIn}
+use Rattle.pm_tree.specs.Nodes.{first_entry, nodes_in, items_under, Each, IsTreeIn}
+use Rattle.pm_tree.proofs.Decoded.{kid, kid_is, tree_to, tree_from, items_same}
 use Rattle.pm_tree.proofs.Seams.{Seam, seam, get_seam, each_right}
 
 -- what the pages say of the partition's numbers

@@ -8,12 +8,8 @@ use Rattle.std.specs.Cmp.Lexicographic.{slice_cmp}
 use Rattle.pm_btpage.specs.IndexPages.{Item, IsBelow, IsBetween, IsRising, key_in, word_in, with_item, with_word}
 use Rattle.pm_btpage.specs.Finds.{IsAt}
 use Rattle.pm_tree.specs.Maps.{by_order, get_in, put_in}
+use Rattle.pm_tree.specs.Nodes.{Keys}
 use Rattle.pm_tree.proofs.KeyOrder.{at_less, at_equal, at_greater}
-
--- what holds of each key
-abbrev pub Keys : (List ℕ → Type 0) → List Item → Type 0
-Keys P [] = Unit {0}
-Keys P (item ∷ items) = P item.key × Keys P items
 
 pub keys_joined : (P : List ℕ → Type 0) (xs ys : List Item) → Keys P xs → Keys P ys → Keys P (xs ++ ys)
 keys_joined P [] ys hx hy = hy

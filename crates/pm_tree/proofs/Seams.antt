@@ -1,18 +1,16 @@
 -- The entries of an inner page divided at the child below which a key stands.
 use Rattle.std.proofs.Common.{◌≡◌, ℕ, zero, suc, ◌<◌, List, [], ◌∷◌, ◌++◌, map, length, refl, ap, ◌∙◌, arith}
 use Rattle.std.specs.Prelude.{None, Some}
-use Rattle.std.specs.List.{flat_map}
 use Rattle.std.proofs.lemmas.List.Concat.{flat_map-append}
 use Rattle.pm_btpage.specs.IndexPages.{Item, IsBelow, key_in, with_item}
 use Rattle.pm_pages.specs.Trees.{index_in}
 use Rattle.pm_tree.specs.Maps.{get_in, put_in}
 use Rattle.pm_tree.specs.Steps.{IsChildFor}
+use Rattle.pm_tree.specs.Puts.{flat}
 use Rattle.pm_tree.proofs.KeyOrder.{below_upto, above_from}
-use Rattle.pm_tree.proofs.MapLists.{Keys, keys_joined, keys_weaker, get_after, get_before, put_after, put_before}
-use Rattle.pm_tree.proofs.Decoded.{Entry, entry, kid, IsFrom, IsUpTo, end_before, AreBounded, Each}
-
-abbrev pub flat : {A : Type 0} → (ℕ → List A) → List Entry → List A
-flat f es = flat_map (λ (e : Entry). f e.child) es
+use Rattle.pm_tree.specs.Nodes.{Keys, Entry, entry, IsFrom, IsUpTo, end_before, AreBounded, Each}
+use Rattle.pm_tree.proofs.MapLists.{keys_joined, keys_weaker, get_after, get_before, put_after, put_before}
+use Rattle.pm_tree.proofs.Decoded.{kid}
 
 pub flat_joined : {A : Type 0} (f : ℕ → List A) (xs ys : List Entry) → flat f (xs ++ ys) ≡ flat f xs ++ flat f ys
 flat_joined f xs ys = flat_map-append (λ (e : Entry). f e.child) xs ys

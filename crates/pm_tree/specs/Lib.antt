@@ -1,3 +1,12 @@
+pub mod Divisions
+pub mod Edits
+pub mod Grown
+pub mod Heights
 pub mod Indexes
 pub mod Maps
+pub mod Nodes
+pub mod Places
+pub mod PutCauses
+pub mod Puts
+pub mod Roots
 pub mod Steps

@@ -19,8 +19,9 @@ use pm_types::{Link, PageFault, PageId};
 
 /// The link of a key in a cache's index, if it is there.
 ///
-/// `Failed` comes only where a call on the disk failed. `BadPage` names a page that is bad, or the page on the way from the
-/// root that names a wrong one: none, one that isn't of the partition or of no tree, or one more level than a tree may have. No page is changed.
+/// `Failed` comes only where a call on the disk failed. `BadPage` names a page that is bad, or the page on the way
+/// from the root that names a wrong one: none, one that isn't of the partition or of no tree, or one more level than
+/// a tree may have. No page is changed.
 pub fn tree_get<P: Pages>(pages: &mut P, cache: u8, key: &[u8]) -> Result<Option<Link>, PageFault>
     requires ready { P.ready pages.old }
     requires room { 9 ≤ (P.seen pages.old).spare }
@@ -80,7 +81,7 @@ fn descend<P: Pages>(
     Err(PageFault::BadPage(PageId::new(pages.part(), from)))
 }
 
-fn link_of(word: Option<u64>) -> Option<Link>
+pub fn link_of(word: Option<u64>) -> Option<Link>
     ensures { result ≡ option_map as_link word }
 {
     word.map(Link)

@@ -1,7 +1,21 @@
 //! The index of a cache: a B+ tree over the pages of a partition, which contracts see as a sorted map.
 #![tactic(auto)]
 
+mod dividing;
+mod edits;
+mod fits;
 mod get;
+mod heights;
+mod inner;
+mod leaves;
+mod maps;
+mod places;
+mod put;
+mod roots;
+mod separator;
 mod steps;
 
 pub use get::tree_get;
+pub use heights::{TALL_ROWS, no_partition_is_tall};
+pub use maps::puts_are_a_maps;
+pub use roots::tree_put;

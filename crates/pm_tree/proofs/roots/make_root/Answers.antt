@@ -1,0 +1,12 @@
+use Rattle.std.proofs.lemmas.Result.{on_ok_weaker}
+use Rattle.pm_tree.proofs.NewRoots.{takes_first, makes_root}
+use Rattle.pm_tree.proofs.roots.make_root.Goals as goal
+
+pub make_edit-requires-clause-takes : goal.make_edit-requires-clause-takes
+make_edit-requires-clause-takes g c =
+    takes_first (g.P.Pages.seen c.write_blank.new.pages) c.in_ok-top.top c.args.word c.args.key.now _ c.args.first c.in_ok-top.ensures.takes.some c.requires.key c.write_blank.ensures.node
+
+pub returns-clause-makes : goal.returns-clause-makes
+returns-clause-makes g c =
+    on_ok_weaker c.set_number.result (λ sets. makes_root g.P.Pages.tells (g.P.Pages.seen c.args.pages.now) (g.P.Pages.seen c.new_page.new.pages) (g.P.Pages.seen c.write_blank.new.pages) (g.P.Pages.seen c.make_edit.new.pages) (g.P.Pages.seen c.set_number.new.pages)
+    c.args.cache c.in_ok-top.top c.args.first c.args.key.now c.args.word c.in_ok-top.ensures.takes c.write_blank.ensures.edits c.write_blank.ensures.node c.make_edit.ensures.edits c.in_ok-make_edit.ensures.edited c.set_number.ensures.edits sets) c.set_number.ensures.sets

@@ -1,0 +1,103 @@
+use Rattle.std.proofs.Common.{refl, subst, sym, arith}
+use Rattle.std.proofs.lemmas.Result.{IfOk-weaker, err_from_is_err_and}
+use Rattle.pm_meta.specs.declared.slots.MetaSlot.TheVariants.{Root}
+use Rattle.pm_pages.proofs.TakenPages.{number_looked}
+use Rattle.pm_tree.specs.declared.put.Put.TheVariants.{Kept, Split}
+use Rattle.pm_tree.specs.Puts.{HasLevels, PutsFor, half_of}
+use Rattle.pm_tree.specs.Roots.{PutsIndex}
+use Rattle.pm_tree.proofs.Climbs.{changes_looked, changes_then, puts_looked, put_cause_disk, put_cause_after, put_cause_passed}
+use Rattle.pm_tree.proofs.IndexPuts.{keeps_height, grows_height, changes_root, changes_same_root, tree_cause, grow_cause}
+use Rattle.pm_tree.proofs.roots.put_below.Goals as goal
+
+pub put_at-requires-clause-path : goal.put_at-requires-clause-path
+put_at-requires-clause-path g c =
+    let T = g.P.Pages.tells in
+    let a = g.P.Pages.seen c.args.pages.now in
+    (refl, number_looked T a (g.P.Pages.seen c.number.new.pages) 0 (Root c.args.cache) c.args.root c.number.ensures.looks c.requires.root)
+
+pub returns-in-Kept-clause-changes : goal.returns-in-Kept-clause-changes
+returns-in-Kept-clause-changes g c =
+    let T = g.P.Pages.tells in
+    let a = g.P.Pages.seen c.args.pages.now in
+    let b = g.P.Pages.seen c.number.new.pages in
+    let d = g.P.Pages.seen c.put_at.new.pages in
+    let all = changes_then T a b d 0 16 16 (omega arith) (changes_looked T a b 0 c.requires.meta c.number.ensures.looks) c.in_ok-put.ensures.changes in
+    changes_same_root T a d c.args.cache 16 17 (omega arith) all
+
+pub returns-in-Kept-clause-puts : goal.returns-in-Kept-clause-puts
+returns-in-Kept-clause-puts g c = λ t height nodes items index.
+    let T = g.P.Pages.tells in
+    let a = g.P.Pages.seen c.args.pages.now in
+    let b = g.P.Pages.seen c.number.new.pages in
+    let d = g.P.Pages.seen c.put_at.new.pages in
+    let all = changes_then T a b d 0 16 16 (omega arith) (changes_looked T a b 0 c.requires.meta c.number.ensures.looks) c.in_ok-put.ensures.changes in
+    let puts = puts_looked T a b d 0 8 c.args.root c.args.key.now c.args.link.0 c.in_ok-put.put t c.number.ensures.looks (c.in_ok-put.ensures.puts t) in
+    let kept = subst (PutsFor a.pages d.pages (half_of a.page_size) 8 c.args.root c.args.key.now c.args.link.0) {y = Kept c.in-Kept.was} c.in-Kept.is puts in
+    subst (PutsIndex a.pages d.pages c.args.cache nodes items c.args.key.now c.args.link.0) (sym c.link_of.ensures)
+    (keeps_height T a d c.args.cache c.args.root c.args.key.now c.args.link.0 16 t c.requires.meta c.requires.cache c.requires.root c.requires.some all c.in-Kept.was kept height nodes items index)
+
+pub grow-requires-clause-levels : goal.grow-requires-clause-levels
+grow-requires-clause-levels g c = subst (HasLevels 8) {y = Split c.in-Split.part} c.in-Split.is c.in_ok-put.ensures.levels
+
+pub grow-requires-clause-room : goal.grow-requires-clause-room
+grow-requires-clause-room g c =
+    let T = g.P.Pages.tells in
+    let a = g.P.Pages.seen c.args.pages.now in
+    let b = g.P.Pages.seen c.number.new.pages in
+    let d = g.P.Pages.seen c.put_at.new.pages in
+    let all = changes_then T a b d 0 16 16 (omega arith) (changes_looked T a b 0 c.requires.meta c.number.ensures.looks) c.in_ok-put.ensures.changes in
+    omega (arith, all.edits.spare, c.requires.room)
+
+pub returns-in-Split-clause-changes : goal.returns-in-Split-clause-changes
+returns-in-Split-clause-changes g c =
+    let T = g.P.Pages.tells in
+    let a = g.P.Pages.seen c.args.pages.now in
+    let b = g.P.Pages.seen c.number.new.pages in
+    let d = g.P.Pages.seen c.put_at.new.pages in
+    let all = changes_then T a b d 0 16 16 (omega arith) (changes_looked T a b 0 c.requires.meta c.number.ensures.looks) c.in_ok-put.ensures.changes in
+    let e = g.P.Pages.seen c.grow.new.pages in
+    IfOk-weaker c.grow.result _ _ (λ was grows. changes_root T a d e c.args.cache 16 17 _ c.in-Split.part.from _ (omega arith) all grows.2.makes) c.grow.ensures.grows
+
+pub returns-in-Split-clause-puts : goal.returns-in-Split-clause-puts
+returns-in-Split-clause-puts g c =
+    let T = g.P.Pages.tells in
+    let a = g.P.Pages.seen c.args.pages.now in
+    let b = g.P.Pages.seen c.number.new.pages in
+    let d = g.P.Pages.seen c.put_at.new.pages in
+    let all = changes_then T a b d 0 16 16 (omega arith) (changes_looked T a b 0 c.requires.meta c.number.ensures.looks) c.in_ok-put.ensures.changes in
+    let e = g.P.Pages.seen c.grow.new.pages in
+    IfOk-weaker c.grow.result _ _ (λ was grows t height nodes items index.
+    let puts = puts_looked T a b d 0 8 c.args.root c.args.key.now c.args.link.0 c.in_ok-put.put t c.number.ensures.looks (c.in_ok-put.ensures.puts t) in
+    let split = subst (PutsFor a.pages d.pages (half_of a.page_size) 8 c.args.root c.args.key.now c.args.link.0) {y = Split c.in-Split.part} c.in-Split.is puts in
+    subst (PutsIndex a.pages e.pages c.args.cache nodes items c.args.key.now c.args.link.0) (sym grows.0)
+    (grows_height T a d e c.args.cache c.args.root c.args.key.now c.args.link.0 16 t c.requires.meta c.requires.cache c.requires.root c.requires.some all c.in-Split.part c.put_at.ensures.readable split grows.1 grows.2 height nodes items index)) c.grow.ensures.grows
+
+pub returns-in-Split-clause-cause : goal.returns-in-Split-clause-cause
+returns-in-Split-clause-cause g c =
+    let T = g.P.Pages.tells in
+    let a = g.P.Pages.seen c.args.pages.now in
+    let b = g.P.Pages.seen c.number.new.pages in
+    let d = g.P.Pages.seen c.put_at.new.pages in
+    let all = changes_then T a b d 0 16 16 (omega arith) (changes_looked T a b 0 c.requires.meta c.number.ensures.looks) c.in_ok-put.ensures.changes in
+    let e = g.P.Pages.seen c.grow.new.pages in
+    grow_cause T a d e c.args.cache c.args.root c.args.key.now c.args.link.0 16 c.in-Split.part c.grow.result c.requires.root c.requires.some all
+    (λ t. subst (PutsFor a.pages d.pages (half_of a.page_size) 8 c.args.root c.args.key.now c.args.link.0) {y = Split c.in-Split.part} c.in-Split.is
+    (puts_looked T a b d 0 8 c.args.root c.args.key.now c.args.link.0 c.in_ok-put.put t c.number.ensures.looks (c.in_ok-put.ensures.puts t))) c.grow.ensures.cause
+
+pub returns-in_err-count-clause-cause : goal.returns-in_err-count-clause-cause
+returns-in_err-count-clause-cause g c =
+    let T = g.P.Pages.tells in
+    let a = g.P.Pages.seen c.args.pages.now in
+    let b = g.P.Pages.seen c.number.new.pages in
+    let p = err_from_is_err_and c.from_residual.result c.from_residual.ensures.1 in
+    tree_cause T a b c.args.cache c.from_residual.result (put_cause_passed T a b c.args.cache c.number.result c.from_residual.result c.in_err-count.field-0.0 p.0 c.in_err-count.was p.1 p.2 (put_cause_disk T a b c.args.cache c.number.result c.number.ensures.cause))
+
+pub returns-in_err-put-clause-cause : goal.returns-in_err-put-clause-cause
+returns-in_err-put-clause-cause g c =
+    let T = g.P.Pages.tells in
+    let a = g.P.Pages.seen c.args.pages.now in
+    let b = g.P.Pages.seen c.number.new.pages in
+    let d = g.P.Pages.seen c.put_at.new.pages in
+    let ch = changes_looked T a b 0 c.requires.meta c.number.ensures.looks in
+    let p = err_from_is_err_and c.from_residual-in_err-put.result c.from_residual-in_err-put.ensures.1 in
+    tree_cause T a d c.args.cache c.from_residual-in_err-put.result (put_cause_passed T a d c.args.cache c.put_at.result c.from_residual-in_err-put.result c.in_err-put.field-0.0 p.0 c.in_err-put.was p.1 p.2 (put_cause_after T a b d 0 c.args.cache c.put_at.result ch.edits c.put_at.ensures.cause))

@@ -1,0 +1,80 @@
+use Rattle.std.proofs.Common.{◌≡◌, ℕ, subst, sym, ap, ◌∙◌}
+use Rattle.std.proofs.lemmas.Result.{IfOk-weaker, on_ok_weaker, err_from_is_err_and}
+use Rattle.pm_meta.specs.declared.slots.MetaSlot.TheVariants.{Root}
+use Rattle.pm_pages.specs.Edits.{IsNumberIn}
+use Rattle.pm_pages.specs.Rows.{Partition}
+use Rattle.pm_pages.specs.Trees.{root_of}
+use Rattle.pm_tree.specs.Indexes.{IsIndex}
+use Rattle.pm_tree.specs.Roots.{PutsIndex}
+use Rattle.pm_tree.proofs.Descents.{number_told, pages_told}
+use Rattle.pm_tree.proofs.Climbs.{put_cause_disk, put_cause_passed}
+use Rattle.pm_tree.proofs.IndexPuts.{root_changes_looked, tree_cause, tree_cause_looked}
+use Rattle.pm_tree.proofs.roots.tree_put.Goals as goal
+
+pub returns-then-root-eq0-clause-changes : goal.returns-then-root-eq0-clause-changes
+returns-then-root-eq0-clause-changes g c =
+    let T = g.P.Pages.tells in
+    let a = g.P.Pages.seen c.args.pages.now in
+    let b = g.P.Pages.seen c.number.new.pages in
+    let d = g.P.Pages.seen c.plant.new.pages in
+    on_ok_weaker c.plant.result (λ ch. root_changes_looked T a b d c.args.cache 17 c.requires.meta c.number.ensures.looks ch) c.plant.ensures.changes
+
+pub returns-then-root-eq0-clause-puts : goal.returns-then-root-eq0-clause-puts
+returns-then-root-eq0-clause-puts g c =
+    let T = g.P.Pages.tells in
+    let a = g.P.Pages.seen c.args.pages.now in
+    let b = g.P.Pages.seen c.number.new.pages in
+    let d = g.P.Pages.seen c.plant.new.pages in
+    IfOk-weaker c.plant.result _ _ (λ was puts t height nodes items index.
+    let same = pages_told T a b 0 t c.number.ensures.looks in
+    let root_told : root_of a.pages c.args.cache ≡ c.in_ok-root.root = ap (λ (q : Partition). root_of q c.args.cache) (sym same) ∙ number_told b (Root c.args.cache) c.in_ok-root.root c.in_ok-root.ensures.number in
+    let index_b : IsIndex b.pages 0 height nodes items = subst (λ (q : Partition × ℕ). IsIndex q.0 q.1 height nodes items) {x = (a.pages, root_of a.pages c.args.cache)} {y = (b.pages, 0)} (λ z. (sym same z, (root_told ∙ c.if-root-eq0.true) z)) index in
+    subst (λ (q : Partition). PutsIndex q d.pages c.args.cache nodes items c.args.key.now c.args.link.0 was) same (puts t height nodes items index_b)) c.plant.ensures.puts
+
+pub returns-then-root-eq0-clause-cause : goal.returns-then-root-eq0-clause-cause
+returns-then-root-eq0-clause-cause g c =
+    let T = g.P.Pages.tells in
+    let a = g.P.Pages.seen c.args.pages.now in
+    let b = g.P.Pages.seen c.number.new.pages in
+    let d = g.P.Pages.seen c.plant.new.pages in
+    tree_cause_looked T a b d c.args.cache c.plant.result c.requires.meta c.number.ensures.looks c.plant.ensures.cause
+
+pub returns-else-root-eq0-clause-changes : goal.returns-else-root-eq0-clause-changes
+returns-else-root-eq0-clause-changes g c =
+    let T = g.P.Pages.tells in
+    let a = g.P.Pages.seen c.args.pages.now in
+    let b = g.P.Pages.seen c.number.new.pages in
+    let d = g.P.Pages.seen c.put_below.new.pages in
+    on_ok_weaker c.put_below.result (λ ch. root_changes_looked T a b d c.args.cache 17 c.requires.meta c.number.ensures.looks ch) c.put_below.ensures.changes
+
+pub returns-else-root-eq0-clause-puts : goal.returns-else-root-eq0-clause-puts
+returns-else-root-eq0-clause-puts g c =
+    let T = g.P.Pages.tells in
+    let a = g.P.Pages.seen c.args.pages.now in
+    let b = g.P.Pages.seen c.number.new.pages in
+    let d = g.P.Pages.seen c.put_below.new.pages in
+    IfOk-weaker c.put_below.result _ _ (λ was puts t height nodes items index.
+    let same = pages_told T a b 0 t c.number.ensures.looks in
+    let root_told : root_of a.pages c.args.cache ≡ c.in_ok-root.root = ap (λ (q : Partition). root_of q c.args.cache) (sym same) ∙ number_told b (Root c.args.cache) c.in_ok-root.root c.in_ok-root.ensures.number in
+    let index_b : IsIndex b.pages c.in_ok-root.root height nodes items = subst (λ (q : Partition × ℕ). IsIndex q.0 q.1 height nodes items) {x = (a.pages, root_of a.pages c.args.cache)} {y = (b.pages, c.in_ok-root.root)} (λ z. (sym same z, (root_told) z)) index in
+    subst (λ (q : Partition). PutsIndex q d.pages c.args.cache nodes items c.args.key.now c.args.link.0 was) same (puts t height nodes items index_b)) c.put_below.ensures.puts
+
+pub returns-else-root-eq0-clause-cause : goal.returns-else-root-eq0-clause-cause
+returns-else-root-eq0-clause-cause g c =
+    let T = g.P.Pages.tells in
+    let a = g.P.Pages.seen c.args.pages.now in
+    let b = g.P.Pages.seen c.number.new.pages in
+    let d = g.P.Pages.seen c.put_below.new.pages in
+    tree_cause_looked T a b d c.args.cache c.put_below.result c.requires.meta c.number.ensures.looks c.put_below.ensures.cause
+
+pub returns-in_err-root-clause-cause : goal.returns-in_err-root-clause-cause
+returns-in_err-root-clause-cause g c =
+    let T = g.P.Pages.tells in
+    let a = g.P.Pages.seen c.args.pages.now in
+    let b = g.P.Pages.seen c.number.new.pages in
+    let p = err_from_is_err_and c.from_residual.result c.from_residual.ensures.1 in
+    tree_cause T a b c.args.cache c.from_residual.result (put_cause_passed T a b c.args.cache c.number.result c.from_residual.result c.in_err-root.field-0.0 p.0 c.in_err-root.was p.1 p.2 (put_cause_disk T a b c.args.cache c.number.result c.number.ensures.cause))
+
+pub plant-requires-clause-root : goal.plant-requires-clause-root
+plant-requires-clause-root g c =
+    subst (IsNumberIn (g.P.Pages.seen c.number.new.pages) (Root c.args.cache)) c.if-root-eq0.true c.in_ok-root.ensures.number
