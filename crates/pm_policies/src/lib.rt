@@ -1,0 +1,15 @@
+//! The three kinds of page replacement: each has its rule as its contract.
+#![tactic(auto)]
+
+mod clock;
+#[cfg(test)]
+mod plain;
+mod random_lru;
+mod segmented_lru;
+mod segments;
+mod tournament;
+
+pub use clock::Clock;
+pub use random_lru::RandomLru;
+pub use segmented_lru::SegmentedLru;
+pub use segments::Standing;
