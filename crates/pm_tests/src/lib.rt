@@ -22,8 +22,6 @@ pub mod lock_clients;
 #[cfg(test)]
 mod logs;
 #[cfg(test)]
-mod markers;
-#[cfg(test)]
 mod noted;
 pub mod pages;
 #[cfg(test)]
@@ -38,7 +36,5 @@ mod runs;
 mod scripts;
 #[cfg(test)]
 mod stores;
-#[cfg(test)]
-mod torn;
 #[cfg(test)]
 mod traces;
