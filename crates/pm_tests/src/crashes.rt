@@ -174,9 +174,8 @@ fn run_stopped(rt: &(impl Abort + AllocGlobal), stop: u64) -> Result<Run, Fail> 
     Ok(run)
 }
 
-// The whole run makes 36 calls. Together with those that are stopped at each of these it leaves over 900 crashes. Over each eleventh
-// of them a restart is stopped at each of its calls, and what three crashes leave of it is restarted over: in all there are
-// several thousand restarts.
+// The whole run makes 36 calls. Over each crash of it, and of the runs that are stopped at each of these calls, there is a restart. Over
+// the crashes that `is_stopped` names a restart is stopped at each of its calls too, and three crashes of that are restarted over.
 #[test]
 fn each_restart_after_a_crash_has_what_was_acknowledged(rt: HostRuntime) -> Result<(), Fail> {
     let mut restarts: u32 = 0;
