@@ -1,7 +1,8 @@
 -- How a run of calls goes on.
-use Rattle.std.proofs.Common.{inl, inr, ⊎_elim, ℕ, ◌≤◌, List, length, take, sym, subst, arith, Result}
+use Rattle.std.proofs.Common.{◌≡◌, inl, inr, ⊎_elim, ℕ, ◌≤◌, List, length, take, sym, subst, arith, Result}
 use Rattle.pm_disk.specs.Worlds.{World, with_said}
 use Rattle.pm_disk.specs.Moments.{History, IsHistory, Elapses, Does, Says, AllMoments}
+use Rattle.pm_disk.specs.Lending.{IsPaired, Joins}
 
 -- before the first call
 pub started : (h : History) (P : World → Type 0) → IsHistory h → P h.world → AllMoments h h P
@@ -48,3 +49,15 @@ weaker old new P Q gives all = record {
 -- a run that is over says so of the world now
 pub at_last : (old new : History) (P : World → Type 0) → IsHistory new → AllMoments old new P → P new.world
 at_last old new P sound all = all.each new.world (sound.counts_now old.clock all.later)
+
+-- the parts are back, and each pair of their moments has P
+pub joins : (old mid new log pages : History) (P : World → Type 0) → AllMoments old mid P → Joins mid new log pages → ((w : World) → IsPaired mid.world log pages w → P w) → AllMoments old new P
+joins old mid new log pages P so_far back paired = record {
+  later = omega (arith, so_far.later, back.later);
+  each = λ w now. ⊎_elim (so_far.each w) (paired w) (back.nothing_else old.clock w so_far.later now);
+  before = λ t w le now. ⊎_elim (so_far.before t w le) (λ pair. inr (paired w pair)) (back.nothing_else t w (omega (arith, le, so_far.later)) now);
+}
+
+-- at each moment of a part since it was lent the world has what it has since a clock that began then
+pub since_lent : (old new : History) (P : World → Type 0) → old.clock ≡ 0 → AllMoments old new P → (w : World) → new.was 0 w → P w
+since_lent old new P begins all w was = all.each w (subst (λ t. new.was t w) (sym begins) was)

@@ -1,7 +1,7 @@
 -- When calls may be made.
 use Rattle.std.proofs.Common.{◌≡◌, List, ℕ, refl, sym, subst, ap, ◌∙◌}
-use Rattle.std.specs.Prelude.{Result, Ok, OnOk, false, IsSome, Some}
-use Rattle.pm_disk.specs.States.{Access, DeviceState, IsUsable, Binds, HasCause, MayRead, MayWrite, MayUseAllPages}
+use Rattle.std.specs.Prelude.{Ok, false, IsSome}
+use Rattle.pm_disk.specs.States.{Access, DeviceState, IsUsable, Binds, MayRead, MayWrite, MayUseAllPages}
 use Rattle.pm_types.specs.declared.page_id.PageId.{PageId}
 
 -- once a folder is bound

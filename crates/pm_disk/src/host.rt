@@ -1,19 +1,32 @@
 //! Disk and console together.
 
-ghost use Rattle.std.specs.Prelude.{◌≡◌, ◌<◌, ◌≤◌, [], false, length, take, Some, IfOk};
+ghost use Rattle.std.specs.Prelude.{◌≡◌, ◌<◌, ◌≤◌, ◌↔◌, [], ◌∷◌, true, false, length, map, take, vec_len, Some, IfOk, IsErr, All};
 ghost use Rattle.std.specs.Result.{result_unwrap_or};
+ghost use Rattle.pm_disk.specs.Lending.{reader_lent, writer_lent, log_lent, BeginsLog, BeginsPages, Lends, TakesBack, Joins};
 ghost use Rattle.pm_disk.specs.States.{HasCause, IsUsable, MayUseAllPages, Binds};
 ghost use Rattle.pm_disk.specs.Files.{Drop, ReadsFrom, ReadsWhole};
 ghost use Rattle.pm_disk.specs.Worlds.{log_changed, marks_in, marks_changed, marks_forced, slot_at, slot_change, with_taken};
 ghost use Rattle.pm_disk.specs.Moments.{Does, Says};
 
 use crate::failed::Failed;
+use crate::lent::Lent;
 use crate::log::LogFile;
 use crate::mark::{MarkFile, SLOT_LEN};
 use crate::pages::{PageReader, PageWriter};
+use pm_types::PageId;
+use std::alloc::AllocError;
 
 /// Disk and console in one object, so that a moment pairs what the disk holds with what was said.
 pub trait Host: LogFile + PageReader + PageWriter {
+    /// Reads the pages that aren't due, on a thread of its own.
+    type Reader: PageReader + Send + Drop;
+
+    /// Writes the pages that are due, on a thread of its own.
+    type Writer: PageWriter + Send + Drop;
+
+    /// Has the log, on a thread of its own.
+    type Log: LogFile + Send + Drop;
+
     /// Binds the folder of the store, and makes it where it isn't there. This comes before every other
     /// call but `print`. After `Failed` the folder is bound that was bound before.
     fn bind(&mut self, dir: &str) -> Result<(), Failed>
@@ -93,7 +106,54 @@ pub trait Host: LogFile + PageReader + PageWriter {
     fn print(&mut self, bytes: &[u8]) -> Result<(), Failed>
         ensures says { Self.tells →
             Says (Self.history self.old) (Self.history self.new) result bytes.now }
-        ensures cause { HasCause (Self.state self.old) (Self.state self.new) result };
+        ensures cause { HasCause (Self.state self.old) (Self.state self.new) result }
+        // Nothing is said while the parts are lent: what the disk holds then is known once they are back.
+        ensures silent { (Self.state self.old).access.is_lent ≡ true → IsErr result };
+
+    /// Splits the host into parts that may work beside each other: a reader for each worker, which may
+    /// read the pages that aren't in `due`, one writer, which may write those that are, and the log.
+    /// Until they are taken back no other call of the host may be made. Out of memory leaves the host
+    /// as it was.
+    fn lend(
+        &mut self,
+        due: &[PageId],
+        workers: u32,
+    ) -> Result<Lent<Self::Reader, Self::Writer, Self::Log>, AllocError>
+        requires usable { IsUsable (Self.state self.old) }
+        ensures lends { Lends (Self.state self.old) (Self.state self.new) result }
+        ensures many { IfOk result (λ lent. vec_len lent.readers ≡ workers) }
+        // What each part may do, of which no call has failed yet.
+        ensures readers { IfOk result (λ lent. All (λ reader. Self.Reader.state reader
+            ≡ reader_lent due.now (Self.state self.old)) lent.readers.items) }
+        ensures writer { IfOk result (λ lent. Self.Writer.state lent.writer
+            ≡ writer_lent due.now (Self.state self.old)) }
+        ensures log { IfOk result (λ lent. Self.Log.state lent.log ≡ log_lent (Self.state self.old)) }
+        // What each part holds: what the host does.
+        ensures readers_begin { Self.tells → IfOk result (λ lent. All (λ reader.
+            BeginsPages (Self.history self.old) (Self.Reader.history reader)) lent.readers.items) }
+        ensures writer_begins { Self.tells → IfOk result
+            (λ lent. BeginsPages (Self.history self.old) (Self.Writer.history lent.writer)) }
+        ensures log_begins { Self.tells → IfOk result
+            (λ lent. BeginsLog (Self.history self.old) (Self.Log.history lent.log)) }
+        ensures does { Self.tells →
+            Does (Self.history self.old) (Self.history self.new) result (Self.history self.old).world };
+
+    /// Takes the parts of the last `lend` back. The segments are what the log part made of them, the
+    /// partitions' files what the writer made of them, and all else is as it was.
+    fn take_back(&mut self, lent: Lent<Self::Reader, Self::Writer, Self::Log>)
+        requires lent { (Self.state self.old).access.is_lent ≡ true }
+        requires log { (Self.Log.state lent.log).access.folder ≡ (Self.state self.old).access.folder }
+        requires writer { (Self.Writer.state lent.writer).access.folder
+            ≡ (Self.state self.old).access.folder }
+        ensures joins { Self.tells → Joins (Self.history self.old) (Self.history self.new)
+            (Self.Log.history lent.log) (Self.Writer.history lent.writer) }
+        ensures returns { TakesBack (Self.state self.old) (Self.state self.new)
+            (Self.Log.state lent.log ∷ Self.Writer.state lent.writer
+            ∷ map (λ reader. Self.Reader.state reader) lent.readers.items) };
+
+    /// The parts tell their content exactly where the host does.
+    ghost parts_tell: { (Self.Reader.tells ↔ Self.tells) × (Self.Writer.tells ↔ Self.tells)
+        × (Self.Log.tells ↔ Self.tells) };
 
     /// The whole host may read and write each page.
     ghost all_pages: { (host : Self) → MayUseAllPages (Self.Device.state host) };

@@ -5,6 +5,7 @@ mod device;
 mod failed;
 mod host;
 mod laws;
+mod lent;
 mod log;
 mod mark;
 mod names;
@@ -14,6 +15,7 @@ pub use device::Device;
 pub use failed::Failed;
 pub use host::Host;
 pub use laws::{a_page_is_written_alone, a_slot_is_written_alone};
+pub use lent::Lent;
 pub use log::{LogFile, LogReader};
 pub use mark::{MarkFile, SLOT_LEN};
 pub use names::{

@@ -3,7 +3,7 @@ use Rattle.std.proofs.Common.{◌≡◌, ◌+◌, ◌≤◌, ℕ, List, ◌++◌
 use Rattle.std.proofs.Math.Seq.{take-append-add}
 use Rattle.std.proofs.lemmas.List.{take-take}
 use Rattle.std.proofs.lemmas.Slice.{take-put_mid}
-use Rattle.std.specs.Io.KnownBytes.{Consumes}
+use Rattle.std.specs.Io.KnownBytes.{Consumes, Keeps}
 use borrow.Rule.Slice.PartMut.{put_mid, post_of}
 
 -- what was consumed by one read and by the next
@@ -24,3 +24,10 @@ take-put_mid-add a k m xs ys within le =
 
 pub length-put_mid-ge : (a k : ℕ) (xs ys : List ℕ) → a ≤ length xs → a + length ys ≤ length (put_mid a k xs ys)
 length-put_mid-ge a k xs ys within = omega (arith, within, length-append (take a xs) (ys ++ post_of a k xs), length-append ys (post_of a k xs), length-take a xs)
+
+-- nothing was consumed by one read, and nothing by the next
+pub keeps-keeps : (old mid new : Option (List ℕ)) → Keeps old mid → Keeps mid new → Keeps old new
+keeps-keeps None mid new first next = tt
+keeps-keeps (Some old) None new first next = absurd first
+keeps-keeps (Some old) (Some mid) None first next = absurd next
+keeps-keeps (Some old) (Some mid) (Some new) first next = next ∙ first

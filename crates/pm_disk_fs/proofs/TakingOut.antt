@@ -1,8 +1,8 @@
 -- A list is what stands before an element, the element, and what follows.
 use Rattle.std.proofs.Common.{◌≡◌, ◌<◌, ◌+◌, ℕ, suc, List, ◌∷◌, ◌++◌, [], length, take, drop, get_or, sym, ◌∙◌, ap, subst, add-one}
-use Rattle.std.specs.Prelude.{Option, Some, None, slice_get, IfSome}
+use Rattle.std.specs.Prelude.{Some, slice_get, IfSome}
 use Rattle.std.proofs.lemmas.List.{take-append-drop}
-use Rattle.std.proofs.lemmas.Option.{get_or_from_slice_get, slice_get-get_or}
+use Rattle.std.proofs.lemmas.Option.{slice_get-get_or}
 use Rattle.std.proofs.Math.Seq.{drop-cons}
 use Rattle.pm_disk.specs.declared.names.StoreFile.{StoreFile}
 use Rattle.pm_disk_fs.specs.declared.opened.Opened.{Opened}
@@ -31,5 +31,5 @@ written_last files before file was name end last ends same = record {
   before = before;
   file = file;
   last = last;
-  ends = record { named = ends.named ∙ same; noted = ends.noted };
+  ends = record { named = ends.named ∙ same; noted = ends.noted; unforced = ends.unforced };
 }

@@ -1,6 +1,7 @@
 -- The files that are open since they were changed.
-use Rattle.std.specs.Prelude.{◌≡◌, ◌≢◌, ◌<◌, ◌∷◌, ◌++◌, List, length, ◌==◌, if◌then◌else◌, remove, Contains}
+use Rattle.std.specs.Prelude.{◌≡◌, ◌≢◌, ◌<◌, ◌∷◌, ◌++◌, Bool, true, false, List, length, filter, ◌==◌, if◌then◌else◌, remove, Contains}
 use Rattle.pm_disk.specs.declared.names.StoreFile.{StoreFile}
+use Rattle.pm_disk.specs.declared.names.StoreFile.TheVariants.{Config, Marks, Segment, Pages}
 use Rattle.pm_disk_fs.specs.declared.opened.Opened.{Opened}
 use Rattle.pm_disk_fs.specs.declared.open_files.TheConstants.{OPEN_MAX}
 
@@ -19,3 +20,30 @@ after_oldest files = if length files == OPEN_MAX then remove files 0 else files
 -- Each file of another name that was open still is, unless as many were open as may be.
 pub record OthersStayOpen {F : Type 0} (old new : List (Opened F)) (name : StoreFile) : Type 0 where
   pub stay : length old < OPEN_MAX → (file : Opened F) → file.name ≢ name → Contains old file → Contains new file
+
+-- a segment of the log
+abbrev pub is_segment : StoreFile → Bool
+is_segment (Segment seg) = true
+is_segment (Pages part) = false
+is_segment (Marks file) = false
+is_segment Config = false
+
+-- a partition's file
+abbrev pub is_pages : StoreFile → Bool
+is_pages (Pages part) = true
+is_pages (Segment seg) = false
+is_pages (Marks file) = false
+is_pages Config = false
+
+-- a file that is neither
+abbrev pub is_other : StoreFile → Bool
+is_other (Marks file) = true
+is_other Config = true
+is_other (Segment seg) = false
+is_other (Pages part) = false
+
+-- Each file is with those of its kind, in the order in which they were changed.
+pub record AreSorted {F : Type 0} (files segments pages others : List (Opened F)) : Type 0 where
+  pub segments_are : segments ≡ filter (λ file. is_segment file.name) files
+  pub pages_are : pages ≡ filter (λ file. is_pages file.name) files
+  pub others_are : others ≡ filter (λ file. is_other file.name) files

@@ -1,5 +1,5 @@
 -- How far a file was written.
-use Rattle.std.specs.Prelude.{◌≡◌, ◌+◌, ◌^◌, ◌<◌, ◌⊎◌, ℕ, List, [], ◌∷◌, ◌++◌, length, Option, Some, IsSome, IfSome}
+use Rattle.std.specs.Prelude.{◌≡◌, ◌+◌, ◌^◌, ◌<◌, ◌⊎◌, ℕ, List, [], ◌∷◌, ◌++◌, length, Option, Some, IsSome, IfSome, false}
 use Rattle.std.specs.Option.{SomeIff}
 use Rattle.pm_disk.specs.declared.names.StoreFile.{StoreFile}
 use Rattle.pm_disk.specs.declared.names.StoreFile.TheVariants.{Segment}
@@ -11,10 +11,11 @@ pub record IsKnown (noted reported : Option ℕ) : Type 0 where
   pub is_reported : IsSome reported
   pub agrees : IfSome noted (λ at. reported ≡ Some at)
 
--- The file is the one of this name, and the last write to it ended at this offset.
+-- The file is the one of this name, the last write to it ended at this offset, and it has to be forced.
 pub record EndsAt {F : Type 0} (file : Opened F) (name : StoreFile) (end : ℕ) : Type 0 where
   pub named : file.name ≡ name
   pub noted : SomeIff file.at (end < 2 ^ 64) end
+  pub unforced : file.is_forced ≡ false
 
 -- Of the open files the one that was changed last is the one of this name, and the last write to it ended at this offset.
 pub record IsWritten {F : Type 0} (files : List (Opened F)) (name : StoreFile) (end : ℕ) : Type 0 where
@@ -22,6 +23,14 @@ pub record IsWritten {F : Type 0} (files : List (Opened F)) (name : StoreFile) (
   pub file : Opened F
   pub last : files ≡ before ++ file ∷ []
   pub ends : EndsAt file name end
+
+-- Of the open files the one that was changed last is the one of this name, and it has to be forced.
+pub record IsChangedLast {F : Type 0} (files : List (Opened F)) (name : StoreFile) : Type 0 where
+  pub before : List (Opened F)
+  pub file : Opened F
+  pub last : files ≡ before ++ file ∷ []
+  pub named : file.name ≡ name
+  pub unforced : file.is_forced ≡ false
 
 -- All bytes of the stretch were handed to the system, last of all.
 abbrev pub IsStretchWritten : {F : Type 0} → List (Opened F) → Stretch → Type 0

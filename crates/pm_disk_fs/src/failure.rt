@@ -19,6 +19,7 @@ pub enum SystemCall {
     Sync,
     Remove,
     MakeFolder,
+    Lock,
 }
 
 impl SystemCall {
@@ -34,6 +35,7 @@ impl SystemCall {
             SystemCall::Sync => "fsync",
             SystemCall::Remove => "unlink",
             SystemCall::MakeFolder => "mkdir",
+            SystemCall::Lock => "flock",
         }
     }
 }
@@ -76,10 +78,14 @@ pub enum Failure {
     System(SystemCall, Object, io::Error),
     /// Out of memory.
     Memory,
-    /// A change or a force of a file has failed before. This is never the first failure.
+    /// A change or a force of a file has failed before, or a part's file couldn't be kept open.
     Poisoned,
     /// No folder is bound.
     Unbound,
+    /// The host's parts are lent.
+    Lent,
+    /// Another run has the store's folder.
+    Locked,
     /// No file has the number of this partition.
     NoPartition(u16),
 }
@@ -94,6 +100,8 @@ impl Display for Failure {
             Failure::Memory => f.write_str("out of memory"),
             Failure::Poisoned => f.write_str("a change or a force of a file has failed before"),
             Failure::Unbound => f.write_str("no folder is bound"),
+            Failure::Lent => f.write_str("the host's parts are lent"),
+            Failure::Locked => f.write_str("another run has the store's folder"),
             Failure::NoPartition(part) => write!(f, "there is no partition {part}"),
         }
     }

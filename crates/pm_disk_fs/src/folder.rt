@@ -1,12 +1,14 @@
 //! The store's folder, and its files by name.
 
-ghost use Rattle.std.specs.Prelude.{◌≡◌, ◌<◌, ◌≤◌, ◌+◌, false, length, take, replicate, None, Some, IfOk, OnOk, OnErr, option_map};
+ghost use Rattle.std.specs.Prelude.{◌≡◌, ◌<◌, ◌≤◌, ◌+◌, false, length, take, replicate, None, Some, IsNone, IsSome, IfOk, OnOk, OnErr, option_map};
 ghost use Rattle.std.specs.String.{string_bytes};
-ghost use Rattle.std.specs.Io.KnownBytes.{Consumes, IsAtEnd};
+ghost use Rattle.std.specs.Io.KnownBytes.{Consumes, IsAtEnd, ReadConsumes};
 
 use crate::failure::{Failure, Object, SystemCall, named};
-use crate::paths::{file_path, make_folder, sync_folder};
+use crate::lock::{Lockable, lock_folder};
+use crate::paths::{file_path, open_folder, sync_above, sync_folder};
 use pm_disk::StoreFile;
+use std::alloc::AllocError;
 use std::fs::{self, OpenOptions};
 use std::io::{self, ErrorKind, Read, Seek, SeekFrom};
 use std::path::Path;
@@ -20,6 +22,25 @@ pub struct Folder<R: Drop> {
     pub dir: Option<String>,
 }
 
+impl<R: Files<File: Lockable> + AllocGlobal + Drop> Folder<R> {
+    /// Makes the folder where it isn't there, locks it, and makes its name lasting, also where it is there:
+    /// an earlier run may have ended between making it and that, or the user may have made it just now.
+    /// From now on the files are in it. Gives the file that has the lock, or none where the one at hand has
+    /// it. Where another run has it, nothing of the folder was read or changed.
+    pub fn bind(&mut self, dir: &str, at_hand: &Option<R::File>) -> Result<Option<R::File>, Failure>
+        ensures bound { OnOk result (option_map string_bytes self.new.dir ≡ Some dir.now) }
+        ensures unchanged { OnErr result (self.new.dir ≡ self.old.dir) }
+        ensures locked { IfOk result (λ lock. IsNone lock → IsSome at_hand.now) }
+    {
+        let store = Path::new(dir);
+        let name = String::from_str(self.rt.alloc(), dir)?;
+        let lock = lock_folder(open_folder(&self.rt, store)?, at_hand)?;
+        sync_above(&self.rt, store)?;
+        self.dir = Some(name);
+        Ok(lock)
+    }
+}
+
 impl<R: Files + AllocGlobal + Drop> Folder<R> {
     /// No folder is bound yet.
     pub fn new(rt: R) -> Folder<R>
@@ -28,14 +49,21 @@ impl<R: Files + AllocGlobal + Drop> Folder<R> {
         Folder { rt, dir: None }
     }
 
-    /// Makes the folder where it isn't there, and its name lasting. From now on the files are in it.
-    pub fn bind(&mut self, dir: &str) -> Result<(), Failure>
-        ensures bound { OnOk result (option_map string_bytes self.new.dir ≡ Some dir.now) }
-        ensures unchanged { OnErr result (self.new.dir ≡ self.old.dir) }
+    /// The same folder, for a part.
+    pub fn copy(&self) -> Result<Folder<R>, AllocError>
+    where
+        R: Clone,
+        ensures { IfOk result (λ copy. option_map string_bytes copy.dir
+            ≡ option_map string_bytes self.now.dir) }
     {
-        make_folder(&self.rt, dir)?;
-        self.dir = Some(String::from_str(self.rt.alloc(), dir)?);
-        Ok(())
+        let dir = match &self.dir {
+            Some(dir) => Some(String::from_str(self.rt.alloc(), dir)?),
+            None => None,
+        };
+        Ok(Folder {
+            rt: self.rt.clone()?,
+            dir,
+        })
     }
 
     /// The length of a file in bytes, none where it isn't there.
@@ -140,11 +168,28 @@ fn fill<F: Read>(from: &mut F, into: &mut [u8]) -> io::Result<usize>
 {
     let mut count = 0;
     while count < into.len() {
-        let more = from.read(&mut into[count..])?;
+        let more = read_some(from, &mut into[count..])?;
         if more == 0 {
             break;
         }
         count += more;
     }
     Ok(count)
+}
+
+/// How often a read that a signal interrupts is tried.
+const TRIES: u32 = 1000;
+
+/// Reads once, and again where a signal interrupts that. A reader that is interrupted each time fails.
+pub fn read_some<F: Read>(from: &mut F, into: &mut [u8]) -> io::Result<usize>
+    ensures bound { IfOk result (λ n. n ≤ length into.new) }
+    ensures bytes { ReadConsumes (F.remaining from.old) (F.remaining from.new) result into.new }
+{
+    for _ in 0..TRIES {
+        match from.read(into) {
+            Err(e) if e.kind() == ErrorKind::Interrupted => {}
+            answer => return answer,
+        }
+    }
+    Err(io::Error::from(ErrorKind::Interrupted))
 }

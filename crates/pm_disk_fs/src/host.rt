@@ -1,23 +1,32 @@
 //! The host over the process's files and standard streams.
 
-ghost use Rattle.std.specs.Prelude.{◌≡◌, ◌≤◌, ◌↔◌, [], false, length, refl, Ok, None, Some, IsTrue, IsErr, IsNone, IfOk, OnOk, OnErr};
+ghost use Rattle.std.specs.Prelude.{◌≡◌, ◌≤◌, ◌↔◌, [], ◌∷◌, true, false, length, map, vec_len, refl, Ok, None, Some, IsTrue, IsErr, IsNone, IsSome, IfOk, OnOk, OnErr, All};
 ghost use Rattle.std.specs.Option.{option_copied};
 ghost use Rattle.pm_types.specs.declared.limits.TheConstants.{PAGE_SIZE_MAX};
 ghost use Rattle.pm_disk.specs.States.{HasCause, Binds};
 ghost use Rattle.pm_disk.specs.Moments.{nothing_told};
 ghost use Rattle.pm_disk_fs.specs.WriteBuffer.{IsBufferedOrWritten, FitsAfter, IsAppended};
 ghost use Rattle.pm_disk_fs.specs.Writes.{ChangesFile, ChangesLog, FlushesBuffer, PoisonsOnFailure};
+ghost use Rattle.pm_disk.specs.Lending.{reader_lent, writer_lent, log_lent, Lends, TakesBack};
 ghost use Rattle.pm_disk_fs.specs.Host.{state_of, KeepsFirstFailure};
+ghost use Rattle.pm_disk_fs.specs.Parts.{state_of_part, state_of_reader};
 
 use crate::failure::{Failure, Object, SystemCall, named};
-use crate::folder::Folder;
+use crate::faults::Faults;
+use crate::folder::{Folder, read_some};
+use crate::lock::Lockable;
+use crate::part::FsPart;
+use crate::reader::FsReader;
+use crate::split::join_readers;
 use crate::store::Store;
 use pm_disk::{
-    Device, Failed, Host, LogFile, LogReader, MarkFile, PageReader, PageWriter, SLOT_LEN, StoreFile,
+    Device, Failed, Host, Lent, LogFile, LogReader, MarkFile, PageReader, PageWriter, SLOT_LEN,
+    StoreFile,
 };
 use pm_types::PageId;
-use std::io::Read;
+use std::alloc::AllocError;
 use std::marker::Model;
+use std::os::unix::fs::FileExt;
 use std::rt::Files;
 
 /// Disk and console of the process, whose content no contract can observe. A clause sees how often a call
@@ -25,29 +34,32 @@ use std::rt::Files;
 /// failed, and what of the log isn't with the system yet.
 #[derive(Drop)]
 pub struct FsHost<R: Files + Input + Drop> {
-    folder: Folder<R>,
+    pub(crate) folder: Folder<R>,
     // Kept, since each new reader would ask the system whether the input can seek.
     input: R::Reader,
     store: Store<R>,
-    faults: u64,
-    first: Option<Failure>,
+    faults: Faults,
+    is_lent: bool,
+    // The open folder, locked for as long as it is bound.
+    lock: Option<R::File>,
 }
 
 impl<R: Files + Input + Drop> Model for FsHost<R> {
-    ghost use Rattle.std.specs.Prelude.{◌≡◌, ◌<◌, option_map, is_some, nat_lt};
+    ghost use Rattle.std.specs.Prelude.{option_map, IsSome};
     ghost use Rattle.std.specs.String.{string_bytes};
     ghost use Rattle.pm_disk_fs.specs.Host.{HostView};
 
     ghost Value = { HostView };
 
     ghost view = { λ host. record {
-      faults = host.faults;
-      first = host.first;
+      faults = host.faults.count;
+      first = host.faults.first;
+      is_lent = host.is_lent;
       folder = option_map string_bytes host.folder.dir;
       writes = host.store.writes;
     } };
 
-    ghost invariant = { λ host. is_some host.first ≡ nat_lt 0 host.faults };
+    ghost invariant = { λ host. IsSome host.folder.dir → IsSome host.lock };
 }
 
 impl<R: Files + Input + Print + AllocGlobal + Clone + Send + Drop> FsHost<R> {
@@ -55,6 +67,7 @@ impl<R: Files + Input + Print + AllocGlobal + Clone + Send + Drop> FsHost<R> {
     pub fn new(rt: R) -> FsHost<R>
         ensures unfailed { result.faults ≡ 0 }
         ensures unbound { result.folder ≡ None }
+        ensures whole { result.is_lent ≡ false }
         ensures sound { result.writes.is_poisoned ≡ false }
         ensures empty { result.writes.buffer.bytes ≡ [] }
     {
@@ -64,8 +77,9 @@ impl<R: Files + Input + Print + AllocGlobal + Clone + Send + Drop> FsHost<R> {
             folder: Folder::new(rt),
             input,
             store,
-            faults: 0,
-            first: None,
+            faults: Faults::new(),
+            is_lent: false,
+            lock: None,
         }
     }
 }
@@ -76,7 +90,7 @@ impl<R: Files + Input + Drop> FsHost<R> {
         ensures first { option_copied result ≡ self.now.first }
         ensures none { IsNone result ↔ (self.now.faults ≡ 0) }
     {
-        self.first.as_ref()
+        self.faults.first()
     }
 
     // What a call made, a failure of it counted.
@@ -87,19 +101,12 @@ impl<R: Files + Input + Drop> FsHost<R> {
         ensures value { IfOk result (λ v. made ≡ Ok v) }
         ensures error { IsErr result → IsErr made }
     {
-        match made {
-            Ok(value) => Ok(value),
-            Err(failure) => {
-                self.faults = self.faults.saturating_add(1);
-                self.first = self.first.or(Some(failure));
-                Err(Failed)
-            }
-        }
+        self.faults.counted(made)
     }
 }
 
-impl<R: Files + Input + AllocGlobal + Drop> FsHost<R> {
-    // Binds the folder, after all that is left to do in the one that is bound.
+impl<R: Files<File: Lockable> + Input + AllocGlobal + Drop> FsHost<R> {
+    // Binds the folder and locks it, after all that is left to do in the one that is bound.
     fn rebind(&mut self, dir: &str) -> Result<(), Failure>
         ensures faults { self.new.faults ≡ self.old.faults }
         ensures first { self.new.first ≡ self.old.first }
@@ -107,9 +114,13 @@ impl<R: Files + Input + AllocGlobal + Drop> FsHost<R> {
         ensures unchanged { OnErr result (self.new.folder ≡ self.old.folder) }
         ensures writes { FlushesBuffer self.old.writes self.new.writes result }
         ensures refused { IsTrue self.old.writes.is_poisoned → IsErr result }
+        ensures is_lent { self.new.is_lent ≡ self.old.is_lent }
     {
         self.store.leave(&self.folder)?;
-        self.folder.bind(dir)
+        if let Some(lock) = self.folder.bind(dir, &self.lock)? {
+            self.lock = Some(lock);
+        }
+        Ok(())
     }
 }
 
@@ -224,10 +235,20 @@ impl<R: Files + Input + AllocGlobal + Drop> PageWriter for FsHost<R> {
     }
 }
 
-impl<R: Files + Input + Print + AllocGlobal + Drop> Host for FsHost<R> {
-    /// Makes the folders above it too, and its name lasting. A file of that name is a failure. What is left
-    /// to do in the folder that is bound comes first: what is buffered is written, and each file and name
-    /// that isn't lasting is forced. Where that fails, or the host is poisoned, that folder stays bound.
+impl<
+    R: Files<File: Send + FileExt + Lockable> + Input + Print + AllocGlobal + Clone + Send + Drop,
+> Host for FsHost<R> {
+    type Reader = FsReader<R>;
+
+    type Writer = FsPart<R>;
+
+    type Log = FsPart<R>;
+
+    /// Makes the folders above it too, and its name lasting. A file of that name is a failure. The folder is
+    /// locked for as long as it is bound: where another run has it, or another host, the call fails, and
+    /// nothing in the folder was read or changed. What is left to do in the folder that is bound comes
+    /// first: what is buffered is written, and each file and name that isn't lasting is forced. Where that
+    /// fails, or the host is poisoned, that folder stays bound.
     fn bind(&mut self, dir: &str) -> Result<(), Failed>
         ensures binds { Binds (state_of self.old) (state_of self.new) dir.now result }
         ensures first { KeepsFirstFailure self.old self.new result }
@@ -295,14 +316,15 @@ impl<R: Files + Input + Print + AllocGlobal + Drop> Host for FsHost<R> {
         self.counted(forced)
     }
 
-    /// One system call. No byte is kept back, since the reader is asked for nothing else.
+    /// One system call, and more where signals interrupt it. No byte is kept back, since the reader is asked
+    /// for nothing else.
     fn read(&mut self, into: &mut [u8]) -> Result<usize, Failed>
         ensures cause { HasCause (state_of self.old) (state_of self.new) result }
         ensures first { KeepsFirstFailure self.old self.new result }
         ensures bound { IfOk result (λ n. n ≤ length into.new) }
         ensures writes { self.new.writes ≡ self.old.writes }
     {
-        let taken = self.input.read(into);
+        let taken = read_some(&mut self.input, into);
         self.counted(named(SystemCall::Read, Object::Input, taken))
     }
 
@@ -312,10 +334,79 @@ impl<R: Files + Input + Print + AllocGlobal + Drop> Host for FsHost<R> {
         ensures cause { HasCause (state_of self.old) (state_of self.new) result }
         ensures first { KeepsFirstFailure self.old self.new result }
         ensures writes { self.new.writes ≡ self.old.writes }
+        ensures silent { self.old.is_lent ≡ true → IsErr result }
     {
+        if self.is_lent {
+            return self.counted(Err(Failure::Lent));
+        }
         let said = self.folder.rt.write_all(bytes);
         self.counted(named(SystemCall::Write, Object::Output, said))
     }
+
+    /// What is buffered goes with the log part, and the files that are open since they were changed with
+    /// the part that changes them. A host that is poisoned has poisoned parts.
+    fn lend(
+        &mut self,
+        due: &[PageId],
+        workers: u32,
+    ) -> Result<Lent<FsReader<R>, FsPart<R>, FsPart<R>>, AllocError>
+        ensures lends { Lends (state_of self.old) (state_of self.new) result }
+        ensures many { IfOk result (λ lent. vec_len lent.readers ≡ workers) }
+        ensures readers { IfOk result (λ lent. All (λ reader. state_of_reader reader
+            ≡ reader_lent due.now (state_of self.old)) lent.readers.items) }
+        ensures writer { IfOk result (λ lent. state_of_part lent.writer
+            ≡ writer_lent due.now (state_of self.old)) }
+        ensures log { IfOk result (λ lent. state_of_part lent.log ≡ log_lent (state_of self.old)) }
+        ensures buffered { IfOk result (λ lent. lent.log.writes ≡ self.old.writes) }
+        ensures poisoned { IfOk result (λ lent.
+            lent.writer.writes.is_poisoned ≡ self.old.writes.is_poisoned) }
+        ensures first { self.new.first ≡ self.old.first }
+        ensures unchanged { OnErr result (self.new.writes ≡ self.old.writes) }
+    {
+        let alloc = self.folder.rt.alloc();
+        let pages = Vec::from_slice(alloc, due)?;
+        let none = Vec::new(alloc);
+        let readers = self.readers(&pages, workers)?;
+        let (log_folder, page_folder) = (self.folder.copy()?, self.folder.copy()?);
+        let (log, writer) = self.store.split(alloc)?;
+        self.is_lent = true;
+        Ok(Lent {
+            readers,
+            writer: FsPart::new(page_folder, writer, &pages),
+            log: FsPart::new(log_folder, log, &none),
+        })
+    }
+
+    /// It is poisoned where a part is, and has what is buffered back.
+    fn take_back(&mut self, lent: Lent<FsReader<R>, FsPart<R>, FsPart<R>>)
+        ensures returns { TakesBack (state_of self.old) (state_of self.new)
+            (state_of_part lent.log ∷ state_of_part lent.writer
+            ∷ map (λ reader. state_of_reader reader) lent.readers.items) }
+        ensures buffered { self.new.writes.buffer ≡ lent.log.writes.buffer }
+        ensures poisoned { IsTrue self.old.writes.is_poisoned → IsTrue self.new.writes.is_poisoned }
+        ensures log_poisoned { IsTrue lent.log.writes.is_poisoned
+            → IsTrue self.new.writes.is_poisoned }
+        ensures writer_poisoned { IsTrue lent.writer.writes.is_poisoned
+            → IsTrue self.new.writes.is_poisoned }
+        ensures kept { IsSome self.old.first → self.new.first ≡ self.old.first }
+    {
+        let Lent {
+            readers,
+            writer,
+            log,
+        } = lent;
+        self.faults.join(&log.faults);
+        self.faults.join(&writer.faults);
+        join_readers(&mut self.faults, &readers);
+        self.store.join(log.store, writer.store);
+        self.is_lent = false;
+    }
+
+    ghost parts_tell = { (
+      (λ no. absurd no, λ no. absurd no),
+      (λ no. absurd no, λ no. absurd no),
+      (λ no. absurd no, λ no. absurd no),
+    ) };
 
     ghost all_pages = { λ _. record { reads = λ _. refl; writes = λ _. refl } };
 }

@@ -1,13 +1,15 @@
 //! The files that are open since they were changed.
 
-ghost use Rattle.std.specs.Prelude.{◌≡◌, ◌<◌, ◌++◌, ◌∷◌, [], length, MatchOption, IfSome, OnSome, OnOk, slice_get, vec_len, vec_capacity};
+ghost use Rattle.std.specs.Prelude.{◌≡◌, ◌<◌, ◌≤◌, ◌++◌, ◌∷◌, [], length, MatchOption, IfSome, OnSome, IfOk, OnOk, OnErr, slice_get, vec_len, vec_capacity};
+ghost use Rattle.pm_disk_fs.specs.OpenFiles.{AreSorted};
 
 use crate::failure::Failure;
 use crate::opened::Opened;
 use pm_disk::StoreFile;
-use std::alloc::Global;
+use std::alloc::{AllocError, Global};
 use std::fs::OpenFile;
 use std::io::{Seek, Write};
+use std::mem;
 
 /// How many files may be open at a time: those of the 64 partitions, the two of the markers, and 62
 /// segments. A process may have 1,024 files open on most systems.
@@ -80,11 +82,64 @@ impl<F: Write + Seek + OpenFile + Drop> OpenFiles<F> {
         Ok(())
     }
 
+    /// Moves the segments, and the partitions' files, to lists of their own. Out of memory moves none.
+    pub fn split(&mut self, alloc: Global) -> Result<(OpenFiles<F>, OpenFiles<F>), AllocError>
+        ensures sorted { IfOk result (λ parts. AreSorted self.old.files.items
+            parts.0.files.items parts.1.files.items self.new.files.items) }
+        ensures unchanged { OnErr result (self.new.files.items ≡ self.old.files.items) }
+    {
+        let count = self.files.len();
+        let mut segments = OpenFiles::new(alloc);
+        let mut pages = OpenFiles::new(alloc);
+        let mut others = Vec::new(alloc);
+        segments.files.reserve(count)?;
+        pages.files.reserve(count)?;
+        others.reserve(count)?;
+        let files = mem::replace(&mut self.files, others);
+        sort_out(files, &mut segments, &mut pages, self);
+        Ok((segments, pages))
+    }
+
+    /// Takes the files in, after those that are open. Where as many are open as may be, the one that was
+    /// changed longest ago is forced and closed. After a failure a file may be closed that wasn't forced.
+    pub fn keep_all(&mut self, more: OpenFiles<F>) -> Result<(), Failure> {
+        for file in more.files {
+            self.make_room()?;
+            self.keep(file);
+        }
+        Ok(())
+    }
+
     // Where the file of this name stands among the open ones.
     fn position(&self, name: StoreFile) -> Option<usize>
         ensures { IfSome result (λ index. index < length self.now.files.items
             × IfSome (slice_get self.now.files.items index) (λ file. file.name ≡ name)) }
     {
         self.files.iter().position(|file| file.name == name)
+    }
+}
+
+// Puts each file to those of its kind, of which there are none yet.
+fn sort_out<F: Write + Seek + OpenFile + Drop>(
+    files: Vec<Opened<F>>,
+    segments: &mut OpenFiles<F>,
+    pages: &mut OpenFiles<F>,
+    others: &mut OpenFiles<F>,
+)
+    requires segments_room { vec_len files ≤ vec_capacity segments.old.files }
+    requires segments_empty { segments.old.files.items ≡ [] }
+    requires pages_room { vec_len files ≤ vec_capacity pages.old.files }
+    requires pages_empty { pages.old.files.items ≡ [] }
+    requires others_room { vec_len files ≤ vec_capacity others.old.files }
+    requires others_empty { others.old.files.items ≡ [] }
+    ensures { AreSorted files.items segments.new.files.items pages.new.files.items others.new.files.items }
+{
+    for file in files {
+        match file.name {
+            StoreFile::Segment(_) => segments.files.push_reserved(file),
+            StoreFile::Pages(_) => pages.files.push_reserved(file),
+            StoreFile::Marks(_) => others.files.push_reserved(file),
+            StoreFile::Config => others.files.push_reserved(file),
+        }
     }
 }

@@ -1,11 +1,12 @@
 //! A file that is open to be changed, and how far it was written.
 
-ghost use Rattle.std.specs.Prelude.{◌≡◌, ◌+◌, length, OnOk, None, Some};
+ghost use Rattle.std.specs.Prelude.{◌≡◌, ◌+◌, length, replicate, false, IsTrue, IsOk, IfOk, OnOk, None, Some};
 
 use crate::failure::{Failure, Object, SystemCall, named};
 use pm_disk::StoreFile;
 use std::fs::OpenFile;
-use std::io::{Seek, SeekFrom, Write};
+use std::io::{ErrorKind, Seek, SeekFrom, Write};
+use std::os::unix::fs::FileExt;
 
 /// An open file of the store.
 #[derive(Drop)]
@@ -14,6 +15,9 @@ pub struct Opened<F: Drop> {
     file: F,
     // Where the file stands, so that a write after the last one needs no seek; none where nobody knows.
     at: Option<u64>,
+    // Whether it was forced since its last change. What happened before it was opened isn't known, so a file that was
+    // opened just now has to be forced though nothing was changed since.
+    is_forced: bool,
 }
 
 impl<F: Write + Seek + OpenFile + Drop> Opened<F> {
@@ -23,18 +27,22 @@ impl<F: Write + Seek + OpenFile + Drop> Opened<F> {
     pub fn new(name: StoreFile, file: F) -> Opened<F>
         ensures name { result.name ≡ name }
         ensures nowhere { result.at ≡ None }
+        ensures unforced { result.is_forced ≡ false }
     {
         Opened {
             name,
             file,
             at: None,
+            is_forced: false,
         }
     }
 
     /// Writes the bytes from the offset on. After an error a prefix of them may be there.
     pub fn write(&mut self, at: u64, bytes: &[u8]) -> Result<(), Failure>
         ensures ends { OnOk result (EndsAt self.new self.old.name (at + length bytes.now)) }
+        ensures changed { self.new.is_forced ≡ false }
     {
+        self.is_forced = false;
         self.go_to(at)?;
         let written = self.file.write_all(bytes);
         named(SystemCall::Write, Object::File(self.name), written)?;
@@ -49,6 +57,7 @@ impl<F: Write + Seek + OpenFile + Drop> Opened<F> {
             → F.stream_position self.new.file ≡ Some at) }
         ensures forgotten { self.new.at ≡ None }
         ensures name { self.new.name ≡ self.old.name }
+        ensures forced { self.new.is_forced ≡ self.old.is_forced }
     {
         if self.at.take() != Some(at) {
             let sought = self.file.seek(SeekFrom::Start(at));
@@ -58,7 +67,11 @@ impl<F: Write + Seek + OpenFile + Drop> Opened<F> {
     }
 
     /// Cuts it to this length in bytes.
-    pub fn cut(&self, len: u64) -> Result<(), Failure> {
+    pub fn cut(&mut self, len: u64) -> Result<(), Failure>
+        ensures name { self.new.name ≡ self.old.name }
+        ensures changed { self.new.is_forced ≡ false }
+    {
+        self.is_forced = false;
         named(
             SystemCall::Truncate,
             Object::File(self.name),
@@ -66,12 +79,47 @@ impl<F: Write + Seek + OpenFile + Drop> Opened<F> {
         )
     }
 
-    /// Makes its bytes and its length lasting.
-    pub fn sync(&self) -> Result<(), Failure> {
+    /// Makes its bytes and its length lasting, and notes that.
+    pub fn force(&mut self) -> Result<(), Failure>
+        ensures name { self.new.name ≡ self.old.name }
+        ensures forced { OnOk result (IsTrue self.new.is_forced) }
+        ensures lasts { IsTrue self.old.is_forced → IsOk result }
+    {
+        self.sync()?;
+        self.is_forced = true;
+        Ok(())
+    }
+
+    /// Makes its bytes and its length lasting. Where it wasn't changed since it was forced, they last, and
+    /// the system isn't asked.
+    pub fn sync(&self) -> Result<(), Failure>
+        ensures lasts { IsTrue self.now.is_forced → IsOk result }
+    {
+        if self.is_forced {
+            return Ok(());
+        }
         named(
             SystemCall::Sync,
             Object::File(self.name),
             self.file.sync_all(),
         )
+    }
+}
+
+impl<F: FileExt + Drop> Opened<F> {
+    /// Reads a whole range from the offset on, wherever the file stands, and answers true, or, where the
+    /// file ends before it, fills the buffer with zeros and answers false.
+    pub fn read_whole(&self, at: u64, into: &mut [u8]) -> Result<bool, Failure>
+        ensures zeros { IfOk result
+            (λ whole. whole ≡ false → into.new ≡ replicate (length into.new) 0) }
+    {
+        match self.file.read_exact_at(into, at) {
+            Ok(()) => Ok(true),
+            Err(e) if e.kind() == ErrorKind::UnexpectedEof => {
+                into.fill(0);
+                Ok(false)
+            }
+            Err(e) => Err(Failure::System(SystemCall::Read, Object::File(self.name), e)),
+        }
     }
 }

@@ -16,11 +16,8 @@ use std::path::{Path, PathBuf};
 use std::rt::Files;
 use std::str;
 
-/// Makes the folder, and those above it, where they aren't there, and makes its name lasting, also where it
-/// is there: an earlier run may have ended between making it and that, or the user may have made it just
-/// now.
-pub fn make_folder<R: Files + AllocGlobal>(rt: &R, dir: &str) -> Result<(), Failure> {
-    let store = Path::new(dir);
+/// Makes the folder, and those above it, where they aren't there, and opens it.
+pub fn open_folder<R: Files + AllocGlobal>(rt: &R, store: Path<'_>) -> Result<R::File, Failure> {
     if !store.is_dir(rt) {
         make_missing(rt, store)?;
     }
@@ -28,7 +25,7 @@ pub fn make_folder<R: Files + AllocGlobal>(rt: &R, dir: &str) -> Result<(), Fail
         let error = io::Error::from(ErrorKind::NotADirectory);
         return Err(Failure::System(SystemCall::MakeFolder, Object::Folder, error));
     }
-    sync_above(rt, store)
+    open_names(rt, store, Object::Folder)
 }
 
 // Makes each folder on the path that isn't there, and syncs the one above it before the next is made. So
@@ -52,21 +49,26 @@ fn make_missing<R: Files + AllocGlobal>(rt: &R, store: Path<'_>) -> Result<(), F
     Ok(())
 }
 
-// Makes the name of a folder that is there lasting.
-fn sync_above<R: Files + AllocGlobal>(rt: &R, folder: Path<'_>) -> Result<(), Failure> {
+/// Makes the name of a folder that is there lasting.
+pub fn sync_above<R: Files + AllocGlobal>(rt: &R, folder: Path<'_>) -> Result<(), Failure> {
     let above = folder.join(rt.alloc(), "..")?;
     sync_folder(rt, above.as_path(), Object::FolderAbove)
 }
 
-/// Makes the names in the folder lasting. No path is the folder where the process runs.
+/// Makes the names in the folder lasting.
 pub fn sync_folder<R: Files>(rt: &R, dir: Path<'_>, object: Object) -> Result<(), Failure> {
+    let opened = open_names(rt, dir, object)?;
+    named(SystemCall::Sync, object, opened.sync_all())
+}
+
+// Opens the folder. No path is the folder where the process runs.
+fn open_names<R: Files>(rt: &R, dir: Path<'_>, object: Object) -> Result<R::File, Failure> {
     let folder = if dir.as_str().is_empty() {
         Path::new(".")
     } else {
         dir
     };
-    let opened = named(SystemCall::Open, object, fs::open(rt, folder))?;
-    named(SystemCall::Sync, object, opened.sync_all())
+    named(SystemCall::Open, object, fs::open(rt, folder))
 }
 
 /// The path of a file of the store. A partition whose number no name has is refused.

@@ -1,17 +1,19 @@
 //! The changes of the store's files.
 
-ghost use Rattle.std.specs.Prelude.{◌≡◌, ◌+◌, ◌<◌, [], false, length, vec_len, vec_capacity, IsTrue, IsErr, IfOk, OnOk};
-ghost use Rattle.pm_disk_fs.specs.OpenFiles.{OthersStayOpen};
-ghost use Rattle.pm_disk_fs.specs.Positions.{IsWritten};
+ghost use Rattle.std.specs.Prelude.{◌≡◌, ◌+◌, ◌<◌, [], false, length, vec_len, vec_capacity, IsTrue, IsErr, IfOk, OnOk, OnErr};
+ghost use Rattle.pm_disk_fs.specs.OpenFiles.{AreSorted, OthersStayOpen};
+ghost use Rattle.pm_disk_fs.specs.Positions.{IsChangedLast, IsWritten};
 ghost use Rattle.pm_disk_fs.specs.Writes.{ChangesFile, FlushesBuffer};
 
 use crate::failure::Failure;
 use crate::folder::Folder;
 use crate::open_files::OpenFiles;
 use crate::opened::Opened;
+use crate::write_buffer::WriteBuffer;
 use crate::writes::Writes;
 use pm_disk::StoreFile;
-use std::alloc::Global;
+use std::alloc::{AllocError, Global};
+use std::mem;
 use std::rt::Files;
 
 mod log;
@@ -59,6 +61,66 @@ impl<R: Files + AllocGlobal + Drop> Store<R> {
         Ok(())
     }
 
+    /// The part of it that has the log, with what is buffered, and the part that has the partitions'
+    /// files. Out of memory leaves it whole.
+    pub fn split(&mut self, alloc: Global) -> Result<(Store<R>, Store<R>), AllocError>
+        ensures log { IfOk result (λ parts. parts.0.writes ≡ self.old.writes) }
+        ensures pages { IfOk result (λ parts.
+            parts.1.writes.is_poisoned ≡ self.old.writes.is_poisoned) }
+        ensures names { IfOk result (λ parts. (parts.0.names_last ≡ self.old.names_last)
+            × (parts.1.names_last ≡ self.old.names_last)) }
+        ensures files { IfOk result (λ parts. AreSorted self.old.open.files.items
+            parts.0.open.files.items parts.1.open.files.items self.new.open.files.items) }
+        ensures poisoned { self.new.writes.is_poisoned ≡ self.old.writes.is_poisoned }
+        ensures empty { OnOk result (self.new.writes.buffer.bytes ≡ []) }
+        ensures unchanged { OnErr result (self.new.writes ≡ self.old.writes) }
+    {
+        let (segments, pages) = self.open.split(alloc)?;
+        let is_poisoned = self.writes.is_poisoned;
+        let buffer = mem::replace(&mut self.writes.buffer, WriteBuffer::new(alloc));
+        let log = Store {
+            open: segments,
+            names_last: self.names_last,
+            writes: Writes {
+                is_poisoned,
+                buffer,
+            },
+        };
+        let pages = Store {
+            open: pages,
+            names_last: self.names_last,
+            writes: Writes {
+                is_poisoned,
+                buffer: WriteBuffer::new(alloc),
+            },
+        };
+        Ok((log, pages))
+    }
+
+    /// Takes the parts back. It is poisoned where one of them is, or where a file of theirs can't be kept
+    /// open.
+    pub fn join(&mut self, log: Store<R>, pages: Store<R>)
+        ensures buffer { self.new.writes.buffer ≡ log.writes.buffer }
+        ensures names { IsTrue self.new.names_last
+            → IsTrue log.names_last × IsTrue pages.names_last }
+        ensures still_poisoned { IsTrue self.old.writes.is_poisoned
+            → IsTrue self.new.writes.is_poisoned }
+        ensures log_poisoned { IsTrue log.writes.is_poisoned → IsTrue self.new.writes.is_poisoned }
+        ensures pages_poisoned { IsTrue pages.writes.is_poisoned
+            → IsTrue self.new.writes.is_poisoned }
+    {
+        let segments_kept = self.open.keep_all(log.open).is_ok();
+        let pages_kept = self.open.keep_all(pages.open).is_ok();
+        self.names_last = log.names_last && pages.names_last;
+        let was_poisoned = self.writes.is_poisoned
+            || log.writes.is_poisoned
+            || pages.writes.is_poisoned;
+        self.writes = Writes {
+            is_poisoned: was_poisoned || !segments_kept || !pages_kept,
+            buffer: log.writes.buffer,
+        };
+    }
+
     /// Writes the bytes from the offset on, and makes the file where it isn't there.
     pub fn write(
         &mut self,
@@ -81,18 +143,20 @@ impl<R: Files + AllocGlobal + Drop> Store<R> {
     /// Cuts the file to this length in bytes, and makes it where it isn't there.
     pub fn cut(&mut self, folder: &Folder<R>, name: StoreFile, len: u64) -> Result<(), Failure>
         ensures changes { ChangesFile self.old.writes self.new.writes result }
+        ensures cut { OnOk result (IsChangedLast self.new.open.files.items name) }
         ensures others { OnOk result (OthersStayOpen self.old.open.files.items
             self.new.open.files.items name) }
     {
         self.writes.begin()?;
-        let file = self.take(folder, name)?;
+        let mut file = self.take(folder, name)?;
         file.cut(len)?;
         self.open.keep(file);
         self.writes.is_poisoned = false;
         Ok(())
     }
 
-    /// Makes the file's bytes and its length lasting, and all names in the folder.
+    /// Makes the file's bytes and its length lasting, and all names in the folder. Where this host has
+    /// forced both and changed nothing since, the system isn't asked.
     pub fn force(&mut self, folder: &Folder<R>, name: StoreFile) -> Result<(), Failure>
         ensures changes { ChangesFile self.old.writes self.new.writes result }
         ensures names { OnOk result (IsTrue self.new.names_last) }
@@ -147,10 +211,10 @@ impl<R: Files + AllocGlobal + Drop> Store<R> {
         ensures others { OnOk result (OthersStayOpen self.old.open.files.items
             self.new.open.files.items name) }
     {
-        let Some(file) = self.open.take(name) else {
+        let Some(mut file) = self.open.take(name) else {
             return sync_closed(folder, name);
         };
-        file.sync()?;
+        file.force()?;
         self.open.keep(file);
         Ok(())
     }

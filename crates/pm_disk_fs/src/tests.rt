@@ -215,10 +215,15 @@ fn look_at_segments(
     look_at_file(rt, "stores/one/wal-0000000000000002.seg", b"second")
 }
 
+/// Makes the segments by a host that is gone then, and with it the lock on the folder.
+fn leave_segments(rt: &(impl Abort + AllocGlobal), host: FsHost<HostRuntime>) -> Result<(), Fail> {
+    let mut host = host;
+    make_segments(rt, &mut host)
+}
+
 #[test]
 fn segments_are_read_back_by_another_host(rt: HostRuntime) -> Result<(), Fail> {
-    let mut host = host_in(&rt, "stores/one")?;
-    make_segments(&rt, &mut host)?;
+    leave_segments(&rt, host_in(&rt, "stores/one")?)?;
     // This one is given the folder by its whole path.
     let path = whole_path(&rt, "stores/one")?;
     let mut other = host_in(&rt, &path)?;
@@ -440,4 +445,31 @@ fn a_file_is_no_folder(rt: HostRuntime) -> Result<(), Fail> {
     assert!(rt; !binds(&mut host, "file"));
     assert!(rt; !binds(&mut host, "file/store"));
     Ok(fs::remove_file(&rt, "file")?)
+}
+
+/// Looks for a folder that a host has as refused to another one.
+fn look_at_refusal(
+    rt: &(impl Abort + AllocGlobal),
+    other: FsHost<HostRuntime>,
+    folder: &str,
+) -> Result<(), Fail> {
+    let mut other = other;
+    assert!(rt; !binds(&mut other, folder));
+    look_at_failure(rt, &other, "another run has the store's folder")
+}
+
+#[test]
+fn one_host_at_a_time_has_the_folder(rt: HostRuntime) -> Result<(), Fail> {
+    let mut host = host_in(&rt, "locked")?;
+    // It may bind it again, by any name.
+    assert!(rt; binds(&mut host, "locked/../locked"));
+    look_at_refusal(&rt, new_host(&rt)?, "locked")?;
+    assert!(rt; binds(&mut host, "locked2"));
+    look_at_refusal(&rt, new_host(&rt)?, "locked2")?;
+    // The folder that was left is free.
+    let mut other = host_in(&rt, "locked")?;
+    assert!(rt; !binds(&mut host, "locked"));
+    assert!(rt; !binds(&mut other, "locked2"));
+    remove_folder(&rt, "locked")?;
+    remove_folder(&rt, "locked2")
 }

@@ -1,8 +1,12 @@
 pub mod Below
 pub mod Holding
+pub mod JoinedReaders
 pub mod Leaving
 pub mod Maps
 pub mod Orders
+pub mod PartSteps
 pub mod Picking
 pub mod Recording
+pub mod Rounds
+pub mod Splitting
 pub mod Whole

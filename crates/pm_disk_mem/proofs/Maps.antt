@@ -38,3 +38,12 @@ tracks_made es vs contents made sees n =
     cases : (o : Option (Vec ℕ Global)) → unwrap_or (option_map (λ (v : Vec ℕ Global). new_track (Some v.items)) o) (new_track None) ≡ new_track (option_map (λ (v : Vec ℕ Global). v.items) o)
     cases None = refl
     cases (Some v) = refl
+
+-- entries that are seen as they are
+pub seen-same : {K X : Type 0} (es : List (K × X)) → seen (λ x. x) es ≡ es
+seen-same [] = refl
+seen-same {K} {X} (e ∷ es) = ap (λ (l : List (K × X)). e ∷ l) (seen-same es)
+
+-- the same entries are the same files
+pub same_tracks : (old new : List (ℕ × Track)) → new ≡ old → (n : ℕ) → unwrap_or (lookup (is_at (nat_cmp n)) new) (new_track None) ≡ unwrap_or (lookup (is_at (nat_cmp n)) old) (new_track None)
+same_tracks old new same n = ap (λ (l : List (ℕ × Track)). unwrap_or (lookup (is_at (nat_cmp n)) l) (new_track None)) same

@@ -1,9 +1,9 @@
--- A step that is kept in the record is one moment more.
-use Rattle.std.proofs.Common.{◌≡◌, ◌⊎◌, inl, inr, ◌≤◌, ℕ, List, [], ◌∷◌, ◌++◌, length, Option, Vec, Result, Ok, Err, OnOk, OnErr, refl, sym, ◌∙◌, ap, subst, arith, length-append}
+-- A step or a round that is kept in the record: what a host tells after it.
+use Rattle.std.proofs.Common.{◌≡◌, inl, inr, ℕ, List, [], ◌∷◌, ◌++◌, length, Option, Vec, Result, Ok, Err, OnOk, OnErr, refl, sym, ◌∙◌, ap, subst, arith}
 use Rattle.std.specs.Prelude.{IsErr, replicate}
 use Rattle.std.specs.declared.alloc.Global.{Global}
 use Rattle.std.proofs.lemmas.Bool.{false≢true}
-use Rattle.std.proofs.lemmas.List.{take_all, take-append-le, append-nil, length-replicate}
+use Rattle.std.proofs.lemmas.List.{take_all, append-nil, length-replicate}
 use Rattle.pm_types.specs.Ids.{part_of_id}
 use Rattle.pm_types.specs.declared.page_id.PageId.{PageId}
 use Rattle.pm_disk.specs.Files.{missing}
@@ -14,18 +14,17 @@ use Rattle.pm_disk_mem.specs.Changes.{bytes_in}
 use Rattle.pm_disk_mem.specs.Disks.{Store, config_from, world_from}
 use Rattle.pm_disk_mem.specs.Held.{Begins}
 use Rattle.pm_disk_mem.specs.Parts.{store_of}
-use Rattle.pm_disk_mem.specs.Tracks.{settled}
-use Rattle.pm_disk_mem.specs.Steps.{replay, history_after, stepped, start_world, HoldsWorld, SameStart}
+use Rattle.pm_disk_mem.specs.Events.{after_event, after_events, history_during}
+use Rattle.pm_disk_mem.specs.Steps.{stepped, start_world, HoldsWorld}
 use Rattle.pm_disk_mem.specs.declared.console.Console.{Console}
+use Rattle.pm_disk_mem.specs.declared.event.Event.{Event}
+use Rattle.pm_disk_mem.specs.declared.event.Event.TheVariants.{Single, Round}
 use Rattle.pm_disk_mem.specs.declared.files.Files.{Files}
 use Rattle.pm_disk_mem.specs.declared.parts.DiskParts.{DiskParts}
 use Rattle.pm_disk_mem.specs.declared.step.ChangedFile.TheVariants.{Segment, Pages, Marks}
 use Rattle.pm_disk_mem.specs.declared.step.Step.{Step}
 use Rattle.pm_disk_mem.specs.declared.step.Step.TheVariants.{Change, Force, Print, Take}
-
-replay-push : (steps : List Step) (step : Step) (world : World) → replay (steps ++ step ∷ []) world ≡ stepped step (replay steps world)
-replay-push [] step world = refl
-replay-push (first ∷ steps) step world = replay-push steps step (stepped first world)
+use Rattle.pm_disk_mem.proofs.Rounds.{after-push, elapses_single}
 
 -- no step changes the configuration
 config-step : (step : Step) (world : World) → (stepped step world).config ≡ world.config
@@ -40,22 +39,26 @@ config-step (Force (Marks mark.End)) world = refl
 config-step (Print bytes) world = refl
 config-step (Take count) world = refl
 
-pub config-replay : (steps : List Step) (world : World) → (replay steps world).config ≡ world.config
-config-replay [] world = refl
-config-replay (step ∷ steps) world = config-replay steps (stepped step world) ∙ config-step step world
+config-event : (event : Event) (world : World) → (after_event event world).config ≡ world.config
+config-event (Single step) world = config-step step world
+config-event (Round log pages) world = refl
+
+pub config-after : (events : List Event) (world : World) → (after_events events world).config ≡ world.config
+config-after [] world = refl
+config-after (event ∷ events) world = config-after events (after_event event world) ∙ config-event event world
 
 -- before the first step the world is that of the disk
-pub begun : (files : Files) (console : Console) (config : List ℕ) (steps : List Step) (parts : DiskParts) (stored : Option (Vec ℕ Global)) (disk : Store) (script handed_in : List ℕ)
-    → Begins files parts → store_of parts (bytes_in stored) ≡ disk → console.script.items ≡ script → config ≡ config_from handed_in (bytes_in stored) → steps ≡ [] → replay steps (start_world files console config) ≡ world_from disk script handed_in
-begun files console config steps parts stored disk script handed_in begins disk_is script_is config_is none =
-    ap (λ (l : List Step). replay l (start_world files console config)) none ∙ first ∙ ap (λ (s : Store). world_from s script handed_in) disk_is
+pub begun : (began : Files) (config script : List ℕ) (events : List Event) (parts : DiskParts) (stored : Option (Vec ℕ Global)) (disk : Store) (input handed_in : List ℕ)
+    → Begins began parts → store_of parts (bytes_in stored) ≡ disk → script ≡ input → config ≡ config_from handed_in (bytes_in stored) → events ≡ [] → after_events events (start_world began config script) ≡ world_from disk input handed_in
+begun began config script events parts stored disk input handed_in begins disk_is script_is config_is none =
+    ap (λ (l : List Event). after_events l (start_world began config script)) none ∙ first ∙ ap (λ (s : Store). world_from s input handed_in) disk_is
   where
-    first : start_world files console config ≡ world_from (store_of parts (bytes_in stored)) script handed_in
+    first : start_world began config script ≡ world_from (store_of parts (bytes_in stored)) input handed_in
     first = λ i. record {
-      log = λ seg. settled (begins.log seg i).start;
-      pages = λ part. settled (begins.pages part i).start;
-      starts = settled (begins.starts i).start;
-      ends = settled (begins.ends i).start;
+      log = λ seg. (begins.log seg i).file;
+      pages = λ part. (begins.pages part i).file;
+      starts = (begins.starts i).file;
+      ends = (begins.ends i).file;
       config = config_is i;
       said = [];
       input = script_is i;
@@ -66,12 +69,12 @@ no_time : (h : History) → Elapses h h
 no_time h = record { later = omega arith; nothing_else = λ t w le was. inl was; keeps = λ t w le was. was }
 
 -- an error says nothing of what holds at `Ok`
-on_error : {T E : Type 0} (result : Result T E) (P : Type 0) → IsErr result → OnOk result P
+pub on_error : {T E : Type 0} (result : Result T E) (P : Type 0) → IsErr result → OnOk result P
 on_error (Ok value) P is = absurd (false≢true is)
 on_error (Err error) P is = tt
 
 -- a call that leaves the record as it was
-nothing_done : {T E : Type 0} (h : History) (result : Result T E) (next : World) → OnOk result (h.world ≡ next) → Does {T = T} {E = E} h h result next
+pub nothing_done : {T E : Type 0} (h : History) (result : Result T E) (next : World) → OnOk result (h.world ≡ next) → Does {T = T} {E = E} h h result next
 nothing_done h result next ok = record { time = no_time h; ok = ok; either = inl refl }
 
 -- a page that a failed call hasn't written
@@ -100,63 +103,42 @@ pub not_done : {T U E : Type 0} (old new : History) (result : Result T E) (faile
 not_done old new result failed next other does same error = record { time = does.time; ok = on_error failed _ error; either = inl same }
 
 -- one step more
-elapses : (start : World) (steps : List Step) (step : Step) → Elapses (history_after start steps) (history_after start (steps ++ step ∷ []))
-elapses start steps step = record {
-  later = omega (arith, length-append steps (step ∷ []));
-  nothing_else = λ t w le was. elim (split was.0 was.2) [
-    | inl within ↦ inl (was.0, was.1, within, was.3 ∙ ap (λ (l : List Step). replay l start) (take-append-le was.0 steps (step ∷ []) within))
-    | inr past ↦ inr (was.3 ∙ ap (λ (l : List Step). replay l start) (take_all was.0 (steps ++ step ∷ []) past))
-  ];
-  keeps = λ t w le was. (was.0, was.1, omega (arith, was.2, length-append steps (step ∷ [])), was.3 ∙ ap (λ (l : List Step). replay l start) (sym (take-append-le was.0 steps (step ∷ []) was.2)));
-}
-  where
-    split : (k : ℕ) → k ≤ length (steps ++ step ∷ []) → (k ≤ length steps) ⊎ (length (steps ++ step ∷ []) ≤ k)
-    split k le = grind (arith, length-append steps (step ∷ []))
+done : {T E : Type 0} (start : World) (events : List Event) (step : Step) (value : T)
+    → Does {T = T} {E = E} (history_during start events) (history_during start (events ++ Single step ∷ [])) (Ok value) (stepped step (after_events events start))
+done start events step value = record { time = elapses_single start events step; ok = after-push events (Single step) start; either = inr (after-push events (Single step) start) }
 
-pub done : {T E : Type 0} (start : World) (steps : List Step) (step : Step) (value : T) → Does {T = T} {E = E} (history_after start steps) (history_after start (steps ++ step ∷ [])) (Ok value) (stepped step (replay steps start))
-done start steps step value = record { time = elapses start steps step; ok = replay-push steps step start; either = inr (replay-push steps step start) }
-
--- what files and console were at the start makes the first world
-first_same : (files new_files : Files) (console new_console : Console) (config : List ℕ) → SameStart files console new_files new_console → start_world new_files new_console config ≡ start_world files console config
-first_same files new_files console new_console config same =
-    λ i. record {
-      log = λ seg. settled (same.log seg i);
-      pages = λ part. settled (same.pages part i);
-      starts = settled (same.starts i);
-      ends = settled (same.ends i);
-      config = config;
-      said = [];
-      input = (same.script i).items;
-    }
-
--- What is held before a step and after it, or after out of memory.
-module _ (files new_files : Files) (console new_console : Console) (config : List ℕ) (same : SameStart files console new_files new_console) (steps new_steps : List Step) where
+-- What is held before a step and after it, or after out of memory. The script is the same, and so the first world.
+module _ (files new_files : Files) (console new_console : Console) (began : Files) (config : List ℕ) (script : new_console.script ≡ console.script) (events new_events : List Event) where
   abbrev pub before : World
-  before = start_world files console config
+  before = start_world began config console.script.items
 
   abbrev pub renewed : World
-  renewed = start_world new_files new_console config
+  renewed = start_world began config new_console.script.items
 
   first : renewed ≡ before
-  first = first_same files new_files console new_console config same
+  first = ap (λ (s : Vec ℕ Global). start_world began config s.items) script
 
-  pub stands_still : HoldsWorld files console (replay steps before) → ((w : World) → HoldsWorld files console w → HoldsWorld new_files new_console w) → new_steps ≡ steps → HoldsWorld new_files new_console (replay new_steps renewed)
-  stands_still stands keeps is = subst (λ (l : List Step). HoldsWorld new_files new_console (replay l renewed)) (sym is) (subst (λ (w : World). HoldsWorld new_files new_console (replay steps w)) (sym first) (keeps (replay steps before) stands))
+  pub stands_still : HoldsWorld files console (after_events events before) → ((w : World) → HoldsWorld files console w → HoldsWorld new_files new_console w) → new_events ≡ events → HoldsWorld new_files new_console (after_events new_events renewed)
+  stands_still stands keeps is =
+      subst (λ (l : List Event). HoldsWorld new_files new_console (after_events l renewed)) (sym is)
+      (subst (λ (w : World). HoldsWorld new_files new_console (after_events events w)) (sym first) (keeps (after_events events before) stands))
 
-  pub does_nothing : {T E : Type 0} (result : Result T E) (next : World) → IsErr result → new_steps ≡ steps → Does {T = T} {E = E} (history_after before steps) (history_after renewed new_steps) result next
+  pub does_nothing : {T E : Type 0} (result : Result T E) (next : World) → IsErr result → new_events ≡ events → Does {T = T} {E = E} (history_during before events) (history_during renewed new_events) result next
   does_nothing {T} {E} result next failed is =
-      subst (λ (l : List Step). Does {T = T} {E = E} (history_after before steps) (history_after renewed l) result next) (sym is)
-      (subst (λ (w : World). Does {T = T} {E = E} (history_after before steps) (history_after w steps) result next) (sym first) (nothing_done (history_after before steps) result next (on_error result _ failed)))
+      subst (λ (l : List Event). Does {T = T} {E = E} (history_during before events) (history_during renewed l) result next) (sym is)
+      (subst (λ (w : World). Does {T = T} {E = E} (history_during before events) (history_during w events) result next) (sym first) (nothing_done (history_during before events) result next (on_error result _ failed)))
 
-  pub stands_after : (step : Step) → HoldsWorld files console (replay steps before) → ((w : World) → HoldsWorld files console w → HoldsWorld new_files new_console (stepped step w)) → new_steps ≡ steps ++ step ∷ [] → HoldsWorld new_files new_console (replay new_steps renewed)
+  pub stands_after : (step : Step) → HoldsWorld files console (after_events events before) → ((w : World) → HoldsWorld files console w → HoldsWorld new_files new_console (stepped step w)) → new_events ≡ events ++ Single step ∷ []
+      → HoldsWorld new_files new_console (after_events new_events renewed)
   stands_after step stands goes is =
-      subst (λ (l : List Step). HoldsWorld new_files new_console (replay l renewed)) (sym is)
-      (subst (λ (w : World). HoldsWorld new_files new_console (replay (steps ++ step ∷ []) w)) (sym first) (subst (λ (w : World). HoldsWorld new_files new_console w) (sym (replay-push steps step before)) (goes (replay steps before) stands)))
+      subst (λ (l : List Event). HoldsWorld new_files new_console (after_events l renewed)) (sym is)
+      (subst (λ (w : World). HoldsWorld new_files new_console (after_events (events ++ Single step ∷ []) w)) (sym first)
+      (subst (λ (w : World). HoldsWorld new_files new_console w) (sym (after-push events (Single step) before)) (goes (after_events events before) stands)))
 
-  pub does_step : {T E : Type 0} (step : Step) (value : T) → new_steps ≡ steps ++ step ∷ [] → Does {T = T} {E = E} (history_after before steps) (history_after renewed new_steps) (Ok value) (stepped step (replay steps before))
+  pub does_step : {T E : Type 0} (step : Step) (value : T) → new_events ≡ events ++ Single step ∷ [] → Does {T = T} {E = E} (history_during before events) (history_during renewed new_events) (Ok value) (stepped step (after_events events before))
   does_step {T} {E} step value is =
-      subst (λ (l : List Step). Does {T = T} {E = E} (history_after before steps) (history_after renewed l) (Ok value) (stepped step (replay steps before))) (sym is)
-      (subst (λ (w : World). Does {T = T} {E = E} (history_after before steps) (history_after w (steps ++ step ∷ [])) (Ok value) (stepped step (replay steps before))) (sym first) (done before steps step value))
+      subst (λ (l : List Event). Does {T = T} {E = E} (history_during before events) (history_during renewed l) (Ok value) (stepped step (after_events events before))) (sym is)
+      (subst (λ (w : World). Does {T = T} {E = E} (history_during before events) (history_during w (events ++ Single step ∷ [])) (Ok value) (stepped step (after_events events before))) (sym first) (done before events step value))
 
-  pub world_same : new_steps ≡ steps → replay new_steps renewed ≡ replay steps before
-  world_same is = ap (λ (l : List Step). replay l renewed) is ∙ ap (λ (w : World). replay steps w) first
+  pub world_same : new_events ≡ events → after_events new_events renewed ≡ after_events events before
+  world_same is = ap (λ (l : List Event). after_events l renewed) is ∙ ap (λ (w : World). after_events events w) first

@@ -1,9 +1,11 @@
 pub mod Changes
 pub mod Consoles
 pub mod Disks
+pub mod Events
 pub mod Families
 pub mod Held
 pub mod Hosts
+pub mod Lent
 pub mod Parts
 pub mod Picks
 pub mod Plans

@@ -1,5 +1,5 @@
 -- Which calls fail, and how failures are counted.
-use Rattle.std.specs.Prelude.{◌≡◌, ◌≤◌, ◌+◌, ◌-◌, ◌^◌, ℕ, min, List, Option, Some, None, Bool, false, ◌||◌, nat_le, ◌==◌, Result, OnOk, OnErr}
+use Rattle.std.specs.Prelude.{◌≡◌, ◌<◌, ◌≤◌, ◌+◌, ◌-◌, ◌^◌, ℕ, min, max, List, Option, Some, None, Bool, true, false, ◌||◌, nat_le, ◌==◌, Result, OnOk, OnErr, IsErr, is_err}
 use Rattle.std.specs.List.{list_any}
 use Rattle.pm_disk_mem.specs.declared.failures.Failures.{Failures}
 
@@ -27,3 +27,36 @@ pub record IsFaultCount {T E : Type 0} (old new : ℕ) (result : Result T E) : T
   pub later : old ≤ new
   pub same : OnOk result (new ≡ old)
   pub rose : OnErr result (new ≡ min (old + 1) (2 ^ 64 - 1))
+
+-- The call was counted, failed where it was to fail, and raised the count of faults exactly where it failed; which calls
+-- are to fail is as it was.
+pub record IsCallCounted {T E : Type 0} (old new : Failures) (result : Result T E) : Type 0 where
+  pub calls : new.calls ≡ min (old.calls + 1) (2 ^ 64 - 1)
+  pub due : is_due old ≡ true → IsErr result
+  pub faults : IsFaultCount old.count new.count result
+  pub plan : KeepsPlan old new
+
+-- A call that takes no memory was counted, and failed exactly when it was to fail.
+pub record IsCallPlanned {T E : Type 0} (old new : Failures) (result : Result T E) : Type 0 where
+  pub counted : IsCallCounted old new result
+  pub planned : is_err result ≡ is_due old
+
+-- A step of a call raised the count of faults exactly where it failed, and left the number of calls and the plan.
+pub record IsStepCounted {T E : Type 0} (old new : Failures) (result : Result T E) : Type 0 where
+  pub calls : new.calls ≡ old.calls
+  pub faults : IsFaultCount old.count new.count result
+  pub plan : KeepsPlan old new
+
+-- A part counts its calls on from those of the host, and none of them has failed.
+pub record CountsOn (host part : Failures) : Type 0 where
+  pub calls : part.calls ≡ host.calls
+  pub count : part.count ≡ 0
+  pub plan : KeepsPlan host part
+
+-- A host counts on after a part that is back: its calls from the greater number, and a failure where a call of the part failed.
+pub record IsJoined (old part new : Failures) : Type 0 where
+  pub calls : new.calls ≡ max old.calls part.calls
+  pub later : old.count ≤ new.count
+  pub same : part.count ≡ 0 → new.count ≡ old.count
+  pub rose : 0 < part.count → new.count ≡ min (old.count + 1) (2 ^ 64 - 1)
+  pub plan : KeepsPlan old new

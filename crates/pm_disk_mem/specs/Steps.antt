@@ -1,11 +1,10 @@
--- What a host in memory has done, and what each of its steps made of the world.
+-- Steps on a disk and a console in memory, and what each of them makes of the world.
 use Rattle.std.specs.Prelude.{◌≡◌, ◌≤◌, ◌+◌, ℕ, List, [], ◌∷◌, length, take, vec_len}
 use Rattle.pm_disk.specs.Files.{content}
 use Rattle.pm_disk.specs.Worlds.{World, with_said, with_taken}
 use Rattle.pm_disk.specs.Moments.{History}
 use Rattle.pm_disk_mem.specs.Changes.{change_of, CanChange}
-use Rattle.pm_disk_mem.specs.Tracks.{settled}
-use Rattle.pm_disk_mem.specs.Families.{track_at}
+use Rattle.pm_disk_mem.specs.Families.{track_at, file_at}
 use Rattle.pm_disk_mem.specs.Held.{track_in, file_changed, file_forced}
 use Rattle.pm_disk_mem.specs.Consoles.{input_left}
 use Rattle.pm_disk_mem.specs.declared.console.Console.{Console}
@@ -29,21 +28,25 @@ replay (step ∷ steps) world = replay steps (stepped step world)
 abbrev pub HasBeen : World → List Step → ℕ → World → Type 0
 HasBeen start steps least world = (k : ℕ) × (least ≤ k) × (k ≤ length steps) × (world ≡ replay (take k steps) start)
 
--- what a host tells that has done these steps: a moment is a number of steps
+-- what is told of these steps: a moment is a number of them
 abbrev pub history_after : World → List Step → History
 history_after start steps = record { world = replay steps start; clock = length steps; was = HasBeen start steps }
 
--- the world as a host began
-abbrev pub start_world : Files → Console → List ℕ → World
-start_world files console config = record {
-  log = λ seg. settled (track_at files.log seg).start;
-  pages = λ part. settled (track_at files.pages part).start;
-  starts = settled files.starts.start;
-  ends = settled files.ends.start;
-  config = config;
+-- the world of these files, with a console on which nothing was said and that has no input
+abbrev pub files_world : Files → World
+files_world files = record {
+  log = file_at files.log;
+  pages = file_at files.pages;
+  starts = files.starts.file;
+  ends = files.ends.file;
+  config = [];
   said = [];
-  input = console.script.items;
+  input = [];
 }
+
+-- the same with this configuration and this input
+abbrev pub start_world : Files → List ℕ → List ℕ → World
+start_world files config script = record (files_world files) { config = config; input = script }
 
 -- What is held is what this world has.
 pub record HoldsWorld (files : Files) (console : Console) (world : World) : Type 0 where
@@ -53,14 +56,6 @@ pub record HoldsWorld (files : Files) (console : Console) (world : World) : Type
   pub ends : files.ends.file ≡ world.ends
   pub said : console.said.items ≡ world.said
   pub input : input_left console ≡ world.input
-
--- What the files and the console were at the start is the same.
-pub record SameStart (files : Files) (console : Console) (new_files : Files) (new_console : Console) : Type 0 where
-  pub log : (seg : ℕ) → (track_at new_files.log seg).start ≡ (track_at files.log seg).start
-  pub pages : (part : ℕ) → (track_at new_files.pages part).start ≡ (track_at files.pages part).start
-  pub starts : new_files.starts.start ≡ files.starts.start
-  pub ends : new_files.ends.start ≡ files.ends.start
-  pub script : new_console.script ≡ console.script
 
 -- the step can be made
 abbrev pub CanStep : Step → Files → Console → Type 0

@@ -1,6 +1,6 @@
 //! What a file holds, as bytes or as none where it is absent.
 
-ghost use Rattle.std.specs.Prelude.{◌≡◌, ◌≤◌, ◌+◌, ◌-◌, ◌++◌, length, take, drop, replicate, min, vec_len, IfOk, OnOk, OnErr, option_map};
+ghost use Rattle.std.specs.Prelude.{◌≡◌, ◌≤◌, ◌+◌, ◌-◌, ◌++◌, length, map, take, drop, replicate, min, vec_len, IfOk, OnOk, OnErr, option_map};
 ghost use Rattle.pm_disk.specs.Files.{bytes_of, changed, Write, Cut, ReadsFrom, ReadsWhole};
 ghost use Rattle.pm_disk_mem.specs.Changes.{bytes_in, change_of};
 
@@ -92,6 +92,17 @@ pub fn copied(alloc: Global, held: &Option<Vec<u8>>) -> Result<Option<Vec<u8>>, 
         Some(bytes) => Ok(Some(Vec::from_slice(alloc, bytes)?)),
         None => Ok(None),
     }
+}
+
+/// A copy of the changes.
+pub fn copied_changes(alloc: Global, changes: &[FileChange]) -> Result<Vec<FileChange>, AllocError>
+    ensures { IfOk result (λ copy. map change_of copy.items ≡ map change_of changes.now) }
+{
+    let mut copy = Vec::new(alloc);
+    for change in changes {
+        copy.push(change.copy(alloc)?)?;
+    }
+    Ok(copy)
 }
 
 // The bytes go over what stands from the offset on, and past the end.

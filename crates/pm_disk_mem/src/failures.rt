@@ -1,7 +1,7 @@
 //! Which calls fail.
 
 ghost use Rattle.std.specs.Prelude.{◌≡◌, ◌≤◌, ◌+◌, ◌-◌, ◌^◌, min, is_err, Ok, IfOk, IsErr};
-ghost use Rattle.pm_disk_mem.specs.Plans.{is_due, is_stopped, HasPlan, KeepsPlan, IsFaultCount};
+ghost use Rattle.pm_disk_mem.specs.Plans.{is_due, is_stopped, HasPlan, KeepsPlan, IsFaultCount, CountsOn, IsJoined};
 
 use pm_disk::Failed;
 use std::alloc::{AllocError, Global};
@@ -63,8 +63,30 @@ impl Failures {
         }
     }
 
-    // Counts a failure.
-    fn fail(&mut self) -> Failed
+    /// What a part begins with: it counts its calls on from these.
+    pub fn lent(&self, alloc: Global) -> Result<Failures, AllocError>
+        ensures { IfOk result (λ part. CountsOn self.now part) }
+    {
+        Ok(Failures {
+            failing: Vec::from_slice(alloc, &self.failing)?,
+            stop: self.stop,
+            calls: self.calls,
+            count: 0,
+        })
+    }
+
+    /// Counts on after a part that is back.
+    pub fn join(&mut self, part: &Failures)
+        ensures { IsJoined self.old part.now self.new }
+    {
+        self.calls = self.calls.max(part.calls);
+        if part.count > 0 {
+            self.count = self.count.saturating_add(1);
+        }
+    }
+
+    /// Counts a failure.
+    pub fn fail(&mut self) -> Failed
         ensures later { self.old.count ≤ self.new.count }
         ensures rose { self.new.count ≡ min (self.old.count + 1) (2 ^ 64 - 1) }
         ensures calls { self.new.calls ≡ self.old.calls }

@@ -40,12 +40,40 @@ impl Family {
         Ok(family)
     }
 
+    /// No file.
+    pub fn empty(alloc: Global) -> Family {
+        Family {
+            files: BTreeMap::new(alloc),
+        }
+    }
+
+    /// A copy of each file, with all that was done to it.
+    pub fn copy(&self, alloc: Global) -> Result<Family, AllocError>
+        ensures { IfOk result (λ copy. SameTracks self.now copy) }
+    {
+        let mut copy = Family {
+            files: BTreeMap::new(alloc),
+        };
+        for (number, file) in &self.files {
+            copy.put(*number, file.copy(alloc)?)?;
+        }
+        Ok(copy)
+    }
+
     // Adds a file with these bytes at the start.
     fn add(&mut self, alloc: Global, number: u64, bytes: Vec<u8>) -> Result<(), AllocError>
         ensures { OnOk result (self.new.files.entries
             ≡ insert_entry nat_cmp self.old.files.entries number (new_track (Some bytes.items))) }
     {
         let file = MemFile::new(alloc, Some(bytes))?;
+        self.put(number, file)
+    }
+
+    // Puts a file in, in the place of one of this number.
+    fn put(&mut self, number: u64, file: MemFile) -> Result<(), AllocError>
+        ensures { OnOk result (self.new.files.entries
+            ≡ insert_entry nat_cmp self.old.files.entries number file) }
+    {
         self.files.insert(number, file)?;
         Ok(())
     }

@@ -7,7 +7,7 @@ ghost use Rattle.pm_disk_mem.specs.Changes.{bytes_in, change_of, CanChange, CanA
 ghost use Rattle.pm_disk_mem.specs.Picks.{left_by, pick_after};
 ghost use Rattle.pm_disk_mem.specs.Tracks.{new_track};
 
-use crate::bytes::{apply_change, copied, length_of, read, read_whole};
+use crate::bytes::{apply_change, copied, copied_changes, length_of, read, read_whole};
 use crate::change::FileChange;
 use crate::crash::left_of;
 use crate::pick::Pick;
@@ -49,6 +49,18 @@ impl MemFile {
             changes: Vec::new(alloc),
             lasting: 0,
             held,
+        })
+    }
+
+    /// A copy, with all that was done to it.
+    pub fn copy(&self, alloc: Global) -> Result<MemFile, AllocError>
+        ensures { IfOk result (λ copy. copy ≡ self.now) }
+    {
+        Ok(MemFile {
+            start: copied(alloc, &self.start)?,
+            changes: copied_changes(alloc, &self.changes)?,
+            lasting: self.lasting,
+            held: copied(alloc, &self.held)?,
         })
     }
 
@@ -103,6 +115,7 @@ impl MemFile {
         let (lasting, pending) = self.changes.split_at(self.lasting);
         left_of(alloc, &self.start, lasting, pending, pick)
     }
+
     /// What a crash leaves of the file by this pick.
     pub fn image(&self, alloc: Global, pick: Pick) -> Result<Option<Vec<u8>>, AllocError>
         ensures picked { IfOk result (λ left. bytes_in left ≡ left_by pick self.now.file) }

@@ -3,6 +3,7 @@
 ghost use Rattle.std.specs.Prelude.{◌≡◌, length, OnOk, OnErr, IfOk, option_map};
 ghost use Rattle.pm_disk.specs.Files.{content, with_change, all_forced, ReadsWhole};
 ghost use Rattle.pm_disk_mem.specs.Changes.{change_of, CanChange};
+ghost use Rattle.pm_disk_mem.specs.Families.{SameTracks};
 ghost use Rattle.pm_disk_mem.specs.Held.{track_in, FileIs, SameFiles, Begins, PartsPicked, PartsLeft};
 
 use crate::change::FileChange;
@@ -39,6 +40,30 @@ impl Files {
             pages: Family::new(alloc, pages)?,
             starts: MemFile::new(alloc, starts)?,
             ends: MemFile::new(alloc, ends)?,
+        })
+    }
+
+    /// Copies of the log's segments, beside which there is no file.
+    pub fn log_alone(&self, alloc: Global) -> Result<Files, AllocError>
+        ensures { IfOk result (λ files. SameTracks self.now.log files.log) }
+    {
+        Ok(Files {
+            log: self.log.copy(alloc)?,
+            pages: Family::empty(alloc),
+            starts: MemFile::new(alloc, None)?,
+            ends: MemFile::new(alloc, None)?,
+        })
+    }
+
+    /// Copies of the partitions' files, beside which there is no file.
+    pub fn pages_alone(&self, alloc: Global) -> Result<Files, AllocError>
+        ensures { IfOk result (λ files. SameTracks self.now.pages files.pages) }
+    {
+        Ok(Files {
+            log: Family::empty(alloc),
+            pages: self.pages.copy(alloc)?,
+            starts: MemFile::new(alloc, None)?,
+            ends: MemFile::new(alloc, None)?,
         })
     }
 

@@ -1,18 +1,20 @@
 //! Disk and console in memory.
 
-ghost use Rattle.std.specs.Prelude.{◌≡◌, replicate, IfOk, None, OnErr};
+ghost use Rattle.std.specs.Prelude.{◌≡◌, ◌<◌, true, false, replicate, vec_len, vec_capacity, IfOk, None, OnErr};
 ghost use Rattle.pm_disk.specs.Files.{content, gapped, missing};
 ghost use Rattle.pm_disk.specs.Moments.{Does};
 ghost use Rattle.pm_disk.specs.Images.{LeavesAll};
 ghost use Rattle.pm_disk_mem.specs.Disks.{image_of, world_from};
 ghost use Rattle.pm_disk_mem.specs.Held.{file_of, file_changed};
 ghost use Rattle.pm_disk_mem.specs.Picks.{IsPicked};
-ghost use Rattle.pm_disk_mem.specs.Steps.{CanStep, HoldsWorld, start_world, replay, stepped, history_after};
+ghost use Rattle.pm_disk_mem.specs.Steps.{CanStep, HoldsWorld, start_world, stepped};
+ghost use Rattle.pm_disk_mem.specs.Events.{after_events};
 
 use crate::bytes::write_with_gap;
 use crate::config::{as_file, chosen};
 use crate::console::Console;
 use crate::disk::MemDisk;
+use crate::event::Event;
 use crate::failures::Failures;
 use crate::files::Files;
 use crate::pick::Pick;
@@ -20,6 +22,7 @@ use crate::step::{ChangedFile, Step};
 use crate::work::make;
 use pm_disk::{Device, Failed};
 use std::alloc::{AllocError, Global};
+use std::snapshot::Snapshot;
 
 /// Disk and console in memory.
 #[derive(Drop)]
@@ -28,16 +31,21 @@ pub struct MemHost {
     pub(crate) files: Files,
     pub(crate) console: Console,
     pub(crate) config: Vec<u8>,
-    pub(crate) steps: Vec<Step>,
+    // The files as they were at first.
+    pub(crate) began: Snapshot<Files>,
+    pub(crate) events: Vec<Event>,
     pub(crate) failures: Failures,
     // The name of the folder that is bound.
     pub(crate) folder: Option<String>,
+    // Whether the parts are lent.
+    pub(crate) is_lent: bool,
     ghost stands: { HoldsWorld files console
-        (replay steps.items (start_world files console config.items)) },
+        (after_events events.items (start_world began.value config.items console.script.items)) },
+    ghost room: { is_lent ≡ true → vec_len events < vec_capacity events },
 }
 
 impl MemHost {
-    ghost use Rattle.pm_disk_mem.specs.Hosts.{world_of, history_of, calls_of, faults_of, folder_of, IsPlanned, IsStepCounted};
+    ghost use Rattle.pm_disk_mem.specs.Hosts.{world_of, history_of, calls_of, faults_of, folder_of, IsPlanned, KeepsAccess};
 
     /// A host over this disk, with a copy of the script as its input and of the bytes of the configuration.
     /// Where these are none, it has the configuration of the disk.
@@ -57,16 +65,20 @@ impl MemHost {
         ensures unfailed { IfOk result (λ host. faults_of host ≡ 0) }
         ensures plan { IfOk result (λ host. IsPlanned host failing.now stop) }
         ensures unbound { IfOk result (λ host. folder_of host ≡ None) }
+        ensures whole { IfOk result (λ host. host.is_lent ≡ false) }
     {
         let (parts, stored) = disk.into_parts();
+        let files = Files::new(alloc, parts)?;
         Ok(MemHost {
             alloc,
-            files: Files::new(alloc, parts)?,
             console: Console::new(alloc, script)?,
             config: chosen(alloc, config, &stored)?,
-            steps: Vec::new(alloc),
+            began: Snapshot::of(&files),
+            files,
+            events: Vec::new(alloc),
             failures: Failures::new(alloc, failing, stop)?,
             folder: None,
+            is_lent: false,
         })
     }
 
@@ -105,7 +117,7 @@ impl MemHost {
             Does (history_of self.old) (history_of self.new) result (file_changed file
             (gapped was at (replicate (missing at was) 0) bytes.now) (world_of self.old)) }
         ensures unchanged { OnErr result (world_of self.new ≡ world_of self.old) }
-        ensures counted { IsStepCounted self.old self.new result }
+        ensures counted { KeepsAccess self.old self.new result }
     {
         let len = self.files.len(file).unwrap_or(0);
         let written = write_with_gap(self.alloc, len, at, bytes);
@@ -119,7 +131,7 @@ impl MemHost {
         ensures does { Does (history_of self.old) (history_of self.new) result
             (stepped step (world_of self.old)) }
         ensures unchanged { OnErr result (world_of self.new ≡ world_of self.old) }
-        ensures counted { IsStepCounted self.old self.new result }
+        ensures counted { KeepsAccess self.old self.new result }
     {
         let made = self.record_step(step);
         self.failures.counted(made)
@@ -133,17 +145,19 @@ impl MemHost {
         ensures unchanged { OnErr result (world_of self.new ≡ world_of self.old) }
         ensures failures { self.new.failures ≡ self.old.failures }
         ensures folder { self.new.folder ≡ self.old.folder }
+        ensures is_lent { self.new.is_lent ≡ self.old.is_lent }
     {
-        self.steps.reserve(1)?;
+        // Room for a round too, should one be going on.
+        self.events.reserve(2)?;
         make(self.alloc, &mut self.files, &mut self.console, &step)?;
-        self.steps.push_reserved(step);
+        self.events.push_reserved(Event::Single(step));
         Ok(())
     }
 }
 
 impl Device for MemHost {
-    ghost use Rattle.pm_disk_mem.specs.Hosts.{first_world, steps_of, history_of, state_of};
-    ghost use Rattle.pm_disk_mem.specs.Sound.{sound};
+    ghost use Rattle.pm_disk_mem.specs.Hosts.{first_world, events_of, history_of, state_of};
+    ghost use Rattle.pm_disk_mem.specs.Sound.{sound_during};
 
     ghost tells = { Unit {0} };
 
@@ -151,5 +165,5 @@ impl Device for MemHost {
 
     ghost state = { state_of };
 
-    ghost sound = { λ host _. sound (first_world host) (steps_of host) };
+    ghost sound = { λ host _. sound_during (first_world host) (events_of host) };
 }

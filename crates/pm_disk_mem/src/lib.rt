@@ -8,6 +8,7 @@ mod console;
 mod contents;
 mod crash;
 mod disk;
+mod event;
 mod failures;
 mod family;
 mod file;
@@ -16,14 +17,19 @@ mod host;
 mod log;
 mod outside;
 mod pages;
+mod part;
 mod parts;
 mod pick;
+mod reader;
+mod split;
 mod step;
 mod work;
 
 pub use disk::MemDisk;
 pub use host::MemHost;
+pub use part::MemPart;
 pub use pick::Pick;
+pub use reader::MemReader;
 
 #[cfg(test)]
 mod tests;

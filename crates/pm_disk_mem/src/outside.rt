@@ -1,20 +1,34 @@
 //! The calls on the console, the configuration and the markers, in memory.
 
-ghost use Rattle.std.specs.Prelude.{◌≡◌, ◌<◌, ◌≤◌, [], length, take, refl, Some, IfOk, OnErr};
+ghost use Rattle.std.specs.Prelude.{◌≡◌, ◌<◌, ◌≤◌, [], ◌∷◌, true, length, map, take, vec_len, refl, Some, IfOk, OnErr, IsErr, All};
 ghost use Rattle.std.specs.Result.{result_unwrap_or};
+ghost use Rattle.pm_disk.specs.Lending.{reader_lent, writer_lent, log_lent, BeginsLog, BeginsPages, Lends, TakesBack, Joins};
 ghost use Rattle.pm_disk.specs.States.{Binds, HasCause};
 ghost use Rattle.pm_disk.specs.Files.{Drop, ReadsFrom, ReadsWhole};
 ghost use Rattle.pm_disk.specs.Worlds.{log_changed, marks_in, marks_changed, marks_forced, slot_at, slot_change, with_taken};
 ghost use Rattle.pm_disk.specs.Moments.{Does, Says};
+ghost use Rattle.pm_disk_mem.specs.Plans.{KeepsPlan};
 
 use crate::bytes::copy_front;
 use crate::change::FileChange;
 use crate::host::MemHost;
+use crate::part::MemPart;
+use crate::reader::MemReader;
+use crate::split::join_readers;
 use crate::step::{ChangedFile, Step};
-use pm_disk::{Failed, Host, MarkFile, SLOT_LEN};
+use pm_disk::{Failed, Host, Lent, MarkFile, SLOT_LEN};
+use pm_types::PageId;
+use std::alloc::AllocError;
 
 impl Host for MemHost {
-    ghost use Rattle.pm_disk_mem.specs.Hosts.{world_of, history_of, state_of, IsCounted, FailsAsPlanned};
+    ghost use Rattle.pm_disk_mem.specs.Hosts.{world_of, history_of, state_of, calls_of, IsCounted, FailsAsPlanned};
+    ghost use Rattle.pm_disk_mem.specs.Lent.{history_of_part, state_of_part, history_of_reader, state_of_reader};
+
+    type Reader = MemReader;
+
+    type Writer = MemPart;
+
+    type Log = MemPart;
 
     /// There is one folder, and it is there under each name: what changes is which name is bound.
     fn bind(&mut self, dir: &str) -> Result<(), Failed>
@@ -119,11 +133,69 @@ impl Host for MemHost {
         ensures unchanged { OnErr result (world_of self.new ≡ world_of self.old) }
         ensures cause { HasCause (state_of self.old) (state_of self.new) result }
         ensures counted { IsCounted self.old self.new result }
+        ensures silent { self.old.is_lent ≡ true → IsErr result }
     {
         self.failures.begin()?;
+        if self.is_lent {
+            return Err(self.failures.fail());
+        }
         let copy = self.failures.counted(Vec::from_slice(self.alloc, bytes))?;
         self.run(Step::Print(copy))
     }
+
+    /// The parts have copies of the files, so it takes time and memory in their size. Each part counts its
+    /// calls on from those of the host.
+    fn lend(
+        &mut self,
+        due: &[PageId],
+        workers: u32,
+    ) -> Result<Lent<MemReader, MemPart, MemPart>, AllocError>
+        ensures lends { Lends (state_of self.old) (state_of self.new) result }
+        ensures many { IfOk result (λ lent. vec_len lent.readers ≡ workers) }
+        ensures readers { IfOk result (λ lent. All (λ reader. state_of_reader reader
+            ≡ reader_lent due.now (state_of self.old)) lent.readers.items) }
+        ensures writer { IfOk result (λ lent. state_of_part lent.writer
+            ≡ writer_lent due.now (state_of self.old)) }
+        ensures log { IfOk result (λ lent. state_of_part lent.log ≡ log_lent (state_of self.old)) }
+        ensures readers_begin { IfOk result (λ lent. All (λ reader.
+            BeginsPages (history_of self.old) (history_of_reader reader)) lent.readers.items) }
+        ensures writer_begins { IfOk result
+            (λ lent. BeginsPages (history_of self.old) (history_of_part lent.writer)) }
+        ensures log_begins { IfOk result
+            (λ lent. BeginsLog (history_of self.old) (history_of_part lent.log)) }
+        ensures does { Does (history_of self.old) (history_of self.new) result (world_of self.old) }
+        ensures failures { self.new.failures ≡ self.old.failures }
+    {
+        self.events.reserve(1)?;
+        let lent = self.parts(due, workers)?;
+        self.is_lent = true;
+        Ok(lent)
+    }
+
+    /// Its calls count on from the part that made most.
+    fn take_back(&mut self, lent: Lent<MemReader, MemPart, MemPart>)
+        requires lent { self.old.is_lent ≡ true }
+        ensures joins { Joins (history_of self.old) (history_of self.new)
+            (history_of_part lent.log) (history_of_part lent.writer) }
+        ensures returns { TakesBack (state_of self.old) (state_of self.new)
+            (state_of_part lent.log ∷ state_of_part lent.writer
+            ∷ map (λ reader. state_of_reader reader) lent.readers.items) }
+        ensures plan { KeepsPlan self.old.failures self.new.failures }
+        ensures log_calls { calls_of self.old ≤ calls_of self.new × lent.log.failures.calls ≤ calls_of self.new
+            × lent.writer.failures.calls ≤ calls_of self.new }
+    {
+        let Lent {
+            readers,
+            writer,
+            log,
+        } = lent;
+        self.failures.join(&log.failures);
+        self.failures.join(&writer.failures);
+        join_readers(&mut self.failures, &readers);
+        self.put_back(log, writer);
+    }
+
+    ghost parts_tell = { ((λ t. t, λ t. t), (λ t. t, λ t. t), (λ t. t, λ t. t)) };
 
     ghost all_pages = { λ _. record { reads = λ _. refl; writes = λ _. refl } };
 }

@@ -1,6 +1,6 @@
 //! What the calls make of a disk, the images that a crash leaves, and calls that fail.
 
-ghost use Rattle.std.specs.Prelude.{◌≡◌, ◌≢◌, OnOk, IfOk};
+ghost use Rattle.std.specs.Prelude.{◌≡◌, ◌≢◌, false, OnOk, IfOk};
 ghost use Rattle.pm_disk.specs.Files.{Write, Cut, with_change, all_forced};
 ghost use Rattle.pm_disk.specs.States.{IsUsable};
 ghost use Rattle.pm_disk_mem.specs.Hosts.{state_of};
@@ -250,12 +250,16 @@ fn disk_with(rt: &(impl Abort + AllocGlobal), name: &str, bytes: &[u8]) -> Resul
 }
 
 /// A host over a disk, with no input and this configuration handed in. None of its calls is planned to fail.
-fn host_with(alloc: Global, config: &[u8], disk: MemDisk) -> Result<MemHost, AllocError> {
+fn host_with(alloc: Global, config: &[u8], disk: MemDisk) -> Result<MemHost, AllocError>
+    ensures { IfOk result (λ host. host.is_lent ≡ false) }
+{
     MemHost::new(alloc, b"", config, disk, &[], None)
 }
 
 /// A host over a disk, with nothing handed in.
-fn host_over(alloc: Global, disk: MemDisk) -> Result<MemHost, AllocError> {
+fn host_over(alloc: Global, disk: MemDisk) -> Result<MemHost, AllocError>
+    ensures { IfOk result (λ host. host.is_lent ≡ false) }
+{
     host_with(alloc, b"", disk)
 }
 

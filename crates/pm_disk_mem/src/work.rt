@@ -1,8 +1,8 @@
 //! One step on what a host holds.
 
-ghost use Rattle.std.specs.Prelude.{OnOk, OnErr};
+ghost use Rattle.std.specs.Prelude.{◌≡◌, OnOk, OnErr};
 ghost use Rattle.pm_disk.specs.Worlds.{World};
-ghost use Rattle.pm_disk_mem.specs.Steps.{CanStep, HoldsWorld, SameStart, stepped};
+ghost use Rattle.pm_disk_mem.specs.Steps.{CanStep, HoldsWorld, stepped};
 
 use crate::console::Console;
 use crate::files::Files;
@@ -21,7 +21,7 @@ pub fn make(
         → HoldsWorld files.new console.new (stepped step.now w)) }
     ensures unchanged { OnErr result ((w : World) → HoldsWorld files.old console.old w
         → HoldsWorld files.new console.new w) }
-    ensures start { SameStart files.old console.old files.new console.new }
+    ensures script { console.new.script ≡ console.old.script }
 {
     match step {
         Step::Change(file, change) => files.change(alloc, *file, change.copy(alloc)?),

@@ -1,7 +1,17 @@
 -- The file that was cut stands after the others.
+use Rattle.std.proofs.Common.{◌∙◌}
 use Rattle.pm_disk_fs.proofs.StayingOpen.{others_of_kept}
 use Rattle.pm_disk_fs.proofs.store.Store.cut.Goals as goal
 
 pub returns-clause-others : goal.returns-clause-others
 returns-clause-others g c =
-    others_of_kept c.args.self.now.open.files.items c.take.new.self.open.files.items c.keep.new.self.files.items c.args.name c.in_ok-file.file c.in_ok-file.ensures.others c.keep.ensures
+    others_of_kept c.args.self.now.open.files.items c.take.new.self.open.files.items c.keep.new.self.files.items c.args.name c.cut.new.self c.in_ok-file.ensures.others c.keep.ensures
+
+pub returns-clause-cut : goal.returns-clause-cut
+returns-clause-cut g c = record {
+  before = c.take.new.self.open.files.items;
+  file = c.cut.new.self;
+  last = c.keep.ensures;
+  named = c.in_ok-cut.ensures.name ∙ c.in_ok-file.ensures.name;
+  unforced = c.in_ok-cut.ensures.changed;
+}

@@ -4,4 +4,4 @@ use Rattle.pm_disk_fs.proofs.store.Store.sync.Goals as goal
 
 pub returns-clause-others : goal.returns-clause-others
 returns-clause-others g c =
-    others_of_kept c.args.self.now.open.files.items c.take.new.self.files.items c.keep.new.self.files.items c.args.name c.in-Some.file c.take.ensures.others c.keep.ensures
+    others_of_kept c.args.self.now.open.files.items c.take.new.self.files.items c.keep.new.self.files.items c.args.name c.force.new.self c.take.ensures.others c.keep.ensures

@@ -1,6 +1,7 @@
 -- What is held goes as the record says.
-use Rattle.std.proofs.Common.{◌∷◌, [], ◌++◌, List, ◌∙◌, ap}
-use Rattle.pm_disk_mem.specs.declared.step.Step.{Step}
+use Rattle.std.proofs.Common.{◌∷◌, [], ◌++◌, List, ◌∙◌, ap, arith}
+use Rattle.pm_disk_mem.specs.declared.event.Event.{Event}
+use Rattle.pm_disk_mem.specs.declared.event.Event.TheVariants.{Single}
 use Rattle.pm_disk_mem.proofs.Recording.{stands_still, does_nothing, on_error_too, world_same, stands_after, does_step}
 use Rattle.pm_disk_mem.proofs.host.MemHost.record_step.Goals as goal
 
@@ -8,31 +9,33 @@ pub invariant_of-self-in-Break-branch-2 : goal.invariant_of-self-in-Break-branch
 invariant_of-self-in-Break-branch-2 c =
     let now = c.args.self.now in
     record {
-      stands = stands_still now.files c.make.new.files now.console c.make.new.console now.config.items c.make.ensures.start now.steps.items c.reserve.new.self.items
+      stands = stands_still now.files c.make.new.files now.console c.make.new.console now.began.value now.config.items c.make.ensures.script now.events.items c.reserve.new.self.items
           now.stands c.in_err-make.ensures.unchanged c.reserve.ensures.items;
+      room = λ lent. omega (arith, now.room lent, c.reserve.ensures.capacity, c.reserve.ensures.len);
     }
 
 pub returns-in_err-make-clause-does : goal.returns-in_err-make-clause-does
 returns-in_err-make-clause-does c =
     let now = c.args.self.now in
-    does_nothing now.files c.make.new.files now.console c.make.new.console now.config.items c.make.ensures.start now.steps.items c.reserve.new.self.items
+    does_nothing now.files c.make.new.files now.console c.make.new.console now.began.value now.config.items c.make.ensures.script now.events.items c.reserve.new.self.items
     c.from_residual-in_err-make.result _ c.from_residual-in_err-make.ensures.0 c.reserve.ensures.items
 
 pub returns-in_err-make-clause-unchanged : goal.returns-in_err-make-clause-unchanged
 returns-in_err-make-clause-unchanged c =
     let now = c.args.self.now in
-    on_error_too c.from_residual-in_err-make.result _ (world_same now.files c.make.new.files now.console c.make.new.console now.config.items c.make.ensures.start now.steps.items c.reserve.new.self.items c.reserve.ensures.items)
+    on_error_too c.from_residual-in_err-make.result _ (world_same now.files c.make.new.files now.console c.make.new.console now.began.value now.config.items c.make.ensures.script now.events.items c.reserve.new.self.items c.reserve.ensures.items)
 
 pub invariant_of-self-2 : goal.invariant_of-self-2
 invariant_of-self-2 c =
     let now = c.args.self.now in
     record {
-      stands = stands_after now.files c.make.new.files now.console c.make.new.console now.config.items c.make.ensures.start now.steps.items c.push_reserved.new.self.items c.args.step
-          now.stands c.in_ok-make.ensures.made (c.push_reserved.ensures.items ∙ ap (λ (l : List Step). l ++ c.args.step ∷ []) c.reserve.ensures.items);
+      stands = stands_after now.files c.make.new.files now.console c.make.new.console now.began.value now.config.items c.make.ensures.script now.events.items c.push_reserved.new.self.items c.args.step
+          now.stands c.in_ok-make.ensures.made (c.push_reserved.ensures.items ∙ ap (λ (l : List Event). l ++ Single c.args.step ∷ []) c.reserve.ensures.items);
+      room = λ lent. omega (arith, c.in_ok-reserve.ensures.ok, c.reserve.ensures.len, c.push_reserved.ensures.len, c.push_reserved.ensures.capacity);
     }
 
 pub returns-clause-does : goal.returns-clause-does
 returns-clause-does c =
     let now = c.args.self.now in
-    does_step now.files c.make.new.files now.console c.make.new.console now.config.items c.make.ensures.start now.steps.items c.push_reserved.new.self.items
-    c.args.step _ (c.push_reserved.ensures.items ∙ ap (λ (l : List Step). l ++ c.args.step ∷ []) c.reserve.ensures.items)
+    does_step now.files c.make.new.files now.console c.make.new.console now.began.value now.config.items c.make.ensures.script now.events.items c.push_reserved.new.self.items
+    c.args.step _ (c.push_reserved.ensures.items ∙ ap (λ (l : List Event). l ++ Single c.args.step ∷ []) c.reserve.ensures.items)

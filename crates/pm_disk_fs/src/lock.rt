@@ -1,0 +1,51 @@
+//! The lock on the store's folder: one run at a time has it.
+
+ghost use Rattle.std.specs.Prelude.{IfOk, IsNone, IsSome};
+
+use crate::failure::{Failure, Object, SystemCall, named};
+use std::fs::{File, OpenFile, TryLockError};
+use std::io;
+use std::os::unix::fs::MetadataExt;
+
+/// A file or a folder whose lock can be taken.
+pub trait Lockable {
+    /// Takes its exclusive lock, where nobody else has it, and answers whether it did. It doesn't wait.
+    /// The lock is let go when the file is closed, and with the process, however that ends.
+    fn take_lock(&self) -> io::Result<bool>;
+}
+
+impl Lockable for File {
+    fn take_lock(&self) -> io::Result<bool> {
+        match self.try_lock() {
+            Ok(()) => Ok(true),
+            Err(TryLockError::WouldBlock) => Ok(false),
+            Err(TryLockError::Error(e)) => Err(e),
+        }
+    }
+}
+
+/// Locks the folder, and gives the file that has the lock, or none where the one at hand has it already.
+/// Where another run has it, or another host of this one, that is a failure.
+pub fn lock_folder<F: OpenFile + Lockable + Drop>(
+    folder: F,
+    at_hand: &Option<F>,
+) -> Result<Option<F>, Failure>
+    ensures { IfOk result (λ lock. IsNone lock → IsSome at_hand.now) }
+{
+    if let Some(held) = at_hand {
+        if named(SystemCall::Stat, Object::Folder, is_same(held, &folder))? {
+            return Ok(None);
+        }
+    }
+    if named(SystemCall::Lock, Object::Folder, folder.take_lock())? {
+        Ok(Some(folder))
+    } else {
+        Err(Failure::Locked)
+    }
+}
+
+// Whether both are open on the same file.
+fn is_same<F: OpenFile>(one: &F, other: &F) -> io::Result<bool> {
+    let (one, other) = (one.metadata()?, other.metadata()?);
+    Ok(one.dev() == other.dev() && one.ino() == other.ino())
+}

