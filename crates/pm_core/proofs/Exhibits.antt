@@ -30,9 +30,10 @@ use Rattle.pm_marks.specs.Slots.{IsMark, IsMarkPlace, slot_of, slot_bytes, bytes
 use Rattle.pm_marks.specs.InForce.{Started, Ended, checkpoint_in}
 use Rattle.pm_marks.proofs.SlotMarks.{mark_in-bytes, mark_at-short, zeros_are_none, length-slot_bytes}
 use Rattle.pm_core.specs.BasePages.{Partitions, no_pages, page_in_file, pages_of, laid_over, base_of, counted, rebuilt_from, since_restart, rebuilt_of, Rebuilds}
-use Rattle.pm_core.specs.Held.{in_force, log_in, pairs_in}
-use Rattle.pm_core.specs.FirstRun.{restart_frame}
+use Rattle.pm_core.specs.LogAlone.{log_in}
+use Rattle.pm_core.specs.Held.{in_force, pairs_in}
 use Rattle.pm_core.specs.Sound.{SoundWith, SoundImage}
+use Rattle.pm_core.specs.FirstRun.{restart_frame}
 use Rattle.pm_core.specs.Stands.{IsInForce}
 use Rattle.pm_core.proofs.InForce.{slot_cases}
 use Rattle.pm_core.proofs.Saying.{say_in_force}

@@ -22,7 +22,7 @@ use Rattle.pm_model.specs.declared.cache_key.CacheKey.{CacheKey}
 use Rattle.pm_model.specs.Eval.{Pairs, cache_key_cmp}
 use Rattle.pm_records.specs.LogFiles.{Uncut, Ready, IsWritten}
 use Rattle.pm_records.specs.Logs.{place, all_frames, record_in, next_place, after_frames, IsLogFrom}
-use Rattle.pm_records.specs.LogSteps.{CutTail, Append, Force, DropSegment, ForceSegment}
+use Rattle.pm_records.specs.LogSteps.{CutTail, Append, Force}
 use Rattle.pm_records.specs.Records.{Record, Snapshot, CpBegin, Restart, Seal, payload_of}
 use Rattle.pm_records.proofs.RecordOf.{record_of-payload}
 use Rattle.pm_records.proofs.Writing.{steps_keep}
@@ -34,17 +34,18 @@ use Rattle.pm_marks.specs.Slots.{IsMark, mark_at}
 use Rattle.pm_marks.specs.InForce.{Checkpoint, NoStart, Started, Ended, replay_of}
 use Rattle.pm_marks.proofs.SlotMarks.{mark_at-short}
 use Rattle.pm_marks.proofs.SlotWrites.{other_stays}
-use Rattle.pm_core.specs.BasePages.{Partitions, no_pages, with_page, page_in_file, records_in, since_restart, whole, rebuilt_from, rebuilt_of, pages_of, laid_over, counted, RebuiltAre}
-use Rattle.pm_core.specs.Held.{in_force, image_of, entry_of, pairs_in}
-use Rattle.pm_core.specs.FirstRun.{first_page, first_id, first_rebuilt, restart_frame, page_frame, begin_frame, seal_frame, first_mark, log_begun, checkpoint_made, log_goes_on, first_run}
-use Rattle.pm_core.specs.LogAlone.{LogIsAlone}
-use Rattle.pm_core.specs.Machine.{DiskStep, OnLog, WriteStart, ForceStart, WritePage, ForcePages, Say, OthersStay, CanAppend, CanStart, CanWritePage, CanEnd, CanAll, map_or, log_state, next_state, next_world, states, worlds}
+use Rattle.pm_core.specs.BasePages.{Partitions, no_pages, with_page, page_in_file, since_restart, whole, rebuilt_from, rebuilt_of, pages_of, laid_over, counted, RebuiltAre}
+use Rattle.pm_core.specs.LogAlone.{image_of}
+use Rattle.pm_core.specs.Held.{in_force, entry_of, pairs_in}
+use Rattle.pm_core.specs.Sound.{LogIsAlone, Sound}
+use Rattle.pm_core.specs.FirstRun.{first_page, first_id, first_rebuilt, restart_frame, page_frame, begin_frame, seal_frame, first_mark, log_begun, log_goes_on, checkpoint_made, log_dropped, first_run}
+use Rattle.pm_core.specs.Machine.{DiskStep, OnLog, WriteStart, ForceStart, WritePage, ForcePages, OthersStay, CanAppend, CanStart, CanWritePage, CanEnd, CanAll, map_or, log_state, next_state, next_world, states, worlds}
 use Rattle.pm_core.specs.Replays.{replayed, then_replayed, all_replayed}
-use Rattle.pm_core.specs.Sound.{Sound}
 use Rattle.pm_core.specs.Starts.{CanBegin, start_state}
 use Rattle.pm_core.specs.States.{State}
 use Rattle.pm_core.specs.Stands.{Stands}
-use Rattle.pm_core.proofs.Exhibits.{restart_is, restart_len, restart_next}
+use Rattle.pm_core.proofs.Exhibits.{restart_is, restart_len}
+use Rattle.pm_core.proofs.CrashLaw.{run_stands}
 use Rattle.pm_core.proofs.InForce.{slot_cases}
 use Rattle.pm_core.proofs.LogSteps.{written_by, is_written, from_end}
 use Rattle.pm_core.proofs.NoFiles.{nothing_is_sound}
@@ -165,8 +166,8 @@ module _ (shape : Shape) (shaped : IsShape shape) where
     sized = subst IsPageSize (sym (length_page shape shaped)) shaped.page_size;
   })
 
-  begin_is : record_in begin ≡ Some (CpBegin 1 (place 1 (107 + size)))
-  begin_is = record_of-payload (CpBegin 1 (place 1 (107 + size))) (record {
+  begin_is : record_in begin ≡ Some (CpBegin 1 (place 2 (70 + size)))
+  begin_is = record_of-payload (CpBegin 1 (place 2 (70 + size))) (record {
     from_one = omega arith;
     number_fits = omega arith;
     seg_fits = omega arith;
@@ -190,36 +191,32 @@ module _ (shape : Shape) (shaped : IsShape shape) where
   unfolding payload_of
   seal_len = refl
 
-  snapshot_next : next_place (place 1 37) snapshot ≡ place 1 (66 + size)
-  snapshot_next = ap (λ n. place 1 n) (let len = snapshot_len in omega (arith, len))
+  snapshot_next : next_place (place 2 0) snapshot ≡ place 2 (29 + size)
+  snapshot_next = ap (λ n. place 2 n) (let len = snapshot_len in omega (arith, len))
 
-  begin_next : next_place (place 1 (66 + size)) begin ≡ place 1 (107 + size)
-  begin_next = ap (λ n. place 1 n) (let len = begin_len in omega (arith, len))
+  begin_next : next_place (place 2 (29 + size)) begin ≡ place 2 (70 + size)
+  begin_next = ap (λ n. place 2 n) (let len = begin_len in omega (arith, len))
 
   kept : (frame : Frame) (found : Record) (map : Pairs) → record_in frame ≡ Some found → replayed shape (Some found) map ≡ Some map → then_replayed shape frame (Some map) ≡ Some map
   kept frame found map is same = ap (λ (o : Option Record). replayed shape o map) is ∙ same
 
   restart_kept : (map : Pairs) → then_replayed shape restart (Some map) ≡ Some map
-  unfolding replayed
   restart_kept map = kept restart (Restart shape) map (restart_is shape shaped) refl
 
   snapshot_kept : (map : Pairs) → then_replayed shape snapshot (Some map) ≡ Some map
-  unfolding replayed
   snapshot_kept map = kept snapshot (Snapshot first_id page) map snapshot_is refl
 
   begin_kept : (map : Pairs) → then_replayed shape begin (Some map) ≡ Some map
-  unfolding replayed
-  begin_kept map = kept begin (CpBegin 1 (place 1 (107 + size))) map begin_is refl
+  begin_kept map = kept begin (CpBegin 1 (place 2 (70 + size))) map begin_is refl
 
   seal_kept : (map : Pairs) → then_replayed shape seal (Some map) ≡ Some map
-  unfolding replayed
   seal_kept map = kept seal Seal map seal_is refl
 
-  two_kept : (map : Pairs) → all_replayed shape (restart ∷ snapshot ∷ []) (Some map) ≡ Some map
-  two_kept map = ap (then_replayed shape snapshot) (restart_kept map) ∙ snapshot_kept map
+  sealed_kept : (map : Pairs) → all_replayed shape (restart ∷ seal ∷ []) (Some map) ≡ Some map
+  sealed_kept map = ap (then_replayed shape seal) (restart_kept map) ∙ seal_kept map
 
-  all_kept : (map : Pairs) → all_replayed shape (restart ∷ snapshot ∷ begin ∷ []) (Some map) ≡ Some map
-  all_kept map = ap (then_replayed shape begin) (two_kept map) ∙ begin_kept map
+  both_kept : (map : Pairs) → all_replayed shape (snapshot ∷ begin ∷ []) (Some map) ≡ Some map
+  both_kept map = ap (then_replayed shape begin) (snapshot_kept map) ∙ begin_kept map
 
   some_map : (o : Option Pairs) (map : Pairs) → o ≡ Some map → IsSome o
   some_map o map is = subst IsSome (sym is) refl
@@ -244,45 +241,76 @@ module _ (shape : Shape) (shaped : IsShape shape) where
   abbrev third : State
   third = log_state (Append restart) second
 
-  append_snapshot : CanAppend snapshot third
-  append_snapshot = record {
+  append_seal : CanAppend seal third
+  append_seal = record {
     ready = refl;
     open_segment = (refl, tt);
-    fits = is_frame-from third.end snapshot (record {
+    fits = is_frame-from third.end seal (record {
       known_from = omega arith;
       known_to = omega arith;
-      short = omega (arith, snapshot_len, few);
-      ends = omega (arith, restart_len shape shaped, snapshot_len, few);
+      short = omega (arith, seal_len);
+      ends = omega (arith, restart_len shape shaped, seal_len);
       numbered = omega arith;
     });
-    inner = λ is. absurd (false≢true is);
-    in_grammar = some_record (record_in snapshot) (Snapshot first_id page) snapshot_is;
-    not_full = some_map _ empty (two_kept empty);
-    restart_first = λ at none. absurd cc;
-  }
-
-  abbrev fourth : State
-  fourth = log_state (Append snapshot) third
-
-  append_begin : CanAppend begin fourth
-  append_begin = record {
-    ready = refl;
-    open_segment = (refl, (refl, tt));
-    fits = is_frame-from fourth.end begin (record {
-      known_from = omega arith;
-      known_to = omega arith;
-      short = omega (arith, begin_len);
-      ends = omega (arith, restart_len shape shaped, snapshot_len, begin_len, few);
-      numbered = omega arith;
-    });
-    inner = λ is. absurd (false≢true is);
-    in_grammar = some_record (record_in begin) (CpBegin 1 (place 1 (107 + size))) begin_is;
-    not_full = some_map _ empty (all_kept empty);
+    inner = λ is. refl;
+    in_grammar = some_record (record_in seal) Seal seal_is;
+    not_full = some_map _ empty (sealed_kept empty);
     restart_first = λ at none. absurd cc;
   }
 
   log_can : CanAll length (log_begun shape) first empty_world
-  log_can = (refl, (inr refl, (append_restart, (append_snapshot, (append_begin, (inl refl, tt))))))
+  log_can = (refl, (inr refl, (append_restart, (append_seal, (inl refl, ((refl, omega arith), (inr refl, tt)))))))
+
+  -- ---- it goes on in the second segment
+
+  abbrev inside : State
+  inside = states (log_begun shape) first empty_world
+
+  abbrev inner : World
+  inner = worlds (log_begun shape) first empty_world
+
+  inside_map : inside.map ≡ empty
+  inside_map = ap (λ o. map_or o empty) (sealed_kept empty)
+
+  append_snapshot : CanAppend snapshot inside
+  append_snapshot = record {
+    ready = refl;
+    open_segment = tt;
+    fits = is_frame-from inside.end snapshot (record {
+      known_from = omega arith;
+      known_to = omega arith;
+      short = omega (arith, snapshot_len, few);
+      ends = omega (arith, snapshot_len, few);
+      numbered = omega arith;
+    });
+    inner = λ is. absurd (false≢true is);
+    in_grammar = some_record (record_in snapshot) (Snapshot first_id page) snapshot_is;
+    not_full = some_map _ inside.map (snapshot_kept inside.map);
+    restart_first = λ at none. absurd (let seg : 2 ≡ 1 = ap (λ (p : Place). p.seg) at in omega (arith, seg));
+  }
+
+  abbrev fourth : State
+  fourth = log_state (Append snapshot) inside
+
+  append_begin : CanAppend begin fourth
+  append_begin = record {
+    ready = refl;
+    open_segment = (refl, tt);
+    fits = is_frame-from fourth.end begin (record {
+      known_from = omega arith;
+      known_to = omega arith;
+      short = omega (arith, begin_len);
+      ends = omega (arith, snapshot_len, begin_len, few);
+      numbered = omega arith;
+    });
+    inner = λ is. absurd (false≢true is);
+    in_grammar = some_record (record_in begin) (CpBegin 1 (place 2 (70 + size))) begin_is;
+    not_full = some_map _ inside.map (both_kept inside.map);
+    restart_first = λ at none. absurd cc;
+  }
+
+  more_can : CanAll length (log_goes_on shape) inside inner
+  more_can = (append_snapshot, (append_begin, (inl refl, tt)))
 
   -- ---- the page
 
@@ -339,12 +367,11 @@ module _ (shape : Shape) (shaped : IsShape shape) where
     | inr other ↦ absurd (let none : IsSome {T = List ℕ} None = subst (λ (b : Bool). IsSome (let o : Option (List ℕ) = if b then Some page else None in o)) other is in cc)
   ]
 
-  rebuilds : rebuilt_of shape (restart ∷ snapshot ∷ []) ≡ Some (first_rebuilt shape)
+  rebuilds : rebuilt_of shape (snapshot ∷ []) ≡ Some (first_rebuilt shape)
   unfolding rebuilt_of
   rebuilds =
       let rest : List Record → Option Partitions = λ records. rebuilt_from shape (since_restart records) in
-      ap (λ (o : Option Record). option_and_then rest (option_and_then (λ f. option_map (λ fs. f ∷ fs) (records_in (snapshot ∷ []))) o)) (restart_is shape shaped)
-      ∙ ap (λ (o : Option Record). option_and_then rest (option_map (λ fs. Restart shape ∷ fs) (option_and_then (λ f. option_map (λ fs. f ∷ fs) (Some [])) o))) snapshot_is
+      ap (λ (o : Option Record). option_and_then rest (option_and_then (λ f. option_map (λ fs. f ∷ fs) (Some [])) o)) snapshot_is
       ∙ ap (λ (b : Bool). let o : Option Partitions = if b then option_map (with_page no_pages first_id) (whole size page) else Some no_pages in o) (lt-ltb _ _ (let from = shaped.partitions_from in omega (arith, from)))
       ∙ ap (λ (b : Bool). option_map (with_page no_pages first_id) (let o : Option (List ℕ) = if b then Some page else None in o)) (eq-eqb _ _ (length_page shape shaped))
 
@@ -364,40 +391,24 @@ module _ (shape : Shape) (shaped : IsShape shape) where
   }
 
   abbrev begun : State
-  begun = states (log_begun shape) first empty_world
+  begun = states (log_goes_on shape) inside inner
 
   abbrev now : World
-  now = worlds (log_begun shape) first empty_world
+  now = worlds (log_goes_on shape) inside inner
 
-  -- the frames are lasting from the log's first place on
-  written_so : IsWritten now 0 (place 1 0) begun.end (record { at = begun.at; lasting = restart ∷ snapshot ∷ begin ∷ []; pending = []; tail = Ready })
+  -- the second segment's frames are lasting from its begin on
+  written_so : IsWritten now 0 (place 2 0) begun.end (record { at = begun.at; lasting = snapshot ∷ begin ∷ []; pending = []; tail = Ready })
   written_so =
-      let start = is_written shape length first empty_world stands (place 1 0) [] (from_end shape length first empty_world stands) in
-      steps_keep 0 (CutTail ∷ Force ∷ Append restart ∷ Append snapshot ∷ Append begin ∷ Force ∷ []) empty_world (place 1 0) (place 1 0) (written_by first []) start (
-        refl,
-        (
-          inr refl,
-          (
-            (refl, tt, append_restart.fits, append_restart.inner),
-            (
-              (refl, append_snapshot.open_segment, append_snapshot.fits, append_snapshot.inner),
-              (
-                (refl, append_begin.open_segment, append_begin.fits, append_begin.inner),
-                (inl refl, tt),
-              ),
-            ),
-          ),
-        ),
-      )
+      let there = run_stands shape length (log_begun shape) first empty_world stands log_can in
+      let start = is_written shape length inside inner there (place 2 0) [] (from_end shape length inside inner there) in
+      steps_keep 0 (Append snapshot ∷ Append begin ∷ Force ∷ []) inner (place 2 0) (place 2 0) (written_by inside []) start
+      ((refl, append_snapshot.open_segment, append_snapshot.fits, append_snapshot.inner), ((refl, append_begin.open_segment, append_begin.fits, append_begin.inner), (inl refl, tt)))
 
-  to_begin : after_frames (place 1 0) (restart ∷ snapshot ∷ []) ≡ place 1 (66 + size)
-  to_begin = ap (λ p. next_place p snapshot) (restart_next shape shaped) ∙ snapshot_next
-
-  here : begun.at ≡ place 1 (107 + size)
-  here = ap (λ p. next_place p begin) to_begin ∙ begin_next
+  here : begun.at ≡ place 2 (70 + size)
+  here = ap (λ p. next_place p begin) snapshot_next ∙ begin_next
 
   map_is : begun.map ≡ empty
-  map_is = ap (λ o. map_or o empty) (all_kept empty)
+  map_is = ap (λ o. map_or o inside.map) (both_kept inside.map) ∙ inside_map
 
   start_can : CanStart mark (first_rebuilt shape) begun now
   start_can = record {
@@ -407,11 +418,11 @@ module _ (shape : Shape) (shaped : IsShape shape) where
     fits = may;
     shaped = refl;
     others = others_stay_absent mark;
-    before = restart ∷ snapshot ∷ [];
+    before = snapshot ∷ [];
     after = begin ∷ [];
     leads = written_so.log.leads;
-    reaches = to_begin;
-    begins = record { replay = place 1 (107 + size); is = begin_is };
+    reaches = snapshot_next;
+    begins = record { replay = place 2 (70 + size); is = begin_is };
     in_grammar = (append_begin.in_grammar, tt);
     rebuilds = rebuilds;
     has_meta = λ part index is. subst (λ p. IsSome (based p 0)) (sym (is_first part index is).0) refl;
@@ -474,7 +485,7 @@ module _ (shape : Shape) (shaped : IsShape shape) where
     ),
   )
 
-  -- ---- the log goes on
+  -- ---- the first segment is dropped
 
   abbrev ended : State
   ended = states (checkpoint_made shape) begun now
@@ -482,31 +493,8 @@ module _ (shape : Shape) (shaped : IsShape shape) where
   abbrev later : World
   later = worlds (checkpoint_made shape) begun now
 
-  abbrev said : State
-  said = states (OnLog (DropSegment 0) ∷ OnLog (ForceSegment 0) ∷ Say (0 ∷ []) ∷ []) ended later
-
-  append_seal : CanAppend seal said
-  append_seal = record {
-    ready = refl;
-    open_segment = tt;
-    fits = is_frame-from said.end seal (record {
-      known_from = omega arith;
-      known_to = omega arith;
-      short = omega (arith, seal_len);
-      ends = omega (arith, restart_len shape shaped, snapshot_len, begin_len, seal_len, few);
-      numbered = omega arith;
-    });
-    inner = λ is. refl;
-    in_grammar = some_record (record_in seal) Seal seal_is;
-    not_full = some_map _ said.map (seal_kept said.map);
-    restart_first = λ at none. absurd (let off : 107 + size ≡ 0 = ap (λ (p : Place). p.off) (sym here ∙ at) in omega (arith, off));
-  }
-
-  rest_can : CanAll length log_goes_on ended later
-  rest_can = (
-    record { mark = mark; ended = refl; alone = refl; below_begin = omega arith; below_replay = omega arith },
-    (omega arith, (omega arith, (append_seal, (inl refl, ((refl, omega arith), (inr refl, tt)))))),
-  )
+  rest_can : CanAll length log_dropped ended later
+  rest_can = (record { mark = mark; ended = refl; alone = refl; below_begin = omega arith; below_replay = omega arith }, (omega arith, (omega arith, tt)))
 
   -- ---- all of it
 
@@ -515,8 +503,9 @@ module _ (shape : Shape) (shaped : IsShape shape) where
   can_join (x ∷ xs) ys s w first second = (first.0, can_join xs ys (next_state x s w) (next_world x s w) first.1 second)
 
   all_can : CanAll length (first_run shape) first empty_world
-  all_can = can_join (log_begun shape) (checkpoint_made shape ++ log_goes_on) first empty_world log_can
-      (can_join (checkpoint_made shape) log_goes_on begun now checkpoint_can rest_can)
+  all_can = can_join (log_begun shape) (log_goes_on shape ++ (checkpoint_made shape ++ log_dropped)) first empty_world log_can
+      (can_join (log_goes_on shape) (checkpoint_made shape ++ log_dropped) inside inner more_can
+      (can_join (checkpoint_made shape) log_dropped begun now checkpoint_can rest_can))
 
   pub run_can : (sound : Sound shape empty_world shape empty) → CanAll length (first_run shape) (start_state shape empty_world shape empty sound) empty_world
   run_can sound = subst (λ (s : State). CanAll length (first_run shape) s empty_world) (sym (first_is sound)) all_can

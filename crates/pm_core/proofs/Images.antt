@@ -17,7 +17,8 @@ use Rattle.pm_marks.specs.InForce.{Checkpoint, NoStart, Started, Ended, replay_o
 use Rattle.pm_marks.specs.Slots.{mark_at}
 use Rattle.pm_core.specs.Replays.{all_replayed}
 use Rattle.pm_core.specs.BasePages.{Partitions, no_pages, pages_of, laid_over, base_of, IsBegin, RebuiltAre}
-use Rattle.pm_core.specs.Held.{log_in, store_shape, BeginsWell}
+use Rattle.pm_core.specs.LogAlone.{log_in}
+use Rattle.pm_core.specs.Held.{store_shape, BeginsWell}
 use Rattle.pm_core.specs.Sound.{BeginsLog, BeginEnds, AreBare, SoundWith, IsTrueImage}
 use Rattle.pm_core.specs.States.{State, View, AllInGrammar, RestartIsFirst, BeginIsFirst, HavePairs}
 use Rattle.pm_core.specs.Stands.{OnlyNoStart, HasShape, MarksSay, RebuiltIsLasting, BeginIsLasting, PagesStand, IsGood, Stands}

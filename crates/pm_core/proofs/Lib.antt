@@ -13,6 +13,7 @@ pub mod Making
 pub mod MarkSteps
 pub mod NoFiles
 pub mod One
+pub mod Once
 pub mod OnePage
 pub mod PageSteps
 pub mod Ranges

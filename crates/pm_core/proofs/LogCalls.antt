@@ -1,5 +1,5 @@
 -- Steps of the log, as the crate of the log makes them, are steps of the machine.
-use Rattle.std.proofs.Common.{◌≡◌, ℕ, zero, suc, ◌≤◌, List, [], ◌∷◌, length, take, refl, sym, ◌∙◌, ap, arith}
+use Rattle.std.proofs.Common.{◌≡◌, ℕ, zero, suc, List, [], ◌∷◌, length, take, refl, sym, ◌∙◌, ap, arith}
 use Rattle.pm_types.specs.declared.place.Place.{Place}
 use Rattle.pm_disk.specs.Worlds.{World}
 use Rattle.pm_records.specs.LogSteps.{Step, CutTail, Append, Force, NextSegment, DropSegment, ForceSegment, step_end, step_world, world_after, DoesPrefix}

@@ -9,17 +9,19 @@ use Rattle.pm_records.specs.Logs.{all_frames}
 use Rattle.pm_records.proofs.FrameGrammar.{frame_laws}
 use Rattle.pm_records.proofs.Runs.{none_past}
 use Rattle.pm_marks.proofs.SlotMarks.{mark_at-short}
-use Rattle.pm_core.specs.Held.{image_of}
-use Rattle.pm_core.specs.LogAlone.{LogHolds, LogIsAlone}
-use Rattle.pm_core.specs.Sound.{Sound}
+use Rattle.pm_core.specs.LogAlone.{image_of, Holds}
+use Rattle.pm_core.specs.Sound.{LogIsAlone, Sound}
 use Rattle.pm_core.proofs.Ranges.{no_page}
 use Rattle.pm_core.proofs.WithoutStart.{alone_exactly}
 
-empty_log : (wanted : Shape) → LogHolds wanted (image_of empty_world) wanted empty
+empty_log : (wanted : Shape) → Holds wanted (image_of empty_world) wanted empty
 empty_log wanted = record {
-  frames = [];
-  log = record { log = record { run = tt; ends = λ still. none_past all_frames frame_laws 1 0 [] (omega arith) }; nothing_above = λ seg above. refl };
-  held = record { begins = refl; told = refl; map = refl };
+  log = record {
+    frames = [];
+    log = record { run = tt; ends = λ still. none_past all_frames frame_laws 1 0 [] (omega arith) };
+    held = record { begins = refl; told = refl; map = refl };
+  };
+  nothing_above = λ seg above. refl;
 }
 
 pub nothing_is_sound : (wanted : Shape) → IsShape wanted → Sound wanted empty_world wanted empty

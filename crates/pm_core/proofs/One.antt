@@ -12,7 +12,8 @@ use Rattle.pm_records.proofs.Runs.{rises, one_log}
 use Rattle.pm_core.specs.Replays.{all_replayed}
 use Rattle.pm_marks.specs.InForce.{Checkpoint, NoStart, Started, Ended, replay_of}
 use Rattle.pm_core.specs.BasePages.{Partitions, Rebuilds, RebuiltAre, rebuilt_of, base_of}
-use Rattle.pm_core.specs.Held.{HoldsWith, in_force, log_in, store_shape, pairs_in}
+use Rattle.pm_core.specs.LogAlone.{log_in}
+use Rattle.pm_core.specs.Held.{HoldsWith, in_force, store_shape, pairs_in}
 use Rattle.pm_core.specs.Sound.{SoundImage}
 
 -- no run ends where it begins

@@ -18,7 +18,7 @@ pub replayed-append : (shape : Shape) (xs ys : List Frame) (o : Option Pairs) �
 replayed-append shape [] ys o = refl
 replayed-append shape (x ∷ xs) ys o = replayed-append shape xs ys (then_replayed shape x o)
 
-replayed-none : (shape : Shape) (xs : List Frame) → all_replayed shape xs None ≡ None
+pub replayed-none : (shape : Shape) (xs : List Frame) → all_replayed shape xs None ≡ None
 replayed-none shape [] = refl
 replayed-none shape (x ∷ xs) = replayed-none shape xs
 

@@ -21,7 +21,8 @@ use Rattle.pm_records.proofs.Runs.{few_go_on, log_join, after_frames-append, ris
 use Rattle.pm_marks.specs.InForce.{Checkpoint, NoStart, Started, Ended, replay_of}
 use Rattle.pm_core.specs.Replays.{all_replayed}
 use Rattle.pm_core.specs.BasePages.{Partitions, no_pages, pages_of, laid_over, base_of, IsBegin, RebuiltAre}
-use Rattle.pm_core.specs.Held.{AllWellFormed, in_force, image_of, store_shape, BeginsWell, pairs_in}
+use Rattle.pm_core.specs.LogAlone.{image_of}
+use Rattle.pm_core.specs.Held.{AllWellFormed, in_force, store_shape, BeginsWell, pairs_in}
 use Rattle.pm_core.specs.Sound.{BeginEnds, AreBare, Sound}
 use Rattle.pm_core.specs.Starts.{start_state, CanBegin}
 use Rattle.pm_core.specs.States.{State, View, RestartIsFirst, BeginIsFirst}

@@ -11,12 +11,12 @@ use Rattle.pm_model.specs.Eval.{Pairs, cache_key_cmp}
 use Rattle.pm_pages.specs.Rows.{Partition, rows_of, page_count}
 use Rattle.pm_pages.specs.WellFormed.{IsWellFormed, EachOnce, placed_pages}
 use Rattle.pm_core.specs.Replays.{all_replayed}
-use Rattle.pm_core.specs.LogAlone.{LogHolds, LogIsAlone}
+use Rattle.pm_core.specs.LogAlone.{Holds}
+use Rattle.pm_core.specs.Held.{in_force, entry_of, pairs_in}
+use Rattle.pm_core.specs.Sound.{LogIsAlone, SoundWith, SoundImage}
 use Rattle.pm_marks.specs.Slots.{mark_at}
 use Rattle.pm_marks.specs.InForce.{NoStart, higher, checkpoint_of}
 use Rattle.pm_core.specs.BasePages.{no_pages, counted}
-use Rattle.pm_core.specs.Held.{in_force, entry_of, pairs_in}
-use Rattle.pm_core.specs.Sound.{SoundWith, SoundImage}
 
 -- without a valid slot no checkpoint is in force
 pub none_in_force : (page_size : ℕ) (image : Image) → LogIsAlone page_size image → in_force image ≡ NoStart
@@ -69,38 +69,41 @@ none_well_formed shape part = record {
 
 module _ (wanted : Shape) (image : Image) (shape : Shape) (pairs : Pairs) where
   -- the log alone says what the disk holds
-  sound_alone : LogIsAlone shape.page_size image → LogHolds wanted image shape pairs → SoundWith wanted NoStart image shape pairs
+  sound_alone : LogIsAlone shape.page_size image → Holds wanted image shape pairs → SoundWith wanted NoStart image shape pairs
   sound_alone alone holds = record {
     holds = record {
       rebuilt = no_pages;
-      frames = holds.frames;
+      frames = holds.log.frames;
       rebuilt_are = refl;
       log = holds.log.log;
       reaches = omega arith;
-      begins = holds.held.begins;
-      told = holds.held.told;
+      begins = holds.log.held.begins;
+      told = holds.log.held.told;
       well_formed = λ part lt. subst (λ (pages : Partition). IsWellFormed shape part pages) (sym (none_counted part)) (none_well_formed shape part);
-      map = ap (λ m. all_replayed shape holds.frames (Some m)) (no_rows shape.partitions) ∙ holds.held.map;
+      map = ap (λ m. all_replayed shape holds.log.frames (Some m)) (no_rows shape.partitions) ∙ holds.log.held.map;
     };
-    nothing_above = holds.log.nothing_above;
+    nothing_above = holds.nothing_above;
     begin_ends = tt;
     has_meta = λ part index some. absurd cc;
     ends_below = λ slot mark is. let no : None ≡ Some mark = sym (alone.ends slot) ∙ is in absurd cc;
     bare = alone.bare;
   }
 
-  alone_sound : SoundWith wanted NoStart image shape pairs → LogHolds wanted image shape pairs
+  alone_sound : SoundWith wanted NoStart image shape pairs → Holds wanted image shape pairs
   alone_sound sound = record {
-    frames = sound.holds.frames;
-    log = record { log = sound.holds.log; nothing_above = sound.nothing_above };
-    held = record {
-      begins = sound.holds.begins;
-      told = sound.holds.told;
-      map = ap (λ m. all_replayed shape sound.holds.frames (Some m)) (sym (no_rows shape.partitions)) ∙ sound.holds.map;
+    log = record {
+      frames = sound.holds.frames;
+      log = sound.holds.log;
+      held = record {
+        begins = sound.holds.begins;
+        told = sound.holds.told;
+        map = ap (λ m. all_replayed shape sound.holds.frames (Some m)) (sym (no_rows shape.partitions)) ∙ sound.holds.map;
+      };
     };
+    nothing_above = sound.nothing_above;
   }
 
-  pub alone_exactly : LogIsAlone shape.page_size image → SoundImage wanted image shape pairs ↔ LogHolds wanted image shape pairs
+  pub alone_exactly : LogIsAlone shape.page_size image → SoundImage wanted image shape pairs ↔ Holds wanted image shape pairs
   alone_exactly alone =
       let none = none_in_force shape.page_size image alone in (
         λ sound. alone_sound (subst (λ c. SoundWith wanted c image shape pairs) none sound),

@@ -1,4 +1,5 @@
--- A run of the disk machine from a folder without files, with a checkpoint of one page in it.
+-- A run of the disk machine from a folder without files: its log has two segments, and a checkpoint of one page, which begins in
+-- the second, lets the first be dropped.
 use Rattle.std.specs.Prelude.{ℕ, ◌+◌, ◌-◌, List, [], ◌∷◌, ◌++◌, replicate}
 use Rattle.pm_types.specs.declared.page_id.PageId.{PageId}
 use Rattle.pm_types.specs.declared.shape.Mark.{Mark}
@@ -27,7 +28,7 @@ first_rebuilt shape = with_page no_pages first_id (first_page shape.page_size)
 abbrev pub frame_of : Record → Frame
 frame_of found = record { kind = kind_of found; payload = payload_of found }
 
--- the log's frames: its RESTART, the page, and the begin of the checkpoint
+-- the log's frames: its RESTART and a SEAL, and in the second segment the page and the begin of the checkpoint
 abbrev pub restart_frame : Shape → Frame
 restart_frame shape = frame_of (Restart shape)
 
@@ -35,7 +36,7 @@ abbrev pub page_frame : Shape → Frame
 page_frame shape = frame_of (Snapshot first_id (first_page shape.page_size))
 
 abbrev pub begin_frame : Shape → Frame
-begin_frame shape = frame_of (CpBegin 1 (place 1 (107 + shape.page_size)))
+begin_frame shape = frame_of (CpBegin 1 (place 2 (70 + shape.page_size)))
 
 abbrev pub seal_frame : Frame
 seal_frame = frame_of Seal
@@ -44,17 +45,21 @@ seal_frame = frame_of Seal
 abbrev pub first_mark : Shape → Mark
 first_mark shape = record {
   number = 1;
-  begin = place 1 (66 + shape.page_size);
-  replay = place 1 (107 + shape.page_size);
-  from = place 1 0;
+  begin = place 2 (29 + shape.page_size);
+  replay = place 2 (70 + shape.page_size);
+  from = place 2 0;
   shape = shape;
 }
 
--- the log is opened and begun, and forced
+-- the log is opened, and its first segment is begun, sealed and forced, and left for the next one
 abbrev pub log_begun : Shape → List DiskStep
 log_begun shape =
-    OnLog CutTail ∷ OnLog Force ∷ OnLog (Append (restart_frame shape)) ∷ OnLog (Append (page_frame shape))
-    ∷ OnLog (Append (begin_frame shape)) ∷ OnLog Force ∷ []
+    OnLog CutTail ∷ OnLog Force ∷ OnLog (Append (restart_frame shape)) ∷ OnLog (Append seal_frame) ∷ OnLog Force
+    ∷ OnLog NextSegment ∷ OnLog Force ∷ []
+
+-- the second one is begun and forced
+abbrev pub log_goes_on : Shape → List DiskStep
+log_goes_on shape = OnLog (Append (page_frame shape)) ∷ OnLog (Append (begin_frame shape)) ∷ OnLog Force ∷ []
 
 -- the checkpoint begins, its page is written, and it ends
 abbrev pub checkpoint_made : Shape → List DiskStep
@@ -62,12 +67,10 @@ checkpoint_made shape =
     WriteStart (first_mark shape) (first_rebuilt shape) ∷ ForceStart ∷ WritePage first_id [] (first_page shape.page_size)
     ∷ ForcePages 0 ∷ WriteEnd (first_mark shape) ∷ ForceEnd ∷ []
 
--- a segment below the checkpoint's is dropped, a byte is said, and the log goes on in the next segment
-abbrev pub log_goes_on : List DiskStep
-log_goes_on =
-    OnLog (DropSegment 0) ∷ OnLog (ForceSegment 0) ∷ Say (0 ∷ []) ∷ OnLog (Append seal_frame) ∷ OnLog Force ∷ OnLog NextSegment
-    ∷ OnLog Force ∷ []
+-- the log's first segment is dropped, and a byte is said
+abbrev pub log_dropped : List DiskStep
+log_dropped = OnLog (DropSegment 1) ∷ OnLog (ForceSegment 1) ∷ Say (0 ∷ []) ∷ []
 
 -- one after the other
 abbrev pub first_run : Shape → List DiskStep
-first_run shape = log_begun shape ++ (checkpoint_made shape ++ log_goes_on)
+first_run shape = log_begun shape ++ (log_goes_on shape ++ (checkpoint_made shape ++ log_dropped))

@@ -4,9 +4,8 @@ use Rattle.std.specs.List.{flat_map, range_with_len}
 use Rattle.std.specs.FinMap.{from_entries}
 use Rattle.pm_types.specs.declared.shape.Shape.{Shape}
 use Rattle.pm_frame.specs.Frames.{Frame}
-use Rattle.pm_disk.specs.Files.{bytes_of, content}
+use Rattle.pm_disk.specs.Files.{bytes_of}
 use Rattle.pm_disk.specs.Images.{Image}
-use Rattle.pm_disk.specs.Worlds.{World}
 use Rattle.pm_model.specs.declared.cache_key.CacheKey.{CacheKey}
 use Rattle.pm_model.specs.Eval.{Pairs, cache_key, cache_key_cmp}
 use Rattle.pm_records.specs.FirstRecords.{begins_well, log_shape}
@@ -17,19 +16,7 @@ use Rattle.pm_pages.specs.WellFormed.{IsWellFormed}
 use Rattle.pm_marks.specs.InForce.{Checkpoint, NoStart, Started, Ended, checkpoint_in, replay_of}
 use Rattle.pm_core.specs.Replays.{all_replayed}
 use Rattle.pm_core.specs.BasePages.{Partitions, RebuiltAre, base_of, counted}
-
--- what is there now of each file
-abbrev pub image_of : World → Image
-image_of world = record {
-  log = λ seg. content (world.log seg);
-  pages = λ part. content (world.pages part);
-  starts = content world.starts;
-  ends = content world.ends;
-}
-
--- the bytes of each segment
-abbrev pub log_in : Image → ℕ → List ℕ
-log_in image seg = bytes_of (image.log seg)
+use Rattle.pm_core.specs.LogAlone.{log_in}
 
 -- the checkpoint in force
 abbrev pub in_force : Image → Checkpoint

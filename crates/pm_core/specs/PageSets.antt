@@ -32,6 +32,11 @@ abbrev pub has_part : ℕ → List PageId → Bool
 has_part part [] = false
 has_part part (page ∷ pages) = if part_of_id page == part then true else has_part part pages
 
+-- each of these pages stands once among them
+abbrev pub AreOnce : List PageId → Type 0
+AreOnce [] = Unit {0}
+AreOnce (page ∷ pages) = (has_page page pages ≡ false) × AreOnce pages
+
 -- each of these pages is among those
 abbrev pub AreAmong : List PageId → List PageId → Type 0
 AreAmong [] all = Unit {0}

@@ -4,7 +4,7 @@ use Rattle.pm_types.specs.declared.shape.Shape.{Shape}
 use Rattle.pm_frame.specs.Frames.{Frame}
 use Rattle.pm_records.specs.declared.limits.TheConstants.{PUT}
 use Rattle.pm_records.specs.Logs.{record_in}
-use Rattle.pm_records.specs.Records.{Record, Logical, Snapshot, Delta, CpBegin, Restart, Seal}
+use Rattle.pm_records.specs.Records.{Record, Logical}
 use Rattle.pm_model.specs.declared.line.Cmd.TheVariants.{Put, Remove}
 use Rattle.pm_model.specs.declared.line.Line.{Line}
 use Rattle.pm_model.specs.declared.line.Line.TheVariants.{Good}
@@ -16,17 +16,13 @@ put_replayed shape line pairs = if is_accepted shape line pairs then Some (after
 
 -- The map after a record, none where the record can't be: its payload is in no grammar, or it is a put that meets a full
 -- partition. A remove of an absent key changes nothing, and so do the records that aren't logical.
-unfoldable pub replayed : Shape → Option Record → Pairs → Option Pairs
+abbrev pub replayed : Shape → Option Record → Pairs → Option Pairs
 replayed shape None pairs = None
 replayed shape (Some (Logical op cache key value)) pairs =
     if op == PUT
     then put_replayed shape (Good (Put cache key value)) pairs
     else Some (after shape (Good (Remove cache key)) pairs)
-replayed shape (Some (Snapshot page bytes)) pairs = Some pairs
-replayed shape (Some (Delta page ranges)) pairs = Some pairs
-replayed shape (Some (CpBegin number replay)) pairs = Some pairs
-replayed shape (Some (Restart told)) pairs = Some pairs
-replayed shape (Some Seal) pairs = Some pairs
+replayed shape (Some found) pairs = Some pairs
 
 -- the map after a frame more, where there is one
 abbrev pub then_replayed : Shape → Frame → Option Pairs → Option Pairs

@@ -12,7 +12,8 @@ use Rattle.pm_records.specs.Logs.{all_frames, after_frames, IsLogFrom}
 use Rattle.pm_marks.specs.Slots.{mark_at}
 use Rattle.pm_marks.specs.InForce.{Checkpoint, NoStart, Started, Ended, number_in, replay_of}
 use Rattle.pm_core.specs.BasePages.{page_in_file, base_of, records_in}
-use Rattle.pm_core.specs.Held.{HoldsWith, image_of, in_force, log_in}
+use Rattle.pm_core.specs.LogAlone.{HasTrueFrames, image_of, log_in}
+use Rattle.pm_core.specs.Held.{HoldsWith, in_force}
 
 -- the log from the mark's begin place ends there, and every frame of it is in its grammar
 pub record BeginsLog (mark : Mark) (log : ℕ → List ℕ) (end : Place) : Type 0 where
@@ -53,9 +54,14 @@ SoundImage wanted image shape pairs = SoundWith wanted (in_force image) image sh
 abbrev pub Sound : Shape → World → Shape → Pairs → Type 0
 Sound wanted world shape pairs = SoundImage wanted (image_of world) shape pairs
 
--- Chance made no frame and no mark: each that reads as one of its place in what a crash left stood there whole when its
--- file was last forced, or after a change since.
+-- chance made no frame, and no mark
 pub record IsTrueImage (world : World) (image : Image) : Type 0 where
-  pub frames : (seg : ℕ) → IsTrueOf (all_frames.frame_at seg) (world.log seg) (image.log seg)
+  pub frames : HasTrueFrames world image
   pub starts : IsTrueOf mark_at world.starts image.starts
   pub ends : IsTrueOf mark_at world.ends image.ends
+
+-- no slot of a marker file is valid, and no partition file holds a whole page
+pub record LogIsAlone (page_size : ℕ) (image : Image) : Type 0 where
+  pub starts : (slot : ℕ) → mark_at slot (bytes_of image.starts) ≡ None
+  pub ends : (slot : ℕ) → mark_at slot (bytes_of image.ends) ≡ None
+  pub bare : AreBare NoStart page_size image.pages

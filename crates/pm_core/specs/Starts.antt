@@ -9,7 +9,8 @@ use Rattle.pm_records.specs.LogFiles.{Uncut}
 use Rattle.pm_records.specs.Logs.{after_frames}
 use Rattle.pm_marks.specs.InForce.{replay_of}
 use Rattle.pm_core.specs.BasePages.{pages_of}
-use Rattle.pm_core.specs.Held.{in_force, image_of}
+use Rattle.pm_core.specs.LogAlone.{image_of}
+use Rattle.pm_core.specs.Held.{in_force}
 use Rattle.pm_core.specs.Sound.{Sound}
 use Rattle.pm_core.specs.States.{State}
 

@@ -3,7 +3,7 @@
 //!     Idle --begin--> Begun --finish--> Ended --idle--> Idle
 //!                     wrote: these pages are in their files
 
-ghost use Rattle.std.specs.Prelude.{◌≡◌, ◌+◌, length, [], IfOk, Some, None};
+ghost use Rattle.std.specs.Prelude.{◌≡◌, ◌+◌, length, reverse, [], IfOk, Some, None};
 ghost use Rattle.std.specs.Vec.{vec_capacity};
 ghost use Rattle.pm_types.specs.declared.limits.TheConstants.{PARTITIONS_MAX};
 ghost use Rattle.pm_disk.specs.States.{HasCause, IsUsable};
@@ -11,7 +11,7 @@ ghost use Rattle.pm_marks.specs.Slots.{IsMark};
 ghost use Rattle.pm_core.specs.BasePages.{Partitions};
 ghost use Rattle.pm_core.specs.States.{State};
 ghost use Rattle.pm_core.specs.Calls.{MakesSteps, begin_steps, force_steps, finish_steps, MayBegin, MayFinish};
-ghost use Rattle.pm_core.specs.PageSets.{no_page, has_part, without_page, left_after, AreAmong};
+ghost use Rattle.pm_core.specs.PageSets.{no_page, has_part, without_page, left_after, AreAmong, AreOnce};
 
 use crate::page_set::PageSet;
 use pm_disk::{Failed, Host, PageWriter};
@@ -63,7 +63,8 @@ impl Idle {
         ensures cause { HasCause (H.Device.state host.old) (H.Device.state host.new) result }
     {
         write_start(host, &mark)?;
-        let PageSet { pages, left } = set;
+        let PageSet { pages, mut left } = set;
+        left.reverse();
         Ok(Begun { mark, pages, left })
     }
 }
@@ -73,14 +74,14 @@ impl Idle {
 pub struct Begun {
     mark: Mark,
     pages: Vec<PageId>,
-    // Those that are not written yet.
+    // Those that are not written yet, the last of them first: the next one in the set's order is at the end.
     left: Vec<PageId>,
 }
 
 impl Model for Begun {
-    ghost use Rattle.std.specs.Prelude.{◌≡◌, ◌-◌, length};
+    ghost use Rattle.std.specs.Prelude.{◌≡◌, ◌-◌, length, reverse};
     ghost use Rattle.std.specs.Vec.{vec_capacity};
-    ghost use Rattle.pm_core.specs.PageSets.{Running};
+    ghost use Rattle.pm_core.specs.PageSets.{AreOnce, Running};
 
     ghost Value = { Running };
 
@@ -90,14 +91,15 @@ impl Model for Begun {
         pages = begun.pages.items;
         spare = vec_capacity begun.pages - length begun.pages.items;
       };
-      left = begun.left.items;
+      left = reverse begun.left.items;
     } };
 
-    ghost invariant = { λ begun. vec_capacity begun.left ≡ vec_capacity begun.pages };
+    ghost invariant = { λ begun. (vec_capacity begun.left ≡ vec_capacity begun.pages) × AreOnce (reverse begun.left.items) };
 }
 
 impl Begun {
-    /// Notes that these pages are written. Each of them is a page of the checkpoint.
+    /// Notes that these pages are written. Each of them is a page of the checkpoint. In the set's order each takes the same time, and
+    /// in another one a search of those that are left.
     pub fn wrote(&mut self, pages: &[PageId])
         requires { AreAmong pages.now self.old.set.pages }
         ensures { self.new ≡ record self.old { left = left_after pages.now self.old.left } }
@@ -169,9 +171,11 @@ impl Ended {
     }
 }
 
-// Takes pages out of those that are not written.
+// Takes pages out of those that are not written, which stand the last of them first.
 fn forget_all(left: &mut Vec<PageId>, pages: &[PageId])
-    ensures left { left.new.items ≡ left_after pages.now left.old.items }
+    requires { AreOnce (reverse left.old.items) }
+    ensures left { reverse left.new.items ≡ left_after pages.now (reverse left.old.items) }
+    ensures once { AreOnce (reverse left.new.items) }
     ensures capacity { vec_capacity left.new ≡ vec_capacity left.old }
 {
     'each: for page in pages {
@@ -181,10 +185,19 @@ fn forget_all(left: &mut Vec<PageId>, pages: &[PageId])
 
 // Takes a page out of those that are not written.
 fn forget(left: &mut Vec<PageId>, page: PageId)
-    ensures left { left.new.items ≡ without_page page left.old.items }
+    requires { AreOnce (reverse left.old.items) }
+    ensures left { reverse left.new.items ≡ without_page page (reverse left.old.items) }
+    ensures once { AreOnce (reverse left.new.items) }
     ensures capacity { vec_capacity left.new ≡ vec_capacity left.old }
 {
+    let Some(next) = left.pop() else {
+        return;
+    };
+    if next.0 == page.0 {
+        return;
+    }
     left.retain(|other| other.0 != page.0);
+    left.push_reserved(next);
 }
 
 // Forces the files of the partitions of these pages.

@@ -13,9 +13,9 @@ ghost use Rattle.pm_records.specs.Records.{Record, Restart};
 ghost use Rattle.pm_marks.specs.InForce.{Checkpoint, Started, Ended};
 ghost use Rattle.pm_core.specs.BasePages.{Partitions, base_of, rebuilt_from, since_restart};
 ghost use Rattle.pm_core.specs.PageLaws.{Grows, after_record};
+ghost use Rattle.pm_core.specs.LogAlone.{Holds};
 ghost use Rattle.pm_core.specs.Held.{HoldsWith, in_force};
-ghost use Rattle.pm_core.specs.LogAlone.{LogHolds, LogIsAlone};
-ghost use Rattle.pm_core.specs.Sound.{Sound, SoundImage, IsTrueImage};
+ghost use Rattle.pm_core.specs.Sound.{LogIsAlone, Sound, SoundImage, IsTrueImage};
 ghost use Rattle.pm_core.specs.States.{State};
 ghost use Rattle.pm_core.specs.Machine.{DiskStep, OthersStay, CanStart, CanAll, states, worlds};
 ghost use Rattle.pm_core.specs.FirstRun.{first_mark, first_run};
@@ -36,7 +36,7 @@ pub fn a_folder_without_files_is_sound()
 /// Where no slot of a marker file is valid and no partition file holds a whole page, the log alone says what is held.
 pub fn the_log_alone_says_it()
     ensures same { (wanted : Shape) (image : Image) (shape : Shape) (pairs : Pairs) → LogIsAlone shape.page_size image
-        → SoundImage wanted image shape pairs ↔ LogHolds wanted image shape pairs }
+        → SoundImage wanted image shape pairs ↔ Holds wanted image shape pairs }
 {}
 
 /// With a checkpoint in force a disk holds one shape and one map.
@@ -150,8 +150,9 @@ pub fn stores_with_a_checkpoint_are_sound()
         → (image : Image) × (mark : Mark) × (in_force image ≡ Started mark) × SoundImage wanted image shape empty }
 {}
 
-/// There is a run that meets its guards, from a folder without files: the log is begun, a checkpoint begins, writes a page and ends,
-/// a segment is dropped, a byte is said, and the log goes on in its next segment. So no guard is one that nobody can meet.
+/// There is a run that meets its guards, from a folder without files: the log is begun and goes on in its second segment, in which a
+/// checkpoint begins, writes a page and ends, the first segment is dropped, which has bytes, and a byte is said. So no guard is one
+/// that nobody can meet.
 pub fn a_run_meets_its_guards()
     ensures begins { (shape : Shape) → IsShape shape → CanBegin shape length empty_world shape empty }
     ensures run { (shape : Shape) → IsShape shape → (can : CanBegin shape length empty_world shape empty)

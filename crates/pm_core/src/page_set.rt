@@ -18,7 +18,7 @@ pub struct PageSet {
 impl Model for PageSet {
     ghost use Rattle.std.specs.Prelude.{◌≡◌, ◌-◌, ◌≤◌, length};
     ghost use Rattle.std.specs.Vec.{vec_capacity};
-    ghost use Rattle.pm_core.specs.PageSets.{PageList};
+    ghost use Rattle.pm_core.specs.PageSets.{AreOnce, PageList};
 
     ghost Value = { PageList };
 
@@ -27,7 +27,8 @@ impl Model for PageSet {
       spare = vec_capacity set.pages - length set.pages.items;
     } };
 
-    ghost invariant = { λ set. (set.left.items ≡ set.pages.items) × (vec_capacity set.left ≡ vec_capacity set.pages) };
+    ghost invariant = { λ set. (set.left.items ≡ set.pages.items) × (vec_capacity set.left ≡ vec_capacity set.pages)
+        × AreOnce set.pages.items };
 }
 
 impl PageSet {
@@ -41,6 +42,7 @@ impl PageSet {
     }
 
     /// Adds a page, without taking memory.
+    #[tactic(auto, using(crate::proofs::Once::once_push))]
     pub fn add(&mut self, page: PageId)
         requires new { has_page page self.old.pages ≡ false }
         requires room { 0 < self.old.spare }

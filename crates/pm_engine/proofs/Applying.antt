@@ -7,7 +7,7 @@ use Rattle.pm_records.specs.Records.{Logical}
 use Rattle.pm_model.specs.declared.line.Cmd.TheVariants.{Put, Remove}
 use Rattle.pm_model.specs.declared.line.Line.TheVariants.{Good}
 use Rattle.pm_model.specs.Eval.{Pairs, after}
-use Rattle.pm_engine.specs.Held.{put_replayed, replayed}
+use Rattle.pm_core.specs.Replays.{put_replayed, replayed}
 use Rattle.pm_engine.specs.Openings.{ReplaysPut, Replays}
 
 applied_put : (shape : Shape) (op cache : ℕ) (key value : List ℕ) (pairs : Pairs) → op ≡ PUT → replayed shape (Some (Logical op cache key value)) pairs ≡ put_replayed shape (Good (Put cache key value)) pairs

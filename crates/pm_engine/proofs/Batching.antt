@@ -20,7 +20,7 @@ use Rattle.pm_model.specs.Eval.{Pairs, is_accepted, after, after_all, replies_to
 use Rattle.pm_model.proofs.Runs.{after_all-append, replies_to-append, accepted-append}
 use Rattle.pm_engine.specs.Batches.{RunsLines}
 use Rattle.pm_engine.specs.Engines.{Running, HasDone, HasDoneWithin, HasSegments}
-use Rattle.pm_engine.specs.Held.{CrashHoldsPrefix}
+use Rattle.pm_engine.specs.Crashes.{CrashHoldsPrefix}
 use Rattle.pm_engine.specs.Records.{line_frames, logged}
 use Rattle.pm_engine.specs.Engines.{SameAbove}
 use Rattle.pm_engine.proofs.Above.{above_less, above_then}

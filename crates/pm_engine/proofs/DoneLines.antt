@@ -15,6 +15,7 @@ use Rattle.pm_records.specs.declared.limits.TheConstants.{PUT, REMOVE}
 use Rattle.pm_records.specs.Records.{Record, Logical, Seal, IsRecord, kind_of, record_of, payload_of}
 use Rattle.pm_records.proofs.Growing.{grows_none}
 use Rattle.pm_records.proofs.RecordOf.{record_of-payload, payload_of-short}
+use Rattle.pm_disk.specs.Images.{Image}
 use Rattle.pm_disk.specs.Worlds.{World, log_forced}
 use Rattle.pm_model.specs.declared.line.Cmd.TheVariants.{Put, Get, Remove, Scan, Checkpoint}
 use Rattle.pm_model.specs.declared.line.Line.{Line}
@@ -23,22 +24,21 @@ use Rattle.pm_model.specs.Eval.{Pairs, is_accepted, after, after_all}
 use Rattle.pm_model.proofs.Runs.{after_all-append, after-not_accepted}
 use Rattle.pm_records.specs.LogFiles.{contents, LogGrowsBy, Written, IsWritten, IsRecordFrame, IsQuietBut}
 use Rattle.pm_records.specs.LogSteps.{end_after, Force, world_after, DoesPrefix, next_written, written_after, frames_in}
-use Rattle.pm_records.specs.Logs.{all_frames, IsLogFrom, without_seals, record_in, place, seal_frame}
+use Rattle.pm_records.specs.Logs.{all_frames, IsLogFrom, IsLogWithNothingAbove, without_seals, record_in, place, seal_frame}
 use Rattle.pm_records.proofs.QuietLog.{forced_quiet}
 use Rattle.pm_records.proofs.Writing.{frames_after, lasting_after}
 use Rattle.pm_segments.specs.Appends.{room_steps, append_steps, steps_of, grown}
 use Rattle.pm_segments.proofs.AppendLaw.{append_written}
 use Rattle.pm_segments.proofs.OpenLog.{open_image, room_frames, append_frames, grown_end, grown_seg, append_open, append_image, force_written, force_open}
 use Rattle.pm_segments.proofs.Quiet.{append_quiet}
+use Rattle.pm_core.proofs.Replaying.{replayed-append}
 use Rattle.pm_engine.specs.Records.{record_of_line, IsPayloadOf, logical_frame, frames_of_record, line_frames}
-use Rattle.pm_engine.specs.Held.{replayed, then_replayed, all_replayed, IsHeld, CrashHoldsPrefix}
+use Rattle.pm_core.specs.LogAlone.{IsHeld, Holds, log_in}
+use Rattle.pm_core.specs.Replays.{replayed, then_replayed}
+use Rattle.pm_engine.specs.Crashes.{CrashHoldsPrefix}
 use Rattle.pm_engine.specs.Engines.{Running, frames_of, HeldAfterPrefix, HasDone, HasDoneWithin, IsAtRest, HasSegments}
 
 -- ---- what frames hold
-
-pub all_replayed-append : (shape : Shape) (xs ys : List Frame) (found : Option Pairs) → all_replayed shape (xs ++ ys) found ≡ all_replayed shape ys (all_replayed shape xs found)
-all_replayed-append shape [] ys found = refl
-all_replayed-append shape (x ∷ xs) ys found = all_replayed-append shape xs ys (then_replayed shape x found)
 
 -- one frame more, after others
 pub held_push : (wanted : Shape) (frames : List Frame) (f : Frame) (shape : Shape) (pairs now : Pairs) → 0 < length frames → IsHeld wanted frames shape pairs → replayed shape (record_in f) pairs ≡ Some now
@@ -47,7 +47,7 @@ held_push wanted [] f shape pairs now some held does = absurd (omega (arith, som
 held_push wanted (g ∷ gs) f shape pairs now some held does = record {
   begins = held.begins;
   told = held.told;
-  map = all_replayed-append shape (g ∷ gs) (f ∷ []) (Some empty) ∙ ap (then_replayed shape f) held.map ∙ does;
+  map = replayed-append shape (g ∷ gs) (f ∷ []) (Some empty) ∙ ap (then_replayed shape f) held.map ∙ does;
 }
 
 pub seal_record : record_in seal_frame ≡ Some Seal
@@ -112,15 +112,20 @@ before_push wanted shape start done more low frames f before held n le = elim (l
       (some_all wanted shape start (done ++ more) (frames ++ f ∷ []) held)
 ]
 
+-- frames that are the whole log of an image, and hold a map
+pub holds_by : (wanted : Shape) (image : Image) (shape : Shape) (pairs : Pairs) (frames : List Frame) → IsLogWithNothingAbove all_frames (log_in image) (place 1 0) frames → IsHeld wanted frames shape pairs
+    → Holds wanted image shape pairs
+holds_by wanted image shape pairs frames log held = record { log = record { frames = frames; log = log.log; held = held }; nothing_above = log.nothing_above }
+
 -- ---- the engine at rest
 
 -- what it keeps
 pub done_keeps : (wanted : Shape) (start : Pairs) (done : List Line) (engine : Running) (world : World) → HasDone wanted start done engine world → CrashHoldsPrefix wanted engine.shape start done world
 done_keeps wanted start done engine world goes image leaves honest =
     let s = goes.written in
-    let left = open_image world 1 (place 1 0) engine.log.end s goes.log image.log leaves.log honest.frames in
+    let left = open_image world 1 (place 1 0) engine.log.end s goes.log image.log leaves.log honest in
     let h = goes.before left.0 left.1 in
-    (h.0, h.1, record { frames = take left.0 (frames_of s); log = left.2; held = h.2 })
+    (h.0, h.1, holds_by wanted image engine.shape (after_all engine.shape (take h.0 done) start) (take left.0 (frames_of s)) left.2 h.2)
 
 -- more lines keep what fewer keep
 pub keeps_more_lines : (wanted shape : Shape) (start : Pairs) (done more : List Line) (world : World) → CrashHoldsPrefix wanted shape start done world → CrashHoldsPrefix wanted shape start (done ++ more) world
@@ -128,11 +133,7 @@ keeps_more_lines wanted shape start done more world keeps image leaves honest =
     let h = keeps image leaves honest in (
       h.0,
       omega (arith, h.1, length-append done more),
-      record {
-        frames = h.2.frames;
-        log = h.2.log;
-        held = subst (λ ls. IsHeld wanted h.2.frames shape (after_all shape ls start)) (sym (take-append-le h.0 done more h.1)) h.2.held;
-      },
+      subst (λ ls. Holds wanted image shape (after_all shape ls start)) (sym (take-append-le h.0 done more h.1)) h.2,
     )
 
 -- the same with an engine of the same fields
@@ -233,9 +234,9 @@ module _ (wanted : Shape) (start : Pairs) (done : List Line) (engine : Running) 
   -- while it is appended
   pub append_keeps : (tried : Bool) (now : World) → DoesPrefix (steps_of tried engine.log f) engine.log.end old now → CrashHoldsPrefix wanted shape start (done ++ tried_line tried line) now
   append_keeps tried now some image leaves honest =
-      let left = append_image engine.log f is_record s goes.is_open tried old now 1 (place 1 0) goes.log some image.log leaves.log honest.frames in
+      let left = append_image engine.log f is_record s goes.is_open tried old now 1 (place 1 0) goes.log some image.log leaves.log honest in
       let h = before_try tried left.0 left.1 in
-      (h.0, h.1, record { frames = take left.0 (frames ++ frames_in (steps_of tried engine.log f)); log = left.2; held = h.2 })
+      (h.0, h.1, holds_by wanted image shape (after_all shape (take h.0 (done ++ tried_line tried line)) start) (take left.0 (frames ++ frames_in (steps_of tried engine.log f))) left.2 h.2)
 
   -- once it is
   pub append_done : (now : Running) → now.shape ≡ shape → now.map ≡ after shape line engine.map → now.log ≡ grown engine.log f → (world : World) → world ≡ world_after (append_steps engine.log f) engine.log.end old
@@ -316,11 +317,7 @@ module _ (wanted : Shape) (start : Pairs) (done : List Line) (engine : Running) 
       let none : after_all engine.shape (take h.0 []) engine.map ≡ engine.map = ap (λ ls. after_all engine.shape ls engine.map) (take_all h.0 [] (omega arith)) in (
         length done,
         omega arith,
-        record {
-          frames = h.2.frames;
-          log = h.2.log;
-          held = subst (λ p. IsHeld wanted h.2.frames engine.shape p) (none ∙ goes.map ∙ ap (λ ls. after_all engine.shape ls start) (sym (take-length done))) h.2.held;
-        },
+        subst (Holds wanted image engine.shape) (none ∙ goes.map ∙ ap (λ ls. after_all engine.shape ls start) (sym (take-length done))) h.2,
       )
 
   -- the log has the frames that it had

@@ -18,7 +18,7 @@ use Rattle.pm_model.specs.declared.line.Line.{Line}
 use Rattle.pm_model.specs.Eval.{Pairs}
 use Rattle.pm_engine.specs.Batches.{RunsLines}
 use Rattle.pm_engine.specs.Engines.{Running, HasDone, IsAtRestWithin, LastIsForced, SameAbove}
-use Rattle.pm_engine.specs.Held.{CrashHoldsPrefix}
+use Rattle.pm_engine.specs.Crashes.{CrashHoldsPrefix}
 use Rattle.pm_engine.proofs.DoneLines.{done_keeps, force_at_rest, force_quiet, forced_keeps, force_grows}
 use Rattle.pm_engine.proofs.Results.{ok_anyway}
 

@@ -1,6 +1,6 @@
 -- How a sound store is opened: its tail is cut, and a RESTART is appended. A crash meanwhile leaves what it held.
 use Rattle.std.proofs.Common.{◌≡◌, ◌⊎◌, inl, inr, ℕ, ◌+◌, ◌<◌, ◌≤◌, List, [], ◌∷◌, ◌++◌, length, take, drop, Some, refl, sym, ◌∙◌, ap, subst, arith, Bool, true, false, append_assoc, append-nil, length-append}
-use Rattle.std.specs.Prelude.{◌&&◌, if◌then◌else◌}
+use Rattle.std.specs.Prelude.{◌^◌, ◌&&◌, if◌then◌else◌}
 use Rattle.std.specs.FinMap.{empty}
 use Rattle.std.proofs.lemmas.Bool.{le-leb}
 use Rattle.std.proofs.lemmas.List.{take_all, nil_from_length}
@@ -33,13 +33,14 @@ use Rattle.pm_segments.specs.Ends.{LogEnd, fresh_log, has_room, LogIsOpen}
 use Rattle.pm_segments.proofs.AppendLaw.{append_written}
 use Rattle.pm_segments.proofs.OpenLog.{room_frames, append_frames, grown_end, grown_seg, append_open, append_image}
 use Rattle.pm_segments.proofs.Quiet.{append_quiet}
-use Rattle.pm_model.specs.Eval.{Pairs}
-use Rattle.pm_engine.specs.Held.{replayed, all_replayed, IsHeld, Holds, HasNumbers, CrashHoldsPrefix}
+use Rattle.pm_model.specs.Eval.{Pairs, after_all}
+use Rattle.pm_core.specs.LogAlone.{image_of, IsHeld, LogHolds, Holds, last_segment}
+use Rattle.pm_core.specs.Replays.{replayed, all_replayed}
+use Rattle.pm_engine.specs.Crashes.{CrashHoldsPrefix}
 use Rattle.pm_engine.specs.Engines.{Running, frames_of, HeldAfterPrefix, IsAtRest}
-use Rattle.pm_engine.specs.Openings.{HasMap, LogHolds, ReadsAll, OpensWith, OpensAtRest}
+use Rattle.pm_engine.specs.Openings.{HasMap, ReadsAll, OpensWith, OpensAtRest}
 use Rattle.pm_engine.specs.declared.replay.Replay.{Replay}
-use Rattle.pm_engine.proofs.Replaying.{holds_log}
-use Rattle.pm_engine.proofs.DoneLines.{held_push, held_seal, before_push}
+use Rattle.pm_engine.proofs.DoneLines.{held_push, held_seal, before_push, holds_by}
 
 zero_or : (n : ℕ) → (n ≡ 0) ⊎ (0 < n)
 zero_or n = grind arith
@@ -68,19 +69,15 @@ pub end_within : (wanted : Shape) (old : World) (end : Place) (replay : Replay) 
 end_within wanted old end replay all = subst (λ (p : Place). p.off ≤ length (bytes_of (segment_in old p.seg))) (sym all.ends) (run_within (contents old.log) (place 1 0) all.frames (omega arith) all.log.run)
 
 -- what was read is what the log holds
-pub reads_hold : (wanted : Shape) (old : World) (end : Place) (replay : Replay) → ReadsAll wanted old end replay → LogHolds wanted old replay.shape replay.map
+pub reads_hold : (wanted : Shape) (old : World) (end : Place) (replay : Replay) → ReadsAll wanted old end replay → LogHolds wanted (image_of old) replay.shape replay.map
 reads_hold wanted old end replay all = record { frames = all.frames; log = all.log; held = all.held }
 
 -- it was read up to its end
 pub read_end : (wanted : Shape) (old : World) (end : Place) (replay : Replay) → ReadsAll wanted old end replay → (frames : List Frame) → IsLogFrom all_frames (contents old.log) (place 1 0) frames → end ≡ after_frames (place 1 0) frames
 read_end wanted old end replay all frames log = all.ends ∙ ap (after_frames (place 1 0)) (one_log all_frames (contents old.log) (place 1 0) all.frames frames all.log log)
 
--- so does a sound store's
-pub sound_holds : (wanted : Shape) (old : World) (shape : Shape) (pairs : Pairs) → Holds wanted old shape pairs → LogHolds wanted old shape pairs
-sound_holds wanted old shape pairs holds = record { frames = holds.frames; log = holds.log.log; held = holds.held }
-
 -- a log holds one shape and one map
-pub holds_one : (wanted : Shape) (old : World) (shape other : Shape) (pairs others : Pairs) → LogHolds wanted old shape pairs → LogHolds wanted old other others → (shape ≡ other) × (pairs ≡ others)
+pub holds_one : (wanted : Shape) (old : World) (shape other : Shape) (pairs others : Pairs) → LogHolds wanted (image_of old) shape pairs → LogHolds wanted (image_of old) other others → (shape ≡ other) × (pairs ≡ others)
 holds_one wanted old shape other pairs others one two =
     let frames : one.frames ≡ two.frames = one_log all_frames (contents old.log) (place 1 0) one.frames two.frames one.log two.log in
     let held = subst (λ fs. IsHeld wanted fs shape pairs) frames one.held in
@@ -89,10 +86,10 @@ holds_one wanted old shape other pairs others one two =
     (shapes, same_Some pairs others maps)
 
 -- a store that was opened held the engine's map
-pub opens_hold : (wanted : Shape) (old now : World) (engine : Running) → OpensWith wanted old now engine → LogHolds wanted old engine.shape engine.map
+pub opens_hold : (wanted : Shape) (old now : World) (engine : Running) → OpensWith wanted old now engine → LogHolds wanted (image_of old) engine.shape engine.map
 opens_hold wanted old now engine opens = record { frames = opens.frames; log = opens.log; held = opens.held }
 
-pub opens_map : (wanted : Shape) (old now : World) (engine : Running) (shape : Shape) (pairs : Pairs) → OpensWith wanted old now engine → LogHolds wanted old shape pairs → HasMap shape pairs engine
+pub opens_map : (wanted : Shape) (old now : World) (engine : Running) (shape : Shape) (pairs : Pairs) → OpensWith wanted old now engine → LogHolds wanted (image_of old) shape pairs → HasMap shape pairs engine
 opens_map wanted old now engine shape pairs opens holds = holds_one wanted old engine.shape shape engine.map pairs (opens_hold wanted old now engine opens) holds
 
 -- ---- the frame that tells the shape
@@ -110,21 +107,24 @@ held_restart wanted [] shape pairs sound held =
     }
 held_restart wanted (g ∷ gs) shape pairs sound held = held_push wanted (g ∷ gs) (restart_frame shape) shape pairs pairs (omega arith) held (ap (λ r. replayed shape r pairs) (restart_record shape sound))
 
-module _ (wanted : Shape) (old : World) (shape : Shape) (pairs : Pairs) (holds : Holds wanted old shape pairs) where
+module _ (wanted : Shape) (old : World) (shape : Shape) (pairs : Pairs) (holds : Holds wanted (image_of old) shape pairs) where
   abbrev frames : List Frame
-  frames = holds.frames
+  frames = holds.log.frames
 
   abbrev end : Place
-  end = after_frames (place 1 0) holds.frames
+  end = after_frames (place 1 0) holds.log.frames
+
+  with_nothing_above : IsLogWithNothingAbove all_frames (contents old.log) (place 1 0) frames
+  with_nothing_above = record { log = holds.log.log; nothing_above = holds.nothing_above }
 
   -- what was read is what the store holds
-  pub reads_same : (at : Place) (found : Replay) (all : ReadsAll wanted old at found) → all.frames ≡ holds.frames
-  reads_same at found all = one_log all_frames (contents old.log) (place 1 0) all.frames holds.frames all.log (holds_log wanted old shape pairs holds)
+  pub reads_same : (at : Place) (found : Replay) (all : ReadsAll wanted old at found) → all.frames ≡ holds.log.frames
+  reads_same at found all = one_log all_frames (contents old.log) (place 1 0) all.frames holds.log.frames all.log holds.log.log
 
   pub reads_held : (at : Place) (found : Replay) → ReadsAll wanted old at found → (found.shape ≡ shape) × (found.map ≡ pairs)
-  reads_held at found all = holds_one wanted old found.shape shape found.map pairs (reads_hold wanted old at found all) (sound_holds wanted old shape pairs holds)
+  reads_held at found all = holds_one wanted old found.shape shape found.map pairs (reads_hold wanted old at found all) holds.log
 
-  module _ (numbered : HasNumbers holds.frames) (quiet : NothingPending old) where
+  module _ (numbered : last_segment holds < 2 ^ 62) (quiet : NothingPending old) where
     pub reads_end : (at : Place) (found : Replay) → ReadsAll wanted old at found → at ≡ end
     reads_end at found all = all.ends ∙ ap (after_frames (place 1 0)) (reads_same at found all)
 
@@ -139,11 +139,9 @@ module _ (wanted : Shape) (old : World) (shape : Shape) (pairs : Pairs) (holds :
     cutting_keeps now cuts image leaves honest = (
       0,
       omega arith,
-      record {
-        frames = frames;
-        log = opening_image old 1 (place 1 0) frames (λ seg le. quiet.log seg) (omega arith) holds.log goes_on long now cuts image.log leaves.log honest.frames;
-        held = holds.held;
-      },
+      holds_by wanted image shape pairs frames
+          (opening_image old 1 (place 1 0) frames (λ seg le. quiet.log seg) (omega arith) with_nothing_above goes_on long now cuts image.log leaves.log honest)
+          holds.log.held,
     )
 
     -- before it is
@@ -155,10 +153,10 @@ module _ (wanted : Shape) (old : World) (shape : Shape) (pairs : Pairs) (holds :
     cut = log_forced end.seg (cut_at end old)
 
     abbrev s : Written
-    s = record { at = end; lasting = holds.frames; pending = []; tail = Ready }
+    s = record { at = end; lasting = holds.log.frames; pending = []; tail = Ready }
 
     written : IsWritten cut 1 (place 1 0) end s
-    written = opened old 1 (place 1 0) frames (λ seg le. quiet.log seg) (omega arith) holds.log goes_on long
+    written = opened old 1 (place 1 0) frames (λ seg le. quiet.log seg) (omega arith) with_nothing_above goes_on long
 
     cut_quiet : IsQuietBut cut end.seg
     cut_quiet n apart =
@@ -167,7 +165,7 @@ module _ (wanted : Shape) (old : World) (shape : Shape) (pairs : Pairs) (holds :
 
     module _ (sound : IsShape shape) where
       abbrev log : LogEnd
-      log = fresh_log 1 (after_frames (place 1 0) holds.frames) shape.segment_bytes
+      log = fresh_log 1 (after_frames (place 1 0) holds.log.frames) shape.segment_bytes
 
       abbrev f : Frame
       f = restart_frame shape
@@ -197,14 +195,14 @@ module _ (wanted : Shape) (old : World) (shape : Shape) (pairs : Pairs) (holds :
 
       -- before anything is appended
       base : (n : ℕ) → length frames ≤ n → HeldAfterPrefix wanted shape pairs [] (take n frames)
-      base n le = (0, omega arith, subst (λ fs. IsHeld wanted fs shape pairs) (sym (take_all n frames le)) holds.held)
+      base n le = (0, omega arith, subst (λ fs. IsHeld wanted fs shape pairs) (sym (take_all n frames le)) holds.log.held)
 
       none_more : HoldsStill []
-      none_more = subst (λ fs. IsHeld wanted fs shape pairs × ((n : ℕ) → length frames ≤ n → HeldAfterPrefix wanted shape pairs [] (take n fs))) (sym (append-nil frames)) (holds.held, base)
+      none_more = subst (λ fs. IsHeld wanted fs shape pairs × ((n : ℕ) → length frames ≤ n → HeldAfterPrefix wanted shape pairs [] (take n fs))) (sym (append-nil frames)) (holds.log.held, base)
 
       seal_more : 0 < length frames → HoldsStill (seal_frame ∷ [])
       seal_more some =
-          let held = held_seal wanted frames shape pairs some holds.held in
+          let held = held_seal wanted frames shape pairs some holds.log.held in
           (held, before_push wanted shape pairs [] [] (length frames) frames seal_frame base held)
 
       -- an empty log has room
@@ -247,10 +245,10 @@ module _ (wanted : Shape) (old : World) (shape : Shape) (pairs : Pairs) (holds :
       -- while the RESTART is appended
       pub restart_keeps : (tried : Bool) (now : World) → DoesPrefix (steps_of tried log f) end cut now → CrashHoldsPrefix wanted shape pairs [] now
       restart_keeps tried now some image leaves honest =
-          let left = append_image log f is_record s is_open tried cut now 1 (place 1 0) written some image.log leaves.log honest.frames in
+          let left = append_image log f is_record s is_open tried cut now 1 (place 1 0) written some image.log leaves.log honest in
           let log_is = subst (λ fs. IsLogWithNothingAbove all_frames (λ seg. bytes_of (image.log seg)) (place 1 0) (take left.0 (fs ++ frames_in (steps_of tried log f)))) nothing_pending left.2 in
           let h = before_try tried left.0 left.1 in
-          (h.0, h.1, record { frames = take left.0 (frames ++ frames_in (steps_of tried log f)); log = log_is; held = h.2 })
+          (h.0, h.1, holds_by wanted image shape (after_all shape (take h.0 []) pairs) (take left.0 (frames ++ frames_in (steps_of tried log f))) log_is h.2)
 
       -- once it is
       pub restart_at_rest : (order : List ℕ) (world : World) → world ≡ world_after (append_steps log f) end cut
@@ -317,9 +315,9 @@ opens_with wanted old mid cut now at replay all same log is_log is_cut payload i
 
 -- ---- the calls of opening
 
-module _ (wanted : Shape) (old : World) (shape : Shape) (pairs : Pairs) (holds : Holds wanted old shape pairs) (numbered : HasNumbers holds.frames) (quiet : NothingPending old)
+module _ (wanted : Shape) (old : World) (shape : Shape) (pairs : Pairs) (holds : Holds wanted (image_of old) shape pairs) (numbered : last_segment holds < 2 ^ 62) (quiet : NothingPending old)
     (at : Place) (found : Replay) (all : ReadsAll wanted old at found) (mid : World) (same : mid ≡ old) where
-  there : at ≡ after_frames (place 1 0) holds.frames
+  there : at ≡ after_frames (place 1 0) holds.log.frames
   there = reads_end wanted old shape pairs holds numbered quiet at found all
 
   shapes : found.shape ≡ shape
@@ -337,16 +335,16 @@ module _ (wanted : Shape) (old : World) (shape : Shape) (pairs : Pairs) (holds :
     its_shape : IsShape shape
     its_shape = subst IsShape shapes sound
 
-    log_is : log ≡ fresh_log 1 (after_frames (place 1 0) holds.frames) shape.segment_bytes
-    log_is = is_log ∙ ap (λ p. fresh_log 1 p found.shape.segment_bytes) there ∙ ap (λ (s : Shape). fresh_log 1 (after_frames (place 1 0) holds.frames) s.segment_bytes) shapes
+    log_is : log ≡ fresh_log 1 (after_frames (place 1 0) holds.log.frames) shape.segment_bytes
+    log_is = is_log ∙ ap (λ p. fresh_log 1 p found.shape.segment_bytes) there ∙ ap (λ (s : Shape). fresh_log 1 (after_frames (place 1 0) holds.log.frames) s.segment_bytes) shapes
 
     frame_is : record { kind = RESTART; payload = payload } ≡ restart_frame shape
     frame_is = ap (λ p. let fr : Frame = record { kind = RESTART; payload = p } in fr) (is_payload ∙ ap (λ s. payload_of (Restart s)) shapes)
 
-    cut_is : cut_world ≡ log_forced (after_frames (place 1 0) holds.frames).seg (cut_at (after_frames (place 1 0) holds.frames) old)
+    cut_is : cut_world ≡ log_forced (last_segment holds) (cut_at (after_frames (place 1 0) holds.log.frames) old)
     cut_is =
         is_cut ∙ ap (λ (p : Place). log_forced p.seg (cut_at p mid)) there
-        ∙ ap (λ w. log_forced (after_frames (place 1 0) holds.frames).seg (cut_at (after_frames (place 1 0) holds.frames) w)) same
+        ∙ ap (λ w. log_forced (last_segment holds) (cut_at (after_frames (place 1 0) holds.log.frames) w)) same
 
     -- the RESTART is appended
     pub some_all : (tried : Bool) (now : World) → DoesPrefix (steps_of tried log frame) log.end cut_world now → CrashHoldsPrefix wanted shape pairs [] now
@@ -355,15 +353,15 @@ module _ (wanted : Shape) (old : World) (shape : Shape) (pairs : Pairs) (holds :
         (subst (λ (x : LogEnd × (Frame × World)). DoesPrefix (steps_of tried x.0 x.1.0) x.0.end x.1.1 now) (λ i. (log_is i, (frame_is i, cut_is i))) some)
 
     pub opened_at_rest : (engine : Running) (now : World) → engine.shape ≡ found.shape → engine.map ≡ found.map → engine.log ≡ grown log frame → now ≡ world_after (append_steps log frame) log.end cut_world
-        → OpensAtRest wanted holds.frames old now engine
+        → OpensAtRest wanted (last_segment holds) old now engine
     opened_at_rest engine now its maps logs is =
         let held = reads_held wanted old shape pairs holds at found all in
-        let log_now : engine.log ≡ grown (fresh_log 1 (after_frames (place 1 0) holds.frames) shape.segment_bytes) (restart_frame shape) = logs ∙ (λ i. grown (log_is i) (frame_is i)) in
-        let world_now : now ≡ world_after (append_steps (fresh_log 1 (after_frames (place 1 0) holds.frames) shape.segment_bytes) (restart_frame shape)) (after_frames (place 1 0) holds.frames) (log_forced (after_frames (place 1 0) holds.frames).seg (cut_at (after_frames (place 1 0) holds.frames) old)) =
+        let log_now : engine.log ≡ grown (fresh_log 1 (after_frames (place 1 0) holds.log.frames) shape.segment_bytes) (restart_frame shape) = logs ∙ (λ i. grown (log_is i) (frame_is i)) in
+        let world_now : now ≡ world_after (append_steps (fresh_log 1 (after_frames (place 1 0) holds.log.frames) shape.segment_bytes) (restart_frame shape)) (after_frames (place 1 0) holds.log.frames) (log_forced (last_segment holds) (cut_at (after_frames (place 1 0) holds.log.frames) old)) =
         is ∙ (λ i. world_after (append_steps (log_is i) (frame_is i)) (log_is i).end (cut_is i)) in
         let done = restart_at_rest wanted old shape pairs holds numbered quiet its_shape engine.order now world_now in
         let grows = restart_grows wanted old shape pairs holds numbered quiet its_shape now world_now in
         let maps_to : engine.map ≡ pairs = maps ∙ held.1 in
         let shapes_to : engine.shape ≡ shape = its ∙ held.0 in
-        subst (λ (e : Running). OpensAtRest wanted holds.frames old now e)
+        subst (λ (e : Running). OpensAtRest wanted (last_segment holds) old now e)
         (λ i. record { shape = sym shapes_to i; map = sym maps_to i; log = sym log_now i; order = engine.order }) record { at_rest = done.0; rises = done.1; grows = grows }

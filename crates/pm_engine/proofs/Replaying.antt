@@ -9,17 +9,18 @@ use Rattle.pm_types.specs.declared.shape.Shape.{Shape}
 use Rattle.pm_frame.specs.Frames.{Frame}
 use Rattle.pm_records.specs.Records.{Record, Logical, Snapshot, Delta, CpBegin, Restart, Seal}
 use Rattle.pm_disk.specs.Worlds.{World}
-use Rattle.pm_records.specs.FirstRecords.{is_restart, shape_in, log_shape}
+use Rattle.pm_records.specs.FirstRecords.{is_restart, shape_in}
 use Rattle.pm_records.specs.LogFiles.{contents}
-use Rattle.pm_records.specs.Logs.{enters_next, record_in, place, all_frames, after_frames, IsLogFrom}
-use Rattle.pm_records.proofs.Runs.{next-enters, next-stays, run_begins, run_last, bool_cases}
+use Rattle.pm_records.specs.Logs.{enters_next, record_in, place, all_frames}
+use Rattle.pm_records.proofs.Runs.{next-enters, next-stays, run_begins, bool_cases, option_cases}
 use Rattle.pm_segments.specs.Scans.{Scanned, frame_ahead, Advances}
 use Rattle.pm_segments.proofs.Reading.{scan_goes, scan_ends}
 use Rattle.pm_model.specs.Eval.{Pairs}
-use Rattle.pm_engine.specs.Held.{replayed, then_replayed, all_replayed, IsHeld, Holds}
-use Rattle.pm_engine.specs.Openings.{IsBadAfter, IsBadRecord, AppliesFrame, IsReplayOf, LogHoldsNothing, ReadsPrefix, ReadsAll}
+use Rattle.pm_core.specs.LogAlone.{IsHeld}
+use Rattle.pm_core.specs.Replays.{replayed, then_replayed, all_replayed}
+use Rattle.pm_core.proofs.Replaying.{replayed-append, replayed-none}
+use Rattle.pm_engine.specs.Openings.{IsBadRecord, AppliesFrame, IsReplayOf, LogHoldsNothing, ReadsPrefix, ReadsAll}
 use Rattle.pm_engine.specs.declared.replay.Replay.{Replay}
-use Rattle.pm_engine.proofs.DoneLines.{all_replayed-append}
 
 -- a RESTART leaves the map as it is
 restart_leaves : (shape : Shape) (found : Option Record) (pairs : Pairs) → is_restart found ≡ true → replayed shape found pairs ≡ Some pairs
@@ -67,38 +68,41 @@ replay_more wanted (g ∷ gs) old new f found takes =
         begins = found.held.begins;
         told = more.1 ∙ found.held.told;
         map = ap (λ s. all_replayed s ((g ∷ gs) ++ f ∷ []) (Some empty)) more.1
-            ∙ all_replayed-append old.shape (g ∷ gs) (f ∷ []) (Some empty) ∙ ap (then_replayed old.shape f) found.held.map ∙ more.0;
+            ∙ replayed-append old.shape (g ∷ gs) (f ∷ []) (Some empty) ∙ ap (then_replayed old.shape f) found.held.map ∙ more.0;
       };
       begun = more.2;
     }
 
 -- or it can't stand there
-pub replay_bad : (wanted : Shape) (frames : List Frame) (old new : Replay) (f : Frame) → IsReplayOf wanted frames old → AppliesFrame false old new (record_in f) → IsBadAfter wanted frames f
-replay_bad wanted [] old new f found takes = takes.0 found.begun
-replay_bad wanted (g ∷ gs) old new f found takes =
-    let shape : old.shape ≡ log_shape wanted (g ∷ gs) = found.held.told in (
-      old.map,
-      subst (λ s. IsHeld wanted (g ∷ gs) s old.map) shape found.held,
-      ap (λ s. replayed s (record_in f) old.map) (sym shape) ∙ takes.1 found.begun,
-    )
+pub replay_bad : (wanted : Shape) (frames : List Frame) (old new : Replay) (f : Frame) → IsReplayOf wanted frames old → AppliesFrame false old new (record_in f)
+    → (shape : Shape) (pairs : Pairs) → IsHeld wanted (frames ++ f ∷ []) shape pairs → ⊥
+replay_bad wanted [] old new f found takes shape pairs held = let both : true ≡ false = sym held.begins ∙ takes.0 found.begun in absurd cc
+replay_bad wanted (g ∷ gs) old new f found takes shape pairs held =
+    let told : shape ≡ old.shape = held.told ∙ sym found.held.told in
+    let none : all_replayed shape ((g ∷ gs) ++ f ∷ []) (Some empty) ≡ None =
+    ap (λ s. all_replayed s ((g ∷ gs) ++ f ∷ []) (Some empty)) told ∙ replayed-append old.shape (g ∷ gs) (f ∷ []) (Some empty)
+    ∙ ap (then_replayed old.shape f) found.held.map ∙ takes.1 found.begun in
+    let both : Some pairs ≡ None = sym held.map ∙ none in absurd cc
 
 -- ---- a bad record makes a store unsound
 
--- once there is none, no map comes
-none_stays : (shape : Shape) (frames : List Frame) → all_replayed shape frames None ≡ None
-none_stays shape [] = refl
-none_stays shape (f ∷ frames) = none_stays shape frames
+-- where frames hold a map, so do those up to one of them
+front_map : (shape : Shape) (before : List Frame) (f : Frame) (rest : List Frame) (pairs : Pairs) → all_replayed shape (before ++ f ∷ rest) (Some empty) ≡ Some pairs
+    → (part : Pairs) × (all_replayed shape (before ++ f ∷ []) (Some empty) ≡ Some part)
+front_map shape before f rest pairs is = elim (option_cases (all_replayed shape (before ++ f ∷ []) (Some empty))) [
+  | inl none ↦
+      let both : Some pairs ≡ None =
+      sym is ∙ ap (λ l. all_replayed shape l (Some empty)) (sym (append_assoc before (f ∷ []) rest))
+      ∙ replayed-append shape (before ++ f ∷ []) rest (Some empty) ∙ ap (all_replayed shape rest) none ∙ replayed-none shape rest in absurd cc
+  | inr some ↦ (some.0, some.1)
+]
 
-pub bad_unsound : (wanted : Shape) (before : List Frame) (f : Frame) (rest : List Frame) (shape : Shape) (pairs : Pairs) → IsBadAfter wanted before f → IsHeld wanted (before ++ f ∷ rest) shape pairs → ⊥
-bad_unsound wanted [] f rest shape pairs bad held = let both : true ≡ false = sym held.begins ∙ bad in absurd cc
+pub bad_unsound : (wanted : Shape) (before : List Frame) (f : Frame) (rest : List Frame) (shape : Shape) (pairs : Pairs)
+    → ((told : Shape) (map : Pairs) → IsHeld wanted (before ++ f ∷ []) told map → ⊥) → IsHeld wanted (before ++ f ∷ rest) shape pairs → ⊥
+bad_unsound wanted [] f rest shape pairs bad held =
+    let front = front_map shape [] f rest pairs held.map in bad shape front.0 (record { begins = held.begins; told = held.told; map = front.1 })
 bad_unsound wanted (g ∷ gs) f rest shape pairs bad held =
-    let all : all_replayed shape ((g ∷ gs) ++ f ∷ rest) (Some empty) ≡ None =
-    ap (λ s. all_replayed s ((g ∷ gs) ++ f ∷ rest) (Some empty)) held.told
-    ∙ all_replayed-append (log_shape wanted (g ∷ gs)) (g ∷ gs) (f ∷ rest) (Some empty)
-    ∙ ap (λ o. all_replayed (log_shape wanted (g ∷ gs)) rest (then_replayed (log_shape wanted (g ∷ gs)) f o)) bad.1.map
-    ∙ ap (all_replayed (log_shape wanted (g ∷ gs)) rest) bad.2
-    ∙ none_stays (log_shape wanted (g ∷ gs)) rest in
-    let both : Some pairs ≡ None = sym held.map ∙ all in absurd cc
+    let front = front_map shape (g ∷ gs) f rest pairs held.map in bad shape front.0 (record { begins = held.begins; told = held.told; map = front.1 })
 
 -- ---- a scan
 
@@ -108,10 +112,6 @@ further_by scan later f advances = elim (bool_cases (enters_next scan.next f)) [
   | inl enters ↦ let to = advances.1 ∙ next-enters scan.next f enters in inl (omega (arith, ap (λ (p : Place). p.seg) to))
   | inr stays ↦ let to = advances.1 ∙ next-stays scan.next f stays in inr (sym (ap (λ (p : Place). p.seg) to), omega (arith, ap (λ (p : Place). p.off) to))
 ]
-
--- the log that a sound store has
-pub holds_log : (wanted : Shape) (world : World) (shape : Shape) (pairs : Pairs) (holds : Holds wanted world shape pairs) → IsLogFrom all_frames (contents world.log) (place 1 0) holds.frames
-holds_log wanted world shape pairs holds = holds.log.log
 
 module _ (wanted : Shape) (world : World) (scan later : Scanned) (old new : Replay) (reads : ReadsPrefix wanted world scan old) where
   -- one frame more was read
@@ -132,13 +132,12 @@ module _ (wanted : Shape) (world : World) (scan later : Scanned) (old new : Repl
   pub reads_bad : (f : Frame) → frame_ahead scan world ≡ Some f → Advances scan later (Some f) → AppliesFrame false old new (record_in f) → IsBadRecord wanted world later.place
   reads_bad f stands advances takes =
       let goes = scan_goes world (place 1 0) reads.frames scan later f reads.scanned stands advances in
-      let there : after_frames (place 1 0) reads.frames ≡ later.place = sym reads.scanned.next ∙ sym advances.0 in
       record {
         before = reads.frames;
-        run = reads.scanned.run;
-        there = there;
         frame = f;
-        stands = subst (λ (p : Place). all_frames.frame_at p.seg p.off (contents world.log p.seg) ≡ Some f) there (run_last all_frames (contents world.log) (place 1 0) reads.frames f goes.run);
+        run = goes.run;
+        there = sym reads.scanned.next ∙ sym advances.0;
+        held = (old.shape, old.map, reads.is_replay.held);
         bad = replay_bad wanted reads.frames old new f reads.is_replay takes;
       }
 

@@ -15,7 +15,7 @@ use Rattle.pm_model.specs.declared.line.Line.{Line}
 use Rattle.pm_model.specs.Eval.{Pairs, is_accepted, accepted, after}
 use Rattle.pm_engine.specs.Batches.{noted, RunsLines}
 use Rattle.pm_engine.specs.Engines.{Running}
-use Rattle.pm_engine.specs.Held.{CrashHoldsPrefix}
+use Rattle.pm_engine.specs.Crashes.{CrashHoldsPrefix}
 use Rattle.pm_engine.specs.Records.{logical_frame, line_frames, logged}
 use Rattle.pm_segments.specs.Appends.{grown}
 use Rattle.pm_segments.specs.Ends.{LogEnd}

@@ -15,7 +15,7 @@ use Rattle.pm_model.specs.declared.line.Line.{Line}
 use Rattle.pm_model.specs.declared.reply.Reply.{Reply}
 use Rattle.pm_model.specs.Eval.{Pairs, accepted, after_all, replies_to}
 use Rattle.pm_engine.specs.Engines.{Running, HasDone, HasSegments, SameAbove}
-use Rattle.pm_engine.specs.Held.{CrashHoldsPrefix}
+use Rattle.pm_engine.specs.Crashes.{CrashHoldsPrefix}
 use Rattle.pm_engine.specs.Records.{logged}
 
 -- a fault that a call on a host or out of memory gives: no record and no page is bad

@@ -8,7 +8,7 @@ use Rattle.pm_records.specs.Logs.{place}
 use Rattle.pm_segments.specs.Ends.{LogEnd, LogIsOpen}
 use Rattle.pm_model.specs.declared.line.Line.{Line}
 use Rattle.pm_model.specs.Eval.{Pairs, after_all}
-use Rattle.pm_engine.specs.Held.{IsHeld}
+use Rattle.pm_core.specs.LogAlone.{IsHeld}
 
 -- An engine that runs: its store's shape, its map, where its log ends, and the numbers of the accepted lines whose records were
 -- handed to the log.

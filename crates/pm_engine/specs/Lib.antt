@@ -1,6 +1,6 @@
 pub mod Batches
+pub mod Crashes
 pub mod Engines
-pub mod Held
 pub mod Openings
 pub mod Records
 pub mod StoredShapes

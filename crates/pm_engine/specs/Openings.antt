@@ -1,5 +1,5 @@
 -- How a store is opened.
-use Rattle.std.specs.Prelude.{◌≡◌, ◌⊎◌, ◌+◌, ◌<◌, ◌≤◌, List, [], ◌∷◌, ◌++◌, Bool, true, false, Option, Some, None}
+use Rattle.std.specs.Prelude.{ℕ, ◌≡◌, ◌⊎◌, ◌+◌, ◌<◌, ◌≤◌, List, [], ◌∷◌, ◌++◌, Bool, true, false, Option, Some, None}
 use Rattle.pm_types.specs.declared.fault.Field.{Field}
 use Rattle.pm_types.specs.declared.place.Place.{Place}
 use Rattle.pm_types.specs.declared.shape.Shape.{Shape}
@@ -9,36 +9,30 @@ use Rattle.pm_segments.specs.Ends.{fresh_log}
 use Rattle.pm_records.specs.LogSteps.{Step, world_after, cut_steps}
 use Rattle.pm_records.specs.Records.{Record}
 use Rattle.pm_disk.specs.Worlds.{World}
-use Rattle.pm_records.specs.FirstRecords.{restart_frame, is_restart, shape_in, log_shape}
+use Rattle.pm_records.specs.FirstRecords.{restart_frame, is_restart, shape_in}
 use Rattle.pm_records.specs.LogFiles.{contents, LogGrowsBy}
 use Rattle.pm_records.specs.Logs.{record_in, place, all_frames, HasFrames, after_frames, IsLogFrom}
 use Rattle.pm_segments.specs.Read.{HasScanned}
 use Rattle.pm_segments.specs.Scans.{Scanned, frame_ahead, Advances}
 use Rattle.pm_model.specs.declared.line.Line.{Line}
 use Rattle.pm_model.specs.Eval.{Pairs}
-use Rattle.pm_engine.specs.Held.{put_replayed, replayed, IsHeld}
+use Rattle.pm_core.specs.LogAlone.{image_of, IsHeld, LogHolds}
+use Rattle.pm_core.specs.Replays.{put_replayed, replayed}
 use Rattle.pm_engine.specs.Engines.{Running, IsAtRest}
 use Rattle.pm_engine.specs.StoredShapes.{shape_fault}
 use Rattle.pm_engine.specs.declared.replay.Replay.{Replay}
 use Rattle.pm_engine.specs.declared.replay.ReplayStep.{ReplayStep}
 use Rattle.pm_engine.specs.declared.replay.ReplayStep.TheVariants as replay_step
 
--- A frame can't stand after these others, which are well: it is the first one and no RESTART, its payload is in no grammar, or it
--- is a put that meets a full partition.
-abbrev pub IsBadAfter : Shape → List Frame → Frame → Type 0
-IsBadAfter wanted [] frame = is_restart (record_in frame) ≡ false
-IsBadAfter wanted (first ∷ frames) frame =
-    (pairs : Pairs) × IsHeld wanted (first ∷ frames) (log_shape wanted (first ∷ frames)) pairs
-    × (replayed (log_shape wanted (first ∷ frames)) (record_in frame) pairs ≡ None)
-
--- the record at this place of the log is bad, and none before it is
+-- The record at this place of the log is bad, and none before it is: the frames before it hold a map, and with it they hold none.
+-- It is the first one and no RESTART, its payload is in no grammar, or it is a put that meets a full partition.
 pub record IsBadRecord (wanted : Shape) (world : World) (at : Place) : Type 0 where
   pub before : List Frame
-  pub run : HasFrames all_frames (contents world.log) (place 1 0) before
-  pub there : after_frames (place 1 0) before ≡ at
   pub frame : Frame
-  pub stands : all_frames.frame_at at.seg at.off (contents world.log at.seg) ≡ Some frame
-  pub bad : IsBadAfter wanted before frame
+  pub run : HasFrames all_frames (contents world.log) (place 1 0) (before ++ frame ∷ [])
+  pub there : after_frames (place 1 0) before ≡ at
+  pub held : (shape : Shape) × (pairs : Pairs) × IsHeld wanted before shape pairs
+  pub bad : (shape : Shape) (pairs : Pairs) → IsHeld wanted (before ++ frame ∷ []) shape pairs → ⊥
 
 -- whether there is a frame
 abbrev pub is_some_frame : List Frame → Bool
@@ -111,15 +105,9 @@ pub record ReadsAll (wanted : Shape) (world : World) (end : Place) (replay : Rep
 abbrev pub IsSame : World → World → Type 0
 IsSame old now = now ≡ old
 
--- The log can be replayed, and holds this shape and this map. What stands above its end isn't looked at.
-pub record LogHolds (wanted : Shape) (world : World) (shape : Shape) (pairs : Pairs) : Type 0 where
-  pub frames : List Frame
-  pub log : IsLogFrom all_frames (contents world.log) (place 1 0) frames
-  pub held : IsHeld wanted frames shape pairs
-
 -- no map is held: the log can't be replayed
 abbrev pub LogHoldsNothing : Shape → World → Type 0
-LogHoldsNothing wanted world = (shape : Shape) (pairs : Pairs) → LogHolds wanted world shape pairs → ⊥
+LogHoldsNothing wanted world = (shape : Shape) (pairs : Pairs) → LogHolds wanted (image_of world) shape pairs → ⊥
 
 -- a store isn't opened where its shape differs from the wanted one, or its log can't be replayed
 abbrev pub CanNotOpen : Shape → World → Type 0
@@ -144,10 +132,11 @@ pub record OpensWith (wanted : Shape) (old now : World) (engine : Running) : Typ
   pub end : engine.log ≡ grown (fresh_log 1 (after_frames (place 1 0) frames) engine.shape.segment_bytes) (restart_frame engine.shape)
   pub steps : now ≡ world_after (opening_steps (after_frames (place 1 0) frames) engine.shape) (after_frames (place 1 0) frames) old
 
--- A sound store was opened: the engine is at rest, and the log is in the same segment or in the next one and has one frame more.
-pub record OpensAtRest (wanted : Shape) (frames : List Frame) (old now : World) (engine : Running) : Type 0 where
+-- A sound store, whose log ended in this segment, was opened: the engine is at rest, and the log is in the same segment or in the
+-- next one and has one frame more.
+pub record OpensAtRest (wanted : Shape) (last : ℕ) (old now : World) (engine : Running) : Type 0 where
   pub at_rest : IsAtRest wanted engine now
-  pub rises : engine.log.end.seg ≤ (after_frames (place 1 0) frames).seg + 1
+  pub rises : engine.log.end.seg ≤ last + 1
   pub grows : LogGrowsBy old now (restart_frame engine.shape ∷ [])
 
 -- the engine has this shape and this map

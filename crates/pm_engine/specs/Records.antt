@@ -6,20 +6,16 @@ use Rattle.pm_records.specs.declared.limits.TheConstants.{PUT, REMOVE}
 use Rattle.pm_records.specs.Logs.{record_frame}
 use Rattle.pm_records.specs.Records.{Record, IsRecord, Logical, payload_of}
 use Rattle.pm_types.specs.declared.shape.Shape.{Shape}
-use Rattle.pm_model.specs.declared.line.Cmd.TheVariants.{Put, Get, Remove, Scan, Checkpoint}
+use Rattle.pm_model.specs.declared.line.Cmd.TheVariants.{Put, Remove}
 use Rattle.pm_model.specs.declared.line.Line.{Line}
-use Rattle.pm_model.specs.declared.line.Line.TheVariants.{Good, Bad, Long}
+use Rattle.pm_model.specs.declared.line.Line.TheVariants.{Good}
 use Rattle.pm_model.specs.Eval.{Pairs, is_accepted, after}
 
 -- the record of a line, where it has one
 abbrev pub record_of_line : Line → Option Record
 record_of_line (Good (Put cache key value)) = Some (Logical PUT cache key value)
-record_of_line (Good (Get cache key)) = None
 record_of_line (Good (Remove cache key)) = Some (Logical REMOVE cache key [])
-record_of_line (Good (Scan cache)) = None
-record_of_line (Good Checkpoint) = None
-record_of_line Bad = None
-record_of_line Long = None
+record_of_line line = None
 
 -- the payload of a record that is in its grammar, where there is one
 abbrev pub IsPayloadOf : Option Record → List ℕ → Type 0

@@ -7,27 +7,17 @@ use Rattle.pm_types.specs.declared.fault.StoreFault.TheVariants.{Failed, Memory,
 use Rattle.pm_types.specs.declared.shape.Shape.{Shape}
 use Rattle.pm_config.specs.Differences.{first_difference_of}
 use Rattle.pm_disk.specs.Worlds.{World}
+use Rattle.pm_records.specs.FirstRecords.{shape_in}
 use Rattle.pm_records.specs.LogFiles.{contents}
 use Rattle.pm_records.specs.Logs.{all_frames, record_in}
-use Rattle.pm_records.specs.Records.{Record, Logical, Snapshot, Delta, CpBegin, Restart, Seal}
 
--- the shape that a record holds, where it is a RESTART
-abbrev pub restart_shape : Option Record → Option Shape
-restart_shape None = None
-restart_shape (Some (Logical op cache key value)) = None
-restart_shape (Some (Snapshot page bytes)) = None
-restart_shape (Some (Delta page ranges)) = None
-restart_shape (Some (CpBegin number replay)) = None
-restart_shape (Some (Restart shape)) = Some shape
-restart_shape (Some Seal) = None
-
--- the shape that a store has: that of the RESTART with which its log begins
-unfoldable pub stored_shape : World → Option Shape
-stored_shape world = option_and_then (λ frame. restart_shape (record_in frame)) (all_frames.frame_at 1 0 (contents world.log 1))
+-- the shape that a store has: that of the RESTART with which its log begins, or the wanted one where it begins with none
+unfoldable pub stored_shape : Shape → World → Shape
+stored_shape wanted world = shape_in wanted (option_and_then record_in (all_frames.frame_at 1 0 (contents world.log 1)))
 
 -- the first field by which the store's shape differs from the wanted one
 unfoldable pub shape_fault : Shape → World → Option Field
-shape_fault wanted world = option_and_then (λ told. first_difference_of told wanted) (stored_shape world)
+shape_fault wanted world = first_difference_of (stored_shape wanted world) wanted
 
 -- The fault of an opening says how the store's shape compares with the wanted one: it names the field that differs, and a record
 -- is bad only where none differs.

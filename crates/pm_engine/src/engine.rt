@@ -18,7 +18,7 @@ ghost use Rattle.pm_model.specs.Eval.{Pairs, reply_to, after, is_accepted};
 ghost use Rattle.pm_model.specs.Partitions.{ArePartitions};
 ghost use Rattle.pm_engine.specs.Batches.{HasPlainFault, RunsLines, HasReplied, noted};
 ghost use Rattle.pm_engine.specs.Engines.{HasDone, HasDoneWithin, IsAtRest, IsAtRestWithin, HasSegments, LastIsForced, SameAbove};
-ghost use Rattle.pm_engine.specs.Held.{CrashHoldsPrefix};
+ghost use Rattle.pm_engine.specs.Crashes.{CrashHoldsPrefix};
 ghost use Rattle.pm_engine.specs.Records.{record_of_line, IsPayloadOf, logical_frame};
 
 use crate::record::write_record;

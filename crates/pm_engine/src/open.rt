@@ -1,7 +1,7 @@
 //! How a store is opened.
 
 ghost use Rattle.pm_disk.specs.States.{IsUsable};
-ghost use Rattle.std.specs.Prelude.{◌≡◌, ◌+◌, ◌<◌, ◌≤◌, List, [], None, false, IfOk, IfErr, OnOk, IsErrOf};
+ghost use Rattle.std.specs.Prelude.{◌^◌, ◌≡◌, ◌+◌, ◌<◌, ◌≤◌, List, [], None, false, IfOk, IfErr, OnOk, IsErrOf};
 ghost use Rattle.std.specs.FinMap.{empty};
 ghost use Rattle.pm_types.specs.declared.place.Place.{Place};
 ghost use Rattle.pm_types.specs.declared.shape.Shape.{Shape};
@@ -17,7 +17,8 @@ ghost use Rattle.pm_engine.specs.Engines.{SameAbove};
 ghost use Rattle.pm_segments.specs.Ends.{EndsThere};
 ghost use Rattle.pm_segments.specs.Scans.{IsAhead};
 ghost use Rattle.pm_engine.specs.Batches.{HasOpenFault, HasStoreFault};
-ghost use Rattle.pm_engine.specs.Held.{Holds, HasNumbers, CrashHoldsPrefix};
+ghost use Rattle.pm_core.specs.LogAlone.{image_of, Holds, last_segment};
+ghost use Rattle.pm_engine.specs.Crashes.{CrashHoldsPrefix};
 ghost use Rattle.pm_engine.specs.Openings.{ReplaysNext, IsFurther, ReadsAll, IsSame, IsBadStore, LogHoldsNothing, CanNotOpen, OpensWith, OpensAtRest};
 ghost use Rattle.pm_engine.specs.StoredShapes.{ComparesShape, shape_fault};
 
@@ -60,11 +61,11 @@ impl Engine {
 
         // What a crash leaves, meanwhile and from then on.
         ensures at_rest { H.tells → (shape : Shape) (pairs : Pairs) →
-            (holds : Holds wanted (H.history host.old).world shape pairs) → HasNumbers holds.frames →
+            (holds : Holds wanted (image_of (H.history host.old).world) shape pairs) → last_segment holds < 2 ^ 62 →
             NothingPending (H.history host.old).world → IfOk result (λ engine. OpensAtRest wanted
-            holds.frames (H.history host.old).world (H.history host.new).world engine) }
+            (last_segment holds) (H.history host.old).world (H.history host.new).world engine) }
         ensures crash { H.tells → (shape : Shape) (pairs : Pairs) →
-            (holds : Holds wanted (H.history host.old).world shape pairs) → HasNumbers holds.frames →
+            (holds : Holds wanted (image_of (H.history host.old).world) shape pairs) → last_segment holds < 2 ^ 62 →
             NothingPending (H.history host.old).world →
             AllMoments (H.history host.old) (H.history host.new) (CrashHoldsPrefix wanted shape pairs []) }
         ensures log_only { H.tells → AllMoments (H.history host.old) (H.history host.new)
@@ -94,11 +95,11 @@ impl Engine {
         ensures bad { H.tells → (at : Place) → IsErrOf result (StoreFault.BadRecord at) →
             IsBadStore wanted at (H.history host.old).world (H.history host.new).world }
         ensures at_rest { H.tells → (shape : Shape) (pairs : Pairs) →
-            (holds : Holds wanted (H.history host.old).world shape pairs) → HasNumbers holds.frames →
+            (holds : Holds wanted (image_of (H.history host.old).world) shape pairs) → last_segment holds < 2 ^ 62 →
             NothingPending (H.history host.old).world → IfOk result (λ engine. OpensAtRest wanted
-            holds.frames (H.history host.old).world (H.history host.new).world engine) }
+            (last_segment holds) (H.history host.old).world (H.history host.new).world engine) }
         ensures crash { H.tells → (shape : Shape) (pairs : Pairs) →
-            (holds : Holds wanted (H.history host.old).world shape pairs) → HasNumbers holds.frames →
+            (holds : Holds wanted (image_of (H.history host.old).world) shape pairs) → last_segment holds < 2 ^ 62 →
             NothingPending (H.history host.old).world →
             AllMoments (H.history host.old) (H.history host.new) (CrashHoldsPrefix wanted shape pairs []) }
         ensures log_only { H.tells → AllMoments (H.history host.old) (H.history host.new)

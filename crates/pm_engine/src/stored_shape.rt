@@ -4,10 +4,11 @@ ghost use Rattle.std.specs.Prelude.{◌≡◌, None, IfOk, IfErr, IsErrOf, OnOk}
 ghost use Rattle.pm_types.specs.declared.place.Place.{Place};
 ghost use Rattle.pm_disk.specs.Moments.{AllMoments};
 ghost use Rattle.pm_disk.specs.States.{IsUsable};
+ghost use Rattle.pm_records.specs.FirstRecords.{shape_in};
 ghost use Rattle.pm_records.specs.Records.{record_of};
 ghost use Rattle.pm_engine.specs.Batches.{HasOpenFault, HasPlainFault};
 ghost use Rattle.pm_engine.specs.Openings.{IsSame};
-ghost use Rattle.pm_engine.specs.StoredShapes.{ComparesShape, restart_shape, shape_fault, stored_shape};
+ghost use Rattle.pm_engine.specs.StoredShapes.{ComparesShape, shape_fault, stored_shape};
 
 use pm_config::first_difference;
 use pm_disk::Host;
@@ -31,36 +32,34 @@ pub(crate) fn compare_shape<H: Host>(
     ensures known { (at : Place) → IsErrOf result (OpenFault.Store (StoreFault.BadRecord at)) → ⊥ }
     ensures cause { HasOpenFault (H.state host.old) (H.state host.new) result }
 {
-    let Some(told) = stored_shape(alloc, host)? else {
-        return Ok(());
-    };
+    let told = stored_shape(alloc, host, wanted)?;
     match first_difference(&told, &wanted) {
         Some(field) => Err(OpenFault::Shape(field)),
         None => Ok(()),
     }
 }
 
-// The shape that the store has: none where its log doesn't begin with a RESTART.
-fn stored_shape<H: Host>(alloc: Global, host: &mut H) -> Result<Option<Shape>, StoreFault>
+// The shape that the store has, or the wanted one where its log doesn't begin with a RESTART.
+fn stored_shape<H: Host>(alloc: Global, host: &mut H, wanted: Shape) -> Result<Shape, StoreFault>
     requires usable { IsUsable (H.state host.old) }
-    ensures shape { H.tells → IfOk result (λ found. found ≡ stored_shape (H.history host.old).world) }
+    ensures shape { H.tells → IfOk result (λ found. found ≡ stored_shape wanted (H.history host.old).world) }
     ensures same { H.tells → AllMoments (H.history host.old) (H.history host.new) (IsSame
         (H.history host.old).world) }
     ensures cause { HasPlainFault (H.state host.old) (H.state host.new) result }
 {
     let mut scan = Scan::new(alloc, Place { seg: 1, off: 0 })?;
     match scan.next(host)? {
-        Some(frame) => Ok(restart_shape(frame.kind, frame.payload)),
-        None => Ok(None),
+        Some(frame) => Ok(shape_in(wanted, frame.kind, frame.payload)),
+        None => Ok(wanted),
     }
 }
 
-// The shape that a record's payload holds: none where the record is no RESTART.
-fn restart_shape(kind: u8, payload: &[u8]) -> Option<Shape>
-    ensures { result ≡ restart_shape (record_of kind payload.now) }
+// The shape that a record's payload holds, or the wanted one where the record is no RESTART.
+fn shape_in(wanted: Shape, kind: u8, payload: &[u8]) -> Shape
+    ensures { result ≡ shape_in wanted (record_of kind payload.now) }
 {
     let Ok(LogRecord::Restart { shape }) = decode(kind, payload) else {
-        return None;
+        return wanted;
     };
-    Some(shape)
+    shape
 }

@@ -13,7 +13,7 @@ use Rattle.pm_script.specs.Reading.{OnlyTakes}
 use Rattle.pm_script.specs.Texts.{texts_of}
 use Rattle.pm_frame.specs.Frames.{Frame}
 use Rattle.pm_records.specs.LogFiles.{ChangesLog, LogGrowsBy}
-use Rattle.pm_engine.specs.Held.{CrashHoldsPrefix}
+use Rattle.pm_engine.specs.Crashes.{CrashHoldsPrefix}
 use Rattle.pm_engine.specs.Engines.{Running, IsAtRest, HasSegments}
 use Rattle.pm_engine.specs.Batches.{RunsLines, HasReplied}
 use Rattle.pm_engine.proofs.DoneLines.{done_keeps, rest_grows}

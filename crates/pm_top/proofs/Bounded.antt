@@ -1,5 +1,5 @@
 -- In which segment the log ends that a crash leaves.
-use Rattle.std.proofs.Common.{◌≡◌, ◌⊎◌, inl, inr, ℕ, zero, suc, ◌+◌, ◌<◌, ◌≤◌, ◌^◌, List, [], ◌∷◌, ◌++◌, length, take, drop, Option, Some, None, Bool, true, false, refl, sym, ◌∙◌, ap, subst, arith, length-append, length-drop}
+use Rattle.std.proofs.Common.{◌≡◌, ◌⊎◌, inl, inr, ℕ, ◌+◌, ◌<◌, ◌≤◌, List, [], ◌∷◌, length, take, drop, Option, Some, None, Bool, true, false, refl, sym, ◌∙◌, ap, subst, arith, length-append, length-drop}
 use Rattle.std.specs.Prelude.{if◌then◌else◌}
 use Rattle.std.proofs.lemmas.List.{nil_from_length, take_all}
 use Rattle.pm_types.specs.declared.place.Place.{Place}
@@ -13,6 +13,7 @@ use Rattle.pm_frame.specs.Frames.{Frame, frame_bytes, frame_len}
 use Rattle.pm_frame.proofs.FrameAt.{frame_at-some, length-frame_bytes}
 use Rattle.pm_model.specs.Eval.{Pairs}
 use Rattle.pm_records.specs.Logs.{HasFrames, after_frames, all_frames, enters_next, next_place, place, place_after}
+use Rattle.pm_core.specs.LogAlone.{last_segment}
 use Rattle.pm_engine.specs.Engines.{SameAbove}
 use Rattle.pm_top.specs.Crashes.{CrashHoldsAcknowledged}
 use Rattle.pm_top.specs.Promises.{IsStart}
@@ -63,18 +64,18 @@ left_empty file (Some left) quiet none leaves =
 
 module _ (wanted : Shape) (old : World) (shape : Shape) (pairs : Pairs) (start : IsStart wanted old shape pairs) where
   abbrev end : ℕ
-  end = (after_frames (place 1 0) start.holds.frames).seg
+  end = last_segment start.holds
 
   -- above a segment that wasn't changed it has no bytes
   image_empty : (most : ℕ) (now : World) (image : Image) → end ≤ most → SameAbove most old now → LeavesAll now image → (seg : ℕ) → most < seg → bytes_of (image.log seg) ≡ []
   image_empty most now image few same leaves seg above =
-      left_empty (old.log seg) (image.log seg) (start.quiet.log seg) (start.holds.log.nothing_above seg (omega (arith, few, above)))
+      left_empty (old.log seg) (image.log seg) (start.quiet.log seg) (start.holds.nothing_above seg (omega (arith, few, above)))
       (subst (λ (f : File). Leaves f (image.log seg)) (same seg above) (leaves.log seg))
 
   bounded : (most limit : ℕ) (order : List ℕ) (now : World) → end ≤ most → most + 1 ≤ limit → SameAbove most old now → CrashHoldsSome wanted old shape pairs order now → CrashHoldsAcknowledged wanted limit old shape pairs order now
   bounded most limit order now few room same keeps image leaves honest =
       let h = keeps image leaves honest in
-      let ends = frames_within (λ seg. bytes_of (image.log seg)) most (place 1 0) h.holds.frames (omega arith) (image_empty most now image few same leaves) h.holds.log.log.run in
+      let ends = frames_within (λ seg. bytes_of (image.log seg)) most (place 1 0) h.holds.log.frames (omega arith) (image_empty most now image few same leaves) h.holds.log.log.run in
       record { count = h.count; has = h.has; holds = h.holds; rises = omega (arith, ends, room) }
 
   pub bounded_moments : (most limit : ℕ) (order : List ℕ) (from new : History) → end ≤ most → most + 1 ≤ limit → AllMoments from new (SameAbove most old) → AllMoments from new (CrashHoldsSome wanted old shape pairs order) → AllMoments from new (CrashHoldsAcknowledged wanted limit old shape pairs order)

@@ -1,5 +1,5 @@
 -- What a run or a crash leaves is a start for the next run.
-use Rattle.std.proofs.Common.{ℕ, ◌+◌, ◌*◌, ◌<◌, ◌≤◌, ◌^◌, length, ◌≡◌, ◌⊎◌, inl, inr, List, [], ◌∷◌, ◌++◌, take, Option, None, refl, sym, ◌∙◌, ap, subst, arith}
+use Rattle.std.proofs.Common.{ℕ, ◌+◌, ◌*◌, ◌<◌, ◌≤◌, ◌^◌, length, ◌≡◌, ◌⊎◌, inl, inr, List, [], ◌∷◌, take, None, refl, sym, ◌∙◌, ap, subst, arith}
 use Rattle.std.specs.FinMap.{empty}
 use Rattle.pm_types.specs.declared.shape.Shape.{Shape}
 use Rattle.pm_disk.specs.Files.{File, bytes_of, content}
@@ -12,31 +12,35 @@ use Rattle.pm_model.specs.Orders.{after_numbers, line_at}
 use Rattle.pm_model.proofs.Runs.{after_all-append}
 use Rattle.pm_records.specs.LogFiles.{contents}
 use Rattle.pm_records.proofs.Runs.{one_log}
-use Rattle.pm_records.specs.Logs.{all_frames, after_frames, place}
-use Rattle.pm_engine.specs.Held.{HasNumbers, HoldsImage, HoldsIn}
+use Rattle.pm_records.specs.Logs.{all_frames, after_frames, place, IsLogFrom}
+use Rattle.pm_core.specs.LogAlone.{image_of, log_in, Holds, last_segment}
 use Rattle.pm_top.specs.Chains.{Follows, HasCrashed, IsFoundAfter, IsFresh, SameDisk, Stage, WasDone, found_last, lines_kept, lines_with}
 use Rattle.pm_top.specs.Promises.{IsLeft, IsStart}
 use Rattle.pm_top.specs.Served.{script_of}
 
 -- the segment in which the log ends
 abbrev last_seg : {wanted : Shape} {world : World} {shape : Shape} {pairs : Pairs} → IsStart wanted world shape pairs → ℕ
-last_seg start = (after_frames (place 1 0) start.holds.frames).seg
+last_seg start = last_segment start.holds
 
 -- a start at which the log ends in this segment
 abbrev StartsIn : Shape → World → Shape → Pairs → ℕ → Type 0
 StartsIn wanted world shape pairs seg = (start : IsStart wanted world shape pairs) × (last_seg start ≡ seg)
 
 -- the same bytes hold the same, with the same frames
-start_from : (wanted : Shape) (bytes : ℕ → List ℕ) (world : World) (shape : Shape) (pairs : Pairs) (holds : HoldsIn wanted bytes shape pairs) → HasNumbers holds.frames → bytes ≡ contents world.log → NothingPending world → StartsIn wanted world shape pairs (after_frames (place 1 0) holds.frames).seg
-start_from wanted bytes world shape pairs holds few same quiet =
-    subst (λ b. (h : HoldsIn wanted b shape pairs) → HasNumbers h.frames → b ≡ contents world.log → StartsIn wanted world shape pairs (after_frames (place 1 0) h.frames).seg) (sym same)
-    (λ h numbers _. (record { holds = h; numbers = numbers; quiet = quiet }, refl)) holds few same
+start_from : (wanted : Shape) (image : Image) (world : World) (shape : Shape) (pairs : Pairs) (holds : Holds wanted image shape pairs) → last_segment holds < 2 ^ 62 → log_in image ≡ contents world.log → NothingPending world → StartsIn wanted world shape pairs (last_segment holds)
+start_from wanted image world shape pairs holds few same quiet =
+    let frames = holds.log.frames in
+    let found : Holds wanted (image_of world) shape pairs = record {
+      log = record { frames = frames; log = subst (λ b. IsLogFrom all_frames b (place 1 0) frames) same holds.log.log; held = holds.log.held };
+      nothing_above = subst (λ (b : ℕ → List ℕ). (seg : ℕ) → (after_frames (place 1 0) frames).seg < seg → b seg ≡ []) same holds.nothing_above;
+    } in
+    (record { holds = found; numbers = few; quiet = quiet }, refl)
 
 -- ---- what a crash leaves
 
-crash_start : (wanted shape : Shape) (image : Image) (world : World) (pairs : Pairs) (holds : HoldsImage wanted image shape pairs) → HasNumbers holds.frames → IsFoundAfter image world → StartsIn wanted world shape pairs (after_frames (place 1 0) holds.frames).seg
+crash_start : (wanted shape : Shape) (image : Image) (world : World) (pairs : Pairs) (holds : Holds wanted image shape pairs) → last_segment holds < 2 ^ 62 → IsFoundAfter image world → StartsIn wanted world shape pairs (last_segment holds)
 crash_start wanted shape image world pairs holds few found =
-    start_from wanted (λ seg. bytes_of (image.log seg)) world shape pairs holds few (λ i seg. sym (ap (λ (f : File). bytes_of (content f)) (found.log seg)) i)
+    start_from wanted image world shape pairs holds few (λ i seg. sym (ap (λ (f : File). bytes_of (content f)) (found.log seg)) i)
     record {
       log = λ seg. ap (λ (f : File). f.since) (found.log seg);
       pages = λ part. ap (λ (f : File). f.since) (found.pages part);
@@ -46,10 +50,10 @@ crash_start wanted shape image world pairs holds few found =
 
 -- ---- what a done run leaves
 
-done_start : (wanted shape : Shape) (old new world : World) (pairs : Pairs) (start : IsStart wanted old shape pairs) → (after_frames (place 1 0) start.holds.frames).seg + 2 ^ 23 < 2 ^ 62 → (left : IsLeft wanted start.holds.frames old new shape pairs) → SameDisk new world
-    → StartsIn wanted world shape (after_all shape (script_of old.input) pairs) (after_frames (place 1 0) left.holds.frames).seg
+done_start : (wanted shape : Shape) (old new world : World) (pairs : Pairs) (start : IsStart wanted old shape pairs) → last_segment start.holds + 2 ^ 23 < 2 ^ 62 → (left : IsLeft wanted (last_segment start.holds) old new shape pairs) → SameDisk new world
+    → StartsIn wanted world shape (after_all shape (script_of old.input) pairs) (last_segment left.holds)
 done_start wanted shape old new world pairs start few left same =
-    start_from wanted (contents new.log) world shape (after_all shape (script_of old.input) pairs) left.holds (omega (arith, left.rises, few)) (λ i seg. sym (ap (λ (f : File). bytes_of (content f)) (same.log seg)) i)
+    start_from wanted (image_of new) world shape (after_all shape (script_of old.input) pairs) left.holds (omega (arith, left.rises, few)) (λ i seg. sym (ap (λ (f : File). bytes_of (content f)) (same.log seg)) i)
     record {
       log = λ seg. ap (λ (f : File). f.since) (same.log seg) ∙ left.quiet.log seg;
       pages = λ part. ap (λ (f : File). f.since) (same.pages part) ∙ left.quiet.pages part;
@@ -69,12 +73,12 @@ fresh_start wanted world fresh =
     let bytes : (seg : ℕ) → contents world.log seg ≡ [] = λ seg. ap (λ (f : File). bytes_of (content f)) (fresh.log seg) in
     record {
       holds = record {
-        frames = [];
         log = record {
+          frames = [];
           log = record { run = tt; ends = λ _. ap (all_frames.frame_at 1 0) (bytes 1) ∙ no_frame };
-          nothing_above = λ seg _. bytes seg;
+          held = record { begins = refl; told = refl; map = refl };
         };
-        held = record { begins = refl; told = refl; map = refl };
+        nothing_above = λ seg _. bytes seg;
       };
       numbers = omega arith;
       quiet = record {
@@ -93,8 +97,8 @@ numbers_leave shape [] script pairs = refl
 numbers_leave shape (n ∷ numbers) script pairs = numbers_leave shape numbers script (after shape (line_at 1 script n) pairs)
 
 -- two starts over one world have the same frames
-same_frames : (wanted : Shape) (world : World) (shape : Shape) (pairs : Pairs) (one other : IsStart wanted world shape pairs) → one.holds.frames ≡ other.holds.frames
-same_frames wanted world shape pairs one other = one_log all_frames (contents world.log) (place 1 0) one.holds.frames other.holds.frames one.holds.log.log other.holds.log.log
+same_frames : (wanted : Shape) (world : World) (shape : Shape) (pairs : Pairs) (one other : IsStart wanted world shape pairs) → one.holds.log.frames ≡ other.holds.log.frames
+same_frames wanted world shape pairs one other = one_log all_frames (contents world.log) (place 1 0) one.holds.log.frames other.holds.log.frames one.holds.log.log other.holds.log.log
 
 same_seg : (wanted : Shape) (world : World) (shape : Shape) (pairs : Pairs) (one other : IsStart wanted world shape pairs) → last_seg one ≡ last_seg other
 same_seg wanted world shape pairs one other = ap (λ (fs : List Frame). (after_frames (place 1 0) fs).seg) (same_frames wanted world shape pairs one other)
@@ -131,9 +135,9 @@ chain wanted shape start pairs (stage ∷ stages) begins few follows =
 
 -- ---- the laws
 
-pub crash_law : (wanted shape : Shape) (image : Image) (world : World) (pairs : Pairs) (holds : HoldsImage wanted image shape pairs) → HasNumbers holds.frames → IsFoundAfter image world → IsStart wanted world shape pairs
+pub crash_law : (wanted shape : Shape) (image : Image) (world : World) (pairs : Pairs) (holds : Holds wanted image shape pairs) → last_segment holds < 2 ^ 62 → IsFoundAfter image world → IsStart wanted world shape pairs
 crash_law wanted shape image world pairs holds few found = (crash_start wanted shape image world pairs holds few found).0
 
-pub done_law : (wanted shape : Shape) (old new world : World) (pairs : Pairs) (start : IsStart wanted old shape pairs) → (after_frames (place 1 0) start.holds.frames).seg + 2 ^ 23 < 2 ^ 62 → IsLeft wanted start.holds.frames old new shape pairs → SameDisk new world
+pub done_law : (wanted shape : Shape) (old new world : World) (pairs : Pairs) (start : IsStart wanted old shape pairs) → last_segment start.holds + 2 ^ 23 < 2 ^ 62 → IsLeft wanted (last_segment start.holds) old new shape pairs → SameDisk new world
     → IsStart wanted world shape (after_all shape (script_of old.input) pairs)
 done_law wanted shape old new world pairs start few left same = (done_start wanted shape old new world pairs start few left same).0

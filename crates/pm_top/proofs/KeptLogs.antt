@@ -1,5 +1,5 @@
 -- Runs of calls that change no file but the log, and of the log no segment above one.
-use Rattle.std.proofs.Common.{ℕ, ◌≤◌, List, Result, refl, sym, subst, arith}
+use Rattle.std.proofs.Common.{ℕ, ◌≤◌, List, Result, refl, sym, subst}
 use Rattle.pm_disk.specs.Worlds.{World}
 use Rattle.pm_disk.specs.Moments.{History, IsHistory, AllMoments, Says}
 use Rattle.pm_disk.proofs.Chain.{started, says, joined, weaker, at_last}

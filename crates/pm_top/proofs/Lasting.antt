@@ -10,7 +10,8 @@ use Rattle.pm_model.specs.Eval.{Pairs, replies_to, after_all, accepted}
 use Rattle.pm_model.proofs.Runs.{after_all-append, replies_to-append, length-replies_to, accepted-append}
 use Rattle.pm_script.specs.Reading.{OnlyTakes}
 use Rattle.pm_script.specs.Texts.{texts_of}
-use Rattle.pm_engine.specs.Held.{HoldsImage, CrashHoldsPrefix}
+use Rattle.pm_core.specs.LogAlone.{Holds}
+use Rattle.pm_engine.specs.Crashes.{CrashHoldsPrefix}
 use Rattle.pm_top.specs.declared.run.Run.{Run}
 use Rattle.pm_top.specs.ScriptOrder.{CrashHoldsAcknowledged, HoldsAfter, after_numbers, acknowledged_count}
 use Rattle.pm_top.specs.Crashes.{begun}
@@ -54,7 +55,7 @@ take_take (suc a) (suc b) (x ∷ xs) le = ap (λ ys. x ∷ ys) (take_take a b xs
 
 -- what holds the map after the first so many lines, where no more than these are acknowledged, and the order has at least these
 holds_after : (wanted : Shape) (start : World) (shape : Shape) (pairs : Pairs) (order : List ℕ) (w : World) (image : Image) (k d : ℕ) → k + d ≤ length (script_of start.input) → IsOrder shape start.input pairs (k + d) order
-    → acknowledged_count start shape pairs w ≤ length (accepted shape 1 (take k (script_of start.input)) pairs) → HoldsImage wanted image shape (after_all shape (take k (script_of start.input)) pairs)
+    → acknowledged_count start shape pairs w ≤ length (accepted shape 1 (take k (script_of start.input)) pairs) → Holds wanted image shape (after_all shape (take k (script_of start.input)) pairs)
     → HoldsAfter wanted start shape pairs order w image
 holds_after wanted start shape pairs order w image k d within is has holds =
     let script = script_of start.input in
@@ -68,7 +69,7 @@ holds_after wanted start shape pairs order w image k d within is has holds =
       count = length first;
       fits = omega (arith, ap length order_is, length-append first more);
       has = has;
-      holds = subst (HoldsImage wanted image shape) (sym (ap (λ o. after_numbers shape o script pairs) front ∙ map)) holds;
+      holds = subst (Holds wanted image shape) (sym (ap (λ o. after_numbers shape o script pairs) front ∙ map)) holds;
     }
 
 -- a longer order keeps what a shorter one keeps
@@ -79,22 +80,22 @@ order_longer wanted start shape pairs order more w keeps image leaves honest =
       count = h.count;
       fits = omega (arith, h.fits, length-append order more);
       has = h.has;
-      holds = subst (λ o. HoldsImage wanted image shape (after_numbers shape o (script_of start.input) pairs)) (sym (take-append-le h.count order more h.fits)) h.holds;
+      holds = subst (λ o. Holds wanted image shape (after_numbers shape o (script_of start.input) pairs)) (sym (take-append-le h.count order more h.fits)) h.holds;
     }
 
 -- what was said is no file
 pub keeps_said : (wanted : Shape) (shape : Shape) (pairs : Pairs) (lines : List Line) (bytes : List ℕ) (w : World) → CrashHoldsPrefix wanted shape pairs lines w → CrashHoldsPrefix wanted shape pairs lines (with_said bytes w)
 keeps_said wanted shape pairs lines bytes w keeps image leaves honest =
-    keeps image (record { log = leaves.log; pages = leaves.pages; starts = leaves.starts; ends = leaves.ends }) (record { frames = honest.frames })
+    keeps image (record { log = leaves.log; pages = leaves.pages; starts = leaves.starts; ends = leaves.ends }) honest
 
 -- nor is the input
 pub keeps_taken : (wanted : Shape) (shape : Shape) (pairs : Pairs) (lines : List Line) (old w : World) → OnlyTakes old w → CrashHoldsPrefix wanted shape pairs lines old → CrashHoldsPrefix wanted shape pairs lines w
 keeps_taken wanted shape pairs lines old w takes keeps = subst (CrashHoldsPrefix wanted shape pairs lines) (sym takes.1) (λ image leaves honest.
-    keeps image (record { log = leaves.log; pages = leaves.pages; starts = leaves.starts; ends = leaves.ends }) (record { frames = honest.frames }))
+    keeps image (record { log = leaves.log; pages = leaves.pages; starts = leaves.starts; ends = leaves.ends }) honest)
 
 -- the map of all lines, where it is the only one
-only_map : (wanted : Shape) (shape : Shape) (pairs : Pairs) (image : Image) → (count : ℕ) × (count ≤ 0) × HoldsImage wanted image shape (after_all shape (take count []) pairs) → HoldsImage wanted image shape pairs
-only_map wanted shape pairs image h = subst (HoldsImage wanted image shape) (ap (λ ls. after_all shape ls pairs) (take_all h.0 [] (omega arith))) h.2
+only_map : (wanted : Shape) (shape : Shape) (pairs : Pairs) (image : Image) → (count : ℕ) × (count ≤ 0) × Holds wanted image shape (after_all shape (take count []) pairs) → Holds wanted image shape pairs
+only_map wanted shape pairs image h = subst (Holds wanted image shape) (ap (λ ls. after_all shape ls pairs) (take_all h.0 [] (omega arith))) h.2
 
 -- ---- while no line is answered
 
@@ -120,7 +121,7 @@ pub idle_keeps : (wanted : Shape) (start : World) (shape : Shape) (pairs : Pairs
 idle_keeps wanted start shape pairs order w none keeps image leaves honest = record {
   count = 0;
   has = subst (λ (ns : List ℕ). All (Contains (take 0 order)) ns) (sym none) (λ k d few. absurd (omega (arith, few)));
-  holds = subst (λ (o : List ℕ). HoldsImage wanted image shape (orders.after_numbers shape o 1 (script_of start.input) pairs)) (sym (take_none order)) (only_map wanted shape pairs image (keeps image leaves honest));
+  holds = subst (λ (o : List ℕ). Holds wanted image shape (orders.after_numbers shape o 1 (script_of start.input) pairs)) (sym (take_none order)) (only_map wanted shape pairs image (keeps image leaves honest));
 }
 
 -- ---- on the way
@@ -158,12 +159,12 @@ module _ {start now : World} {left : List Line} {shape : Shape} {pairs : Pairs} 
   pub keeps_rest : (wanted : Shape) (w : World) → w.said ≡ now.said → CrashHoldsPrefix wanted run.engine.shape run.engine.map [] w → CrashHoldsAcknowledged wanted start shape pairs run.engine.order w
   keeps_rest wanted w same keeps image leaves honest =
       let map : after_all shape (take (run.lines + 0) (script_of start.input)) pairs ≡ run.engine.map = map_more 0 ∙ ap (λ ls. after_all shape ls run.engine.map) (take_none left) in
-      let holds = only_map wanted shape run.engine.map image (subst (λ s. (count : ℕ) × (count ≤ 0) × HoldsImage wanted image s (after_all s (take count []) run.engine.map)) progress.shape_is (keeps image leaves honest)) in
+      let holds = only_map wanted shape run.engine.map image (subst (λ s. (count : ℕ) × (count ≤ 0) × Holds wanted image s (after_all s (take count []) run.engine.map)) progress.shape_is (keeps image leaves honest)) in
       let here : run.lines + 0 ≡ run.lines = omega arith in
       let there : run.lines ≡ run.lines + 0 + 0 = omega arith in
       holds_after wanted start shape pairs run.engine.order w image (run.lines + 0) 0 (omega (arith, script_len progress)) (subst (λ n. IsOrder shape start.input pairs n run.engine.order) there (order_so_far progress))
       (acknowledged_within w [] (run.lines + 0) (same ∙ sym (append-nil now.said)) (omega (arith, begun_nothing (replies_to shape left run.engine.map))) (omega (arith, script_len progress)))
-      (subst (HoldsImage wanted image shape) (sym map) holds)
+      (subst (Holds wanted image shape) (sym map) holds)
 
 -- ---- while a batch is done
 
@@ -179,7 +180,7 @@ module _ {start now : World} {shape : Shape} {pairs : Pairs} {run : Run} (lines 
   -- before anything is said
   pub keeps_doing : (wanted : Shape) (w : World) → w.said ≡ now.said → CrashHoldsPrefix wanted run.engine.shape run.engine.map (take count lines) w → CrashHoldsAcknowledged wanted start shape pairs order w
   keeps_doing wanted w same keeps image leaves honest =
-      let h = subst (λ s. (m : ℕ) × (m ≤ length (take count lines)) × HoldsImage wanted image s (after_all s (take m (take count lines)) run.engine.map)) progress.shape_is (keeps image leaves honest) in
+      let h = subst (λ s. (m : ℕ) × (m ≤ length (take count lines)) × Holds wanted image s (after_all s (take m (take count lines)) run.engine.map)) progress.shape_is (keeps image leaves honest) in
       let m = h.0 in
       let few : m ≤ count = omega (arith, h.1, length-take count lines) in
       let nested : take m (take count lines) ≡ take m (lines ++ left) = take_take m count lines few ∙ sym (first_ones lines left progress m (omega (arith, few, within))) in
@@ -187,7 +188,7 @@ module _ {start now : World} {shape : Shape} {pairs : Pairs} {run : Run} (lines 
       let sum : run.lines + count ≡ run.lines + m + (count - m) = omega (arith, few) in
       holds_after wanted start shape pairs order w image (run.lines + m) (count - m) (omega (arith, long, few)) (subst (λ n. IsOrder shape start.input pairs n order) sum its_order)
       (acknowledged_within progress w [] (run.lines + m) (same ∙ sym (append-nil now.said)) (omega (arith, begun_nothing (replies_to shape (lines ++ left) run.engine.map))) (omega (arith, long, few)))
-      (subst (HoldsImage wanted image shape) (sym map) h.2)
+      (subst (Holds wanted image shape) (sym map) h.2)
 
 -- ---- while its replies are said
 
@@ -203,7 +204,7 @@ module _ {start now : World} {shape : Shape} {pairs : Pairs} {run : Run} (lines 
       let map : after_all shape (take k (script_of start.input)) pairs ≡ after_all shape lines run.engine.map =
       map_more progress (length lines) ∙ ap (λ ls. after_all shape ls run.engine.map) (first_ones lines left progress (length lines) (omega arith) ∙ take_all (length lines) lines (omega arith)) in
       let holds = only_map wanted shape (after_all shape lines run.engine.map) image
-      (subst (λ s. (count : ℕ) × (count ≤ 0) × HoldsImage wanted image s (after_all s (take count []) (after_all s lines run.engine.map))) progress.shape_is (keeps image leaves honest)) in
+      (subst (λ s. (count : ℕ) × (count ≤ 0) × Holds wanted image s (after_all s (take count []) (after_all s lines run.engine.map))) progress.shape_is (keeps image leaves honest)) in
       let own = replies_to shape lines run.engine.map in
       let others = replies_to shape left (after_all shape lines run.engine.map) in
       let tail : List ℕ = take n (texts_of own) in
@@ -213,4 +214,4 @@ module _ {start now : World} {shape : Shape} {pairs : Pairs} {run : Run} (lines 
       let sum : k ≡ k + 0 = omega arith in
       holds_after wanted start shape pairs order w image k 0 (omega (arith, within)) (subst (λ m. IsOrder shape start.input pairs m order) sum all_order)
       (acknowledged_within progress w tail k (said ∙ ap (λ t. now.said ++ take n t) (texts_are lines left progress)) (omega (arith, few)) within)
-      (subst (HoldsImage wanted image shape) (sym map) holds)
+      (subst (Holds wanted image shape) (sym map) holds)

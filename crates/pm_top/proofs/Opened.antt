@@ -7,11 +7,11 @@ use Rattle.pm_disk.specs.Moments.{History, IsHistory, AllMoments, Does}
 use Rattle.pm_disk.proofs.Chain.{started, does, weaker, joined}
 use Rattle.pm_model.specs.Eval.{Pairs}
 use Rattle.pm_records.specs.LogFiles.{ChangesLog}
-use Rattle.pm_engine.specs.Held.{CrashHoldsPrefix}
+use Rattle.pm_core.specs.LogAlone.{last_segment}
+use Rattle.pm_engine.specs.Crashes.{CrashHoldsPrefix}
 use Rattle.pm_engine.specs.Openings.{IsSame}
 use Rattle.pm_engine.proofs.Opening.{sound_keeps}
 use Rattle.pm_disk.specs.Files.{File}
-use Rattle.pm_records.specs.Logs.{after_frames, place}
 use Rattle.pm_engine.specs.Engines.{SameAbove}
 use Rattle.pm_top.specs.Crashes.{CrashHoldsAcknowledged}
 use Rattle.pm_top.specs.ScriptOrder.{CrashHoldsSome}
@@ -46,7 +46,7 @@ same_moments old new result sound call =
 -- as long as no segment was changed, a crash leaves what there was
 idle_moments : (old new : History) (order : List ℕ) → ((shape : Shape) (pairs : Pairs) → IsStart (wanted_in old.world) old.world shape pairs → AllMoments old new (CrashHoldsSome (wanted_in old.world) old.world shape pairs order)) → AllMoments old new (SameLog old.world) → HoldsAtEachMoment old new order
 idle_moments old new order keeps same shape pairs start =
-    let end : ℕ = (after_frames (place 1 0) start.holds.frames).seg in
+    let end : ℕ = last_segment start.holds in
     bounded_moments (wanted_in old.world) old.world shape pairs start end (end + 16777216) order old new (omega arith) (omega arith)
     (weaker old new (SameLog old.world) (SameAbove end old.world) (λ w is seg le. ap (λ (l : ℕ → File). l seg) is) same) (keeps shape pairs start)
 
@@ -72,14 +72,14 @@ refused_moments old new order c bytes none all =
 -- the calls that come after ones that changed nothing
 pub crash_from : (old mid new : History) (order : List ℕ) → AllMoments old mid (IsSame old.world) → mid.world ≡ old.world → HoldsAtEachMoment mid new order → HoldsAtEachMoment old new order
 crash_from old mid new order first same second shape pairs start =
-    let limit : World → (w : World) → IsStart (wanted_in w) w shape pairs → World → Type 0 = λ _ w s. CrashHoldsAcknowledged (wanted_in w) ((after_frames (place 1 0) s.holds.frames).seg + 16777216) w shape pairs order in
+    let limit : World → (w : World) → IsStart (wanted_in w) w shape pairs → World → Type 0 = λ _ w s. CrashHoldsAcknowledged (wanted_in w) (last_segment s.holds + 16777216) w shape pairs order in
     joined old mid new (limit old.world old.world start) (kept_moments old mid order first shape pairs start)
-    (subst (λ w. (s : IsStart (wanted_in w) w shape pairs) → AllMoments mid new (CrashHoldsAcknowledged (wanted_in w) ((after_frames (place 1 0) s.holds.frames).seg + 16777216) w shape pairs order)) same (second shape pairs) start)
+    (subst (λ w. (s : IsStart (wanted_in w) w shape pairs) → AllMoments mid new (CrashHoldsAcknowledged (wanted_in w) (last_segment s.holds + 16777216) w shape pairs order)) same (second shape pairs) start)
 
 -- what is left where the words are refused
 pub refusal : (status : Status) (old new : World) (lines : ℕ) (order : List ℕ) → (status ≡ Usage) ⊎ (status ≡ Failed) → (status ≡ Usage → new ≡ with_said (codes "fault usage\n") old) → SaysPart (codes "fault usage\n") old new → lines ≡ 0 → order ≡ []
     → RefusalIs status old new lines order
 refusal status old new lines order cases said part none no_order = elim cases [
   | inl is ↦ subst (λ s. RefusalIs s old new lines order) (sym is) (record { now = said is; none = none; order_is = no_order })
-  | inr is ↦ subst (λ s. RefusalIs s old new lines order) (sym is) (record { part = part; none = none; order_is = no_order })
+  | inr is ↦ subst (λ s. RefusalIs s old new lines order) (sym is) (part.0, record { now = part.1; none = none; order_is = no_order })
 ]

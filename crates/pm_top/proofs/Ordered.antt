@@ -11,19 +11,19 @@ use Rattle.pm_model.specs.Eval.{Pairs, after, replies_to, accepted}
 use Rattle.pm_model.specs.Orders as orders
 use Rattle.pm_model.specs.Orders.{line_at, after_numbers}
 use Rattle.pm_model.proofs.OrderLaws.{script_tried, as_many_has}
-use Rattle.pm_engine.specs.Held.{HoldsImage}
+use Rattle.pm_core.specs.LogAlone.{Holds}
 use Rattle.pm_top.specs.declared.status.Status.{Status}
 use Rattle.pm_top.specs.declared.status.Status.TheVariants.{Done, Usage, Misconfigured, Failed, Memory, Damaged, Long}
 use Rattle.pm_top.specs.Crashes.{begun}
-use Rattle.pm_top.specs.Promises.{IsOrder, IsOrderOfTried, OutcomeIs}
+use Rattle.pm_top.specs.Promises.{IsOrder, OutcomeIs}
 use Rattle.pm_top.specs.ScriptOrder as one
 use Rattle.pm_top.specs.Served.{script_of}
 
-pub is_order : (shape : Shape) (input : List ℕ) (pairs : Pairs) (lines : ℕ) (order : List ℕ) → one.IsOrder shape input pairs lines order → IsOrder shape input pairs lines order
+pub is_order : (shape : Shape) (input : List ℕ) (pairs : Pairs) (lines : ℕ) (order : List ℕ) → one.IsOrder shape input pairs lines order → IsOrder shape input pairs lines 0 order
 is_order shape input pairs lines order is =
     subst (λ (ns : List ℕ). orders.HasTried shape 1 (script_of input) pairs lines 0 ns) (sym is) (script_tried shape 1 (script_of input) pairs lines 0 lines (omega arith) (omega arith))
 
-pub is_tried : (shape : Shape) (input : List ℕ) (pairs : Pairs) (lines : ℕ) (order : List ℕ) → one.HasTried shape input pairs lines order → IsOrderOfTried shape input pairs lines order
+pub is_tried : (shape : Shape) (input : List ℕ) (pairs : Pairs) (lines : ℕ) (order : List ℕ) → one.HasTried shape input pairs lines order → IsOrder shape input pairs lines BATCH_LINES_MAX order
 is_tried shape input pairs lines order is =
     subst (λ (ns : List ℕ). orders.HasTried shape 1 (script_of input) pairs lines BATCH_LINES_MAX ns) (sym is.order_is) (script_tried shape 1 (script_of input) pairs lines BATCH_LINES_MAX is.many is.from is.to)
 
@@ -77,7 +77,7 @@ keeps wanted old now shape pairs many order is held image leaves honest =
     record {
       count = h.count;
       has = subst (λ (ns : List ℕ). All (Contains (take h.count ns)) (accepted shape 1 (take told script) pairs)) (sym is) (as_many_has shape 1 script pairs told many h.count fits h.has);
-      holds = subst (λ (m : Pairs). HoldsImage wanted image shape m) (same_after shape (take h.count order) script pairs) h.holds;
+      holds = subst (λ (m : Pairs). Holds wanted image shape m) (same_after shape (take h.count order) script pairs) h.holds;
     }
 
 pub moments_keep : (wanted : Shape) (start : World) (old new : History) (shape : Shape) (pairs : Pairs) (many : ℕ) (order : List ℕ) → one.IsOrder shape start.input pairs many order → AllMoments old new (one.CrashHoldsAcknowledged wanted start shape pairs order) → AllMoments old new (one.CrashHoldsSome wanted start shape pairs order)

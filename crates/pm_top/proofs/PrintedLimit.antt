@@ -105,7 +105,7 @@ told_keeps wanted old mid shape pairs lines order w answers part keeps =
     (none_acknowledged shape (1 + length head) more map part.0 108 (codes "ong\n") none_with_l) in
     let same : acknowledged_count old shape pairs now ≡ acknowledged_count old shape pairs mid = after_text ∙ sym before in
     subst (λ v. CrashHoldsAcknowledged wanted old shape pairs order v) (sym part.1) (λ image leaves honest.
-    let h = keeps image (record { log = leaves.log; pages = leaves.pages; starts = leaves.starts; ends = leaves.ends }) (record { frames = honest.frames }) in
+    let h = keeps image (record { log = leaves.log; pages = leaves.pages; starts = leaves.starts; ends = leaves.ends }) honest in
     record { count = h.count; fits = h.fits; has = omega (arith, h.has, same); holds = h.holds })
 
 -- the moments of a run that tells a limit

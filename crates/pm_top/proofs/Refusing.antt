@@ -8,8 +8,8 @@ use Rattle.pm_disk.specs.Moments.{History, AllMoments}
 use Rattle.pm_disk.proofs.Chain.{joined, weaker}
 use Rattle.pm_model.specs.Eval.{Pairs, accepted}
 use Rattle.pm_script.specs.Texts.{texts_of}
-use Rattle.pm_engine.specs.Openings.{CanNotOpen, IsBadRecord, IsSame, LogHolds, LogHoldsNothing}
-use Rattle.pm_engine.proofs.Opening.{sound_holds}
+use Rattle.pm_core.specs.LogAlone.{image_of, LogHolds, last_segment}
+use Rattle.pm_engine.specs.Openings.{CanNotOpen, IsBadRecord, IsSame, LogHoldsNothing}
 use Rattle.pm_engine.specs.StoredShapes.{shape_fault}
 use Rattle.pm_top.specs.Configurations.{AsksFor, config_fault, fault_config, wanted_in}
 use Rattle.pm_top.specs.declared.status.Status.{Status}
@@ -94,7 +94,7 @@ pub field_refused_run : (old new : History) (status : Status) (lines : ℕ) (ord
     → AllMoments old new (SaysPart (fault_config field) old.world) → lines ≡ 0 → order ≡ [] → RunHolds old new status lines order
 field_refused_run old new status lines order field is cases said all none no_order =
     none_run old new status lines order cases
-    (λ told. record { field = field; refused = is; now = said told; none = none; order_is = no_order })
+    (λ told. record { field = field; refused = is; says = record { now = said told; none = none; order_is = no_order } })
     (λ shape pairs can. absurd (let both : Some field ≡ None = sym is ∙ can.configured in cc))
     (λ _. said_log old new (fault_config field) all)
 
@@ -102,7 +102,7 @@ field_refused_run old new status lines order field is cases said all none no_ord
 pub damaged_run : (old new : History) (status : Status) (lines : ℕ) (order : List ℕ) (wanted : Shape) (at : Place) → AsksFor old.world wanted → IsBadRecord wanted old.world at → LogHoldsNothing wanted old.world → shape_fault wanted old.world ≡ None
     → (status ≡ Damaged) ⊎ (status ≡ Failed) ⊎ (status ≡ Memory) → (status ≡ Damaged → new.world ≡ with_said (fault_record at) old.world) → AllMoments old new (SaysPart (fault_record at) old.world) → lines ≡ 0 → order ≡ [] → RunHolds old new status lines order
 damaged_run old new status lines order wanted at asks bad nothing alike cases said all none no_order =
-    let empty : (shape : Shape) (pairs : Pairs) → CanOpen old.world shape pairs → ⊥ = λ shape pairs can. nothing shape pairs (subst (λ s. LogHolds s old.world shape pairs) asks.wanted_is can.log) in
+    let empty : (shape : Shape) (pairs : Pairs) → CanOpen old.world shape pairs → ⊥ = λ shape pairs can. nothing shape pairs (subst (λ s. LogHolds s (image_of old.world) shape pairs) asks.wanted_is can.log) in
     let was : (P : Status → Type 0) → P Damaged → P Failed → P Memory → P status = λ P a b c.
     elim cases [ inl is ↦ subst P (sym is) a | inr more ↦ elim more [ inl is ↦ subst P (sym is) b | inr is ↦ subst P (sym is) c ] ] in
     record {
@@ -112,16 +112,14 @@ damaged_run old new status lines order wanted at asks bad nothing alike cases sa
           (λ e. elim e [ inl is ↦ (let clash : 3 ≡ 0 = ap code_of is in omega (arith, clash)) | inr is ↦ (let clash : 3 ≡ 6 = ap code_of is in omega (arith, clash)) ])
           (λ e. elim e [ inl is ↦ (let clash : 4 ≡ 0 = ap code_of is in omega (arith, clash)) | inr is ↦ (let clash : 4 ≡ 6 = ap code_of is in omega (arith, clash)) ]) answered);
       untouched = λ _. said_log old new (fault_record at) all;
-      leaves = λ is shape pairs start. absurd (nothing shape pairs (subst (λ s. LogHolds s old.world shape pairs) asks.wanted_is (sound_holds (wanted_in old.world) old.world shape pairs start.holds)));
+      leaves = λ is shape pairs start. absurd (nothing shape pairs (subst (λ s. LogHolds s (image_of old.world) shape pairs) asks.wanted_is start.holds.log));
       misconfigured = λ is. absurd (was (λ s. s ≡ Misconfigured → ⊥) (λ e. (let clash : 5 ≡ 2 = ap code_of e in omega (arith, clash))) (λ e. (let clash : 3 ≡ 2 = ap code_of e in omega (arith, clash))) (λ e. (let clash : 4 ≡ 2 = ap code_of e in omega (arith, clash))) is);
       damaged = λ is. record {
         at = at;
         configured = asks.fault_is ∙ alike;
         record_is = subst (λ s. IsBadRecord s old.world at) (sym asks.wanted_is) bad;
         unsound = subst (λ s. LogHoldsNothing s old.world) (sym asks.wanted_is) nothing;
-        now = said is;
-        none = none;
-        order_is = no_order;
+        says = record { now = said is; none = none; order_is = no_order };
       };
     }
 
@@ -135,12 +133,12 @@ option_cases (Some field) = inl (field, refl)
 pub can_not_open : (world : World) (wanted : Shape) → AsksFor world wanted → ((shape : Shape) (pairs : Pairs) → CanOpen world shape pairs → ⊥) → CanNotOpen wanted world
 can_not_open world wanted asks none = elim (option_cases (shape_fault wanted world)) [
   | inl differs ↦ inl differs
-  | inr alike ↦ inr (λ shape pairs holds. none shape pairs (record { configured = asks.fault_is ∙ alike; log = subst (λ s. LogHolds s world shape pairs) (sym asks.wanted_is) holds }))
+  | inr alike ↦ inr (λ shape pairs holds. none shape pairs (record { configured = asks.fault_is ∙ alike; log = subst (λ s. LogHolds s (image_of world) shape pairs) (sym asks.wanted_is) holds }))
 ]
 
 -- and one that it opens is
-pub opens_log : (world : World) (wanted : Shape) (shape : Shape) (pairs : Pairs) → AsksFor world wanted → CanOpen world shape pairs → LogHolds wanted world shape pairs
-opens_log world wanted shape pairs asks can = subst (λ s. LogHolds s world shape pairs) asks.wanted_is can.log
+pub opens_log : (world : World) (wanted : Shape) (shape : Shape) (pairs : Pairs) → AsksFor world wanted → CanOpen world shape pairs → LogHolds wanted (image_of world) shape pairs
+opens_log world wanted shape pairs asks can = subst (λ s. LogHolds s (image_of world) shape pairs) asks.wanted_is can.log
 
 -- ---- calls that come after ones that changed nothing
 
@@ -151,7 +149,7 @@ run_from old mid new status lines order first same run = record {
   untouched = λ none.
       joined old mid new (SameLog old.world) (same_log old mid first)
       (subst (λ (w : World). ((shape : Shape) (pairs : Pairs) → CanOpen w shape pairs → ⊥) → AllMoments mid new (SameLog w)) same run.untouched none);
-  leaves = subst (λ (w : World). status ≡ Done → (shape : Shape) (pairs : Pairs) (start : IsStart (wanted_in w) w shape pairs) → IsLeft (wanted_in w) start.holds.frames w new.world shape pairs) same run.leaves;
+  leaves = subst (λ (w : World). status ≡ Done → (shape : Shape) (pairs : Pairs) (start : IsStart (wanted_in w) w shape pairs) → IsLeft (wanted_in w) (last_segment start.holds) w new.world shape pairs) same run.leaves;
   misconfigured = λ is. subst (λ (w : World). IsMisconfigured w new.world lines order) same (run.misconfigured is);
   damaged = λ is. subst (λ (w : World). IsDamaged w new.world lines order) same (run.damaged is);
 }

@@ -15,7 +15,7 @@ use Rattle.pm_engine.proofs.Batching.{logged-append}
 use Rattle.pm_engine.proofs.DoneLines.{rest_grows}
 use Rattle.std.proofs.lemmas.List.{take_at}
 use Rattle.pm_top.proofs.Orders.{take_none}
-use Rattle.pm_engine.specs.Held.{CrashHoldsPrefix}
+use Rattle.pm_engine.specs.Crashes.{CrashHoldsPrefix}
 use Rattle.pm_engine.specs.Engines.{Running, IsAtRest, IsAtRestWithin, HasSegments}
 use Rattle.pm_top.specs.declared.batch.Continuation.{Continuation}
 use Rattle.pm_top.specs.declared.batch.Continuation.TheVariants as then_comes

@@ -7,8 +7,7 @@ use Rattle.pm_disk.specs.Worlds.{World}
 use Rattle.pm_model.specs.declared.line.Line.{Line}
 use Rattle.pm_model.specs.Eval.{Pairs, after_all}
 use Rattle.pm_model.specs.Orders.{line_at}
-use Rattle.pm_records.specs.Logs.{after_frames, place}
-use Rattle.pm_engine.specs.Held.{IsTrueImage}
+use Rattle.pm_core.specs.LogAlone.{HasTrueFrames, last_segment}
 use Rattle.pm_top.specs.Crashes.{HoldsAfter}
 use Rattle.pm_top.specs.Promises.{IsLeft, IsStart}
 use Rattle.pm_top.specs.Served.{script_of}
@@ -51,7 +50,7 @@ lines_with script numbers = map (line_at 1 script) numbers
 pub record WasDone (wanted shape : Shape) (start : World) (pairs : Pairs) (stage : Stage) : Type 0 where
   pub begins : IsStart wanted start shape pairs
   pub new : World
-  pub left : IsLeft wanted begins.holds.frames start new shape pairs
+  pub left : IsLeft wanted (last_segment begins.holds) start new shape pairs
   pub found : SameDisk new stage.next
   pub lines_are : stage.lines ≡ script_of start.input
 
@@ -63,8 +62,8 @@ pub record HasCrashed (wanted shape : Shape) (start : World) (pairs : Pairs) (st
   pub now : World
   pub image : Image
   pub leaves : LeavesAll now image
-  pub honest : IsTrueImage now image
-  pub kept : HoldsAfter wanted ((after_frames (place 1 0) begins.holds.frames).seg + 2 ^ 24) start shape pairs order now image
+  pub honest : HasTrueFrames now image
+  pub kept : HoldsAfter wanted (last_segment begins.holds + 2 ^ 24) start shape pairs order now image
   pub found : IsFoundAfter image stage.next
   pub lines_are : stage.lines ≡ lines_with (script_of start.input) (take kept.count order)
 

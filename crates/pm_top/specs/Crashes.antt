@@ -8,9 +8,8 @@ use Rattle.pm_disk.specs.Images.{Image, LeavesAll}
 use Rattle.pm_model.specs.declared.reply.Reply.{Reply}
 use Rattle.pm_model.specs.Eval.{Pairs, replies_to, accepted}
 use Rattle.pm_model.specs.Orders.{after_numbers}
-use Rattle.pm_records.specs.Logs.{after_frames, place}
 use Rattle.pm_script.specs.Texts.{text_of}
-use Rattle.pm_engine.specs.Held.{HoldsImage, IsTrueImage}
+use Rattle.pm_core.specs.LogAlone.{Holds, last_segment, HasTrueFrames}
 use Rattle.pm_top.specs.Served.{script_of}
 
 -- how many of these replies begin in the bytes: the first byte of each stands there, after the texts of those before it
@@ -30,10 +29,10 @@ acknowledged old shape pairs now =
 pub record HoldsAfter (wanted : Shape) (most : ℕ) (old : World) (shape : Shape) (pairs : Pairs) (order : List ℕ) (now : World) (image : Image) : Type 0 where
   pub count : ℕ
   pub has : All (Contains (take count order)) (acknowledged old shape pairs now)
-  pub holds : HoldsImage wanted image shape (after_numbers shape (take count order) 1 (script_of old.input) pairs)
-  pub rises : (after_frames (place 1 0) holds.frames).seg ≤ most
+  pub holds : Holds wanted image shape (after_numbers shape (take count order) 1 (script_of old.input) pairs)
+  pub rises : last_segment holds ≤ most
 
 -- whatever a crash at this moment leaves, as long as no sum is right by chance, keeps what was acknowledged
 abbrev pub CrashHoldsAcknowledged : Shape → ℕ → World → Shape → Pairs → List ℕ → World → Type 0
 CrashHoldsAcknowledged wanted most old shape pairs order now =
-    (image : Image) → LeavesAll now image → IsTrueImage now image → HoldsAfter wanted most old shape pairs order now image
+    (image : Image) → LeavesAll now image → HasTrueFrames now image → HoldsAfter wanted most old shape pairs order now image

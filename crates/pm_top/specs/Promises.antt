@@ -1,5 +1,5 @@
 -- What a run promises.
-use Rattle.std.specs.Prelude.{◌≡◌, ◌⊎◌, None, Some, ℕ, ◌+◌, ◌≤◌, ◌^◌, List, [], ◌∷◌, ◌++◌, take, drop, length, codes, decimal}
+use Rattle.std.specs.Prelude.{◌<◌, ◌≡◌, ◌⊎◌, None, Some, ℕ, ◌+◌, ◌≤◌, ◌^◌, List, [], ◌∷◌, ◌++◌, take, drop, length, codes, decimal}
 use Rattle.pm_types.specs.declared.limits.TheConstants.{BATCH_LINES_MAX}
 use Rattle.pm_types.specs.declared.fault.Field.{Field}
 use Rattle.pm_types.specs.declared.place.Place.{Place}
@@ -8,17 +8,15 @@ use Rattle.pm_disk.specs.Images.{NothingPending}
 use Rattle.pm_disk.specs.Moments.{History, AllMoments}
 use Rattle.pm_disk.specs.States.{DeviceState, Rose}
 use Rattle.pm_disk.specs.Worlds.{World, with_said}
-use Rattle.pm_frame.specs.Frames.{Frame}
 use Rattle.pm_model.specs.declared.reply.Reply.{Reply}
 use Rattle.pm_model.specs.Eval.{Pairs, replies_to, after_all}
 use Rattle.pm_model.specs.Orders.{HasAccepted, HasTried}
 use Rattle.pm_script.specs.Texts.{texts_of}
 use Rattle.pm_records.specs.FirstRecords.{restart_frame}
 use Rattle.pm_records.specs.LogFiles.{LogGrowsBy}
-use Rattle.pm_records.specs.Logs.{after_frames, place}
 use Rattle.pm_engine.specs.Records.{logged}
-use Rattle.pm_engine.specs.Held.{Holds, HasNumbers}
-use Rattle.pm_engine.specs.Openings.{IsBadRecord, LogHolds, LogHoldsNothing}
+use Rattle.pm_core.specs.LogAlone.{image_of, LogHolds, Holds, last_segment}
+use Rattle.pm_engine.specs.Openings.{IsBadRecord, LogHoldsNothing}
 use Rattle.pm_top.specs.Configurations.{config_fault, fault_config, wanted_in}
 use Rattle.pm_top.specs.declared.status.Status.{Status}
 use Rattle.pm_top.specs.declared.status.Status.TheVariants.{Done, Usage, Misconfigured, Failed, Memory, Damaged, Long}
@@ -50,18 +48,14 @@ pub record HasAnswered (old new : World) (shape : Shape) (pairs : Pairs) (lines 
   pub within : lines ≤ length (script_of old.input)
   pub said : new.said ≡ old.said ++ texts_of (take lines (replies_of shape old.input pairs)) ++ tail
 
--- the numbers are an order of the accepted ones among the first lines, and of no others
-abbrev pub IsOrder : Shape → List ℕ → Pairs → ℕ → List ℕ → Type 0
-IsOrder shape input pairs lines order = HasTried shape 1 (script_of input) pairs lines 0 order
-
--- the same of the lines that were answered, and of some more of the next batch
-abbrev pub IsOrderOfTried : Shape → List ℕ → Pairs → ℕ → List ℕ → Type 0
-IsOrderOfTried shape input pairs lines order = HasTried shape 1 (script_of input) pairs lines BATCH_LINES_MAX order
+-- the numbers are an order of the accepted ones among the first lines, and of some among so many more
+abbrev pub IsOrder : Shape → List ℕ → Pairs → ℕ → ℕ → List ℕ → Type 0
+IsOrder shape input pairs lines more order = HasTried shape 1 (script_of input) pairs lines more order
 
 -- the script was answered whole
 pub record IsDone (old new : World) (shape : Shape) (pairs : Pairs) (lines : ℕ) (order : List ℕ) : Type 0 where
   pub answers : HasAnswered old new shape pairs lines []
-  pub order_is : IsOrder shape old.input pairs lines order
+  pub order_is : IsOrder shape old.input pairs lines 0 order
   pub all : lines ≡ length (script_of old.input)
   pub read : new.input ≡ []
   pub limits : IsWithinLimits old.input
@@ -75,7 +69,7 @@ IsTail next tail = (n : ℕ) × ((tail ≡ take n (texts_of next)) ⊎ (tail ≡
 pub record HasFailed (old new : World) (shape : Shape) (pairs : Pairs) (lines : ℕ) (order : List ℕ) : Type 0 where
   pub tail : List ℕ
   pub answers : HasAnswered old new shape pairs lines tail
-  pub order_is : IsOrderOfTried shape old.input pairs lines order
+  pub order_is : IsOrder shape old.input pairs lines BATCH_LINES_MAX order
   pub more : ℕ
   pub few : more ≤ BATCH_LINES_MAX
   pub done : HasAccepted shape 1 (script_of old.input) pairs (lines + more) order
@@ -84,55 +78,58 @@ pub record HasFailed (old new : World) (shape : Shape) (pairs : Pairs) (lines : 
 -- memory ran out after the replies to the first lines
 pub record HasNoMemory (old new : World) (shape : Shape) (pairs : Pairs) (lines : ℕ) (order : List ℕ) : Type 0 where
   pub answers : HasAnswered old new shape pairs lines []
-  pub order_is : IsOrderOfTried shape old.input pairs lines order
+  pub order_is : IsOrder shape old.input pairs lines BATCH_LINES_MAX order
 
 -- all lines that are ended within both limits were answered, and this was said after their replies
 pub record IsStopped (old new : World) (shape : Shape) (pairs : Pairs) (lines : ℕ) (order : List ℕ) (tail : List ℕ) : Type 0 where
   pub answers : HasAnswered old new shape pairs lines tail
-  pub order_is : IsOrder shape old.input pairs lines order
+  pub order_is : IsOrder shape old.input pairs lines 0 order
   pub passes : PassesLimit old.input
   pub within : AreWithin old.input lines
 
 -- A run opens the store: no field of its configuration is refused, and the log holds this shape and this map.
 pub record CanOpen (world : World) (shape : Shape) (pairs : Pairs) : Type 0 where
   pub configured : config_fault world ≡ None
-  pub log : LogHolds (wanted_in world) world shape pairs
+  pub log : LogHolds (wanted_in world) (image_of world) shape pairs
 
 -- what each status says of a `run` over a store that it opens
 abbrev pub OutcomeIs : Status → World → World → Shape → Pairs → ℕ → List ℕ → Type 0
 OutcomeIs Done old new shape pairs lines order = IsDone old new shape pairs lines order
-OutcomeIs Usage old new shape pairs lines order = ⊥
-OutcomeIs Misconfigured old new shape pairs lines order = ⊥
 OutcomeIs Failed old new shape pairs lines order = HasFailed old new shape pairs lines order
 OutcomeIs Memory old new shape pairs lines order = HasNoMemory old new shape pairs lines order
-OutcomeIs Damaged old new shape pairs lines order = ⊥
 OutcomeIs Long old new shape pairs lines order = IsStopped old new shape pairs lines order (codes "fault long\n")
+OutcomeIs status old new shape pairs lines order = ⊥
 
--- A run leaves a store that is sound and holds the map after its script, and of which nothing is pending. The log has the frames that
--- it had, a RESTART and one record for each accepted line, in order, besides SEALs, in at most 2^23 segments more.
-pub record IsLeft (wanted : Shape) (frames : List Frame) (old new : World) (shape : Shape) (pairs : Pairs) : Type 0 where
-  pub holds : Holds wanted new shape (after_all shape (script_of old.input) pairs)
+-- A run leaves a store that is sound and holds the map after its script, and of which nothing is pending. The log, which ended in
+-- this segment, has the frames that it had, a RESTART and one record for each accepted line, in order, besides SEALs, in at most
+-- 2^23 segments more.
+pub record IsLeft (wanted : Shape) (last : ℕ) (old new : World) (shape : Shape) (pairs : Pairs) : Type 0 where
+  pub holds : Holds wanted (image_of new) shape (after_all shape (script_of old.input) pairs)
   pub quiet : NothingPending new
   pub grows : LogGrowsBy old new (restart_frame shape ∷ logged shape (script_of old.input) pairs)
-  pub rises : (after_frames (place 1 0) holds.frames).seg ≤ (after_frames (place 1 0) frames).seg + 2 ^ 23
+  pub rises : last_segment holds ≤ last + 2 ^ 23
 
 -- A run may begin: the store is sound and holds this map, its log has numbers for more segments, and nothing is pending.
 pub record IsStart (wanted : Shape) (world : World) (shape : Shape) (pairs : Pairs) : Type 0 where
-  pub holds : Holds wanted world shape pairs
-  pub numbers : HasNumbers holds.frames
+  pub holds : Holds wanted (image_of world) shape pairs
+  pub numbers : last_segment holds < 2 ^ 62
   pub quiet : NothingPending world
 
 -- the line that names a record that is bad
 abbrev pub fault_record : Place → List ℕ
 fault_record at = codes "fault record " ++ decimal at.seg ++ codes ":" ++ decimal at.off ++ codes "\n"
 
+-- nothing was done but that this was said
+pub record OnlySays (text : List ℕ) (old new : World) (lines : ℕ) (order : List ℕ) : Type 0 where
+  pub now : new ≡ with_said text old
+  pub none : lines ≡ 0
+  pub order_is : order ≡ []
+
 -- a field of the configuration is refused: it was named, and nothing was changed
 pub record IsMisconfigured (old new : World) (lines : ℕ) (order : List ℕ) : Type 0 where
   pub field : Field
   pub refused : config_fault old ≡ Some field
-  pub now : new ≡ with_said (fault_config field) old
-  pub none : lines ≡ 0
-  pub order_is : order ≡ []
+  pub says : OnlySays (fault_config field) old new lines order
 
 -- a record of the log is bad, so that the store isn't sound: it was named, and nothing was changed
 pub record IsDamaged (old new : World) (lines : ℕ) (order : List ℕ) : Type 0 where
@@ -140,31 +137,13 @@ pub record IsDamaged (old new : World) (lines : ℕ) (order : List ℕ) : Type 0
   pub configured : config_fault old ≡ None
   pub record_is : IsBadRecord (wanted_in old) old at
   pub unsound : LogHoldsNothing (wanted_in old) old
-  pub now : new ≡ with_said (fault_record at) old
-  pub none : lines ≡ 0
-  pub order_is : order ≡ []
+  pub says : OnlySays (fault_record at) old new lines order
 
--- nothing was done but that the words were refused
-pub record IsRefused (old new : World) (lines : ℕ) (order : List ℕ) : Type 0 where
-  pub now : new ≡ with_said (codes "fault usage\n") old
-  pub none : lines ≡ 0
-  pub order_is : order ≡ []
-
--- nothing was done but that the words were refused, which was printed in part at most
-pub record IsRefusedInPart (old new : World) (lines : ℕ) (order : List ℕ) : Type 0 where
-  pub part : SaysPart (codes "fault usage\n") old new
-  pub none : lines ≡ 0
-  pub order_is : order ≡ []
-
--- what each status says where the words aren't a command
+-- what each status says where the words aren't a command: nothing was done but that this was said, or a prefix of it
 abbrev pub RefusalIs : Status → World → World → ℕ → List ℕ → Type 0
-RefusalIs Done old new lines order = ⊥
-RefusalIs Usage old new lines order = IsRefused old new lines order
-RefusalIs Misconfigured old new lines order = ⊥
-RefusalIs Failed old new lines order = IsRefusedInPart old new lines order
-RefusalIs Memory old new lines order = ⊥
-RefusalIs Damaged old new lines order = ⊥
-RefusalIs Long old new lines order = ⊥
+RefusalIs Usage old new lines order = OnlySays (codes "fault usage\n") old new lines order
+RefusalIs Failed old new lines order = (n : ℕ) × OnlySays (take n (codes "fault usage\n")) old new lines order
+RefusalIs status old new lines order = ⊥
 
 -- What a run promises, by its status.
 pub record RunHolds (old new : History) (status : Status) (lines : ℕ) (order : List ℕ) : Type 0 where
@@ -175,7 +154,7 @@ pub record RunHolds (old new : History) (status : Status) (lines : ℕ) (order :
   pub untouched : ((shape : Shape) (pairs : Pairs) → CanOpen old.world shape pairs → ⊥) → AllMoments old new (SameLog old.world)
   -- a script that is done leaves a sound store for the next run
   pub leaves : status ≡ Done → (shape : Shape) (pairs : Pairs) (start : IsStart (wanted_in old.world) old.world shape pairs)
-      → IsLeft (wanted_in old.world) start.holds.frames old.world new.world shape pairs
+      → IsLeft (wanted_in old.world) (last_segment start.holds) old.world new.world shape pairs
   -- a field that is refused is named so, and a bad record too: the store is left as it is
   pub misconfigured : status ≡ Misconfigured → IsMisconfigured old.world new.world lines order
   pub damaged : status ≡ Damaged → IsDamaged old.world new.world lines order
@@ -184,7 +163,7 @@ pub record RunHolds (old new : History) (status : Status) (lines : ℕ) (order :
 abbrev pub HoldsAtEachMoment : History → History → List ℕ → Type 0
 HoldsAtEachMoment old new order =
     (shape : Shape) (pairs : Pairs) (start : IsStart (wanted_in old.world) old.world shape pairs)
-    → AllMoments old new (CrashHoldsAcknowledged (wanted_in old.world) ((after_frames (place 1 0) start.holds.frames).seg + 2 ^ 24) old.world shape pairs order)
+    → AllMoments old new (CrashHoldsAcknowledged (wanted_in old.world) (last_segment start.holds + 2 ^ 24) old.world shape pairs order)
 
 -- Where no call fails: a field of the configuration that is refused is named, and a script over a store that is opened is answered
 -- whole, or the limit that it passes is reported, unless memory runs out.

@@ -11,12 +11,10 @@ use Rattle.pm_model.specs.Eval.{Pairs, replies_to, after_all, accepted}
 use Rattle.pm_script.specs.Reading.{Unread, KnowsEnd}
 use Rattle.pm_script.specs.Texts.{texts_of}
 use Rattle.pm_segments.specs.Ends.{LogEnd, EndsThere}
-use Rattle.pm_records.specs.Logs.{place}
-use Rattle.pm_records.specs.Logs.{after_frames}
 use Rattle.pm_engine.specs.Engines.{Running, IsAtRest, HasSegments, SameAbove}
 use Rattle.pm_records.specs.LogFiles.{LogGrowsBy}
 use Rattle.pm_engine.specs.Records.{logged}
-use Rattle.pm_engine.specs.Held.{Holds}
+use Rattle.pm_core.specs.LogAlone.{image_of, Holds, last_segment}
 use Rattle.pm_top.specs.declared.batch.Continuation.{Continuation}
 use Rattle.pm_top.specs.declared.batch.Continuation.TheVariants as then_comes
 use Rattle.pm_top.specs.declared.run.Run.{Run}
@@ -120,7 +118,7 @@ pub record LeavesRun (wanted : Shape) (start opened : World) (shape : Shape) (pa
 -- A script is done whole over an engine's store: this is sound, holds the map that the lines leave, nothing of its log is
 -- pending, and since it was opened its log has one record more for each accepted line.
 pub record LeavesStore (wanted : Shape) (start opened world : World) (engine : Running) : Type 0 where
-  pub holds : Holds wanted world engine.shape (after_all engine.shape (script_of start.input) engine.map)
+  pub holds : Holds wanted (image_of world) engine.shape (after_all engine.shape (script_of start.input) engine.map)
   pub lasting : (seg : ℕ) → (world.log seg).since ≡ []
-  pub rises : (after_frames (place 1 0) holds.frames).seg ≤ engine.log.end.seg + LINES_MAX
+  pub rises : last_segment holds ≤ engine.log.end.seg + LINES_MAX
   pub grows : LogGrowsBy opened world (logged engine.shape (script_of start.input) engine.map)

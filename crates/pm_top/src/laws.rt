@@ -6,8 +6,7 @@ ghost use Rattle.pm_types.specs.declared.shape.Shape.{Shape};
 ghost use Rattle.pm_disk.specs.Images.{Image};
 ghost use Rattle.pm_disk.specs.Worlds.{World};
 ghost use Rattle.pm_model.specs.Eval.{Pairs, after_all};
-ghost use Rattle.pm_records.specs.Logs.{after_frames, place};
-ghost use Rattle.pm_engine.specs.Held.{HasNumbers, HoldsImage};
+ghost use Rattle.pm_core.specs.LogAlone.{Holds, last_segment};
 ghost use Rattle.pm_top.specs.Chains.{Follows, IsFoundAfter, IsFresh, SameDisk, Stage, found_last, lines_kept};
 ghost use Rattle.pm_top.specs.Promises.{IsLeft, IsStart};
 ghost use Rattle.pm_top.specs.Served.{script_of};
@@ -21,15 +20,15 @@ pub fn a_fresh_folder_is_a_start()
 pub fn what_a_done_run_leaves_is_a_start()
     ensures { (wanted shape : Shape) (old new world : World) (pairs : Pairs)
         → (start : IsStart wanted old shape pairs)
-        → (after_frames (place 1 0) start.holds.frames).seg + 2 ^ 23 < 2 ^ 62
-        → IsLeft wanted start.holds.frames old new shape pairs → SameDisk new world
+        → last_segment start.holds + 2 ^ 23 < 2 ^ 62
+        → IsLeft wanted (last_segment start.holds) old new shape pairs → SameDisk new world
         → IsStart wanted world shape (after_all shape (script_of old.input) pairs) }
 {}
 
 /// A run may begin over what a crash has left, as long as the log has numbers for more segments.
 pub fn what_a_crash_leaves_is_a_start()
     ensures { (wanted shape : Shape) (image : Image) (world : World) (pairs : Pairs)
-        → (holds : HoldsImage wanted image shape pairs) → HasNumbers holds.frames
+        → (holds : Holds wanted image shape pairs) → last_segment holds < 2 ^ 62
         → IsFoundAfter image world → IsStart wanted world shape pairs }
 {}
 
@@ -39,7 +38,7 @@ pub fn what_a_crash_leaves_is_a_start()
 pub fn runs_and_crashes_follow_each_other()
     ensures { (wanted shape : Shape) (start : World) (pairs : Pairs) (stages : List Stage)
         → (begins : IsStart wanted start shape pairs)
-        → (after_frames (place 1 0) begins.holds.frames).seg + 2 ^ 24 * length stages < 2 ^ 62
+        → last_segment begins.holds + 2 ^ 24 * length stages < 2 ^ 62
         → Follows wanted shape start pairs stages
         → IsStart wanted (found_last start stages) shape (after_all shape (lines_kept stages) pairs) }
 {}

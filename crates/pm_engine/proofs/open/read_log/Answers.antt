@@ -5,7 +5,8 @@ use Rattle.pm_records.specs.LogFiles.{contents}
 use Rattle.pm_records.specs.Logs.{place}
 use Rattle.pm_segments.specs.Scans.{Scanned, IsAhead, bytes_after}
 use Rattle.pm_segments.proofs.Reading.{scan_starts}
-use Rattle.pm_engine.specs.Openings.{ReplaysNext, IsFurther, IsSame, LogHolds, ReadsPrefix, ReadsAll, IsBadRecord}
+use Rattle.pm_core.specs.LogAlone.{image_of, LogHolds}
+use Rattle.pm_engine.specs.Openings.{ReplaysNext, IsFurther, IsSame, ReadsPrefix, ReadsAll, IsBadRecord}
 use Rattle.pm_engine.proofs.Batching.{take_none}
 use Rattle.pm_engine.proofs.Replaying.{replay_none, reads_more, reads_all, reads_bad, reads_unsound, bad_same}
 use Rattle.pm_engine.proofs.open.read_log.Goals as goal
@@ -89,7 +90,7 @@ returns-in-Bad-clause-bad g c t at is =
       record_is = subst (λ w. IsBadRecord wanted w at) (v.world t)
           (subst (IsBadRecord wanted before.world) there (reads_bad wanted before.world c.frames.scan c.replay_next.new.scan c.frames.replay c.replay_next.new.replay reads takes.0 takes.1 takes.2 takes.3));
       unsound = λ shape pairs holds.
-          reads_unsound wanted before.world c.frames.scan c.replay_next.new.scan c.frames.replay c.replay_next.new.replay reads takes.0 takes.1 takes.2 takes.3 shape pairs (subst (λ w. LogHolds wanted w shape pairs) (sym (v.world t)) holds);
+          reads_unsound wanted before.world c.frames.scan c.replay_next.new.scan c.frames.replay c.replay_next.new.replay reads takes.0 takes.1 takes.2 takes.3 shape pairs (subst (λ w. LogHolds wanted (image_of w) shape pairs) (sym (v.world t)) holds);
       same = same;
     }
 

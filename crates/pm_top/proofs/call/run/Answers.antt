@@ -8,11 +8,11 @@ use Rattle.pm_disk.proofs.Chain.{at_last, joined, weaker}
 use Rattle.pm_config.specs.Names.{name_of}
 use Rattle.pm_model.specs.Eval.{Pairs}
 use Rattle.pm_records.specs.LogFiles.{ChangesLog}
-use Rattle.pm_records.specs.Logs.{after_frames, place}
-use Rattle.pm_engine.specs.Openings.{IsBadRecord, IsSame, LogHolds, LogHoldsNothing}
+use Rattle.pm_core.specs.LogAlone.{image_of, LogHolds, last_segment}
+use Rattle.pm_engine.specs.Openings.{IsBadRecord, IsSame, LogHoldsNothing}
 use Rattle.pm_engine.specs.StoredShapes.{ComparesShape, shape_fault}
 use Rattle.pm_engine.specs.Engines.{SameAbove}
-use Rattle.pm_engine.proofs.Opening.{opens_hold, opens_map, sound_holds}
+use Rattle.pm_engine.proofs.Opening.{opens_hold, opens_map}
 use Rattle.pm_engine.proofs.Batching.{above_joined}
 use Rattle.pm_top.specs.declared.status.Status.TheVariants.{Failed, Memory, Damaged}
 use Rattle.pm_top.specs.Configurations.{AsksFor, config_fault, fault_config}
@@ -42,7 +42,7 @@ returns-in-Ok-clause-run g c t =
     let outcome = c.answer_script.result in
     let engine = c.in-Ok.engine in
     let opens = c.in-Ok.ensures.opens t in
-    let can : CanOpen old.world engine.shape engine.map = record { configured = asks.fault_is ∙ c.in-Ok.ensures.alike t; log = subst (λ s. LogHolds s old.world engine.shape engine.map) (sym asks.wanted_is) (opens_hold wanted old.world mid.world engine opens) } in
+    let can : CanOpen old.world engine.shape engine.map = record { configured = asks.fault_is ∙ c.in-Ok.ensures.alike t; log = subst (λ s. LogHolds s (image_of old.world) engine.shape engine.map) (sym asks.wanted_is) (opens_hold wanted old.world mid.world engine opens) } in
     let ordered = c.answer_script.ensures.outcome t old.world (same_console old.world mid.world only) in
     let answered : OutcomeIs outcome.status old.world new.world engine.shape engine.map outcome.lines outcome.order.items = outcome_is outcome.status old.world new.world engine.shape engine.map outcome.lines outcome.order.items ordered in
     record {
@@ -51,12 +51,12 @@ returns-in-Ok-clause-run g c t =
           subst (λ (x : Shape × Pairs). OutcomeIs outcome.status old.world new.world x.0 x.1 outcome.lines outcome.order.items) (λ i. (maps.0 i, maps.1 i)) answered;
       opened = λ _. (engine.shape, engine.map, can);
       untouched = λ none. absurd (none engine.shape engine.map can);
-      leaves = λ is. subst (λ (s : Shape). (shape : Shape) (pairs : Pairs) (start : IsStart s old.world shape pairs) → IsLeft s start.holds.frames old.world new.world shape pairs) (sym asks.wanted_is)
+      leaves = λ is. subst (λ (s : Shape). (shape : Shape) (pairs : Pairs) (start : IsStart s old.world shape pairs) → IsLeft s (last_segment start.holds) old.world new.world shape pairs) (sym asks.wanted_is)
           (λ shape pairs start.
           let stands = c.in-Ok.ensures.at_rest t shape pairs start.holds start.numbers start.quiet in
           let runs : CanRun wanted engine mid.world = record { stands = stands.at_rest; segments = omega (arith, stands.rises, start.numbers) } in
-          let maps = opens_map wanted old.world mid.world engine shape pairs opens (sound_holds wanted old.world shape pairs start.holds) in
-          is_left wanted start.holds.frames old.world mid.world new.world engine shape pairs maps stands start.quiet (at_last old mid (SameFiles old.world) (g.H.Device.sound c.open_store.new.host t) (log_calls old mid (c.open_store.ensures.log_only t))) (at_last mid new (SameFiles mid.world) (g.H.Device.sound c.answer_script.new.host t) (keep_files (engine.log.end.seg + 8388608) mid new (c.answer_script.ensures.files t)))
+          let maps = opens_map wanted old.world mid.world engine shape pairs opens start.holds.log in
+          is_left wanted (last_segment start.holds) old.world mid.world new.world engine shape pairs maps stands start.quiet (at_last old mid (SameFiles old.world) (g.H.Device.sound c.open_store.new.host t) (log_calls old mid (c.open_store.ensures.log_only t))) (at_last mid new (SameFiles mid.world) (g.H.Device.sound c.answer_script.new.host t) (keep_files (engine.log.end.seg + 8388608) mid new (c.answer_script.ensures.files t)))
           (c.answer_script.ensures.leaves t is wanted old.world (same_console old.world mid.world only) runs));
       misconfigured = λ is. absurd (c.answer_script.ensures.cause.configured is);
       damaged = λ is. absurd (c.answer_script.ensures.cause.sound is);
@@ -74,22 +74,22 @@ returns-in-Ok-clause-crash g c t =
     let engine = c.in-Ok.engine in
     let opens = c.in-Ok.ensures.opens t in
     let order = outcome.order.items in
-    let keeps : (shape : Shape) (pairs : Pairs) (start : IsStart wanted old.world shape pairs) → AllMoments old new (CrashHoldsAcknowledged wanted ((after_frames (place 1 0) start.holds.frames).seg + 16777216) old.world shape pairs order) = λ shape pairs start.
-    let maps = opens_map wanted old.world mid.world engine shape pairs opens (sound_holds wanted old.world shape pairs start.holds) in
+    let keeps : (shape : Shape) (pairs : Pairs) (start : IsStart wanted old.world shape pairs) → AllMoments old new (CrashHoldsAcknowledged wanted (last_segment start.holds + 16777216) old.world shape pairs order) = λ shape pairs start.
+    let maps = opens_map wanted old.world mid.world engine shape pairs opens start.holds.log in
     let K : World → Type 0 = CrashHoldsSome wanted old.world shape pairs order in
-    let end : ℕ = (after_frames (place 1 0) start.holds.frames).seg in
+    let end : ℕ = last_segment start.holds in
     let stands = c.in-Ok.ensures.at_rest t shape pairs start.holds start.numbers start.quiet in
     let runs : CanRun wanted engine mid.world = record { stands = stands.at_rest; segments = omega (arith, stands.rises, start.numbers) } in
     let its = outcome_order outcome.status old.world new.world engine.shape engine.map outcome.lines order (c.answer_script.ensures.outcome t old.world (same_console old.world mid.world only)) in
     let second : AllMoments mid new K = subst (λ (x : Shape × Pairs). AllMoments mid new (CrashHoldsSome wanted old.world x.0 x.1 order)) (λ i. (maps.0 i, maps.1 i))
     (moments_keep wanted old.world mid new engine.shape engine.map its.0 order its.1 (c.answer_script.ensures.moments t wanted old.world (same_console old.world mid.world only) runs)) in
-    let opened = c.open_store.ensures.above t start.holds.frames start.holds.log.log in
+    let opened = c.open_store.ensures.above t start.holds.log.frames start.holds.log.log in
     let above : AllMoments old new (SameAbove (end + 8388609) old.world) = above_joined (end + 1) (engine.log.end.seg + 8388608) (end + 8388609) old mid new (omega arith) (omega (arith, stands.rises)) (g.H.Device.sound c.open_store.new.host t) opened
     (weaker mid new (KeepsFiles (engine.log.end.seg + 8388608) mid.world) (SameAbove (engine.log.end.seg + 8388608) mid.world) (λ w is. is.above) (c.answer_script.ensures.files t)) in
     bounded_moments wanted old.world shape pairs start (end + 8388609) (end + 16777216) order old new (omega arith) (omega arith) above
     (joined old mid new K (opening_moments wanted old mid shape pairs order (c.open_store.ensures.crash t shape pairs start.holds start.numbers start.quiet) (c.open_store.ensures.log_only t)) second)
     in
-    subst (λ (s : Shape). (shape : Shape) (pairs : Pairs) (start : IsStart s old.world shape pairs) → AllMoments old new (CrashHoldsAcknowledged s ((after_frames (place 1 0) start.holds.frames).seg + 16777216) old.world shape pairs order)) (sym asks.wanted_is) keeps
+    subst (λ (s : Shape). (shape : Shape) (pairs : Pairs) (start : IsStart s old.world shape pairs) → AllMoments old new (CrashHoldsAcknowledged s (last_segment start.holds + 16777216) old.world shape pairs order)) (sym asks.wanted_is) keeps
 
 pub returns-in-Ok-clause-files : goal.returns-in-Ok-clause-files
 returns-in-Ok-clause-files g c t =
@@ -170,12 +170,12 @@ returns-in-Err-Store-Failed-clause-crash g c t =
     let asks = c.requires.asked t in
     let only = at_last old mid (ChangesLog old.world) (g.H.Device.sound c.open_store.new.host t) (c.open_store.ensures.log_only t) in
     let order = c.without-in-Err-Store-Failed.result.order.items in
-    let keeps : (shape : Shape) (pairs : Pairs) (start : IsStart wanted old.world shape pairs) → AllMoments old mid (CrashHoldsAcknowledged wanted ((after_frames (place 1 0) start.holds.frames).seg + 16777216) old.world shape pairs order) = λ shape pairs start.
-    let end : ℕ = (after_frames (place 1 0) start.holds.frames).seg in
-    bounded_moments wanted old.world shape pairs start (end + 1) (end + 16777216) order old mid (omega arith) (omega arith) (c.open_store.ensures.above t start.holds.frames start.holds.log.log)
+    let keeps : (shape : Shape) (pairs : Pairs) (start : IsStart wanted old.world shape pairs) → AllMoments old mid (CrashHoldsAcknowledged wanted (last_segment start.holds + 16777216) old.world shape pairs order) = λ shape pairs start.
+    let end : ℕ = last_segment start.holds in
+    bounded_moments wanted old.world shape pairs start (end + 1) (end + 16777216) order old mid (omega arith) (omega arith) (c.open_store.ensures.above t start.holds.log.frames start.holds.log.log)
     (opening_moments wanted old mid shape pairs order (c.open_store.ensures.crash t shape pairs start.holds start.numbers start.quiet) (c.open_store.ensures.log_only t))
     in
-    subst (λ (s : Shape). (shape : Shape) (pairs : Pairs) (start : IsStart s old.world shape pairs) → AllMoments old mid (CrashHoldsAcknowledged s ((after_frames (place 1 0) start.holds.frames).seg + 16777216) old.world shape pairs order)) (sym asks.wanted_is) keeps
+    subst (λ (s : Shape). (shape : Shape) (pairs : Pairs) (start : IsStart s old.world shape pairs) → AllMoments old mid (CrashHoldsAcknowledged s (last_segment start.holds + 16777216) old.world shape pairs order)) (sym asks.wanted_is) keeps
 
 pub returns-in-Err-Store-Failed-clause-files : goal.returns-in-Err-Store-Failed-clause-files
 returns-in-Err-Store-Failed-clause-files g c t =
@@ -205,12 +205,12 @@ returns-in-Err-Store-Memory-clause-crash g c t =
     let asks = c.requires.asked t in
     let only = at_last old mid (ChangesLog old.world) (g.H.Device.sound c.open_store.new.host t) (c.open_store.ensures.log_only t) in
     let order = c.without-in-Err-Store-Memory.result.order.items in
-    let keeps : (shape : Shape) (pairs : Pairs) (start : IsStart wanted old.world shape pairs) → AllMoments old mid (CrashHoldsAcknowledged wanted ((after_frames (place 1 0) start.holds.frames).seg + 16777216) old.world shape pairs order) = λ shape pairs start.
-    let end : ℕ = (after_frames (place 1 0) start.holds.frames).seg in
-    bounded_moments wanted old.world shape pairs start (end + 1) (end + 16777216) order old mid (omega arith) (omega arith) (c.open_store.ensures.above t start.holds.frames start.holds.log.log)
+    let keeps : (shape : Shape) (pairs : Pairs) (start : IsStart wanted old.world shape pairs) → AllMoments old mid (CrashHoldsAcknowledged wanted (last_segment start.holds + 16777216) old.world shape pairs order) = λ shape pairs start.
+    let end : ℕ = last_segment start.holds in
+    bounded_moments wanted old.world shape pairs start (end + 1) (end + 16777216) order old mid (omega arith) (omega arith) (c.open_store.ensures.above t start.holds.log.frames start.holds.log.log)
     (opening_moments wanted old mid shape pairs order (c.open_store.ensures.crash t shape pairs start.holds start.numbers start.quiet) (c.open_store.ensures.log_only t))
     in
-    subst (λ (s : Shape). (shape : Shape) (pairs : Pairs) (start : IsStart s old.world shape pairs) → AllMoments old mid (CrashHoldsAcknowledged s ((after_frames (place 1 0) start.holds.frames).seg + 16777216) old.world shape pairs order)) (sym asks.wanted_is) keeps
+    subst (λ (s : Shape). (shape : Shape) (pairs : Pairs) (start : IsStart s old.world shape pairs) → AllMoments old mid (CrashHoldsAcknowledged s (last_segment start.holds + 16777216) old.world shape pairs order)) (sym asks.wanted_is) keeps
 
 pub returns-in-Err-Store-Memory-clause-files : goal.returns-in-Err-Store-Memory-clause-files
 returns-in-Err-Store-Memory-clause-files g c t =
@@ -256,7 +256,7 @@ returns-in-Err-Store-BadRecord-clause-crash g c t shape pairs start =
     let bad = c.in-Err-Store-BadRecord.ensures.bad t at (ap Err err) in
     let first = c.open_store.ensures.untouched t (inr bad.unsound) in
     let same : mid.world ≡ old.world = at_last old mid (IsSame old.world) (g.H.Device.sound c.open_store.new.host t) first in
-    absurd (bad.unsound shape pairs (sound_holds wanted old.world shape pairs (subst (λ s. IsStart s old.world shape pairs) asks.wanted_is start).holds))
+    absurd (bad.unsound shape pairs (subst (λ s. IsStart s old.world shape pairs) asks.wanted_is start).holds.log)
 
 pub returns-in-Err-Store-BadRecord-clause-files : goal.returns-in-Err-Store-BadRecord-clause-files
 returns-in-Err-Store-BadRecord-clause-files g c t =

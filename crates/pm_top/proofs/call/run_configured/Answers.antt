@@ -12,7 +12,7 @@ use Rattle.pm_top.proofs.Refusing.{AnswersNone, field_refused_run, idle_run, run
 use Rattle.pm_top.proofs.call.run_configured.Goals as goal
 
 pub run-requires-clause-asked : goal.run-requires-clause-asked
-run-requires-clause-asked g c t =
+run-requires-clause-asked g c _ _ t =
     let old = g.H.Device.history c.args.host.now in
     let mid = g.H.Device.history c.read_config.new.host in
     let first = c.read_config.ensures.same t in

@@ -11,7 +11,8 @@ use Rattle.pm_records.specs.LogFiles.{ChangesLog}
 use Rattle.pm_records.specs.LogSteps.{cut_steps, DoesPrefix, world_after}
 use Rattle.pm_records.proofs.QuietLog.{log_same, log_then, prefix_changes}
 use Rattle.pm_segments.specs.Appends.{steps_of}
-use Rattle.pm_engine.specs.Held.{CrashHoldsPrefix}
+use Rattle.pm_core.specs.LogAlone.{last_segment}
+use Rattle.pm_engine.specs.Crashes.{CrashHoldsPrefix}
 use Rattle.pm_engine.specs.Openings.{IsSame, ReadsAll, IsBadStore, OpensWith, OpensAtRest}
 use Rattle.pm_types.specs.declared.place.Place.{Place}
 use Rattle.pm_records.specs.Logs.{after_frames, place}
@@ -130,7 +131,7 @@ returns-clause-at_rest g c t shape pairs holds numbered quiet =
     let its = opened_at_rest c.args.wanted old.world shape pairs holds numbered quiet c.in_ok-end.end c.read_log.new.replay reads mid.world same c.in_ok-end.ensures.shape log c.in_ok-log.ensures.log c.restart_payload.result c.restart_payload.ensures.payload cut.world (c.in_ok-log.ensures.steps t).all
     (record { shape = c.read_log.new.replay.shape; map = c.read_log.new.replay.map; log = c.append.new.self; order = [] }) new.world refl refl c.in_ok-append.ensures.grown
     (subst (λ b. new.world ≡ world_after (steps_of b log (record { kind = RESTART; payload = c.restart_payload.result })) log.end cut.world) tried (c.in_ok-append.ensures.steps t).all) in
-    subst (λ e. OpensAtRest c.args.wanted holds.frames old.world new.world e) (sym c.opened.ensures) its
+    subst (λ e. OpensAtRest c.args.wanted (last_segment holds) old.world new.world e) (sym c.opened.ensures) its
 
 pub returns-clause-crash : goal.returns-clause-crash
 returns-clause-crash g c t shape pairs holds numbered quiet =

@@ -1,5 +1,5 @@
 use Rattle.std.proofs.Common.{◌+◌, rules, ◌≡◌, inl, inr, [], Some, None, sym, ◌∙◌, subst}
-use Rattle.std.specs.Prelude.{IsErrOf}
+use Rattle.std.specs.Prelude.{◌^◌, ◌<◌, IsErrOf}
 use Rattle.pm_types.specs.declared.fault.OpenFault.TheVariants.{Store}
 use Rattle.pm_types.specs.declared.fault.StoreFault.TheVariants.{BadRecord}
 use Rattle.pm_disk.specs.Images.{NothingPending}
@@ -8,7 +8,8 @@ use Rattle.pm_disk.specs.Worlds.{World}
 use Rattle.pm_disk.proofs.Chain.{weaker, joined, at_last}
 use Rattle.pm_records.specs.LogFiles.{ChangesLog}
 use Rattle.pm_records.proofs.QuietLog.{log_same}
-use Rattle.pm_engine.specs.Held.{Holds, HasNumbers, CrashHoldsPrefix}
+use Rattle.pm_core.specs.LogAlone.{image_of, Holds, last_segment}
+use Rattle.pm_engine.specs.Crashes.{CrashHoldsPrefix}
 use Rattle.pm_engine.specs.Openings.{IsBadStore, IsSame, LogHoldsNothing, OpensAtRest, OpensWith}
 use Rattle.pm_engine.specs.StoredShapes.{shape_fault}
 use Rattle.pm_records.specs.LogFiles.{contents}
@@ -54,7 +55,7 @@ returns-in_err-open_log-clause-crash g c t shape pairs holds numbered quiet =
     let P : World → Type 0 = CrashHoldsPrefix wanted shape pairs [] in
     let first : AllMoments old mid P = weaker old mid (IsSame old.world) P (λ w is. sound_keeps wanted old.world shape pairs holds numbered quiet w is) (c.compare_shape.ensures.same t) in
     joined old mid new P first
-    (subst (λ w. (h : Holds wanted w shape pairs) → HasNumbers h.frames → NothingPending w → AllMoments mid new P) same (c.open_log.ensures.crash t shape pairs) holds numbered quiet)
+    (subst (λ w. (h : Holds wanted (image_of w) shape pairs) → last_segment h < 2 ^ 62 → NothingPending w → AllMoments mid new P) same (c.open_log.ensures.crash t shape pairs) holds numbered quiet)
 
 pub returns-in_err-open_log-clause-log_only : goal.returns-in_err-open_log-clause-log_only
 returns-in_err-open_log-clause-log_only g c t =
@@ -90,7 +91,7 @@ returns-clause-crash g c t shape pairs holds numbered quiet =
     let P : World → Type 0 = CrashHoldsPrefix wanted shape pairs [] in
     let first : AllMoments old mid P = weaker old mid (IsSame old.world) P (λ w is. sound_keeps wanted old.world shape pairs holds numbered quiet w is) (c.compare_shape.ensures.same t) in
     joined old mid new P first
-    (subst (λ w. (h : Holds wanted w shape pairs) → HasNumbers h.frames → NothingPending w → AllMoments mid new P) same (c.open_log.ensures.crash t shape pairs) holds numbered quiet)
+    (subst (λ w. (h : Holds wanted (image_of w) shape pairs) → last_segment h < 2 ^ 62 → NothingPending w → AllMoments mid new P) same (c.open_log.ensures.crash t shape pairs) holds numbered quiet)
 
 pub returns-clause-log_only : goal.returns-clause-log_only
 returns-clause-log_only g c t =
@@ -132,7 +133,7 @@ returns-clause-at_rest g c t shape pairs holds numbered quiet =
     let same : mid.world ≡ old.world = at_last old mid (IsSame old.world) (g.H.Device.sound c.compare_shape.new.host t) (c.compare_shape.ensures.same t) in
     let new = g.H.Device.history c.open_log.new.host in
     let wanted = c.args.wanted in
-    subst (λ w. (h : Holds wanted w shape pairs) → HasNumbers h.frames → NothingPending w → OpensAtRest wanted h.frames w new.world c.in_ok-open_log.field-0) same (c.in_ok-open_log.ensures.at_rest t shape pairs) holds numbered quiet
+    subst (λ w. (h : Holds wanted (image_of w) shape pairs) → last_segment h < 2 ^ 62 → NothingPending w → OpensAtRest wanted (last_segment h) w new.world c.in_ok-open_log.field-0) same (c.in_ok-open_log.ensures.at_rest t shape pairs) holds numbered quiet
 
 pub returns-in_err-compare_shape-clause-above : goal.returns-in_err-compare_shape-clause-above
 returns-in_err-compare_shape-clause-above g c t frames log =

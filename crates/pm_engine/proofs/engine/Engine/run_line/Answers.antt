@@ -37,7 +37,7 @@ returns-then-not-answer-clause-done g c t wanted start done goes segments =
     (ap (λ (r : Running). r.log) c.self.view_is)
 
 pub append-requires-clause-short : goal.append-requires-clause-short
-append-requires-clause-short g c =
+append-requires-clause-short g c _ _ =
     (logs_line c.self.inside.shape c.args.line.now c.self.inside.map c.deref.result.now (sym c.in_ok-answer.ensures.accepted ∙ not_false _ c.if-not-answer.false)
     (subst (IsPayloadOf (record_of_line c.args.line.now)) (sym c.deref.ensures.value) c.in_ok-answer.ensures.payload)).short
 

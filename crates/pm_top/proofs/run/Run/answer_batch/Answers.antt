@@ -2,7 +2,9 @@ use Rattle.std.proofs.Common.{rules, ◌≡◌, ℕ, ◌+◌, ◌≤◌, ◌++�
 use Rattle.std.specs.Prelude.{IsErrOf}
 use Rattle.pm_types.specs.declared.fault.StoreFault.TheVariants.{Failed, Memory}
 use Rattle.pm_disk.proofs.Chain.{at_last}
+use Rattle.pm_disk.specs.Worlds.{World}
 use Rattle.pm_model.specs.declared.line.Line.{Line}
+use Rattle.pm_segments.specs.Ends.{EndsThere}
 use Rattle.pm_script.specs.Reading.{rest_of, OnlyTakes}
 use Rattle.pm_engine.specs.Engines.{HasSegments}
 use Rattle.pm_top.specs.Runs.{IsAtRestSince, Progress, OnlyAnswers}
@@ -13,6 +15,14 @@ use Rattle.pm_top.proofs.KeptLogs.{keep_answers, keep_take, keep_then}
 use Rattle.pm_top.proofs.Progressing.{failed_still, memory_still, progress_still}
 use Rattle.pm_top.proofs.AnsweredBatch.{keeps_both, taken_said, taken_moments, then_moments, since_both, since_taken}
 use Rattle.pm_top.proofs.run.Run.answer_batch.Goals as goal
+
+pub answer_lines-requires-clause-end : goal.answer_lines-requires-clause-end
+answer_lines-requires-clause-end g c κs within = λ t.
+    let old = g.H.Device.history c.args.host.now in
+    let mid = g.H.Device.history c.next_batch.new.host in
+    let takes = at_last old mid (OnlyTakes old.world) (g.H.Device.sound c.next_batch.new.host t) (c.next_batch.ensures.takes t) in
+    let end = c.requires.end t in
+    subst (λ (w : World). EndsThere c.args.self.now.engine.log w) (sym takes.1) (record { kept = end.kept; ends = end.ends })
 
 pub returns-in_err-batch-clause-keeps : goal.returns-in_err-batch-clause-keeps
 returns-in_err-batch-clause-keeps g c =
