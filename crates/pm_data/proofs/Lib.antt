@@ -6,3 +6,4 @@ pub mod Insertion
 pub mod Lifting
 pub mod TakenOut
 pub mod Filled
+pub mod Replacement

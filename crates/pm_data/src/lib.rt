@@ -7,6 +7,7 @@ mod items;
 mod layout;
 mod placing;
 mod removal;
+mod replacing;
 mod rows;
 mod slots;
 #[cfg(test)]
@@ -18,4 +19,5 @@ pub use items::{fits, room, row};
 pub use layout::{DATA_KIND, ROW_HEAD_LEN, SLOTS_MAX};
 pub use placing::insert;
 pub use removal::remove;
+pub use replacing::replace;
 pub use rows::{cache_in, key_in, value_in};

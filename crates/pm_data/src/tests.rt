@@ -4,7 +4,7 @@ ghost use Rattle.std.specs.Prelude.{◌≡◌, length};
 ghost use Rattle.pm_data.specs.DataPages.{data_of, empty_page, IsDataPage};
 
 use crate::rows::{cache_in, is_row, key_in, value_in};
-use crate::{check, fits, fresh, insert, links, remove, room, row, set_links};
+use crate::{check, fits, fresh, insert, links, remove, replace, room, row, set_links};
 use pm_types::{PageId, Patch};
 use std::process::Abort;
 
@@ -84,6 +84,22 @@ fn items_keep_their_numbers_and_the_lowest_is_taken_again(rt: HostRuntime) {
     take(&rt, &mut page, 2, &mut patch);
     assert_eq!(rt; room(&page), 1024 - 32 - 4 - 6);
     assert!(rt; check(&page, id) && !check(&page, PageId::new(0, 2)));
+}
+
+#[test]
+fn a_row_is_written_over_one_of_its_length(rt: HostRuntime) {
+    let mut page = [0; 1024];
+    let mut patch = Patch::none(1024);
+    fresh(&mut page, PageId::new(0, 1));
+    put(&rt, &mut page, &FIRST, &mut patch);
+    put(&rt, &mut page, &SECOND, &mut patch);
+    let before = room(&page);
+    let other = [0, 1, 1, 0, 0x61, 0x39];
+    assert!(rt; is_row(&other));
+    assert!(rt; row(&page, 0).is_some_and(|was| was.len() == other.len()));
+    replace(&mut page, 0, &other, &mut patch);
+    assert!(rt; page.ends_with(&[15, 2, 1, 0, 0x61, 0x62, 0x32, 0, 1, 1, 0, 0x61, 0x39]));
+    assert_eq!(rt; room(&page), before);
 }
 
 #[test]
