@@ -21,7 +21,10 @@ use Rattle.pm_tree.specs.Places.{IsPlaceIn}
 use Rattle.pm_tree.specs.declared.places.Place.TheVariants.{Below}
 use Rattle.pm_tree.specs.Divisions.{KeepsNumbers}
 use Rattle.pm_tree.specs.Grown.{child_item}
+use Rattle.pm_tree.specs.Spare.{MovesSpare}
 use Rattle.pm_tree.proofs.KeyOrder.{below_then}
+use Rattle.pm_tree.proofs.SpareMoves.{moves_then, moves_on}
+use Rattle.pm_tree.proofs.SpareSteps.{node_kind, moves_page}
 use Rattle.pm_tree.proofs.MapLists.{keys_joined, keys_weaker}
 use Rattle.pm_tree.proofs.Decoded.{kid, kid_is}
 use Rattle.pm_tree.proofs.Seams.{Seam, seam, get_seam, flat_joined, each_right}
@@ -32,30 +35,30 @@ use Rattle.pm_tree.proofs.Told.{node_away, page_is, link_is, items_are, half_is,
 use Rattle.pm_tree.proofs.Divided.{numbers_stay}
 
 -- the keys below entries that are all below one are below it, and those from one on aren't
-upto_all : (f : ℕ → List Item) (first : Entry) (xs : List Item) (m : List ℕ) → AreBounded f (first ∷ map entry xs) (Some m) → ((j : ℕ) → j < length xs → IsBelow (key_in xs j) m) → Keys (IsUpTo (Some m)) (flat f (first ∷ map entry xs))
+pub upto_all : (f : ℕ → List Item) (first : Entry) (xs : List Item) (m : List ℕ) → AreBounded f (first ∷ map entry xs) (Some m) → ((j : ℕ) → j < length xs → IsBelow (key_in xs j) m) → Keys (IsUpTo (Some m)) (flat f (first ∷ map entry xs))
 upto_all f first [] m bounded below = keys_joined (IsUpTo (Some m)) (f first.child) [] bounded.1 tt
 upto_all f first (x ∷ xs) m bounded below =
     keys_joined (IsUpTo (Some m)) (f first.child) (flat f (map entry (x ∷ xs))) (keys_weaker (IsUpTo (Some x.key)) (IsUpTo (Some m)) (f first.child) (λ k upto. below_then k x.key m upto (below 0 (omega arith))) bounded.1)
     (upto_all f (entry x) xs m bounded.2 (λ j lt. below (suc j) (omega (arith, lt))))
 
-from_all : (f : ℕ → List Item) (xs : List Item) (m : List ℕ) → AreBounded f (map entry xs) None → ((j : ℕ) → j < length xs → IsBelow m (key_in xs j)) → Keys (IsFrom (Some m)) (flat f (map entry xs))
+pub from_all : (f : ℕ → List Item) (xs : List Item) (m : List ℕ) → AreBounded f (map entry xs) None → ((j : ℕ) → j < length xs → IsBelow m (key_in xs j)) → Keys (IsFrom (Some m)) (flat f (map entry xs))
 from_all f [] m bounded above = tt
 from_all f (x ∷ xs) m bounded above =
     keys_joined (IsFrom (Some m)) (f (index_in x.word)) (flat f (map entry xs)) (keys_weaker (IsFrom (Some x.key)) (IsFrom (Some m)) (f (index_in x.word)) (λ k from low. from (below_then k m x.key low (above 0 (omega arith)))) bounded.0)
     (from_all f xs m bounded.2 (λ j lt. above (suc j) (omega (arith, lt))))
 
 -- rising keys, around one of them
-key_here : (xs ys : List Item) (x : Item) → key_in (xs ++ (x ∷ ys)) (length xs) ≡ x.key
+pub key_here : (xs ys : List Item) (x : Item) → key_in (xs ++ (x ∷ ys)) (length xs) ≡ x.key
 key_here [] ys x = refl
 key_here (z ∷ xs) ys x = key_here xs ys x
 
-rising_low : (xs ys : List Item) (x : Item) → IsRising (xs ++ (x ∷ ys)) → (j : ℕ) → j < length xs → IsBelow (key_in xs j) x.key
+pub rising_low : (xs ys : List Item) (x : Item) → IsRising (xs ++ (x ∷ ys)) → (j : ℕ) → j < length xs → IsBelow (key_in xs j) x.key
 rising_low xs ys x rising j lt =
     let less = rising j (length xs) lt (omega (arith, length-append xs (x ∷ ys))) in
     let one = subst (IsBelow (key_in (xs ++ (x ∷ ys)) j)) (key_here xs ys x) less in
     subst (λ (y : Item). IsBelow y.key x.key) (get_or_append_left xs (x ∷ ys) (record { key = []; word = 0 }) j lt) one
 
-rising_high : (xs ys : List Item) (x : Item) → IsRising (xs ++ (x ∷ ys)) → (j : ℕ) → j < length ys → IsBelow x.key (key_in ys j)
+pub rising_high : (xs ys : List Item) (x : Item) → IsRising (xs ++ (x ∷ ys)) → (j : ℕ) → j < length ys → IsBelow x.key (key_in ys j)
 rising_high [] ys x rising j lt = rising 0 (suc j) (omega arith) (omega (arith, lt))
 rising_high (y ∷ xs) ys x rising j lt = rising_high xs ys x (λ a b less lt'. rising (suc a) (suc b) (omega (arith, less)) (omega (arith, lt'))) j lt
 
@@ -156,6 +159,7 @@ module _ (T : Type 0) (a b : Paged) (at i child : ℕ) (key : List ℕ) (word ha
             (record { kind_is = ap (λ (n : Node). n.kind) still ∙ tree.0.kind_is; full = omega (arith, tree.0.full, ap (λ (n : Node). length n.items) still) })
             (ap (λ (n : Node). n.half) still) (ap (λ (n : Node). entries n) still ∙ at_seam.is) (λ j ne not_spare. refl);
         others = λ j not_zero none made. puts.others j not_zero (not_below [] puts j none) made;
+        moves = puts.moves;
       }
 
   -- the child was divided
@@ -196,13 +200,14 @@ module _ (T : Type 0) (a b : Paged) (at i child : ℕ) (key : List ℕ) (word ha
                 ((λ z. first_entry (link_is c at now in_c after z) ∷ map entry (items_c z)) ∙ row_is)
                 (λ j ne not_spare. node_away T b c (λ j. j ≡ at) 0 t readable meta_b edits numbers j (λ e. absurd (ne e)) not_spare);
             others = λ j not_zero none made. edits.others j (inl t) (at_other rest puts j none) ∙ puts.others j not_zero (not_below rest puts j none) made;
+            moves = moves_on a.pages b.pages c.pages puts.made [] puts.moves (moves_page T b c at 0 t place.some edits (node_kind b at says before) (node_kind c at now after));
           }
 
       pub forked_up : (c : Paged) (forked : Part) → says.leaf ≡ false → (low : List Item) (middle : Item) (high : List Item) → with_item says.items i (child_item b.part part) ≡ low ++ (middle ∷ high)
           → IsNode c at (with_items says low) → IsNode c forked.right (record { id = page_id b.part forked.right; leaf = false; link = middle.word; items = high }) → forked.from ≡ middle.key → half_of b.page_size ≤ length low → half_of b.page_size ≤ length high
-          → ((n : ℕ) → IsNumberIn c Pages n → forked.right < n) → EditsPages T b c (λ j. (j ≡ 0) ⊎ (j ≡ forked.right) ⊎ (j ≡ at)) 1 → HasMeta c → KeepsNumbers b c → IsSpare (nodes_in b.pages forked.right)
+          → ((n : ℕ) → IsNumberIn c Pages n → forked.right < n) → EditsPages T b c (λ j. (j ≡ 0) ⊎ (j ≡ forked.right) ⊎ (j ≡ at)) 1 → HasMeta c → KeepsNumbers b c → IsSpare (nodes_in b.pages forked.right) → MovesSpare b.pages c.pages (forked.right ∷ []) []
           → PutsIn a.pages c.pages (suc h) half at key word (record { from = Some forked.from; child = forked.right } ∷ [])
-      forked_up c forked inner low middle high whole left_is right_is from_is full full_high below_right edits meta_c numbers spare =
+      forked_up c forked inner low middle high whole left_is right_is from_is full full_high below_right edits meta_c numbers spare moves =
           let in_c : at < page_count c.pages = omega (arith, in_b, counts_rise b c meta_b numbers) in
           let right_in = below_count c forked.right meta_c below_right in
           let E' = at_seam.before ++ ((at_seam.here ∷ (record { from = Some part.from; child = part.right } ∷ [])) ++ at_seam.after) in
@@ -229,4 +234,5 @@ module _ (T : Type 0) (a b : Paged) (at i child : ℕ) (key : List ℕ) (word ha
                 let ne_right : j ≢ forked.right = λ e. omega (arith, made, times_here forked.right puts.made, ap (λ k. times k (forked.right ∷ puts.made)) e) in
                 edits.others j (inl t) (λ hh. elim hh [ inl e ↦ not_zero e | inr h2 ↦ elim h2 [ inl e ↦ ne_right e | inr e ↦ at_other rest puts j none e ] ])
                 ∙ puts.others j not_zero (not_below rest puts j none) (omega (arith, made, times-append j (forked.right ∷ []) puts.made));
+            moves = moves_then a.pages b.pages c.pages puts.made (forked.right ∷ []) [] [] puts.moves moves;
           })

@@ -1,5 +1,5 @@
 -- The calls of a put, one after the other.
-use Rattle.std.proofs.Common.{◌≡◌, ℕ, zero, suc, ◌+◌, ◌-◌, ◌<◌, ◌≤◌, ◌⊎◌, false, List, [], length, refl, sym, ap, subst, ◌∙◌, inl, inr, arith}
+use Rattle.std.proofs.Common.{◌≡◌, ℕ, zero, suc, ◌+◌, ◌-◌, ◌<◌, ◌≤◌, ◌⊎◌, false, List, [], ◌∷◌, length, refl, sym, ap, subst, ◌∙◌, inl, inr, arith}
 use Rattle.std.specs.Prelude.{Option, None, IsTrue, Result, Err}
 use Rattle.pm_types.specs.Ids.{page_id}
 use Rattle.pm_types.specs.declared.page_id.PageId.{PageId}
@@ -29,6 +29,7 @@ use Rattle.pm_tree.specs.declared.places.Place.TheVariants.{Full, Below, Other}
 use Rattle.pm_tree.specs.Divisions.{KeepsNumbers, PutsPages, IsFullLeaf}
 use Rattle.pm_tree.specs.Grown.{IsParent, IsParentAt, child_item, Grows, Forks, TakesChild}
 use Rattle.pm_tree.specs.PutCauses.{IsPutFaultAfter, HasPutCause, Lifts}
+use Rattle.pm_tree.specs.Spare.{MovesSpare}
 use Rattle.pm_tree.proofs.Divided.{numbers_looked, numbers_stay, numbers_then, meta_stays}
 use Rattle.pm_tree.proofs.LeafSteps.{puts_pages}
 use Rattle.pm_tree.proofs.Told.{below_count, count_there, is_inner}
@@ -168,7 +169,7 @@ module _ (T : Type 0) (a b c : Paged) (at i child limit m : ℕ) (key : List ℕ
         sym (get_here T a b at i child key word half h least t meta place below refl tree once None (sym up.0)),
         omega (arith, forks.levels, up.1),
         forked_up T a b at i child key word half h least t meta place below refl tree once part up.2 readable changes.numbers changes.meta below_b changes.edits.same.page_size forks.says forks.before forks.between forks.index c forked forks.inner
-            forks.low forks.middle forks.high forks.whole forks.left_is forks.right_is forks.from forks.full forks.full_right forks.below forks.edits forks.meta forks.numbers (forks.spare t),
+            forks.low forks.middle forks.high forks.whole forks.left_is forks.right_is forks.from forks.full forks.full_right forks.below forks.edits forks.meta forks.numbers (forks.spare t) (forks.moves t),
       ))
 
   takes_step : (part : Part) (put : Put) → PutsFor a.pages b.pages (half_of a.page_size) (limit - 1) child key word (Split part) → TakesChild T b c at i part put → PutsFor a.pages c.pages (half_of a.page_size) limit at key word put
@@ -239,6 +240,7 @@ forks_looked T a b c at i part forked known asked looks g = record {
   meta = g.meta;
   numbers = numbers_then a b c (numbers_looked T a b 0 looks) g.numbers;
   spare = λ t. subst (λ (q : Partition). IsSpare (nodes_in q forked.right)) (pages_told T a b 0 t looks) (g.spare t);
+  moves = λ t. subst (λ (q : Partition). MovesSpare q c.pages (forked.right ∷ []) []) (pages_told T a b 0 t looks) (g.moves t);
 }
 
 pub takes_looked : (T : Type 0) (a b c : Paged) (at i : ℕ) (part : Part) (put : Put) → IsTrue (a.known at) → IsTrue (a.asked at) → LooksAtPages T a b 0 → TakesChild T b c at i part put → TakesChild T a c at i part put

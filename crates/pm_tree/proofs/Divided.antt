@@ -1,5 +1,5 @@
 -- A page of a tree is divided, step by step.
-use Rattle.std.proofs.Common.{◌≡◌, ◌≢◌, ℕ, ◌+◌, ◌<◌, ◌≤◌, ◌⊎◌, List, [], length, drop, refl, sym, ap, subst, ◌∙◌, inl, inr, arith}
+use Rattle.std.proofs.Common.{◌≡◌, ◌≢◌, ℕ, ◌+◌, ◌<◌, ◌≤◌, ◌⊎◌, List, [], ◌∷◌, length, drop, refl, sym, ap, subst, ◌∙◌, inl, inr, arith}
 use Rattle.std.specs.Prelude.{Option, None, Some, IsSome}
 use Rattle.std.proofs.lemmas.Bool.{le-ltb}
 use Rattle.pm_types.specs.Ids.{page_id}
@@ -21,7 +21,10 @@ use Rattle.pm_tree.specs.Edits.{blank, edited, IsNode, TakesEdit, EditsNodeAt}
 use Rattle.pm_tree.specs.declared.edits.Edit.{Edit}
 use Rattle.pm_tree.specs.declared.edits.Edit.TheVariants.{Tail, Cut}
 use Rattle.pm_tree.specs.Divisions.{KeepsNumbers, is_leaf_blank, CanDivide, Divides}
+use Rattle.pm_tree.specs.Spare.{MovesSpare}
 use Rattle.pm_tree.proofs.NodeEdits.{node_stays}
+use Rattle.pm_tree.proofs.SpareMoves.{moves_on}
+use Rattle.pm_tree.proofs.SpareSteps.{node_kind, zeros_at, moves_page, moves_take}
 
 -- the number that a meta page has
 pub number_is : (p : Paged) (slot : MetaSlot) (n : ℕ) (was : List ℕ) → IsNumberIn p slot n → p.pages 0 ≡ Some was → n ≡ field_of was slot
@@ -170,6 +173,7 @@ divides_looked T a b c at right page first start end looks d = record {
   meta = d.meta;
   numbers = numbers_then a b c (numbers_looked T a b 0 looks) d.numbers;
   spare = λ t. subst (λ (q : Partition). IsSpare (nodes_in q right)) (λ k j. looks.pages j (inl t) k) (d.spare t);
+  moves = λ t. subst (λ (q : Partition). MovesSpare q c.pages (right ∷ []) []) (λ k j. looks.pages j (inl t) k) (d.moves t);
 }
 
 -- a number of the meta page was the same before another page was changed
@@ -217,4 +221,14 @@ divided T a b c d e at right page first start end meta can takes edits_c node ed
       numbers = numbers_then a b e (numbers_taken T a b 1 right takes)
           (numbers_then b c e (numbers_stay T b c (λ j. j ≡ right) 0 edits_c not_zero) (numbers_then c d e (numbers_stay T c d (λ j. j ≡ right) 0 edits_d not_zero) (numbers_stay T d e (λ j. j ≡ at) 0 edits_e at_some)));
       spare = λ t. spare_taken T a b 1 right t takes;
+      moves = λ t.
+          let blank_at : IsNode c right (blank (page_id b.part right) first) = node in
+          let tail_at = node_edited T c d right 0 page (Tail start) (blank (page_id b.part right) first) edits_d node tail in
+          let old_at = node_stays T a d (λ j. (IsMetaOr right j ⊎ (j ≡ right)) ⊎ (j ≡ right)) (1 + 0 + 0) at (index_of page) two out old in
+          let cut_at = node_edited T d e at 0 page (Cut end) (index_of page) edits_e old_at cut in
+          moves_on a.pages d.pages e.pages (right ∷ []) []
+          (moves_on a.pages c.pages d.pages (right ∷ []) []
+          (moves_on a.pages b.pages c.pages (right ∷ []) [] (moves_take T a b 1 right t takes) (moves_page T b c right 0 t takes.some edits_c (zeros_at b right a.page_size takes.zeros) (node_kind c right _ blank_at)))
+          (moves_page T c d right 0 t takes.some edits_d (node_kind c right _ blank_at) (node_kind d right _ tail_at)))
+          (moves_page T d e at 0 t can.some edits_e (node_kind d at _ old_at) (node_kind e at _ cut_at));
     }

@@ -28,14 +28,16 @@ use Rattle.pm_tree.specs.Indexes.{IsTreeAt, IsIndex, as_link, link_in}
 use Rattle.pm_tree.specs.Divisions.{KeepsNumbers, PutsPages}
 use Rattle.pm_tree.specs.Roots.{KeepsButRoot, MakesRoot, MakesTop, PutsIndex, PutsRootPages, HasGrowCause, HasTreePutCause}
 use Rattle.pm_tree.specs.PutCauses.{HasPutCause}
+use Rattle.pm_tree.specs.Spare.{MovesSpare}
 use Rattle.pm_tree.proofs.Climbs.{changes_looked, fault_after}
+use Rattle.pm_tree.proofs.SpareMoves.{moves_then}
 use Rattle.pm_tree.proofs.Decoded.{leaves_same, nodes_same, items_same, tree_to, tree_from}
 use Rattle.pm_tree.proofs.Frames.{times-append, times_here, used}
 use Rattle.pm_tree.proofs.LeafPuts.{PutsRoot, root_kept, root_grown, root_planted}
 use Rattle.pm_tree.proofs.Told.{node_away_count, below_count, link_is, items_are, half_is, is_leaf, is_inner}
 use Rattle.pm_tree.proofs.Descents.{number_told}
 
-linked_to : (pages : Partition) (leaves : List ℕ) → AreLinked pages leaves → AreLinkedTo (nodes_in pages) leaves 0
+pub linked_to : (pages : Partition) (leaves : List ℕ) → AreLinked pages leaves → AreLinkedTo (nodes_in pages) leaves 0
 linked_to pages [] linked = tt
 linked_to pages (leaf ∷ leaves) linked = (linked.0 ∙ first_is leaves, linked_to pages leaves linked.1)
   where
@@ -43,7 +45,7 @@ linked_to pages (leaf ∷ leaves) linked = (linked.0 ∙ first_is leaves, linked
     first_is [] = refl
     first_is (i ∷ is) = refl
 
-linked_from : (pages : Partition) (leaves : List ℕ) → AreLinkedTo (nodes_in pages) leaves 0 → AreLinked pages leaves
+pub linked_from : (pages : Partition) (leaves : List ℕ) → AreLinkedTo (nodes_in pages) leaves 0 → AreLinked pages leaves
 linked_from pages [] linked = tt
 linked_from pages (leaf ∷ leaves) linked = (linked.0 ∙ first_is leaves, linked_from pages leaves linked.1)
   where
@@ -52,7 +54,7 @@ linked_from pages (leaf ∷ leaves) linked = (linked.0 ∙ first_is leaves, link
     first_is (i ∷ is) = refl
 
 -- a number of the meta page that is at hand
-number_there : (p : Paged) (slot : MetaSlot) → HasMeta p → (n : ℕ) × IsNumberIn p slot n
+pub number_there : (p : Paged) (slot : MetaSlot) → HasMeta p → (n : ℕ) × IsNumberIn p slot n
 number_there p slot meta = (let m = some_bytes (p.pages 0) meta.there in (field_of m.0 slot, record { meta = m.0; in_hand = record { known = meta.known; asked = meta.asked; page = m.1 }; is = refl }))
 
 -- numbers that are kept, as the store reports them
@@ -99,8 +101,8 @@ module _ (a c : Paged) (cache : ℕ) (made nodes : List ℕ) (items : List Item)
     once = once_now;
   }
 
-  pub puts_index : (was : Option Link) → was ≡ link_in items key → ((j : ℕ) → j ≢ 0 → times j nodes ≡ 0 → times j made ≡ 0 → c.pages j ≡ a.pages j) → HasMeta a → KeepsButRoot a c cache → PutsIndex a.pages c.pages cache nodes items key word was
-  puts_index was was_is others meta keeps = record {
+  pub puts_index : (was : Option Link) → was ≡ link_in items key → ((j : ℕ) → j ≢ 0 → times j nodes ≡ 0 → times j made ≡ 0 → c.pages j ≡ a.pages j) → MovesSpare a.pages c.pages made [] → HasMeta a → KeepsButRoot a c cache → PutsIndex a.pages c.pages cache nodes items key word was
+  puts_index was was_is others moves meta keeps = record {
     was_is = was_is;
     height = suc levels;
     nodes_now = nodes_below c.pages levels root;
@@ -111,7 +113,7 @@ module _ (a c : Paged) (cache : ℕ) (made nodes : List ℕ) (items : List Item)
     spare = put.spare;
     others = others;
     numbers = numbers_told a c cache meta keeps;
-    count = count_told a c cache meta keeps;
+    moves = moves;
   }
 
 -- a first leaf
@@ -125,7 +127,7 @@ plants_index T a c cache key word t readable meta makes zero nodes items index =
     root_planted (nodes_in a.pages) (nodes_in c.pages) top key word (makes.spare t) (is_leaf c top says top_in makes.node refl) (link_is c top says top_in makes.node) (items_are c top says top_in makes.node) in
     subst (λ (q : List ℕ × List Item). PutsIndex a.pages c.pages cache q.0 q.1 key word None) {x = ([], [])} {y = (nodes, items)} (λ z. (sym index.1 z, sym index.2 z))
     (puts_index a c cache (top ∷ []) [] [] zero top key word put (λ e. omega (arith, e, makes.some)) (omega arith) (number_told c (Root cache) top makes.root) (λ j. omega arith) (λ j h. absurd (omega (arith, h))) None refl
-    (λ j not_zero none made. makes.edits.others j (inl t) (λ h. elim h [ inl e ↦ not_zero e | inr e ↦ omega (arith, made, times_here top [], ap (λ i. times i (top ∷ [])) e) ])) meta makes.numbers)
+    (λ j not_zero none made. makes.edits.others j (inl t) (λ h. elim h [ inl e ↦ not_zero e | inr e ↦ omega (arith, made, times_here top [], ap (λ i. times i (top ∷ [])) e) ])) (makes.moves t) meta makes.numbers)
 
 -- A put below a root.
 module _ (T : Type 0) (a b : Paged) (cache root : ℕ) (key : List ℕ) (word m : ℕ) (t : T) (meta : HasMeta a) (in_caches : cache < CACHES) (is_root : IsNumberIn a (Root cache) root) (some : root ≢ 0) (changes : PutsPages T a b m)
@@ -157,7 +159,7 @@ module _ (T : Type 0) (a b : Paged) (cache root : ℕ) (key : List ℕ) (word m 
       let put = to_given p.1.made levels root b (root_kept (nodes_in a.pages) (nodes_in b.pages) p.1.made levels root key word linked_a p.1.puts) in
       puts_index a b cache p.1.made nodes items levels root key word put some index.few (number_told b (Root cache) root (changes.numbers.others (Root cache) in_caches (λ e. cc e) (λ e. cc e) root is_root)) index.once used_a
       (option_map as_link was) (ap (λ o. option_map as_link o) (p.0 ∙ ap (λ (xs : List Item). get_in xs key) (sym items_a)))
-      (λ j not_zero none made. p.1.others j not_zero (subst (λ u. times j u ≡ 0) nodes_a none) made) meta (keeps_but_root a b cache changes.numbers)
+      (λ j not_zero none made. p.1.others j not_zero (subst (λ u. times j u ≡ 0) nodes_a none) made) p.1.moves meta (keeps_but_root a b cache changes.numbers)
 
   pub grows_index : (c : Paged) (part : Part) → AllReadable b → PutsFor a.pages b.pages (half_of a.page_size) 8 root key word (Split part) → part.levels < 7 → MakesTop T b c cache root part → PutsIndex a.pages c.pages cache nodes items key word None
   grows_index c part readable puts few makes_top =
@@ -177,7 +179,7 @@ module _ (T : Type 0) (a b : Paged) (cache root : ℕ) (key : List ℕ) (word m 
       None (ap (λ o. option_map as_link o) (sym p.0 ∙ ap (λ (xs : List Item). get_in xs key) (sym items_a)))
       (λ j not_zero none made. makes.edits.others j (inl t) (λ h. elim h [ inl e ↦ not_zero e | inr e ↦ omega (arith, made, times_here top p.2.made, ap (λ i. times i (top ∷ p.2.made)) e) ])
       ∙ p.2.others j not_zero (subst (λ u. times j u ≡ 0) nodes_a none) (omega (arith, made, times-append j (top ∷ []) p.2.made)))
-      meta (but_root_then a b c cache changes.numbers makes.numbers)
+      (moves_then a.pages b.pages c.pages p.2.made (top ∷ []) [] [] p.2.moves (makes.moves t)) meta (but_root_then a b c cache changes.numbers makes.numbers)
     where
       node_away_root : (j : ℕ) → j ≢ makes_top.makes.top → (IsSpare (nodes_in b.pages j) → ⊥) → nodes_in c.pages j ≡ nodes_in b.pages j
       node_away_root j ne not_spare = node_away_count T b c (λ j. (j ≡ 0) ⊎ (j ≡ makes_top.makes.top)) 1 t readable changes.meta makes_top.makes.edits (count_told b c cache changes.meta makes_top.makes.numbers) j (λ h. elim h [ inl e ↦ e | inr e ↦ absurd (ne e) ]) not_spare

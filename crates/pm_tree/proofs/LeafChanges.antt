@@ -1,5 +1,5 @@
 -- Puts into a leaf, over the calls that make them.
-use Rattle.std.proofs.Common.{◌≡◌, ℕ, ◌+◌, ◌-◌, ◌<◌, ◌≤◌, ◌⊎◌, true, List, [], length, take, drop, refl, sym, ap, subst, ◌∙◌, inl, inr, arith}
+use Rattle.std.proofs.Common.{◌≡◌, ◌≢◌, ℕ, ◌+◌, ◌-◌, ◌<◌, ◌≤◌, ◌⊎◌, true, List, [], ◌∷◌, length, take, drop, refl, sym, ap, subst, ◌∙◌, inl, inr, arith}
 use Rattle.std.specs.Prelude.{None, Some, IsTrue}
 use Rattle.std.proofs.lemmas.Bool.{eq-eqb}
 use Rattle.std.proofs.lemmas.List.{length-take-le, length-drop, get_or-take, get_or-drop}
@@ -9,8 +9,9 @@ use Rattle.pm_types.specs.PageSizes.{IsPageSize}
 use Rattle.pm_btpage.specs.declared.layout.TheConstants.{LEAF_KIND}
 use Rattle.pm_btpage.specs.IndexPages.{Item, IndexPage, items_of, index_of, key_in, with_items, with_link, empty_leaf, capacity_of, IsBelow, IsBetween}
 use Rattle.pm_btpage.proofs.ItemsByIndex.{items_within}
+use Rattle.pm_meta.specs.declared.layout.TheConstants.{REUSE_KIND}
 use Rattle.pm_meta.specs.declared.slots.MetaSlot.TheVariants.{Pages}
-use Rattle.pm_pages.specs.Rows.{Partition, kind_of, page_count}
+use Rattle.pm_pages.specs.Rows.{Partition, kind_of, page_at, page_count}
 use Rattle.pm_pages.specs.Paged.{Paged, AllReadable}
 use Rattle.pm_pages.specs.Edits.{LooksAtPages, EditsPages, HasMeta, IsNumberIn}
 use Rattle.pm_pages.proofs.EditedPages.{edits_then, edits_more, edits_looked}
@@ -23,7 +24,10 @@ use Rattle.pm_tree.specs.Places.{IsPlaceIn}
 use Rattle.pm_tree.specs.declared.places.Place.TheVariants.{Held, Gap}
 use Rattle.pm_tree.specs.Divisions.{KeepsNumbers, PartsLeaf, PutsPages, CanDivide, IsFullLeaf}
 use Rattle.pm_tree.proofs.MapLists.{get_found, get_between, put_found, put_between}
+use Rattle.pm_tree.specs.Spare.{MovesSpare}
 use Rattle.pm_tree.proofs.NodeEdits.{node_stays}
+use Rattle.pm_tree.proofs.SpareMoves.{moves_on}
+use Rattle.pm_tree.proofs.SpareSteps.{node_kind, moves_page}
 use Rattle.pm_tree.proofs.Divided.{node_edited, meta_stays, numbers_stay, numbers_then, numbers_looked, number_back}
 use Rattle.pm_tree.proofs.Told.{below_count, counts_rise}
 use Rattle.pm_tree.proofs.LeafSteps.{puts_pages, leaf_kept, leaf_parted, Halves, left_half, right_half}
@@ -118,6 +122,7 @@ parts_looked T a b c at page cut right looks d = record {
   meta = d.meta;
   numbers = numbers_then a b c (numbers_looked T a b 0 looks) d.numbers;
   spare = λ t. subst (λ (q : Partition). IsSpare (nodes_in q right)) (λ k j. looks.pages j (inl t) k) (d.spare t);
+  moves = λ t. subst (λ (q : Partition). MovesSpare q c.pages (right ∷ []) []) (λ k j. looks.pages j (inl t) k) (d.moves t);
 }
 
 -- A full leaf was divided, and then the item was put into one of the halves, page `into`.
@@ -157,13 +162,28 @@ module _ (T : Type 0) (a c d : Paged) (at : ℕ) (key : List ℕ) (i cut word ri
     node_a : IsNode a at (index_of leaf.page)
     node_a = record { page = leaf.page; in_hand = leaf.in_hand; well_made = leaf.gap.well_made; size = leaf.size; is = refl }
 
+    into_some : 1 ≤ into
+    into_some = elim is_half [ inl e ↦ omega (arith, e, parts.some) | inr e ↦ omega (arith, e, leaf.some) ]
+
+    half_moves : (left_now right_now : IndexPage) → IsNode d at left_now → IsNode d right right_now → MovesSpare a.pages d.pages (right ∷ []) []
+    half_moves left_now right_now left_is right_is =
+        let was : kind_of (page_at c.pages into) ≢ REUSE_KIND = elim is_half [
+          | inl e ↦ subst (λ n. kind_of (page_at c.pages n) ≢ REUSE_KIND) (sym e) (node_kind c right _ parts.right_is)
+          | inr e ↦ subst (λ n. kind_of (page_at c.pages n) ≢ REUSE_KIND) (sym e) (node_kind c at _ parts.left_is)
+        ] in
+        let now : kind_of (page_at d.pages into) ≢ REUSE_KIND = elim is_half [
+          | inl e ↦ subst (λ n. kind_of (page_at d.pages n) ≢ REUSE_KIND) (sym e) (node_kind d right right_now right_is)
+          | inr e ↦ subst (λ n. kind_of (page_at d.pages n) ≢ REUSE_KIND) (sym e) (node_kind d at left_now left_is)
+        ] in
+        moves_on a.pages c.pages d.pages (right ∷ []) [] (parts.moves t) (moves_page T c d into 0 t into_some edits was now)
+
     divided : (left_now right_now : IndexPage) → IsNode d at left_now → IsNode d right right_now → left_now.leaf ≡ true → left_now.link ≡ right → right_now.leaf ≡ true → right_now.link ≡ (index_of leaf.page).link
         → Halves (items_of leaf.page) i cut (record { key = key; word = word }) left_now.items right_now.items → (limit : ℕ) → PutsFor a.pages d.pages (half_of a.page_size) limit at key word (Split (record { from = key_in (items_of leaf.page) cut; right = right; levels = 0 }))
     divided left_now right_now left_is right_is l1 l2 r1 r2 halves =
         leaf_parted T a d at key word (half_of a.page_size) t readable meta leaf.some leaf.below (index_of leaf.page) node_a (leaf_says leaf.page leaf.gap.kind) all_numbers right all_edits left_now right_now left_is right_is l1 l2 r1 r2
         (halves.whole ∙ sym (put_between (items_of leaf.page) key word i leaf.gap.between)) (get_between (items_of leaf.page) key i leaf.gap.between)
         (omega (arith, halves.left_len, middle.low)) (omega (arith, halves.right_len, halves.left_high, middle.high, full_is a at key i cut leaf middle))
-        (key_in (items_of leaf.page) cut) halves.upto halves.from (parts.spare t) at_in right_in
+        (key_in (items_of leaf.page) cut) halves.upto halves.from (parts.spare t) (half_moves left_now right_now left_is right_is) at_in right_in
 
     pub left_puts : i ≤ cut → into ≡ at → k ≡ i → (limit : ℕ) → PutsFor a.pages d.pages (half_of a.page_size) limit at key word (Split (record { from = key_in (items_of leaf.page) cut; right = right; levels = 0 }))
     left_puts side into_is k_is =

@@ -17,7 +17,9 @@ use Rattle.pm_tree.specs.Nodes.{nodes_in, nodes_under, IsFrom, IsUpTo, IsTreeIn,
 use Rattle.pm_tree.specs.Puts.{IsSpare, PutsAs, PutsFor}
 use Rattle.pm_tree.specs.Edits.{IsNode}
 use Rattle.pm_tree.specs.Divisions.{KeepsNumbers, PutsPages}
+use Rattle.pm_tree.specs.Spare.{MovesSpare}
 use Rattle.pm_tree.proofs.KeyOrder.{below_then, not_below_itself}
+use Rattle.pm_tree.proofs.SpareSteps.{node_kind, moves_page}
 use Rattle.pm_tree.proofs.MapLists.{keys_by_index}
 use Rattle.pm_tree.proofs.Frames.{times_here}
 use Rattle.pm_tree.proofs.LeafPuts.{leaf_puts, leaf_divided}
@@ -65,6 +67,7 @@ module _ (T : Type 0) (a c : Paged) (at : ℕ) (key : List ℕ) (word half : ℕ
                 (items_are c at now below' node' ∙ items ∙ ap (λ (xs : List Item). put_in xs key word) (sym at_items))
                 (λ j ne used. node_away T a c (λ j. j ≡ at) m t readable meta edits numbers j (λ e. absurd (ne e)) used);
             others = λ j not_zero none made. edits.others j (inl t) (λ e. omega (arith, none, times_here at [], ap (λ i. times i (at ∷ [])) e));
+            moves = moves_page T a c at m t some edits (node_kind a at says node) (node_kind c at now node');
           },
         )
         step (suc levels) few least tree once = absurd (omega (arith, at_leaf, tree.0.kind_is))
@@ -73,7 +76,7 @@ module _ (T : Type 0) (a c : Paged) (at : ℕ) (key : List ℕ) (word half : ℕ
       (left_leaf : left_now.leaf ≡ true) (left_link : left_now.link ≡ right) (right_leaf : right_now.leaf ≡ true) (right_link : right_now.link ≡ says.link)
       (whole : left_now.items ++ right_now.items ≡ put_in says.items key word) (none_is : get_in says.items key ≡ None)
       (full : half ≤ length left_now.items) (full_right : half ≤ length right_now.items) (m : List ℕ) (upto : Keys (IsUpTo (Some m)) left_now.items) (from : Keys (IsFrom (Some m)) right_now.items)
-      (spare : IsSpare (nodes_in a.pages right)) (below' : at < page_count c.pages) (below_right : right < page_count c.pages) where
+      (spare : IsSpare (nodes_in a.pages right)) (moves : MovesSpare a.pages c.pages (right ∷ []) []) (below' : at < page_count c.pages) (below_right : right < page_count c.pages) where
     pub leaf_parted : (limit : ℕ) → PutsFor a.pages c.pages half limit at key word (Split (record { from = m; right = right; levels = 0 }))
     leaf_parted limit = record { each = step }
       where
@@ -95,6 +98,7 @@ module _ (T : Type 0) (a c : Paged) (at : ℕ) (key : List ℕ) (word half : ℕ
                 | inr e ↦ omega (arith, none, times_here at [], ap (λ i. times i (at ∷ [])) e)
               ]
             ]);
+            moves = moves;
           },
         )
         step (suc levels) few least tree once = absurd (omega (arith, at_leaf, tree.0.kind_is))

@@ -4,7 +4,11 @@ pub mod Decoded
 pub mod Children
 pub mod Seams
 pub mod Descents
+pub mod SoundLooks
 pub mod Frames
+pub mod ReuseWalks
+pub mod SpareMoves
+pub mod SpareSteps
 pub mod RowPuts
 pub mod NodePuts
 pub mod LeafPuts
@@ -22,3 +26,4 @@ pub mod NewRoots
 pub mod IndexPuts
 pub mod TallTrees
 pub mod MapLaws
+pub mod SoundPuts

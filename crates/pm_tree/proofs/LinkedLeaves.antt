@@ -1,5 +1,5 @@
 -- A new leaf stands after the one that was divided.
-use Rattle.std.proofs.Common.{◌≡◌, ◌≢◌, ℕ, ◌+◌, ◌≤◌, ◌⊎◌, true, List, [], take, drop, sym, ap, subst, ◌∙◌, inl, inr, arith}
+use Rattle.std.proofs.Common.{◌≡◌, ◌≢◌, ℕ, ◌+◌, ◌≤◌, ◌⊎◌, true, List, [], ◌∷◌, take, drop, sym, ap, subst, ◌∙◌, inl, inr, arith}
 use Rattle.std.specs.Prelude.{None, Result, Err}
 use Rattle.pm_types.specs.declared.fault.PageFault.{PageFault}
 use Rattle.pm_types.specs.declared.fault.PageFault.TheVariants.{Failed, BadPage}
@@ -14,6 +14,8 @@ use Rattle.pm_tree.specs.Edits.{IsNode, TakesEdit, EditsNodeAt}
 use Rattle.pm_tree.specs.declared.edits.Edit.TheVariants.{Next}
 use Rattle.pm_tree.specs.Divisions.{CanDivide, Divides, LinksLeaves, PartsLeaf}
 use Rattle.pm_tree.proofs.NodeEdits.{node_stays}
+use Rattle.pm_tree.proofs.SpareMoves.{moves_on}
+use Rattle.pm_tree.proofs.SpareSteps.{node_kind, moves_pages}
 use Rattle.pm_tree.proofs.Divided.{node_edited, meta_stays, numbers_then, numbers_stay, number_back}
 
 -- a change that the other page's leaves possible
@@ -52,6 +54,12 @@ parts_leaf T a b c d at right next cut page can looks next_is divides links =
       meta = meta_stays T c d (λ j. (j ≡ right) ⊎ (j ≡ at)) 0 links.edits zero_out divides.meta;
       numbers = numbers_then a c d divides.numbers (numbers_stay T c d (λ j. (j ≡ right) ⊎ (j ≡ at)) 0 links.edits zero_out);
       spare = divides.spare;
+      moves = λ t.
+          let left = with_items (index_of page) (take cut (items_of page)) in
+          let tail = with_items (empty_leaf (page_id a.part right)) (drop cut (items_of page)) in
+          moves_on a.pages c.pages d.pages (right ∷ []) [] (divides.moves t)
+          (moves_pages T c d right at 0 t divides.some can.some links.edits (node_kind c right tail divides.right_is) (node_kind d right (with_link tail next) (links.right_is tail divides.right_is))
+          (node_kind c at left divides.left_is) (node_kind d at (with_link left right) (links.left_is left divides.left_is)));
     }
 
 -- an error that is passed on has the cause that it had

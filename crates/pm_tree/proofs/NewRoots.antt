@@ -17,6 +17,8 @@ use Rattle.pm_tree.specs.declared.edits.Edit.TheVariants.{Insert}
 use Rattle.pm_tree.specs.Divisions.{KeepsNumbers}
 use Rattle.pm_tree.specs.Roots.{KeepsButRoot, MakesRoot}
 use Rattle.pm_tree.proofs.NodeEdits.{node_stays}
+use Rattle.pm_tree.proofs.SpareMoves.{moves_on}
+use Rattle.pm_tree.proofs.SpareSteps.{node_kind, zeros_at, moves_page, moves_number, moves_take}
 use Rattle.pm_tree.proofs.Divided.{number_is, number_now, node_edited, meta_stays, numbers_taken, numbers_then, numbers_stay, number_back, below_taken, spare_taken, blank_items}
 use Rattle.pm_tree.proofs.LeafChanges.{capacity_bounds}
 
@@ -88,4 +90,10 @@ makes_root T a b c d e cache top first key word takes edits_c node edits_d edite
       meta = meta_set T d e cache top edits_e meta_d sets;
       numbers = set_numbers T d e cache top edits_e meta_d sets a numbers_d;
       spare = λ t. spare_taken T a b 1 top t takes;
+      moves = λ t.
+          moves_on a.pages d.pages e.pages (top ∷ []) []
+          (moves_on a.pages c.pages d.pages (top ∷ []) []
+          (moves_on a.pages b.pages c.pages (top ∷ []) [] (moves_take T a b 1 top t takes) (moves_page T b c top 0 t takes.some edits_c (zeros_at b top a.page_size takes.zeros) (node_kind c top _ node)))
+          (moves_page T c d top 0 t takes.some edits_d (node_kind c top _ node) (node_kind d top _ new)))
+          (moves_number T d e (Root cache) top 0 t (λ z. cc z) (λ z. cc z) edits_e sets);
     }

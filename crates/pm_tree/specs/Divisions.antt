@@ -1,5 +1,5 @@
 -- A page of a tree divided into two.
-use Rattle.std.specs.Prelude.{◌≡◌, ◌≢◌, ℕ, ◌<◌, ◌≤◌, ◌⊎◌, Bool, true, false, List, length, take, drop, Option, None, Some, IsTrue}
+use Rattle.std.specs.Prelude.{◌≡◌, ◌≢◌, ℕ, ◌<◌, ◌≤◌, ◌⊎◌, Bool, true, false, List, [], ◌∷◌, length, take, drop, Option, None, Some, IsTrue}
 use Rattle.pm_types.specs.Ids.{page_id}
 use Rattle.pm_types.specs.declared.page_id.PageId.{PageId}
 use Rattle.pm_btpage.specs.IndexPages.{IndexPage, items_of, index_of, with_items, with_link, empty_leaf, capacity_of, IsIndexPage}
@@ -10,6 +10,7 @@ use Rattle.pm_pages.specs.Paged.{Paged, IsInHand}
 use Rattle.pm_pages.specs.Edits.{EditsPages, HasMeta, IsNumberIn}
 use Rattle.pm_tree.specs.Nodes.{nodes_in}
 use Rattle.pm_tree.specs.Puts.{IsSpare}
+use Rattle.pm_tree.specs.Spare.{MovesSpare}
 use Rattle.pm_tree.specs.Edits.{blank, IsNode}
 use Rattle.pm_tree.specs.Places.{HasGap}
 
@@ -45,6 +46,7 @@ pub record Divides (T : Type 0) (old new : Paged) (at : ℕ) (page : List ℕ) (
   pub meta : HasMeta new
   pub numbers : KeepsNumbers old new
   pub spare : T → IsSpare (nodes_in old.pages right)
+  pub moves : T → MovesSpare old.pages new.pages (right ∷ []) []
 
 -- What a put changed, whatever the pages say: at most so many were asked for that weren't before, and no others
 -- changed than were asked for.
@@ -64,6 +66,7 @@ pub record PartsLeaf (T : Type 0) (old new : Paged) (at : ℕ) (page : List ℕ)
   pub meta : HasMeta new
   pub numbers : KeepsNumbers old new
   pub spare : T → IsSpare (nodes_in old.pages right)
+  pub moves : T → MovesSpare old.pages new.pages (right ∷ []) []
 
 -- a leaf that is at hand has no room for a key, which would stand before item i
 pub record IsFullLeaf (p : Paged) (at : ℕ) (key : List ℕ) (i : ℕ) : Type 0 where

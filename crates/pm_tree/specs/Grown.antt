@@ -1,5 +1,5 @@
 -- An inner page that takes a new child.
-use Rattle.std.specs.Prelude.{◌≡◌, ◌≢◌, ℕ, ◌+◌, ◌<◌, ◌≤◌, ◌⊎◌, false, List, ◌∷◌, ◌++◌, length, None}
+use Rattle.std.specs.Prelude.{◌≡◌, ◌≢◌, ℕ, ◌+◌, ◌<◌, ◌≤◌, ◌⊎◌, false, List, [], ◌∷◌, ◌++◌, length, None}
 use Rattle.pm_types.specs.Ids.{page_id}
 use Rattle.pm_btpage.specs.declared.layout.TheConstants.{INNER_KIND}
 use Rattle.pm_btpage.specs.IndexPages.{Item, IndexPage, items_of, with_items, with_item, capacity_of, IsBetween, IsIndexPage}
@@ -15,6 +15,7 @@ use Rattle.pm_tree.specs.declared.put.Put.{Put}
 use Rattle.pm_tree.specs.declared.put.Put.TheVariants.{Kept, Split}
 use Rattle.pm_tree.specs.Nodes.{nodes_in}
 use Rattle.pm_tree.specs.Puts.{IsSpare, half_of}
+use Rattle.pm_tree.specs.Spare.{MovesSpare}
 use Rattle.pm_tree.specs.Edits.{IsNode}
 use Rattle.pm_tree.specs.Divisions.{KeepsNumbers}
 
@@ -84,6 +85,7 @@ pub record Forks (T : Type 0) (old new : Paged) (at i : ℕ) (part forked : Part
   pub meta : HasMeta new
   pub numbers : KeepsNumbers old new
   pub spare : T → IsSpare (nodes_in old.pages forked.right)
+  pub moves : T → MovesSpare old.pages new.pages (forked.right ∷ []) []
 
 -- what became of the inner page
 abbrev pub TakesChild : Type 0 → Paged → Paged → ℕ → ℕ → Part → Put → Type 0

@@ -9,4 +9,6 @@ pub mod Places
 pub mod PutCauses
 pub mod Puts
 pub mod Roots
+pub mod Sound
+pub mod Spare
 pub mod Steps

@@ -6,6 +6,7 @@ use Rattle.pm_btpage.specs.IndexPages.{capacity_of}
 use Rattle.pm_pages.specs.Chains.{times}
 use Rattle.pm_pages.specs.Rows.{Partition}
 use Rattle.pm_tree.specs.Maps.{get_in, put_in}
+use Rattle.pm_tree.specs.Spare.{MovesSpare}
 use Rattle.pm_tree.specs.declared.put.Put.{Put}
 use Rattle.pm_tree.specs.declared.put.Put.TheVariants.{Kept, Split}
 use Rattle.pm_tree.specs.Nodes.{Node, nodes_in, Entry, items_under, leaves_under, nodes_under, AreBounded, Each, IsTreeIn, first_or, AreLinkedTo}
@@ -46,11 +47,13 @@ pub record IsMiddle (size cut : ℕ) : Type 0 where
   pub high : cut + cut ≤ capacity_of size + 1
   pub some : 1 ≤ cut
 
--- The same, over the pages of a partition: besides the tree's pages and the new ones no page changed but the meta page.
+-- The same, over the pages of a partition: besides the tree's pages and the new ones no page changed but the meta page,
+-- and the new ones were taken from the reuse chain or follow the last page.
 pub record PutsIn (old new : Partition) (levels least at : ℕ) (key : List ℕ) (word : ℕ) (rest : List Entry) : Type 0 where
   pub made : List ℕ
   pub puts : PutsTree (nodes_in old) (nodes_in new) made levels least at key word rest
   pub others : (j : ℕ) → j ≢ 0 → times j (nodes_under (nodes_in old) levels at) ≡ 0 → times j made ≡ 0 → new j ≡ old j
+  pub moves : MovesSpare old new made []
 
 -- what is said of a put's answer: the tree has the key's item, or a page to its right took a half, from a key on
 abbrev pub PutsAs : Partition → Partition → ℕ → ℕ → ℕ → ℕ → List ℕ → ℕ → Put → Type 0
@@ -64,6 +67,11 @@ PutsAs old new half levels least at key word (Split part) =
 pub record PutsFor (old new : Partition) (half limit at : ℕ) (key : List ℕ) (word : ℕ) (put : Put) : Type 0 where
   pub each : (levels : ℕ) → levels < limit → (least : ℕ) → IsTreeIn (nodes_in old) levels least at
       → ((j : ℕ) → times j (nodes_under (nodes_in old) levels at) ≤ 1) → PutsAs old new half levels least at key word put
+
+-- the page has the tree still
+abbrev pub IsKept : Put → Type 0
+IsKept (Kept was) = Unit {0}
+IsKept (Split part) = ⊥
 
 -- a page that was divided has fewer levels than so many
 abbrev pub HasLevels : ℕ → Put → Type 0

@@ -11,7 +11,7 @@ use Rattle.pm_meta.specs.declared.slots.MetaSlot.{MetaSlot}
 use Rattle.pm_meta.specs.declared.slots.MetaSlot.TheVariants.{Root, Reuse, Pages}
 use Rattle.pm_meta.specs.MetaPages.{IsSlot}
 use Rattle.pm_pages.specs.declared.limits.TheConstants.{LEVELS_MAX}
-use Rattle.pm_pages.specs.Rows.{Partition, number_in, page_count}
+use Rattle.pm_pages.specs.Rows.{Partition, number_in}
 use Rattle.pm_pages.specs.Chains.{times}
 use Rattle.pm_pages.specs.Trees.{index_in, root_of}
 use Rattle.pm_pages.specs.SparePages.{NamesNoSpare}
@@ -22,6 +22,7 @@ use Rattle.pm_tree.specs.Maps.{put_in}
 use Rattle.pm_tree.specs.Nodes.{nodes_in}
 use Rattle.pm_tree.specs.Indexes.{IsIndex, link_in}
 use Rattle.pm_tree.specs.Puts.{IsSpare}
+use Rattle.pm_tree.specs.Spare.{MovesSpare}
 use Rattle.pm_tree.specs.Edits.{blank, IsNode}
 use Rattle.pm_tree.specs.PutCauses.{IsPutFaultAfter}
 
@@ -41,10 +42,11 @@ pub record MakesRoot (T : Type 0) (old new : Paged) (cache : ℕ) (first : Optio
   pub meta : HasMeta new
   pub numbers : KeepsButRoot old new cache
   pub spare : T → IsSpare (nodes_in old.pages top)
+  pub moves : T → MovesSpare old.pages new.pages (top ∷ []) []
 
 -- A put into the index of a cache that had these pages and items: it has the items of the put. The pages `made` are
--- new in it, and of no tree before. Besides the pages of the index and the new ones no page changed but the meta
--- page, and of that no other root, no bucket and not the row count.
+-- new in it, of no tree before, and were taken from the reuse chain or follow the last page. Besides the pages of the
+-- index and the new ones no page changed but the meta page, and of that no other root, no bucket and not the row count.
 pub record PutsIndex (old new : Partition) (cache : ℕ) (nodes : List ℕ) (items : List Item) (key : List ℕ) (word : ℕ) (was : Option Link) : Type 0 where
   pub was_is : was ≡ link_in items key
   pub height : ℕ
@@ -56,7 +58,7 @@ pub record PutsIndex (old new : Partition) (cache : ℕ) (nodes : List ℕ) (ite
   pub spare : (j : ℕ) → 1 ≤ times j made → IsSpare (nodes_in old j)
   pub others : (j : ℕ) → j ≢ 0 → times j nodes ≡ 0 → times j made ≡ 0 → new j ≡ old j
   pub numbers : (slot : MetaSlot) → IsSlot slot → slot ≢ Reuse → slot ≢ Pages → slot ≢ Root cache → number_in new slot ≡ number_in old slot
-  pub count : page_count old ≤ page_count new
+  pub moves : MovesSpare old new made []
 
 -- what a put changed: at most so many pages were asked for that weren't before, and no others changed than were asked
 -- for

@@ -45,8 +45,8 @@ fn stands_at(page: &[u8], i: u16, key: &[u8]) -> bool
     i <= count(page) && is_above(page, i, key) && is_before(page, i, key)
 }
 
-// Whether the key is above the item before place i, if there is one.
-fn is_above(page: &[u8], i: u16, key: &[u8]) -> bool
+/// Whether the key is above the item before place i, if there is one.
+pub fn is_above(page: &[u8], i: u16, key: &[u8]) -> bool
     requires page { IsIndexPage page.now }
     requires item { i ≤ length (items_of page.now) }
     ensures { IsTrue result ↔ ((j : ℕ) → j < i → IsBelow (key_in (items_of page.now) j) key.now) }
@@ -54,8 +54,8 @@ fn is_above(page: &[u8], i: u16, key: &[u8]) -> bool
     i == 0 || is_below(key_at(page, i - 1), key)
 }
 
-// Whether the key is below item i, if there is one.
-fn is_before(page: &[u8], i: u16, key: &[u8]) -> bool
+/// Whether the key is below item i, if there is one.
+pub fn is_before(page: &[u8], i: u16, key: &[u8]) -> bool
     requires page { IsIndexPage page.now }
     requires item { i ≤ length (items_of page.now) }
     ensures { IsTrue result ↔ ((j : ℕ) → i ≤ j → j < length (items_of page.now) → IsBelow key.now (key_in (items_of page.now) j)) }

@@ -9,7 +9,7 @@ ghost use Rattle.pm_pages.specs.SparePages.{HasTakeCause};
 ghost use Rattle.pm_tree.specs.declared.edits.Edit.TheVariants.{Next, Insert};
 ghost use Rattle.pm_tree.specs.Edits.{TakesEdit};
 ghost use Rattle.pm_tree.specs.Divisions.{CanDivide, LinksLeaves, PartsLeaf, PutsPages, IsFullLeaf};
-ghost use Rattle.pm_tree.specs.Puts.{PutsFor, HasLevels, half_of, IsMiddle};
+ghost use Rattle.pm_tree.specs.Puts.{PutsFor, IsKept, HasLevels, half_of, IsMiddle};
 ghost use Rattle.pm_tree.specs.declared.put.Put.TheVariants.{Split};
 ghost use Rattle.pm_tree.specs.Places.{IsPlaceIn};
 ghost use Rattle.pm_tree.specs.declared.places.Place.TheVariants.{Held, Gap};
@@ -121,6 +121,7 @@ pub fn set_item<P: Pages>(
     ensures changes { OnOk result (PutsPages P.tells (P.seen pages.old) (P.seen pages.new) 0) }
     ensures puts { IfOk result (λ put. P.tells → (limit : ℕ)
         → PutsFor (P.seen pages.old).pages (P.seen pages.new).pages (half_of (P.seen pages.old).page_size) limit at key.now word put) }
+    ensures keeps { IfOk result IsKept }
     ensures levels { IfOk result (HasLevels 1) }
     ensures cause { HasDiskCause (P.seen pages.old) (P.seen pages.new).faults result }
 {

@@ -14,8 +14,14 @@ mod put;
 mod roots;
 mod separator;
 mod steps;
+#[cfg(test)]
+mod tests;
 
-pub use get::tree_get;
+pub use fits::{is_above, is_before};
+pub use get::{link_of, tree_get};
 pub use heights::{TALL_ROWS, no_partition_is_tall};
 pub use maps::puts_are_a_maps;
+pub use places::{Place, find_place};
 pub use roots::tree_put;
+pub use separator::Separator;
+pub use steps::child;

@@ -9,7 +9,9 @@ ghost use Rattle.pm_pages.specs.SparePages.{HasTakeCause};
 ghost use Rattle.pm_pages.specs.Edits.{HasMeta, IsNumberIn};
 ghost use Rattle.pm_tree.specs.Steps.{IsPath};
 ghost use Rattle.pm_tree.specs.Divisions.{PutsPages};
-ghost use Rattle.pm_tree.specs.Puts.{PutsFor, HasLevels, half_of};
+ghost use Rattle.pm_tree.specs.Puts.{PutsFor, IsKept, HasLevels, half_of};
+ghost use Rattle.pm_tree.specs.Indexes.{AnswersFrom};
+ghost use Rattle.pm_tree.specs.Sound.{PassesAll, NoBadPage};
 ghost use Rattle.pm_tree.specs.Grown.{IsParentAt, TakesChild};
 ghost use Rattle.pm_tree.specs.PutCauses.{HasPutCause, Lifts};
 
@@ -67,6 +69,9 @@ pub fn put_at<P: Pages>(
         → PutsFor (P.seen pages.old).pages (P.seen pages.new).pages (half_of (P.seen pages.old).page_size) levels at key.now word put) }
     ensures levels { IfOk result (HasLevels levels) }
     ensures cause { HasPutCause P.tells (P.seen pages.old) (P.seen pages.new) cache result }
+    ensures keeps { P.tells → (held : ℕ) → AnswersFrom (P.seen pages.old).pages key.now levels at (Some held) → IfOk result IsKept }
+    ensures sound { P.tells → PassesAll (P.seen pages.old) → (held : ℕ)
+        → AnswersFrom (P.seen pages.old).pages key.now levels at (Some held) → NoBadPage result }
 {
     if levels == 0 {
         return Err(PageFault::BadPage(PageId::new(pages.part(), from)));
@@ -100,6 +105,8 @@ fn lift<P: Pages>(pages: &mut P, at: u32, i: u16, put: Put) -> Result<Put, PageF
     ensures lifts { IfOk result (Lifts P.tells (P.seen pages.old) (P.seen pages.new) at i put) }
     ensures levels { IfOk result (λ lifted. (limit : ℕ) → HasLevels limit put → HasLevels (limit + 1) lifted) }
     ensures cause { (cache : ℕ) → HasPutCause P.tells (P.seen pages.old) (P.seen pages.new) cache result }
+    ensures keeps { IsKept put → IfOk result IsKept }
+    ensures sound { IsKept put → NoBadPage result }
 {
     match put {
         Put::Kept(was) => Ok(Put::Kept(was)),

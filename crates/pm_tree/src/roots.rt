@@ -10,7 +10,9 @@ ghost use Rattle.pm_pages.specs.Trees.{root_of};
 ghost use Rattle.pm_pages.specs.Paged.{AllReadable};
 ghost use Rattle.pm_pages.specs.Edits.{HasMeta, IsNumberIn};
 ghost use Rattle.pm_pages.specs.SparePages.{HasTakeCause};
-ghost use Rattle.pm_tree.specs.Indexes.{IsIndex};
+ghost use Rattle.pm_types.specs.declared.page_id.Link.{Link};
+ghost use Rattle.pm_tree.specs.Indexes.{IsIndex, link_in};
+ghost use Rattle.pm_tree.specs.Sound.{PassesAll, NoBadPage};
 ghost use Rattle.pm_tree.specs.Roots.{MakesRoot, MakesTop, PutsIndex, PutsRootPages, HasGrowCause, HasTreePutCause};
 
 use crate::edits::{Edit, make_edit, write_blank};
@@ -25,8 +27,8 @@ use pm_types::{Link, PageFault, PageId};
 ///
 /// `Failed` comes only where a call on the disk failed. `BadPage` names a page that is bad, or that names a wrong
 /// one: on the way from the root, the meta page where it names no page that can be taken, a page without a place for
-/// a child that was divided; or the root of a tree that has as many levels as it may have. After an error the pages
-/// that were asked for may be half changed.
+/// a child that was divided; or the root of a tree that has as many levels as it may have. Where the key is there in a
+/// tree whose pages pass their checks none is bad. After an error the pages that were asked for may be half changed.
 pub fn tree_put<P: Pages>(
     pages: &mut P,
     cache: u8,
@@ -46,6 +48,9 @@ pub fn tree_put<P: Pages>(
         → IsIndex (P.seen pages.old).pages (root_of (P.seen pages.old).pages cache) height nodes items
         → PutsIndex (P.seen pages.old).pages (P.seen pages.new).pages cache nodes items key.now link.0 was) }
     ensures cause { HasTreePutCause P.tells (P.seen pages.old) (P.seen pages.new) cache result }
+    ensures sound { P.tells → PassesAll (P.seen pages.old) → (height : ℕ) (nodes : List ℕ) (items : List Item)
+        → IsIndex (P.seen pages.old).pages (root_of (P.seen pages.old).pages cache) height nodes items
+        → (held : Link) → link_in items key.now ≡ Some held → NoBadPage result }
 {
     let root = number(pages, MetaSlot::Root(cache))?;
     if root == 0 {
@@ -104,6 +109,9 @@ fn put_below<P: Pages>(
         → IsIndex (P.seen pages.old).pages root height nodes items
         → PutsIndex (P.seen pages.old).pages (P.seen pages.new).pages cache nodes items key.now link.0 was) }
     ensures cause { HasTreePutCause P.tells (P.seen pages.old) (P.seen pages.new) cache result }
+    ensures sound { P.tells → PassesAll (P.seen pages.old) → (height : ℕ) (nodes : List ℕ) (items : List Item)
+        → IsIndex (P.seen pages.old).pages root height nodes items
+        → (held : Link) → link_in items key.now ≡ Some held → NoBadPage result }
 {
     let count = number(pages, MetaSlot::Pages)?;
     let put = put_at(pages, cache, count, 0, root, key, link.0, LEVELS_MAX)?;

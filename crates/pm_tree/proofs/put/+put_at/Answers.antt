@@ -1,5 +1,5 @@
 use Rattle.std.proofs.Common.{◌≡◌, ◌+◌, ◌-◌, ◌*◌, subst, sym, ap, ◌∙◌, inl, inr, arith}
-use Rattle.std.specs.Prelude.{IsTrue}
+use Rattle.std.specs.Prelude.{IsTrue, Some}
 use Rattle.std.proofs.lemmas.Result.{IfOk-weaker, on_ok_weaker, err_from_is_err_and}
 use Rattle.pm_types.specs.Ids.{page_id}
 use Rattle.pm_meta.specs.declared.slots.MetaSlot.TheVariants.{Pages}
@@ -11,6 +11,8 @@ use Rattle.pm_tree.specs.Puts.{HasLevels}
 use Rattle.pm_tree.specs.Steps.{IsPath}
 use Rattle.pm_tree.proofs.Descents.{path_looked}
 use Rattle.pm_tree.proofs.Climbs.{changes_looked, changes_then, below_count_of, below_after, at_place, full_leaf, path_below, puts_looked, lift_step, levels_more, names_no_place, put_cause_take, put_cause_disk, put_cause_page, put_cause_after, put_cause_passed}
+use Rattle.pm_tree.proofs.SoundLooks.{bad_passed, passes_looked, answers_not_bad, answers_end}
+use Rattle.pm_tree.proofs.SoundPuts.{no_gap, child_has, place_is_node}
 use Rattle.pm_tree.proofs.put.+put_at.Goals as goal
 
 pub set_item-requires-clause-item : goal.set_item-requires-clause-item
@@ -342,3 +344,94 @@ returns-then-levels-eq0-clause-cause g t c =
             fault = inr (inr (inr (inr (inr (record { from = c.args.from; at = c.args.at; name = sym is ∙ c.new.ensures ∙ ap (λ n. page_id n c.args.from) c.part.ensures; path = subst (λ n. IsPath a c.args.cache n c.args.from c.args.at) e c.requires.path })))));
           };
     }
+
+-- where the key is there
+pub returns-then-levels-eq0-clause-sound : goal.returns-then-levels-eq0-clause-sound
+returns-then-levels-eq0-clause-sound g t c = λ told all held answers id e.
+    answers_end (g.P.Pages.seen c.args.pages.now) c.args.levels c.args.at c.args.key.now (Some held) c.if-levels-eq0.true answers
+
+pub returns-in_err-i-clause-sound : goal.returns-in_err-i-clause-sound
+returns-in_err-i-clause-sound g t c = λ told all held answers id e.
+    let T = g.P.Pages.tells in
+    let a = g.P.Pages.seen c.args.pages.now in
+    let p = err_from_is_err_and c.from_residual.result c.from_residual.ensures.1 in
+    let bad = c.find_place.ensures.cause.bad id (bad_passed c.find_place.result c.from_residual.result c.in_err-i.field-0.0 p.0 c.in_err-i.was p.1 p.2 id e) in
+    answers_not_bad T a a 0 c.args.levels c.args.at c.args.key.now (Some held) id told all (looks_at_none T a) answers bad
+
+pub returns-in-Held-clause-sound : goal.returns-in-Held-clause-sound
+returns-in-Held-clause-sound g t c = λ told all held answers id e. c.set_item.ensures.cause.not_bad id e
+
+pub returns-in-Gap-clause-keeps : goal.returns-in-Gap-clause-keeps
+returns-in-Gap-clause-keeps g t c = λ told held answers.
+    let T = g.P.Pages.tells in
+    let a = g.P.Pages.seen c.args.pages.now in
+    let b = g.P.Pages.seen c.find_place.new.pages in
+    let looks = c.find_place.ensures.looks in
+    let number = number_looked T a b 1 Pages c.args.count looks c.requires.count in
+    let found = at_place b c.args.count c.args.at c.args.key.now (Gap c.in-Gap.i) (λ e. absurd (cc e)) (subst (IsPlace b c.args.count c.args.at c.args.key.now) {y = (Gap c.in-Gap.i)} c.in-Gap.is c.in_ok-i.ensures.place) in
+    absurd (no_gap T a b 1 c.args.count c.args.at c.args.levels c.in-Gap.i held c.args.key.now found.1.page told looks number found.0 found.1.in_hand found.1.is.0 answers)
+
+pub returns-in-Gap-clause-sound : goal.returns-in-Gap-clause-sound
+returns-in-Gap-clause-sound g t c = λ told all held answers id e. c.add_item.ensures.cause.not_bad id e
+
+pub returns-in-Full-clause-keeps : goal.returns-in-Full-clause-keeps
+returns-in-Full-clause-keeps g t c = λ told held answers.
+    let T = g.P.Pages.tells in
+    let a = g.P.Pages.seen c.args.pages.now in
+    let b = g.P.Pages.seen c.find_place.new.pages in
+    let looks = c.find_place.ensures.looks in
+    let number = number_looked T a b 1 Pages c.args.count looks c.requires.count in
+    let found = at_place b c.args.count c.args.at c.args.key.now (Full c.in-Full.i) (λ e. absurd (cc e)) (subst (IsPlace b c.args.count c.args.at c.args.key.now) {y = (Full c.in-Full.i)} c.in-Full.is c.in_ok-i.ensures.place) in
+    absurd (no_gap T a b 1 c.args.count c.args.at c.args.levels c.in-Full.i held c.args.key.now found.1.page told looks number found.0 found.1.in_hand found.1.is.0 answers)
+
+pub returns-in-Full-clause-sound : goal.returns-in-Full-clause-sound
+returns-in-Full-clause-sound g t c = λ told all held answers id e.
+    let T = g.P.Pages.tells in
+    let a = g.P.Pages.seen c.args.pages.now in
+    let b = g.P.Pages.seen c.find_place.new.pages in
+    let looks = c.find_place.ensures.looks in
+    let number = number_looked T a b 1 Pages c.args.count looks c.requires.count in
+    let found = at_place b c.args.count c.args.at c.args.key.now (Full c.in-Full.i) (λ e. absurd (cc e)) (subst (IsPlace b c.args.count c.args.at c.args.key.now) {y = (Full c.in-Full.i)} c.in-Full.is c.in_ok-i.ensures.place) in
+    no_gap T a b 1 c.args.count c.args.at c.args.levels c.in-Full.i held c.args.key.now found.1.page told looks number found.0 found.1.in_hand found.1.is.0 answers
+
+pub returns-in_err-put-in-Below-clause-sound : goal.returns-in_err-put-in-Below-clause-sound
+returns-in_err-put-in-Below-clause-sound g t c = λ told all held answers id e.
+    let T = g.P.Pages.tells in
+    let a = g.P.Pages.seen c.args.pages.now in
+    let b = g.P.Pages.seen c.find_place.new.pages in
+    let looks = c.find_place.ensures.looks in
+    let number = number_looked T a b 1 Pages c.args.count looks c.requires.count in
+    let found = at_place b c.args.count c.args.at c.args.key.now (Below c.in-Below.i c.in-Below.child) (λ e. absurd (cc e)) (subst (IsPlace b c.args.count c.args.at c.args.key.now) {y = (Below c.in-Below.i c.in-Below.child)} c.in-Below.is c.in_ok-i.ensures.place) in
+    let below = child_has T a b 1 c.args.count c.args.at c.args.levels c.in-Below.i c.in-Below.child held c.args.key.now told looks number found.0 found.1 answers in
+    let p = err_from_is_err_and c.from_residual-in_err-put-in-Below.result c.from_residual-in_err-put-in-Below.ensures.1 in
+    c.put_at.ensures.sound told (passes_looked T a b 1 told looks all) held below id
+    (bad_passed c.put_at.result c.from_residual-in_err-put-in-Below.result c.in_err-put-in-Below.field-0.0 p.0 c.in_err-put-in-Below.was p.1 p.2 id e)
+
+pub returns-in_ok-put-in-Below-clause-keeps : goal.returns-in_ok-put-in-Below-clause-keeps
+returns-in_ok-put-in-Below-clause-keeps g t c = λ told held answers.
+    let T = g.P.Pages.tells in
+    let a = g.P.Pages.seen c.args.pages.now in
+    let b = g.P.Pages.seen c.find_place.new.pages in
+    let looks = c.find_place.ensures.looks in
+    let number = number_looked T a b 1 Pages c.args.count looks c.requires.count in
+    let found = at_place b c.args.count c.args.at c.args.key.now (Below c.in-Below.i c.in-Below.child) (λ e. absurd (cc e)) (subst (IsPlace b c.args.count c.args.at c.args.key.now) {y = (Below c.in-Below.i c.in-Below.child)} c.in-Below.is c.in_ok-i.ensures.place) in
+    c.lift.ensures.keeps (c.in_ok-put-in-Below.ensures.keeps told held (child_has T a b 1 c.args.count c.args.at c.args.levels c.in-Below.i c.in-Below.child held c.args.key.now told looks number found.0 found.1 answers))
+
+pub returns-in_ok-put-in-Below-clause-sound : goal.returns-in_ok-put-in-Below-clause-sound
+returns-in_ok-put-in-Below-clause-sound g t c = λ told all held answers id e.
+    let T = g.P.Pages.tells in
+    let a = g.P.Pages.seen c.args.pages.now in
+    let b = g.P.Pages.seen c.find_place.new.pages in
+    let looks = c.find_place.ensures.looks in
+    let number = number_looked T a b 1 Pages c.args.count looks c.requires.count in
+    let found = at_place b c.args.count c.args.at c.args.key.now (Below c.in-Below.i c.in-Below.child) (λ e. absurd (cc e)) (subst (IsPlace b c.args.count c.args.at c.args.key.now) {y = (Below c.in-Below.i c.in-Below.child)} c.in-Below.is c.in_ok-i.ensures.place) in
+    c.lift.ensures.sound (c.in_ok-put-in-Below.ensures.keeps told held (child_has T a b 1 c.args.count c.args.at c.args.levels c.in-Below.i c.in-Below.child held c.args.key.now told looks number found.0 found.1 answers)) id e
+
+pub returns-in-Other-clause-sound : goal.returns-in-Other-clause-sound
+returns-in-Other-clause-sound g t c = λ told all held answers id e.
+    let T = g.P.Pages.tells in
+    let a = g.P.Pages.seen c.args.pages.now in
+    let b = g.P.Pages.seen c.find_place.new.pages in
+    let looks = c.find_place.ensures.looks in
+    let number = number_looked T a b 1 Pages c.args.count looks c.requires.count in
+    place_is_node T a b 1 c.args.count c.args.levels c.args.at held c.args.key.now told all looks number answers (subst (IsPlace b c.args.count c.args.at c.args.key.now) {y = Other} c.in-Other.is c.in_ok-i.ensures.place)

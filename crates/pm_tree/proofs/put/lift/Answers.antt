@@ -3,7 +3,7 @@ use Rattle.std.proofs.lemmas.Result.{IfOk-weaker}
 use Rattle.pm_pages.proofs.EditedPages.{looks_at_none}
 use Rattle.pm_tree.specs.declared.put.Put.{Put}
 use Rattle.pm_tree.specs.declared.put.Put.TheVariants.{Kept, Split}
-use Rattle.pm_tree.specs.Puts.{HasLevels}
+use Rattle.pm_tree.specs.Puts.{IsKept, HasLevels}
 use Rattle.pm_tree.specs.PutCauses.{Lifts}
 use Rattle.pm_tree.proofs.Climbs.{changes_looked, changes_more}
 use Rattle.pm_tree.proofs.put.lift.Goals as goal
@@ -33,3 +33,10 @@ returns-in-Split-clause-lifts g c =
 pub returns-in-Split-clause-levels : goal.returns-in-Split-clause-levels
 returns-in-Split-clause-levels g c =
     IfOk-weaker c.take_child.result _ _ (λ put levels limit h. levels limit (subst (HasLevels limit) {y = Split c.in-Split.part} c.in-Split.is h)) c.take_child.ensures.levels
+
+-- a page that was divided below isn't kept
+pub returns-in-Split-clause-keeps : goal.returns-in-Split-clause-keeps
+returns-in-Split-clause-keeps g c = λ kept. absurd (subst IsKept {y = Split c.in-Split.part} c.in-Split.is kept)
+
+pub returns-in-Split-clause-sound : goal.returns-in-Split-clause-sound
+returns-in-Split-clause-sound g c = λ kept id e. subst IsKept {y = Split c.in-Split.part} c.in-Split.is kept

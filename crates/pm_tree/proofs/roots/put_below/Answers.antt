@@ -3,10 +3,16 @@ use Rattle.std.proofs.lemmas.Result.{IfOk-weaker, err_from_is_err_and}
 use Rattle.pm_meta.specs.declared.slots.MetaSlot.TheVariants.{Root}
 use Rattle.pm_pages.proofs.TakenPages.{number_looked}
 use Rattle.pm_tree.specs.declared.put.Put.TheVariants.{Kept, Split}
-use Rattle.pm_tree.specs.Puts.{HasLevels, PutsFor, half_of}
+use Rattle.std.specs.Prelude.{Some}
+use Rattle.pm_tree.specs.Maps.{get_in}
+use Rattle.pm_tree.specs.Indexes.{AnswersFrom}
+use Rattle.pm_tree.specs.Puts.{IsKept, HasLevels, PutsFor, half_of}
 use Rattle.pm_tree.specs.Roots.{PutsIndex}
 use Rattle.pm_tree.proofs.Climbs.{changes_looked, changes_then, puts_looked, put_cause_disk, put_cause_after, put_cause_passed}
 use Rattle.pm_tree.proofs.IndexPuts.{keeps_height, grows_height, changes_root, changes_same_root, tree_cause, grow_cause}
+use Rattle.pm_tree.proofs.Descents.{pages_told, index_answers}
+use Rattle.pm_tree.proofs.SoundLooks.{bad_passed, passes_looked}
+use Rattle.pm_tree.proofs.SoundPuts.{held_word}
 use Rattle.pm_tree.proofs.roots.put_below.Goals as goal
 
 pub put_at-requires-clause-path : goal.put_at-requires-clause-path
@@ -101,3 +107,31 @@ returns-in_err-put-clause-cause g c =
     let ch = changes_looked T a b 0 c.requires.meta c.number.ensures.looks in
     let p = err_from_is_err_and c.from_residual-in_err-put.result c.from_residual-in_err-put.ensures.1 in
     tree_cause T a d c.args.cache c.from_residual-in_err-put.result (put_cause_passed T a d c.args.cache c.put_at.result c.from_residual-in_err-put.result c.in_err-put.field-0.0 p.0 c.in_err-put.was p.1 p.2 (put_cause_after T a b d 0 c.args.cache c.put_at.result ch.edits c.put_at.ensures.cause))
+
+-- where the key is there
+pub returns-in_err-count-clause-sound : goal.returns-in_err-count-clause-sound
+returns-in_err-count-clause-sound g c = λ t all height nodes items index held there id e.
+    let p = err_from_is_err_and c.from_residual.result c.from_residual.ensures.1 in
+    c.number.ensures.cause.not_bad id (bad_passed c.number.result c.from_residual.result c.in_err-count.field-0.0 p.0 c.in_err-count.was p.1 p.2 id e)
+
+pub returns-in_err-put-clause-sound : goal.returns-in_err-put-clause-sound
+returns-in_err-put-clause-sound g c = λ t all height nodes items index held there id e.
+    let T = g.P.Pages.tells in
+    let a = g.P.Pages.seen c.args.pages.now in
+    let b = g.P.Pages.seen c.number.new.pages in
+    let word = held_word (get_in items c.args.key.now) held there in
+    let answers : AnswersFrom b.pages c.args.key.now 8 c.args.root (Some word.0) = subst (AnswersFrom b.pages c.args.key.now 8 c.args.root) word.1
+    (index_answers a.pages b.pages c.args.root height nodes items c.args.key.now (pages_told T a b 0 t c.number.ensures.looks) c.requires.some index) in
+    let p = err_from_is_err_and c.from_residual-in_err-put.result c.from_residual-in_err-put.ensures.1 in
+    c.put_at.ensures.sound t (passes_looked T a b 0 t c.number.ensures.looks all) word.0 answers id
+    (bad_passed c.put_at.result c.from_residual-in_err-put.result c.in_err-put.field-0.0 p.0 c.in_err-put.was p.1 p.2 id e)
+
+pub returns-in-Split-clause-sound : goal.returns-in-Split-clause-sound
+returns-in-Split-clause-sound g c = λ t all height nodes items index held there id e.
+    let T = g.P.Pages.tells in
+    let a = g.P.Pages.seen c.args.pages.now in
+    let b = g.P.Pages.seen c.number.new.pages in
+    let word = held_word (get_in items c.args.key.now) held there in
+    let answers : AnswersFrom b.pages c.args.key.now 8 c.args.root (Some word.0) = subst (AnswersFrom b.pages c.args.key.now 8 c.args.root) word.1
+    (index_answers a.pages b.pages c.args.root height nodes items c.args.key.now (pages_told T a b 0 t c.number.ensures.looks) c.requires.some index) in
+    subst IsKept {y = Split c.in-Split.part} c.in-Split.is (c.in_ok-put.ensures.keeps t word.0 answers)

@@ -9,6 +9,8 @@ use Rattle.pm_tree.specs.Roots.{PutsIndex}
 use Rattle.pm_tree.proofs.Descents.{number_told, pages_told}
 use Rattle.pm_tree.proofs.Climbs.{put_cause_disk, put_cause_passed}
 use Rattle.pm_tree.proofs.IndexPuts.{root_changes_looked, tree_cause, tree_cause_looked}
+use Rattle.pm_tree.proofs.SoundLooks.{bad_passed, passes_looked}
+use Rattle.pm_tree.proofs.SoundPuts.{none_held}
 use Rattle.pm_tree.proofs.roots.tree_put.Goals as goal
 
 pub returns-then-root-eq0-clause-changes : goal.returns-then-root-eq0-clause-changes
@@ -78,3 +80,28 @@ returns-in_err-root-clause-cause g c =
 pub plant-requires-clause-root : goal.plant-requires-clause-root
 plant-requires-clause-root g c =
     subst (IsNumberIn (g.P.Pages.seen c.number.new.pages) (Root c.args.cache)) c.if-root-eq0.true c.in_ok-root.ensures.number
+
+-- where the key is there
+pub returns-in_err-root-clause-sound : goal.returns-in_err-root-clause-sound
+returns-in_err-root-clause-sound g c = λ t all height nodes items index held there id e.
+    let p = err_from_is_err_and c.from_residual.result c.from_residual.ensures.1 in
+    c.number.ensures.cause.not_bad id (bad_passed c.number.result c.from_residual.result c.in_err-root.field-0.0 p.0 c.in_err-root.was p.1 p.2 id e)
+
+pub returns-then-root-eq0-clause-sound : goal.returns-then-root-eq0-clause-sound
+returns-then-root-eq0-clause-sound g c = λ t all height nodes items index held there id e.
+    let T = g.P.Pages.tells in
+    let a = g.P.Pages.seen c.args.pages.now in
+    let b = g.P.Pages.seen c.number.new.pages in
+    let same = pages_told T a b 0 t c.number.ensures.looks in
+    let root : root_of a.pages c.args.cache ≡ 0 = ap (λ (q : Partition). root_of q c.args.cache) (sym same) ∙ number_told b (Root c.args.cache) c.in_ok-root.root c.in_ok-root.ensures.number ∙ c.if-root-eq0.true in
+    none_held a.pages height nodes items c.args.key.now held (subst (λ n. IsIndex a.pages n height nodes items) root index) there
+
+pub returns-else-root-eq0-clause-sound : goal.returns-else-root-eq0-clause-sound
+returns-else-root-eq0-clause-sound g c = λ t all height nodes items index held there id e.
+    let T = g.P.Pages.tells in
+    let a = g.P.Pages.seen c.args.pages.now in
+    let b = g.P.Pages.seen c.number.new.pages in
+    let same = pages_told T a b 0 t c.number.ensures.looks in
+    let root : root_of a.pages c.args.cache ≡ c.in_ok-root.root = ap (λ (q : Partition). root_of q c.args.cache) (sym same) ∙ number_told b (Root c.args.cache) c.in_ok-root.root c.in_ok-root.ensures.number in
+    let index_b : IsIndex b.pages c.in_ok-root.root height nodes items = subst (λ (q : Partition × ℕ). IsIndex q.0 q.1 height nodes items) {x = (a.pages, root_of a.pages c.args.cache)} {y = (b.pages, c.in_ok-root.root)} (λ z. (sym same z, root z)) index in
+    c.put_below.ensures.sound t (passes_looked T a b 0 t c.number.ensures.looks all) height nodes items index_b held there id e

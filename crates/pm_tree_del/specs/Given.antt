@@ -1,0 +1,25 @@
+-- Pages that were given back: the reuse chain has them now, before those that it had.
+use Rattle.std.specs.Prelude.{◌≡◌, ℕ, List, [], ◌++◌, Some}
+use Rattle.pm_types.specs.Ids.{page_id}
+use Rattle.pm_meta.specs.declared.slots.MetaSlot.TheVariants.{Reuse}
+use Rattle.pm_meta.specs.MetaPages.{field_of, next_of, IsStoredReuse}
+use Rattle.pm_pages.specs.Rows.{Partition, page_count}
+use Rattle.pm_pages.specs.Chains.{reuse_chain}
+use Rattle.pm_pages.specs.Paged.{Paged}
+use Rattle.pm_pages.specs.Edits.{HasMeta}
+use Rattle.pm_pages.specs.SparePages.{SetsNumber, MetaBecomes}
+use Rattle.pm_tree.specs.Spare.{HasSpare, MovesSpare}
+
+-- these pages were given back, the first of them last; the page count is as it was
+pub record GivesBack (old new : Partition) (given : List ℕ) : Type 0 where
+  pub count : page_count new ≡ page_count old
+  pub moves : MovesSpare old new [] given
+  pub chain : HasSpare old → reuse_chain new ≡ given ++ reuse_chain old
+
+-- page i is the first of the reuse chain now, and names the one that was
+pub record IsGiven (old new : Paged) (i : ℕ) : Type 0 where
+  pub page : List ℕ
+  pub here : new.pages i ≡ Some page
+  pub stored : IsStoredReuse (page_id old.part i) page
+  pub meta : HasMeta new
+  pub numbers : MetaBecomes old new (λ was now. (next_of page ≡ field_of was Reuse) × SetsNumber was now Reuse i)

@@ -1,0 +1,10 @@
+pub mod Causes
+pub mod Copies
+pub mod Given
+pub mod Items
+pub mod Maps
+pub mod Mending
+pub mod Neighbours
+pub mod Pairs
+pub mod Removes
+pub mod Roots
