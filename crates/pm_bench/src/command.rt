@@ -1,6 +1,7 @@
 //! The commands.
 
-use crate::{block, hash_map, locks, page_table, region};
+use crate::policies::{Frames, Kind};
+use crate::{block, hash_map, keys, locks, maps, page_table, policies, region, trees};
 use std::alloc::{AllocError, Global};
 use std::thread::Threads;
 
@@ -21,10 +22,22 @@ pub enum Command {
     LocksApart,
     /// The same where the four words lie side by side.
     LocksNear,
+    /// Pages replaced by a policy of this kind, among so many frames.
+    Policy(Kind, Frames),
+    /// So many keys, made alone.
+    Keys,
+    /// The keys put into a tree.
+    TreePuts,
+    /// The same, and then looked for.
+    TreeGets,
+    /// The keys put into std's `BTreeMap`, which the tree is compared with.
+    MapPuts,
+    /// The same, and then looked for.
+    MapGets,
 }
 
 /// All commands, in the order in which `all` runs them.
-pub const COMMANDS: [Command; 7] = [
+pub const COMMANDS: [Command; 21] = [
     Command::PageTable,
     Command::HashMap,
     Command::Region,
@@ -32,6 +45,20 @@ pub const COMMANDS: [Command; 7] = [
     Command::Locks,
     Command::LocksApart,
     Command::LocksNear,
+    Command::Policy(Kind::Random, Frames::Few),
+    Command::Policy(Kind::Random, Frames::Many),
+    Command::Policy(Kind::Random, Frames::Most),
+    Command::Policy(Kind::Segmented, Frames::Few),
+    Command::Policy(Kind::Segmented, Frames::Many),
+    Command::Policy(Kind::Segmented, Frames::Most),
+    Command::Policy(Kind::Clock, Frames::Few),
+    Command::Policy(Kind::Clock, Frames::Many),
+    Command::Policy(Kind::Clock, Frames::Most),
+    Command::Keys,
+    Command::TreePuts,
+    Command::TreeGets,
+    Command::MapPuts,
+    Command::MapGets,
 ];
 
 impl Command {
@@ -45,6 +72,20 @@ impl Command {
             "locks" => Some(Command::Locks),
             "locks_apart" => Some(Command::LocksApart),
             "locks_near" => Some(Command::LocksNear),
+            "random_64" => Some(Command::Policy(Kind::Random, Frames::Few)),
+            "random_4096" => Some(Command::Policy(Kind::Random, Frames::Many)),
+            "random_65536" => Some(Command::Policy(Kind::Random, Frames::Most)),
+            "segmented_64" => Some(Command::Policy(Kind::Segmented, Frames::Few)),
+            "segmented_4096" => Some(Command::Policy(Kind::Segmented, Frames::Many)),
+            "segmented_65536" => Some(Command::Policy(Kind::Segmented, Frames::Most)),
+            "clock_64" => Some(Command::Policy(Kind::Clock, Frames::Few)),
+            "clock_4096" => Some(Command::Policy(Kind::Clock, Frames::Many)),
+            "clock_65536" => Some(Command::Policy(Kind::Clock, Frames::Most)),
+            "keys" => Some(Command::Keys),
+            "tree_puts" => Some(Command::TreePuts),
+            "tree_gets" => Some(Command::TreeGets),
+            "map_puts" => Some(Command::MapPuts),
+            "map_gets" => Some(Command::MapGets),
             _ => None,
         }
     }
@@ -59,6 +100,20 @@ impl Command {
             Command::Locks => "locks",
             Command::LocksApart => "locks_apart",
             Command::LocksNear => "locks_near",
+            Command::Policy(Kind::Random, Frames::Few) => "random_64",
+            Command::Policy(Kind::Random, Frames::Many) => "random_4096",
+            Command::Policy(Kind::Random, Frames::Most) => "random_65536",
+            Command::Policy(Kind::Segmented, Frames::Few) => "segmented_64",
+            Command::Policy(Kind::Segmented, Frames::Many) => "segmented_4096",
+            Command::Policy(Kind::Segmented, Frames::Most) => "segmented_65536",
+            Command::Policy(Kind::Clock, Frames::Few) => "clock_64",
+            Command::Policy(Kind::Clock, Frames::Many) => "clock_4096",
+            Command::Policy(Kind::Clock, Frames::Most) => "clock_65536",
+            Command::Keys => "keys",
+            Command::TreePuts => "tree_puts",
+            Command::TreeGets => "tree_gets",
+            Command::MapPuts => "map_puts",
+            Command::MapGets => "map_gets",
         }
     }
 
@@ -77,6 +132,12 @@ impl Command {
             Command::Locks => locks::run(rt, alloc, locks::ALONE, count),
             Command::LocksApart => locks::run(rt, alloc, locks::APART, count),
             Command::LocksNear => locks::run(rt, alloc, locks::NEAR, count),
+            Command::Policy(kind, frames) => policies::run(alloc, *kind, *frames, count),
+            Command::Keys => keys::run(alloc, count),
+            Command::TreePuts => trees::puts(alloc, count),
+            Command::TreeGets => trees::gets(alloc, count),
+            Command::MapPuts => maps::puts(alloc, count),
+            Command::MapGets => maps::gets(alloc, count),
         }
     }
 }

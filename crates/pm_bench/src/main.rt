@@ -5,10 +5,14 @@
 mod block;
 mod command;
 mod hash_map;
+mod keys;
 mod locks;
 mod lookups;
+mod maps;
 mod page_table;
+mod policies;
 mod region;
+mod trees;
 
 use command::{COMMANDS, Command};
 use std::process::ExitCode;
@@ -16,7 +20,10 @@ use std::thread::Threads;
 use std::{env, io};
 
 const USAGE: &str =
-    "usage: pm_bench all|page_table|hash_map|region|block|locks|locks_apart|locks_near COUNT";
+    "usage: pm_bench all|page_table|hash_map|region|block|locks|locks_apart|locks_near\
+|random_64|random_4096|random_65536|segmented_64|segmented_4096|segmented_65536\
+|clock_64|clock_4096|clock_65536\
+|keys|tree_puts|tree_gets|map_puts|map_gets COUNT";
 
 fn main(rt: HostRuntime) -> io::Result<ExitCode> {
     let mut words = env::args(&rt)?;
