@@ -1,1 +1,3 @@
+pub mod PartStates
 pub mod Rebinding
+pub mod RoundMoments

@@ -1,3 +1,4 @@
 pub mod Edits
+pub mod Rounds
 pub mod Table
 pub mod TableLaws

@@ -58,8 +58,8 @@ fn run_puts(rt: &(impl Abort + AllocGlobal), lines: usize, calls: u64) -> Result
     assert_eq!(rt; run.report.status, 0, "{lines}");
     assert_eq!(rt; run.report.lines, lines as u64, "{lines}");
     assert_eq!(rt; run.report.order.len(), lines, "{lines}");
-    assert_eq!(rt; run.host.said().len(), lines.saturating_mul(3), "{lines}");
-    assert_eq!(rt; run.host.calls(), calls, "{lines}");
+    assert_eq!(rt; run.said().len(), lines.saturating_mul(3), "{lines}");
+    assert_eq!(rt; run.calls(), calls, "{lines}");
     Ok(())
 }
 
@@ -117,7 +117,7 @@ fn lines_that_are_read_at_once_are_one_batch(rt: HostRuntime) -> Result<(), Fail
 fn look_at_answered(rt: &impl Abort, run: &Run, refused: u64, lines: usize) -> Result<(), Fail> {
     assert_eq!(rt; run.report.status, 3, "{refused}");
     assert_eq!(rt; run.report.lines, lines as u64, "{refused}");
-    assert_eq!(rt; run.host.said().len(), lines.saturating_mul(3), "{refused}");
+    assert_eq!(rt; run.said().len(), lines.saturating_mul(3), "{refused}");
     Ok(())
 }
 
@@ -158,13 +158,9 @@ fn restart_without(
     pick: Pick,
     wanted: &[u8],
 ) -> Result<(), Fail> {
-    let restarted = run_over(rt, b"get 0 a\nget 0 b\n", run.host.image(rt.alloc(), pick)?)?;
+    let restarted = run_over(rt, b"get 0 a\nget 0 b\n", run.crashed(rt, pick)?)?;
     assert_eq!(rt; restarted.report.status, 0, "{pick:?}");
-    assert_eq!(rt;
-        restarted.host.said(),
-        b"value 1\nnone\n".as_slice(),
-        "{pick:?}"
-    );
+    assert_eq!(rt; restarted.said(), b"value 1\nnone\n".as_slice(), "{pick:?}");
     look_at_log(rt, &restarted, wanted, pick)
 }
 
@@ -175,7 +171,7 @@ fn stop_before_last_force(
     frame_len: u64,
 ) -> Result<Run, Fail> {
     let run = run_until(rt, script, MemDisk::empty(rt.alloc()), Some(LAST_FORCE))?;
-    assert_eq!(rt; run.host.said(), b"ok\nend 0\n".as_slice());
+    assert_eq!(rt; run.said(), b"ok\nend 0\n".as_slice());
     let written = log_left(rt, &run, Pick::Kept)?.len() as u64;
     assert_eq!(rt; written, frame_len.saturating_add(67));
     Ok(run)

@@ -2,12 +2,13 @@
 
 ghost use Rattle.pm_disk.specs.States.{IsUsable};
 
+use crate::parts::answer_round;
 use pm_disk::{Failed, Host, LogFile, MarkFile};
 use pm_types::PageId;
 use std::alloc::{AllocError, Global};
 
 /// How many bytes a page has here.
-const PAGE: usize = 4;
+pub const PAGE: usize = 4;
 
 /// A call of a host.
 #[derive(Clone, Copy)]
@@ -35,17 +36,37 @@ pub enum Call {
     ForceMark(MarkFile),
     Read,
     Print(&'static [u8]),
+    /// The host is split, and calls are made on its parts.
+    Round(Round),
+}
+
+/// What is done on the parts of a host.
+#[derive(Clone, Copy)]
+pub struct Round {
+    /// What is appended to the first segment by the log part.
+    pub append: &'static [u8],
+    /// Whether the log part forces it then.
+    pub forces: bool,
+    /// The page that the writer writes, and the byte that each of its bytes becomes. Its file is forced.
+    pub due: (u16, u32, u8),
+    /// The page that a reader reads. It isn't the one that is written.
+    pub read: (u16, u32),
 }
 
 impl Call {
     /// Whether a host may make the change later, with the next other call on the log.
     pub fn may_wait(&self) -> bool {
-        matches!(self, Call::WriteLog(..) | Call::AppendLog(..))
+        match self {
+            Call::WriteLog(..) => true,
+            Call::AppendLog(..) => true,
+            Call::Round(round) => !round.forces,
+            _ => false,
+        }
     }
 }
 
 /// Writes the bytes at a segment's end.
-fn append_log<L: LogFile>(log: &mut L, seg: u64, bytes: &[u8]) -> Result<(), Failed>
+pub fn append_log<L: LogFile>(log: &mut L, seg: u64, bytes: &[u8]) -> Result<(), Failed>
     requires { IsUsable (L.state log.old) }
     ensures { IsUsable (L.state log.new) }
 {
@@ -218,6 +239,7 @@ pub fn answer<H: Host>(alloc: Global, host: &mut H, call: &Call) -> Result<Strin
         Call::ReadMark(file, number) => answer_mark(alloc, host, *file, *number),
         Call::ReadConfig => answer_config(alloc, host),
         Call::Read => answer_input(alloc, host),
+        Call::Round(round) => answer_round(alloc, host, round),
         _ => answer_change(alloc, host, call),
     }
 }

@@ -43,8 +43,8 @@ fn look_at_refused(
     assert_eq!(rt; run.report.status, 2, "{config:?}");
     assert_eq!(rt; run.report.lines, 0, "{config:?}");
     assert!(rt; run.report.order.is_empty(), "{config:?}");
-    assert_eq!(rt; run.host.said(), wanted, "{config:?}");
-    assert_eq!(rt; run.host.calls(), 3, "{config:?}");
+    assert_eq!(rt; run.said(), wanted, "{config:?}");
+    assert_eq!(rt; run.calls(), 3, "{config:?}");
     Ok(())
 }
 
@@ -81,7 +81,7 @@ fn a_put_past_the_most_rows_is_refused(rt: HostRuntime) -> Result<(), Fail> {
     let run = run_fresh(&rt, b"{\"max_rows\": 2, \"partitions\": 1}", script)?;
     assert_eq!(rt; run.report.status, 0);
     let wanted = b"ok\nok\nerror full\nok\ntrue\nok\n".as_slice();
-    assert_eq!(rt; run.host.said(), wanted);
+    assert_eq!(rt; run.said(), wanted);
     assert_eq!(rt; run.report.order.as_slice(), [1, 2, 4, 5, 6].as_slice());
     Ok(())
 }
@@ -97,7 +97,7 @@ fn look_at_differing(
     let run = run_configured(rt, config, b"put 0 b 2\n", earlier.disk(rt)?)?;
     assert_eq!(rt; run.report.status, 2, "{config:?}");
     assert_eq!(rt; run.report.lines, 0, "{config:?}");
-    assert_eq!(rt; run.host.said(), wanted, "{config:?}");
+    assert_eq!(rt; run.said(), wanted, "{config:?}");
     let left = log_left(rt, &run, Pick::Kept)?;
     let before = log_left(rt, earlier, Pick::Kept)?;
     assert_eq!(rt; left.as_slice(), before.as_slice(), "{config:?}");
@@ -129,7 +129,7 @@ fn a_store_keeps_its_shape(rt: HostRuntime) -> Result<(), Fail> {
     let same = b"{\"max_rows\": 7, \"workers\": 3}".as_slice();
     let second = run_configured(&rt, same, b"get 0 a\n", first.disk(&rt)?)?;
     assert_eq!(rt; second.report.status, 0);
-    assert_eq!(rt; second.host.said(), b"value 1\n".as_slice());
+    assert_eq!(rt; second.said(), b"value 1\n".as_slice());
     Ok(())
 }
 
@@ -144,7 +144,7 @@ fn the_shape_is_compared_before_records_are_replayed(rt: HostRuntime) -> Result<
     disk.put_file(SEGMENT, &log)?;
     let run = run_fresh_over(&rt, b"", disk)?;
     assert_eq!(rt; run.report.status, 2);
-    assert_eq!(rt; run.host.said(), b"fault config partitions\n".as_slice());
+    assert_eq!(rt; run.said(), b"fault config partitions\n".as_slice());
     let again = run_configured(
         &rt,
         b"{\"max_rows\": 1, \"partitions\": 1}",
@@ -152,7 +152,7 @@ fn the_shape_is_compared_before_records_are_replayed(rt: HostRuntime) -> Result<
         run.disk(&rt)?,
     )?;
     assert_eq!(rt; again.report.status, 5);
-    assert_eq!(rt; again.host.said(), b"fault record 1:67\n".as_slice());
+    assert_eq!(rt; again.said(), b"fault record 1:67\n".as_slice());
     Ok(())
 }
 

@@ -2,13 +2,12 @@
 
 ghost use Rattle.std.specs.Prelude.{◌≡◌, false};
 
-use crate::consoles::{FileConsole, SAID};
+use crate::consoles::SAID;
 use crate::noted::NotedHost;
-use crate::recorded::{Recorded, TRACE};
+use crate::recorded::{TRACE, recorded_host};
 use crate::runs::call_with;
 use crate::traces::count_forces;
 use pm_disk::Host;
-use pm_disk_fs::FsHost;
 use std::fs;
 use std::process::Abort;
 use std::rt::Files;
@@ -31,18 +30,24 @@ fn status_of<H: Host>(rt: &impl AllocGlobal, host: &mut H) -> Result<u8, Fail>
     Ok(report.status)
 }
 
-/// Answers the script over the folder. Answers the status.
-fn run_recorded(rt: &HostRuntime) -> Result<u8, Fail> {
-    let console = FileConsole {
-        rt: rt.clone()?,
-        input: SCRIPT,
-    };
-    let mut host = NotedHost {
-        host: FsHost::new(Recorded { rt: console }),
+/// Answers the script over a host, whose forces are noted. Answers the status.
+fn run_noted<H: Host + Drop>(
+    rt: &(impl AllocGlobal + Clone + Drop + Files),
+    host: H,
+) -> Result<u8, Fail>
+    requires { (H.state host).access.is_lent ≡ false }
+{
+    let mut noted = NotedHost {
+        host,
         rt: rt.clone()?,
         folder: FOLDER,
     };
-    status_of(rt, &mut host)
+    status_of(rt, &mut noted)
+}
+
+/// Answers the script over the folder. Answers the status.
+fn run_recorded(rt: &HostRuntime) -> Result<u8, Fail> {
+    run_noted(rt, recorded_host(rt, SCRIPT)?)
 }
 
 /// Looks at the trace: each force had made the segment lasting, and the names.

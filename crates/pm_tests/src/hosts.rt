@@ -1,16 +1,15 @@
 //! The host over files and the host in memory, call by call.
 
-ghost use Rattle.std.specs.Prelude.{◌≡◌, false, OnOk};
+ghost use Rattle.std.specs.Prelude.{◌≡◌, false, IfOk, OnOk};
 ghost use Rattle.pm_disk.specs.States.{IsUsable};
 ghost use Rattle.pm_disk_mem.specs.Hosts.{state_of};
 
-use crate::calls::{Call, answer};
-use crate::consoles::{FileConsole, SAID};
+use crate::calls::{Call, Round, answer};
+use crate::consoles::SAID;
 use crate::noted::NotedHost;
-use crate::recorded::{Recorded, TRACE};
+use crate::recorded::{TRACE, recorded_host};
 use crate::traces::count_forces;
 use pm_disk::{Failed, Host, MarkFile};
-use pm_disk_fs::FsHost;
 use pm_disk_mem::{MemDisk, MemHost, Pick};
 use std::alloc::{AllocError, Global};
 use std::fs;
@@ -116,6 +115,56 @@ const ON_PAGES: [(Call, &str); 31] = [
     (Call::ReadMark(MarkFile::End, 0), "Ok(true) 64 of 6"),
     (Call::ForceMark(MarkFile::Start), "Ok(())"),
     (Call::ForceMark(MarkFile::End), "Ok(())"),
+];
+
+/// Calls on the parts of a split host, and on the host between, each with its answer. What the log part buffered is written by the
+/// next call on the log, of a part or of the host.
+const ON_PARTS: [(Call, &str); 13] = [
+    (
+        Call::Round(Round {
+            append: b"1234",
+            forces: true,
+            due: (3, 1, 7),
+            read: (3, 0),
+        }),
+        "Ok(Some(3)) Ok(()) Ok(()); Ok(()) Ok(()); Ok(true) [6, 6, 6, 6]; Err(Failed)",
+    ),
+    (Call::ReadLog(1, 0), "Ok(7) [110, 101, 119, 49, 50, 51, 52]"),
+    (Call::ReadPage(3, 1), "Ok(true) [7, 7, 7, 7]"),
+    (
+        Call::Round(Round {
+            append: b"5",
+            forces: false,
+            due: (4, 0, 8),
+            read: (3, 1),
+        }),
+        "Ok(Some(7)) Ok(()) Ok(()); Ok(()) Ok(()); Ok(true) [7, 7, 7, 7]; Err(Failed)",
+    ),
+    (Call::AppendLog(1, b"6"), "Ok(())"),
+    (
+        Call::Round(Round {
+            append: b"7",
+            forces: false,
+            due: (4, 2, 9),
+            read: (4, 0),
+        }),
+        "Ok(Some(9)) Ok(()) Ok(()); Ok(()) Ok(()); Ok(true) [8, 8, 8, 8]; Err(Failed)",
+    ),
+    (Call::ForceLog(1), "Ok(())"),
+    (Call::ReadLog(1, 7), "Ok(3) [53, 54, 55]"),
+    (Call::ReadPage(4, 1), "Ok(true) [0, 0, 0, 0]"),
+    (Call::ReadPage(4, 2), "Ok(true) [9, 9, 9, 9]"),
+    (
+        Call::Round(Round {
+            append: b"",
+            forces: true,
+            due: (3, 3, 1),
+            read: (6, 0),
+        }),
+        "Ok(Some(10)) Ok(()) Ok(()); Ok(()) Ok(()); Ok(false) [0, 0, 0, 0]; Err(Failed)",
+    ),
+    (Call::WriteMark(MarkFile::Start, 0, 3), "Ok(())"),
+    (Call::ForceMark(MarkFile::Start), "Ok(())"),
 ];
 
 /// Calls on the configuration and the console, each with its answer.
@@ -266,7 +315,9 @@ fn standing_disk(rt: &impl AllocGlobal) -> Result<MemDisk, Fail> {
 }
 
 /// The host in memory, over the files that stand there before the first call.
-fn in_memory(rt: &impl AllocGlobal) -> Result<MemHost, Fail> {
+fn in_memory(rt: &impl AllocGlobal) -> Result<MemHost, Fail>
+    ensures { IfOk result (λ memory. memory.is_lent ≡ false) }
+{
     let disk = standing_disk(rt)?;
     Ok(MemHost::new(rt.alloc(), INPUT, b"", disk, &[], None)?)
 }
@@ -293,28 +344,31 @@ fn bind<H: Host>(host: &mut H) -> Result<(), Failed>
     host.bind(FOLDER)
 }
 
-/// Makes all the calls on both.
+/// Makes all the calls on both, up to the first one where something isn't as wanted. Answers what that is.
 fn make_calls<F: Host>(
-    rt: &(impl Abort + AllocGlobal + Files),
+    rt: &(impl AllocGlobal + Files),
     memory: &mut MemHost,
     files: &mut F,
-) -> Result<(), Fail>
+) -> Result<Option<String>, Fail>
     requires memory { IsUsable (state_of memory.old) }
     requires files { IsUsable (F.state files.old) }
 {
-    assert_eq!(rt; compare(rt, memory, files, &ON_CONSOLE)?, None);
-    assert_eq!(rt; compare(rt, memory, files, &ON_LOG)?, None);
-    assert_eq!(rt; compare(rt, memory, files, &ON_PAGES)?, None);
-    Ok(())
+    for calls in [ON_CONSOLE.as_slice(), &ON_LOG, &ON_PAGES, &ON_PARTS] {
+        if let Some(unwanted) = compare(rt, memory, files, calls)? {
+            return Ok(Some(unwanted));
+        }
+    }
+    Ok(None)
 }
 
 /// Binds both to the folder, fills it, and makes all the calls.
 fn bind_and_call<F: Host>(
-    rt: &(impl Abort + AllocGlobal + Files),
+    rt: &(impl AllocGlobal + Files),
     memory: &mut MemHost,
     files: &mut F,
-) -> Result<(), Fail>
-    requires { (F.state files.old).access.is_lent ≡ false }
+) -> Result<Option<String>, Fail>
+    requires memory { memory.old.is_lent ≡ false }
+    requires files { (F.state files.old).access.is_lent ≡ false }
 {
     bind(memory)?;
     bind(files)?;
@@ -363,19 +417,34 @@ fn remove_files(rt: &(impl AllocGlobal + Files)) -> Result<(), Fail> {
 /// What there is to read.
 const INPUT: &[u8] = b"get 0 a\nput";
 
-#[test]
-fn files_and_memory_answer_the_same(rt: HostRuntime) -> Result<(), Fail> {
-    let mut memory = in_memory(&rt)?;
-    let console = FileConsole {
-        rt: rt.clone()?,
-        input: INPUT,
-    };
-    let mut files = NotedHost {
-        host: FsHost::new(Recorded { rt: console }),
+/// Makes all the calls on the host in memory, and on another one whose forces are noted.
+fn call_noted<F: Host + Drop>(
+    rt: &(impl AllocGlobal + Clone + Drop + Files),
+    memory: &mut MemHost,
+    files: F,
+) -> Result<Option<String>, Fail>
+    requires memory { memory.old.is_lent ≡ false }
+    requires files { (F.state files).access.is_lent ≡ false }
+{
+    let mut noted = NotedHost {
+        host: files,
         rt: rt.clone()?,
         folder: FOLDER,
     };
-    bind_and_call(&rt, &mut memory, &mut files)?;
+    bind_and_call(rt, memory, &mut noted)
+}
+
+/// Makes all the calls on the host in memory, and on one over files.
+fn call_both(rt: &HostRuntime, memory: &mut MemHost) -> Result<Option<String>, Fail>
+    requires { memory.old.is_lent ≡ false }
+{
+    call_noted(rt, memory, recorded_host(rt, INPUT)?)
+}
+
+#[test]
+fn files_and_memory_answer_the_same(rt: HostRuntime) -> Result<(), Fail> {
+    let mut memory = in_memory(&rt)?;
+    assert_eq!(rt; call_both(&rt, &mut memory)?, None);
     look_at_the_end(&rt, &memory)?;
     look_at_forces(&rt)?;
     remove_files(&rt)

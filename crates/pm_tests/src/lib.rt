@@ -7,6 +7,8 @@ mod batches;
 #[cfg(test)]
 mod calls;
 #[cfg(test)]
+mod checkpoints;
+#[cfg(test)]
 mod configurations;
 #[cfg(test)]
 mod consoles;
@@ -18,23 +20,36 @@ mod folders;
 mod forces;
 #[cfg(test)]
 mod hosts;
+#[cfg(test)]
+mod lasting;
 pub mod lock_clients;
 #[cfg(test)]
 mod logs;
 #[cfg(test)]
+mod markers;
+#[cfg(test)]
 mod noted;
 pub mod pages;
+#[cfg(test)]
+mod pairs;
+#[cfg(test)]
+mod parts;
 #[cfg(test)]
 mod pieces;
 #[cfg(test)]
 mod recorded;
 #[cfg(test)]
 mod refusals;
+pub mod rounds;
 #[cfg(test)]
 mod runs;
 #[cfg(test)]
 mod scripts;
 #[cfg(test)]
 mod stores;
+#[cfg(test)]
+mod threads;
+#[cfg(test)]
+mod torn;
 #[cfg(test)]
 mod traces;

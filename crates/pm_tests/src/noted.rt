@@ -1,8 +1,11 @@
 //! A host that notes in the trace which forces have succeeded.
 
+ghost use Rattle.std.specs.Prelude.{◌≡◌, ◌∷◌, true, map};
+ghost use Rattle.pm_disk.specs.Lending.{Joins, TakesBack};
+
 use crate::recorded::{FORCED, note};
 use pm_disk::{
-    Device, Failed, Host, LogFile, LogReader, MarkFile, PageReader, PageWriter, SLOT_LEN,
+    Device, Failed, Host, Lent, LogFile, LogReader, MarkFile, PageReader, PageWriter, SLOT_LEN,
 };
 use pm_types::PageId;
 use std::alloc::AllocError;
@@ -104,6 +107,12 @@ impl<H: Host + Drop, R: Files + AllocGlobal + Drop> PageWriter for NotedHost<H, 
 }
 
 impl<H: Host + Drop, R: Files + AllocGlobal + Drop> Host for NotedHost<H, R> {
+    type Reader = H::Reader;
+
+    type Writer = H::Writer;
+
+    type Log = H::Log;
+
     fn bind(&mut self, dir: &str) -> Result<(), Failed> {
         self.host.bind(dir)
     }
@@ -147,6 +156,31 @@ impl<H: Host + Drop, R: Files + AllocGlobal + Drop> Host for NotedHost<H, R> {
     fn print(&mut self, bytes: &[u8]) -> Result<(), Failed> {
         self.host.print(bytes)
     }
+
+    fn lend(
+        &mut self,
+        due: &[PageId],
+        workers: u32,
+    ) -> Result<Lent<H::Reader, H::Writer, H::Log>, AllocError> {
+        self.host.lend(due, workers)
+    }
+
+    /// Forces of the parts aren't noted.
+    fn take_back(&mut self, lent: Lent<H::Reader, H::Writer, H::Log>)
+        requires lent { (H.state self.old.host).access.is_lent ≡ true }
+        requires log { (H.Log.state lent.log).access.folder ≡ (H.state self.old.host).access.folder }
+        requires writer { (H.Writer.state lent.writer).access.folder
+            ≡ (H.state self.old.host).access.folder }
+        ensures joins { H.tells → Joins (H.history self.old.host) (H.history self.new.host)
+            (H.Log.history lent.log) (H.Writer.history lent.writer) }
+        ensures returns { TakesBack (H.state self.old.host) (H.state self.new.host)
+            (H.Log.state lent.log ∷ H.Writer.state lent.writer
+            ∷ map (λ reader. H.Reader.state reader) lent.readers.items) }
+    {
+        self.host.take_back(lent)
+    }
+
+    ghost parts_tell = { H.Host.parts_tell };
 
     ghost all_pages = { λ noted. H.Host.all_pages noted.host };
 }

@@ -1,12 +1,14 @@
 //! A host in memory that gives its input in pieces.
 
-ghost use Rattle.std.specs.Prelude.{◌<◌, refl};
+ghost use Rattle.std.specs.Prelude.{◌≡◌, ◌<◌, ◌∷◌, true, map, refl};
+ghost use Rattle.pm_disk.specs.Lending.{Joins, TakesBack};
 
 use pm_disk::{
-    Device, Failed, Host, LogFile, LogReader, MarkFile, PageReader, PageWriter, SLOT_LEN,
+    Device, Failed, Host, Lent, LogFile, LogReader, MarkFile, PageReader, PageWriter, SLOT_LEN,
 };
-use pm_disk_mem::MemHost;
+use pm_disk_mem::{MemHost, MemPart, MemReader};
 use pm_types::PageId;
+use std::alloc::AllocError;
 
 /// A host in memory whose reads take at most so many bytes of the input. All else is passed on.
 #[derive(Drop)]
@@ -17,8 +19,8 @@ pub struct PieceHost {
 }
 
 impl Device for PieceHost {
-    ghost use Rattle.pm_disk_mem.specs.Hosts.{first_world, steps_of, history_of, state_of};
-    ghost use Rattle.pm_disk_mem.specs.Sound.{sound};
+    ghost use Rattle.pm_disk_mem.specs.Hosts.{first_world, events_of, history_of, state_of};
+    ghost use Rattle.pm_disk_mem.specs.Sound.{sound_during};
 
     ghost tells = { Unit {0} };
 
@@ -26,7 +28,7 @@ impl Device for PieceHost {
 
     ghost state = { λ pieces. state_of pieces.host };
 
-    ghost sound = { λ pieces _. sound (first_world pieces.host) (steps_of pieces.host) };
+    ghost sound = { λ pieces _. sound_during (first_world pieces.host) (events_of pieces.host) };
 }
 
 impl LogReader for PieceHost {
@@ -70,6 +72,15 @@ impl PageWriter for PieceHost {
 }
 
 impl Host for PieceHost {
+    ghost use Rattle.pm_disk_mem.specs.Hosts.{history_of, state_of};
+    ghost use Rattle.pm_disk_mem.specs.Lent.{history_of_part, state_of_part, state_of_reader};
+
+    type Reader = MemReader;
+
+    type Writer = MemPart;
+
+    type Log = MemPart;
+
     fn bind(&mut self, dir: &str) -> Result<(), Failed> {
         self.host.bind(dir)
     }
@@ -112,6 +123,27 @@ impl Host for PieceHost {
     fn print(&mut self, bytes: &[u8]) -> Result<(), Failed> {
         self.host.print(bytes)
     }
+
+    fn lend(
+        &mut self,
+        due: &[PageId],
+        workers: u32,
+    ) -> Result<Lent<MemReader, MemPart, MemPart>, AllocError> {
+        self.host.lend(due, workers)
+    }
+
+    fn take_back(&mut self, lent: Lent<MemReader, MemPart, MemPart>)
+        requires { self.old.host.is_lent ≡ true }
+        ensures joins { Joins (history_of self.old.host) (history_of self.new.host)
+            (history_of_part lent.log) (history_of_part lent.writer) }
+        ensures returns { TakesBack (state_of self.old.host) (state_of self.new.host)
+            (state_of_part lent.log ∷ state_of_part lent.writer
+            ∷ map (λ reader. state_of_reader reader) lent.readers.items) }
+    {
+        self.host.take_back(lent)
+    }
+
+    ghost parts_tell = { ((λ t. t, λ t. t), (λ t. t, λ t. t), (λ t. t, λ t. t)) };
 
     ghost all_pages = { λ _. record { reads = λ _. refl; writes = λ _. refl } };
 }

@@ -1,10 +1,16 @@
-//! Real files that write a trace: which were changed and synced, and which names were made and removed.
+//! Real files that write a trace: which were opened, changed and synced, and which names were made and removed.
 
+ghost use Rattle.std.specs.Prelude.{◌≡◌, false, IfOk};
+
+use crate::consoles::FileConsole;
+use pm_disk_fs::{FsHost, Lockable};
 use std::alloc::{AllocError, Allocator};
 use std::fmt::Display;
 use std::fs::{Metadata, OpenFile, OpenOptions};
 use std::io::{self, Lines, Read, Seek, SeekFrom, Write};
+use std::os::unix::fs::FileExt;
 use std::rt::Files;
+use std::test::Fail;
 
 /// The file that has the trace: a line for each event, with its path.
 pub const TRACE: &str = "trace";
@@ -14,6 +20,9 @@ pub const CHANGED: &str = "changed";
 
 /// A file or a folder was synced.
 pub const SYNCED: &str = "synced";
+
+/// A file or a folder that was there was opened.
+pub const OPENED: &str = "opened";
 
 /// A name was made.
 pub const MADE: &str = "made";
@@ -96,6 +105,23 @@ impl<R: Files + AllocGlobal + Drop> OpenFile for RecordedFile<R> {
     }
 }
 
+impl<R: Files<File: FileExt> + AllocGlobal + Drop> FileExt for RecordedFile<R> {
+    fn read_at(&self, buf: &mut [u8], offset: u64) -> io::Result<usize> {
+        self.file.read_at(buf, offset)
+    }
+
+    fn write_at(&self, buf: &[u8], offset: u64) -> io::Result<usize> {
+        note(&self.rt, CHANGED, &self.path)?;
+        self.file.write_at(buf, offset)
+    }
+}
+
+impl<R: Files<File: Lockable> + Drop> Lockable for RecordedFile<R> {
+    fn take_lock(&self) -> io::Result<bool> {
+        self.file.take_lock()
+    }
+}
+
 impl<R: Alloc> Alloc for Recorded<R> {
     type A = R::A;
 
@@ -143,9 +169,7 @@ impl<R: Files + AllocGlobal + Clone + Drop> Files for Recorded<R> {
     fn open_file(&self, how: &OpenOptions, path: &str) -> io::Result<RecordedFile<R>> {
         let was_there = self.rt.metadata(path).is_ok();
         let file = self.rt.open_file(how, path)?;
-        if !was_there {
-            note(&self.rt, MADE, path)?;
-        }
+        note(&self.rt, if was_there { OPENED } else { MADE }, path)?;
         Ok(RecordedFile {
             rt: self.rt.clone()?,
             file,
@@ -193,4 +217,18 @@ impl<R: Files + AllocGlobal + Clone + Drop> Files for Recorded<R> {
     fn remove_dir_all<B: Allocator>(&self, alloc: B, path: &str) -> io::Result<()> {
         self.rt.remove_dir_all(alloc, path)
     }
+}
+
+/// A host over files that write the trace, beside a console with this input.
+pub fn recorded_host(
+    rt: &HostRuntime,
+    input: &'static [u8],
+) -> Result<FsHost<Recorded<FileConsole<HostRuntime>>>, Fail>
+    ensures { IfOk result (λ host. host.is_lent ≡ false) }
+{
+    let console = FileConsole {
+        rt: rt.clone()?,
+        input,
+    };
+    Ok(FsHost::new(Recorded { rt: console }))
 }

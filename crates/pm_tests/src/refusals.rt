@@ -39,7 +39,7 @@ fn refuse(
     assert_eq!(rt; run.report.status, 5, "{said:?}");
     assert_eq!(rt; run.report.lines, 0, "{said:?}");
     assert!(rt; run.report.order.is_empty(), "{said:?}");
-    assert_eq!(rt; run.host.said(), said);
+    assert_eq!(rt; run.said(), said);
     look_at_unchanged(rt, &run, log, said)
 }
 
@@ -117,7 +117,7 @@ fn fill_one_row(rt: &(impl Abort + AllocGlobal), shape: &[u8]) -> Result<(), Fai
     let script = b"put 0 a 1\nput 0 b 2\nput 0 a 3\n";
     let run = run_configured(rt, ONE_ROW_ASKED, script, disk_of(rt, shape)?)?;
     assert_eq!(rt; run.report.status, 0);
-    assert_eq!(rt; run.host.said(), b"ok\nerror full\nok\n".as_slice());
+    assert_eq!(rt; run.said(), b"ok\nerror full\nok\n".as_slice());
     Ok(())
 }
 
@@ -134,7 +134,7 @@ fn a_put_that_meets_a_full_partition_is_refused(rt: HostRuntime) -> Result<(), F
 fn look_at_end(rt: &(impl Abort + AllocGlobal), log: &[u8]) -> Result<(), Fail> {
     let run = run_over(rt, b"get 0 a\n", disk_of(rt, log)?)?;
     assert_eq!(rt; run.report.status, 0, "{log:?}");
-    assert_eq!(rt; run.host.said(), b"none\n".as_slice(), "{log:?}");
+    assert_eq!(rt; run.said(), b"none\n".as_slice(), "{log:?}");
     assert_eq!(rt; lasting_len(rt, &run)?, 74, "{log:?}");
     Ok(())
 }

@@ -39,9 +39,24 @@ pub struct Run {
 }
 
 impl Run {
+    /// What the run said.
+    pub fn said(&self) -> &[u8] {
+        self.host.said()
+    }
+
+    /// How many calls it made that can fail.
+    pub fn calls(&self) -> u64 {
+        self.host.calls()
+    }
+
+    /// The disk that this crash leaves, right after the run.
+    pub fn crashed(&self, rt: &impl AllocGlobal, pick: Pick) -> Result<MemDisk, Fail> {
+        Ok(self.host.image(rt.alloc(), pick)?)
+    }
+
     /// The disk that the run left, with all that is pending.
     pub fn disk(&self, rt: &impl AllocGlobal) -> Result<MemDisk, Fail> {
-        Ok(self.host.image(rt.alloc(), Pick::Kept)?)
+        self.crashed(rt, Pick::Kept)
     }
 }
 
@@ -127,7 +142,7 @@ fn bytes_of(rt: &impl AllocGlobal, disk: &MemDisk, name: &str) -> Result<Vec<u8>
 
 /// The log's bytes that a crash leaves of a run.
 pub fn log_left(rt: &impl AllocGlobal, run: &Run, pick: Pick) -> Result<Vec<u8>, Fail> {
-    let disk = run.host.image(rt.alloc(), pick)?;
+    let disk = run.crashed(rt, pick)?;
     bytes_of(rt, &disk, SEGMENT)
 }
 
@@ -185,7 +200,7 @@ pub fn look_at_refused(
     assert_eq!(rt; run.report.status, 3, "{refused}");
     assert_eq!(rt; run.report.lines, lines, "{refused}");
     assert_eq!(rt; run.report.order.as_slice(), order, "{refused}");
-    assert_eq!(rt; run.host.said(), said, "{refused}");
-    assert_eq!(rt; run.host.calls(), refused.saturating_add(1), "{refused}");
+    assert_eq!(rt; run.said(), said, "{refused}");
+    assert_eq!(rt; run.calls(), refused.saturating_add(1), "{refused}");
     Ok(())
 }

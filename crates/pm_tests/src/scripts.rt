@@ -1,6 +1,6 @@
 //! Scripts through the top call.
 
-ghost use Rattle.std.specs.Prelude.{◌<◌};
+ghost use Rattle.std.specs.Prelude.{◌≡◌, ◌<◌, false, IfOk};
 
 use crate::pieces::PieceHost;
 use crate::runs::{Run, call_with, look_at_refused};
@@ -16,6 +16,7 @@ fn host_of(
     refused: &[u64],
 ) -> Result<PieceHost, Fail>
     requires { 0 < piece }
+    ensures { IfOk result (λ pieces. pieces.host.is_lent ≡ false) }
 {
     let disk = MemDisk::empty(rt.alloc());
     let host = MemHost::new(rt.alloc(), input, b"", disk, refused, None)?;
@@ -51,7 +52,7 @@ fn answer(
     let run = run_in_pieces(rt, &["run", "d"], script, piece, &[])?;
     assert_eq!(rt; run.report.status, 0, "{script:?}");
     assert_eq!(rt; run.report.lines, lines, "{script:?}");
-    assert_eq!(rt; run.host.said(), wanted, "{script:?}");
+    assert_eq!(rt; run.said(), wanted, "{script:?}");
     Ok(())
 }
 
@@ -63,7 +64,7 @@ fn a_put_is_answered_and_found(rt: HostRuntime) -> Result<(), Fail> {
         assert_eq!(rt; run.report.status, 0);
         assert_eq!(rt; run.report.lines, 2);
         assert_eq!(rt; run.report.order.as_slice(), [1].as_slice());
-        assert_eq!(rt; run.host.said(), b"ok\nvalue 1\n".as_slice());
+        assert_eq!(rt; run.said(), b"ok\nvalue 1\n".as_slice());
     }
     Ok(())
 }
@@ -154,7 +155,7 @@ fn measure(
     let run = run_in_pieces(rt, &["run", "d"], &script, piece, &[])?;
     assert_eq!(rt; run.report.status, 0, "{length}");
     assert_eq!(rt; run.report.lines, 2, "{length}");
-    assert!(rt; run.host.said().starts_with(wanted), "{length}");
+    assert!(rt; run.said().starts_with(wanted), "{length}");
     Ok(())
 }
 
@@ -180,7 +181,7 @@ fn refuse_words(rt: &(impl Abort + AllocGlobal), words: &[&str]) -> Result<(), F
     let run = run_in_pieces(rt, words, b"put 0 a 1\n", 100, &[])?;
     assert_eq!(rt; run.report.status, 1, "{words:?}");
     assert_eq!(rt; run.report.lines, 0, "{words:?}");
-    assert_eq!(rt; run.host.said(), b"fault usage\n".as_slice(), "{words:?}");
+    assert_eq!(rt; run.said(), b"fault usage\n".as_slice(), "{words:?}");
     Ok(())
 }
 
@@ -188,7 +189,7 @@ fn refuse_words(rt: &(impl Abort + AllocGlobal), words: &[&str]) -> Result<(), F
 fn refuse_words_unsaid(rt: &(impl Abort + AllocGlobal), words: &[&str]) -> Result<(), Fail> {
     let run = run_in_pieces(rt, words, b"put 0 a 1\n", 100, &[0])?;
     assert_eq!(rt; run.report.status, 3, "{words:?}");
-    assert!(rt; run.host.said().is_empty(), "{words:?}");
+    assert!(rt; run.said().is_empty(), "{words:?}");
     Ok(())
 }
 
@@ -245,7 +246,7 @@ fn after_a_refused_call_none_is_made(rt: HostRuntime) -> Result<(), Fail> {
     }
     let whole = run_in_pieces(&rt, &["run", "d"], script, 10, &[20])?;
     assert_eq!(rt; whole.report.status, 0);
-    assert_eq!(rt; whole.host.calls(), 20);
+    assert_eq!(rt; whole.calls(), 20);
     Ok(())
 }
 
@@ -264,8 +265,8 @@ fn run_to_the_limit(
     let run = run_in_pieces(rt, &["run", "d"], &empty_lines(rt, lines)?, 65_536, &[])?;
     assert_eq!(rt; run.report.status, status);
     assert_eq!(rt; run.report.lines, 4_000_000);
-    assert_eq!(rt; run.host.said().len(), lines.saturating_mul(11));
-    assert!(rt; run.host.said().ends_with(tail));
+    assert_eq!(rt; run.said().len(), lines.saturating_mul(11));
+    assert!(rt; run.said().ends_with(tail));
     Ok(())
 }
 

@@ -18,7 +18,7 @@ fn run_next(
 ) -> Result<MemDisk, Fail> {
     let run = run_over(rt, script, disk)?;
     assert_eq!(rt; run.report.status, 0);
-    assert_eq!(rt; run.host.said(), wanted);
+    assert_eq!(rt; run.said(), wanted);
     run.disk(rt)
 }
 
@@ -57,7 +57,7 @@ fn an_empty_script_leaves_a_restart_and_nothing_pending(rt: HostRuntime) -> Resu
     let run = run_over(&rt, b"", MemDisk::empty(rt.alloc()))?;
     assert_eq!(rt; run.report.status, 0);
     assert_eq!(rt; run.report.lines, 0);
-    assert!(rt; run.host.said().is_empty());
+    assert!(rt; run.said().is_empty());
     for pick in [Pick::Kept, Pick::Lost, Pick::Fill(238), Pick::Cut(9)] {
         let left = log_left(&rt, &run, pick)?;
         assert_eq!(rt; left.as_slice(), FIRST_FRAME.as_slice(), "{pick:?}");
@@ -111,7 +111,7 @@ fn look_at(rt: &(impl Abort + AllocGlobal), log: &[u8], frames: &[u8]) -> Result
     } else {
         b"value 1\nnone\n"
     };
-    assert_eq!(rt; run.host.said(), wanted, "{whole}");
+    assert_eq!(rt; run.said(), wanted, "{whole}");
     let left = log_left(rt, &run, Pick::Lost)?;
     assert_eq!(rt; left.len(), whole.saturating_add(37), "{whole}");
     assert!(rt; left.starts_with(frames), "{whole}");
@@ -136,7 +136,7 @@ fn a_log_ends_before_its_first_torn_frame(rt: HostRuntime) -> Result<(), Fail> {
         look_at(&rt, &log[..count], &log[..whole])?;
     }
     let run = told_by(&rt, &log)?;
-    assert_eq!(rt; run.host.said(), b"value 1\nvalue 2\n".as_slice());
+    assert_eq!(rt; run.said(), b"value 1\nvalue 2\n".as_slice());
     Ok(())
 }
 
@@ -176,7 +176,7 @@ fn log_with_pages(rt: &(impl Abort + AllocGlobal)) -> Result<Vec<u8>, Fail> {
 fn records_of_pages_and_checkpoints_are_passed_over(rt: HostRuntime) -> Result<(), Fail> {
     let log = log_with_pages(&rt)?;
     let run = told_by(&rt, &log)?;
-    assert_eq!(rt; run.host.said(), b"value 1\nvalue 2\n".as_slice());
+    assert_eq!(rt; run.said(), b"value 1\nvalue 2\n".as_slice());
     let left = log_left(&rt, &run, Pick::Lost)?;
     assert_eq!(rt; left.len(), 1263);
     assert!(rt; left.starts_with(&log));

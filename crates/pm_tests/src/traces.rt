@@ -65,6 +65,14 @@ pub fn count_forces(trace: &str, folder: &str, file: &str) -> Option<usize> {
     Some(count)
 }
 
+/// How often a file was synced by the trace.
+pub fn count_syncs(trace: &str, file: &str) -> usize {
+    trace
+        .lines()
+        .filter(|line| line.split_once(' ') == Some((SYNCED, file)))
+        .count()
+}
+
 /// Traces of the file `d/f`, each with how often it was forced.
 const TRACES: [(&str, Option<usize>); 9] = [
     ("", Some(0)),

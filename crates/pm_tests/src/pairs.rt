@@ -1,0 +1,213 @@
+//! Crashes of a round: the log part has come so far, and the writer so far, and each pair of the two may be what a crash finds.
+
+ghost use Rattle.std.specs.Prelude.{◌≡◌, IfOk};
+ghost use Rattle.pm_disk.specs.States.{IsLaterState, IsUsable, MayWrite};
+ghost use Rattle.pm_disk_mem.specs.Hosts.{state_of};
+
+use pm_disk::{Failed, Host, LogFile, PageWriter};
+use pm_disk_mem::{MemDisk, MemHost, Pick};
+use pm_types::PageId;
+use std::alloc::AllocError;
+use std::process::Abort;
+use std::test::Fail;
+
+/// The file of the segment, which has `old!` before the round.
+const SEGMENT: &str = "wal-0000000000000001.seg";
+
+/// The file of the pages, of four bytes each, of which the second one is due.
+const PAGES: &str = "part-003.pages";
+
+/// What is done on the log part.
+#[derive(Clone, Copy)]
+enum OnLog {
+    Append(&'static [u8]),
+    Force,
+}
+
+/// What is done on the writer.
+#[derive(Clone, Copy)]
+enum OnPages {
+    /// The page that is due gets these bytes.
+    Write(&'static [u8]),
+    Force,
+}
+
+const LOG_CALLS: [OnLog; 4] = [
+    OnLog::Append(b"ab"),
+    OnLog::Force,
+    OnLog::Append(b"cd"),
+    OnLog::Force,
+];
+
+const PAGE_CALLS: [OnPages; 4] = [
+    OnPages::Write(b"2222"),
+    OnPages::Force,
+    OnPages::Write(b"3333"),
+    OnPages::Force,
+];
+
+/// The crashes that are looked at: all that is pending is kept, all is lost, each byte of it is a question mark, and the first
+/// byte of what is pending in the log is kept.
+const PICKS: [Pick; 4] = [Pick::Kept, Pick::Lost, Pick::Fill(b'?'), Pick::Cut(1)];
+
+/// What each crash leaves of the segment, after so many calls of the log part.
+const LOG_LEFT: [[&str; 4]; 5] = [
+    ["old!", "old!", "old!", "old!"],
+    ["old!ab", "old!", "old!??", "old!a"],
+    ["old!ab", "old!ab", "old!ab", "old!ab"],
+    ["old!abcd", "old!ab", "old!ab??", "old!abc"],
+    ["old!abcd", "old!abcd", "old!abcd", "old!abcd"],
+];
+
+/// What each crash leaves of the pages, after so many calls of the writer.
+const PAGES_LEFT: [[&str; 4]; 5] = [
+    ["00001111", "00001111", "00001111", "00001111"],
+    ["00002222", "00001111", "0000????", "00001111"],
+    ["00002222", "00002222", "00002222", "00002222"],
+    ["00003333", "00002222", "0000????", "00002222"],
+    ["00003333", "00003333", "00003333", "00003333"],
+];
+
+/// How far the log part and the writer come in a round that is stopped after each number of calls of each. An append is two
+/// calls: the segment's length is asked for first.
+const STOPPED: [(usize, usize); 7] = [(0, 0), (0, 1), (1, 2), (2, 3), (2, 4), (3, 4), (4, 4)];
+
+/// Makes a call on the log part.
+fn call_log<L: LogFile>(log: &mut L, call: OnLog) -> Result<(), Failed>
+    requires { IsUsable (L.state log.old) }
+    ensures { IsLaterState (L.state log.old) (L.state log.new) }
+{
+    match call {
+        OnLog::Append(bytes) => {
+            let len = log.seg_len(1)?.unwrap_or(0);
+            log.write_log(1, len, bytes)
+        }
+        OnLog::Force => log.force_log(1),
+    }
+}
+
+/// Makes a call on the writer.
+fn call_writer<W: PageWriter>(writer: &mut W, page: PageId, call: OnPages) -> Result<(), Failed>
+    requires { MayWrite (W.state writer.old) page }
+    ensures { IsLaterState (W.state writer.old) (W.state writer.new) }
+{
+    match call {
+        OnPages::Write(bytes) => writer.write_page(page, bytes),
+        OnPages::Force => writer.force_pages(page.part()),
+    }
+}
+
+/// Makes the first calls on the log part, so many.
+fn call_log_often<L: LogFile>(log: &mut L, count: usize) -> Result<(), Failed>
+    requires { IsUsable (L.state log.old) }
+    ensures { IsLaterState (L.state log.old) (L.state log.new) }
+{
+    for call in LOG_CALLS.iter().take(count) {
+        call_log(log, *call)?;
+    }
+    Ok(())
+}
+
+/// Makes the first calls on the writer, so many.
+fn call_writer_often<W: PageWriter>(
+    writer: &mut W,
+    page: PageId,
+    count: usize,
+) -> Result<(), Failed>
+    requires { MayWrite (W.state writer.old) page }
+    ensures { IsLaterState (W.state writer.old) (W.state writer.new) }
+{
+    for call in PAGE_CALLS.iter().take(count) {
+        call_writer(writer, page, *call)?;
+    }
+    Ok(())
+}
+
+/// Splits the host, and makes so many calls of each part. Answers whether all were done.
+fn round<H: Host>(host: &mut H, on_log: usize, on_pages: usize) -> Result<bool, AllocError>
+    requires { IsUsable (H.state host.old) }
+{
+    let page = PageId::new(3, 1);
+    let mut lent = host.lend(&[page], 0)?;
+    let logged = call_log_often(&mut lent.log, on_log);
+    let written = call_writer_often(&mut lent.writer, page, on_pages);
+    host.take_back(lent);
+    Ok(logged.is_ok() && written.is_ok())
+}
+
+/// The disk before the round.
+fn disk_before(rt: &impl AllocGlobal) -> Result<MemDisk, Fail> {
+    let mut disk = MemDisk::empty(rt.alloc());
+    disk.put_file(SEGMENT, b"old!")?;
+    disk.put_file(PAGES, b"00001111")?;
+    Ok(disk)
+}
+
+/// A host over that disk, whose calls after its first one and those of its parts fail from the stop on.
+fn host_before(rt: &impl AllocGlobal, stop: Option<u64>) -> Result<MemHost, Fail>
+    ensures { IfOk result (λ host. IsUsable (state_of host)) }
+{
+    let mut host = MemHost::new(rt.alloc(), b"", b"", disk_before(rt)?, &[], stop)?;
+    host.bind("store")?;
+    Ok(host)
+}
+
+/// Whether each crash of the host leaves what it does after so many calls of each part.
+fn is_left(
+    rt: &impl AllocGlobal,
+    host: &MemHost,
+    on_log: usize,
+    on_pages: usize,
+) -> Result<bool, Fail> {
+    for (number, pick) in PICKS.iter().enumerate() {
+        let disk = host.image(rt.alloc(), *pick)?;
+        let log = LOG_LEFT[on_log.min(4)][number.min(3)];
+        let pages = PAGES_LEFT[on_pages.min(4)][number.min(3)];
+        if disk.file(SEGMENT) != Some(log.as_bytes())
+            || disk.file(PAGES) != Some(pages.as_bytes())
+        {
+            return Ok(false);
+        }
+    }
+    Ok(true)
+}
+
+/// Whether all calls were done, and each crash left what it should.
+fn is_pair_left(rt: &impl AllocGlobal, on_log: usize, on_pages: usize) -> Result<bool, Fail> {
+    let mut host = host_before(rt, None)?;
+    let done = round(&mut host, on_log, on_pages)?;
+    Ok(done && is_left(rt, &host, on_log, on_pages)?)
+}
+
+#[test]
+fn a_crash_leaves_each_pair_of_moments_of_a_round(rt: HostRuntime) -> Result<(), Fail> {
+    for on_log in 0..5 {
+        for on_pages in 0..5 {
+            assert!(rt; is_pair_left(&rt, on_log, on_pages)?, "{on_log} {on_pages}");
+        }
+    }
+    Ok(())
+}
+
+/// Whether a round that is stopped after so many calls of each part has come so far.
+fn is_stopped_there(
+    rt: &impl AllocGlobal,
+    calls: u64,
+    on_log: usize,
+    on_pages: usize,
+) -> Result<bool, Fail> {
+    let mut host = host_before(rt, Some(calls.saturating_add(1)))?;
+    let done = round(&mut host, 4, 4)?;
+    Ok(done == (calls == 6) && is_left(rt, &host, on_log, on_pages)?)
+}
+
+#[test]
+fn a_round_may_be_stopped_at_each_of_its_calls(rt: HostRuntime) -> Result<(), Fail> {
+    for (calls, (on_log, on_pages)) in STOPPED.iter().enumerate() {
+        assert!(rt;
+            is_stopped_there(&rt, calls as u64, *on_log, *on_pages)?,
+            "{calls}"
+        );
+    }
+    Ok(())
+}
