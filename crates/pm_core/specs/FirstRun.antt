@@ -1,5 +1,5 @@
--- A run of the disk machine from a folder without files: its log has two segments, and a checkpoint of one page, which begins in
--- the second, lets the first be dropped.
+-- A run of the disk machine from a folder without files: its log has two segments, and a checkpoint of one
+-- page, which begins in the second, lets the first be dropped.
 use Rattle.std.specs.Prelude.{ℕ, ◌+◌, ◌-◌, List, [], ◌∷◌, ◌++◌, replicate}
 use Rattle.pm_types.specs.declared.page_id.PageId.{PageId}
 use Rattle.pm_types.specs.declared.shape.Mark.{Mark}

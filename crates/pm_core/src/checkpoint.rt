@@ -94,12 +94,13 @@ impl Model for Begun {
       left = reverse begun.left.items;
     } };
 
-    ghost invariant = { λ begun. (vec_capacity begun.left ≡ vec_capacity begun.pages) × AreOnce (reverse begun.left.items) };
+    ghost invariant = { λ begun. (vec_capacity begun.left ≡ vec_capacity begun.pages)
+        × AreOnce (reverse begun.left.items) };
 }
 
 impl Begun {
-    /// Notes that these pages are written. Each of them is a page of the checkpoint. In the set's order each takes the same time, and
-    /// in another one a search of those that are left.
+    /// Notes that these pages are written. Each of them is a page of the checkpoint. In the set's order each
+    /// takes the same time, and in another one a search of those that are left.
     pub fn wrote(&mut self, pages: &[PageId])
         requires { AreAmong pages.now self.old.set.pages }
         ensures { self.new ≡ record self.old { left = left_after pages.now self.old.left } }

@@ -150,9 +150,9 @@ pub fn stores_with_a_checkpoint_are_sound()
         → (image : Image) × (mark : Mark) × (in_force image ≡ Started mark) × SoundImage wanted image shape empty }
 {}
 
-/// There is a run that meets its guards, from a folder without files: the log is begun and goes on in its second segment, in which a
-/// checkpoint begins, writes a page and ends, the first segment is dropped, which has bytes, and a byte is said. So no guard is one
-/// that nobody can meet.
+/// There is a run that meets its guards, from a folder without files: the log is begun and goes on in its
+/// second segment, in which a checkpoint begins, writes a page and ends, the first segment is dropped, which
+/// has bytes, and a byte is said. So no guard is one that nobody can meet.
 pub fn a_run_meets_its_guards()
     ensures begins { (shape : Shape) → IsShape shape → CanBegin shape length empty_world shape empty }
     ensures run { (shape : Shape) → IsShape shape → (can : CanBegin shape length empty_world shape empty)

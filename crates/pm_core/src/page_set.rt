@@ -27,7 +27,8 @@ impl Model for PageSet {
       spare = vec_capacity set.pages - length set.pages.items;
     } };
 
-    ghost invariant = { λ set. (set.left.items ≡ set.pages.items) × (vec_capacity set.left ≡ vec_capacity set.pages)
+    ghost invariant = { λ set. (set.left.items ≡ set.pages.items)
+        × (vec_capacity set.left ≡ vec_capacity set.pages)
         × AreOnce set.pages.items };
 }
 

@@ -2,7 +2,7 @@
 
 ghost use Rattle.std.specs.Prelude.{◌≡◌, ◌<◌, ◌≤◌, ◌↔◌, [], ◌∷◌, true, false, length, map, take, vec_len, Some, IfOk, IsErr, All};
 ghost use Rattle.std.specs.Result.{result_unwrap_or};
-ghost use Rattle.pm_disk.specs.Lending.{reader_lent, writer_lent, log_lent, BeginsLog, BeginsPages, Lends, TakesBack, Joins};
+ghost use Rattle.pm_disk.specs.Lending.{PartsLent, PartsBegin, Lends, TakesBack, Joins};
 ghost use Rattle.pm_disk.specs.States.{HasCause, IsUsable, MayUseAllPages, Binds};
 ghost use Rattle.pm_disk.specs.Files.{Drop, ReadsFrom, ReadsWhole};
 ghost use Rattle.pm_disk.specs.Worlds.{log_changed, marks_in, marks_changed, marks_forced, slot_at, slot_change, with_taken};
@@ -123,18 +123,12 @@ pub trait Host: LogFile + PageReader + PageWriter {
         ensures lends { Lends (Self.state self.old) (Self.state self.new) result }
         ensures many { IfOk result (λ lent. vec_len lent.readers ≡ workers) }
         // What each part may do, of which no call has failed yet.
-        ensures readers { IfOk result (λ lent. All (λ reader. Self.Reader.state reader
-            ≡ reader_lent due.now (Self.state self.old)) lent.readers.items) }
-        ensures writer { IfOk result (λ lent. Self.Writer.state lent.writer
-            ≡ writer_lent due.now (Self.state self.old)) }
-        ensures log { IfOk result (λ lent. Self.Log.state lent.log ≡ log_lent (Self.state self.old)) }
+        ensures parts { IfOk result (λ lent. PartsLent due.now (Self.state self.old) Self.Reader.state
+            lent.readers.items (Self.Writer.state lent.writer) (Self.Log.state lent.log)) }
         // What each part holds: what the host does.
-        ensures readers_begin { Self.tells → IfOk result (λ lent. All (λ reader.
-            BeginsPages (Self.history self.old) (Self.Reader.history reader)) lent.readers.items) }
-        ensures writer_begins { Self.tells → IfOk result
-            (λ lent. BeginsPages (Self.history self.old) (Self.Writer.history lent.writer)) }
-        ensures log_begins { Self.tells → IfOk result
-            (λ lent. BeginsLog (Self.history self.old) (Self.Log.history lent.log)) }
+        ensures begin { Self.tells → IfOk result (λ lent. PartsBegin (Self.history self.old)
+            Self.Reader.history lent.readers.items (Self.Writer.history lent.writer)
+            (Self.Log.history lent.log)) }
         ensures does { Self.tells →
             Does (Self.history self.old) (Self.history self.new) result (Self.history self.old).world };
 

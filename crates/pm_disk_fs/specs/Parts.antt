@@ -35,5 +35,10 @@ state_of_part part = record {
 abbrev pub state_of_reader : ReaderView → DeviceState
 state_of_reader reader = record {
   faults = reader.faults.count;
-  access = record { folder = reader.folder; is_lent = false; reads = λ page. not (is_among reader.due page); writes = λ _. false };
+  access = record {
+    folder = reader.folder;
+    is_lent = false;
+    reads = λ page. not (is_among reader.due page);
+    writes = λ _. false;
+  };
 }

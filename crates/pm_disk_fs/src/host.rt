@@ -7,7 +7,7 @@ ghost use Rattle.pm_disk.specs.States.{HasCause, Binds};
 ghost use Rattle.pm_disk.specs.Moments.{nothing_told};
 ghost use Rattle.pm_disk_fs.specs.WriteBuffer.{IsBufferedOrWritten, FitsAfter, IsAppended};
 ghost use Rattle.pm_disk_fs.specs.Writes.{ChangesFile, ChangesLog, FlushesBuffer, PoisonsOnFailure};
-ghost use Rattle.pm_disk.specs.Lending.{reader_lent, writer_lent, log_lent, Lends, TakesBack};
+ghost use Rattle.pm_disk.specs.Lending.{reader_lent, PartsLent, Lends, TakesBack};
 ghost use Rattle.pm_disk_fs.specs.Host.{state_of, KeepsFirstFailure};
 ghost use Rattle.pm_disk_fs.specs.Parts.{state_of_part, state_of_reader};
 
@@ -352,11 +352,8 @@ impl<
     ) -> Result<Lent<FsReader<R>, FsPart<R>, FsPart<R>>, AllocError>
         ensures lends { Lends (state_of self.old) (state_of self.new) result }
         ensures many { IfOk result (λ lent. vec_len lent.readers ≡ workers) }
-        ensures readers { IfOk result (λ lent. All (λ reader. state_of_reader reader
-            ≡ reader_lent due.now (state_of self.old)) lent.readers.items) }
-        ensures writer { IfOk result (λ lent. state_of_part lent.writer
-            ≡ writer_lent due.now (state_of self.old)) }
-        ensures log { IfOk result (λ lent. state_of_part lent.log ≡ log_lent (state_of self.old)) }
+        ensures parts { IfOk result (λ lent. PartsLent due.now (state_of self.old) state_of_reader
+            lent.readers.items (state_of_part lent.writer) (state_of_part lent.log)) }
         ensures buffered { IfOk result (λ lent. lent.log.writes ≡ self.old.writes) }
         ensures poisoned { IfOk result (λ lent.
             lent.writer.writes.is_poisoned ≡ self.old.writes.is_poisoned) }

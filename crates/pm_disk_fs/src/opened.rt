@@ -15,8 +15,8 @@ pub struct Opened<F: Drop> {
     file: F,
     // Where the file stands, so that a write after the last one needs no seek; none where nobody knows.
     at: Option<u64>,
-    // Whether it was forced since its last change. What happened before it was opened isn't known, so a file that was
-    // opened just now has to be forced though nothing was changed since.
+    // Whether it was forced since its last change. What happened before it was opened isn't known, so a file
+    // that was opened just now has to be forced though nothing was changed since.
     is_forced: bool,
 }
 

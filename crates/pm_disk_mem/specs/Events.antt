@@ -19,7 +19,8 @@ told_by part = history_after (lent_world part) part.steps.items
 -- the world after an event
 abbrev pub after_event : Event → World → World
 after_event (Single step) world = stepped step world
-after_event (Round log pages) world = joined world (replay log.steps.items (lent_world log)) (replay pages.steps.items (lent_world pages))
+after_event (Round log pages) world = joined world (replay log.steps.items (lent_world log))
+    (replay pages.steps.items (lent_world pages))
 
 -- the world after these events, the first of them first
 abbrev pub after_events : List Event → World → World
@@ -38,8 +39,11 @@ WasDuringFirst (event ∷ events) before world = WasDuring event before world
 
 -- the world was so after a prefix of the events, at least so many, or while the next one went on
 abbrev pub HasBeenDuring : World → List Event → ℕ → World → Type 0
-HasBeenDuring start events least world = (k : ℕ) × (least ≤ k) × (k ≤ length events) × ((world ≡ after_events (take k events) start) ⊎ WasDuringFirst (drop k events) (after_events (take k events) start) world)
+HasBeenDuring start events least world = (k : ℕ) × (least ≤ k) × (k ≤ length events)
+    × ((world ≡ after_events (take k events) start)
+    ⊎ WasDuringFirst (drop k events) (after_events (take k events) start) world)
 
 -- what a host tells that has done this: the moment is the number of its events
 abbrev pub history_during : World → List Event → History
-history_during start events = record { world = after_events events start; clock = length events; was = HasBeenDuring start events }
+history_during start events =
+    record { world = after_events events start; clock = length events; was = HasBeenDuring start events }

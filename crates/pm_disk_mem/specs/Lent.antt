@@ -28,7 +28,12 @@ world_of_part part = (history_of_part part).world
 abbrev pub state_of_part : MemPart → DeviceState
 state_of_part part = record {
   faults = part.failures.count;
-  access = record { folder = option_map string_bytes part.folder; is_lent = false; reads = λ _. false; writes = is_among part.due.value.items };
+  access = record {
+    folder = option_map string_bytes part.folder;
+    is_lent = false;
+    reads = λ _. false;
+    writes = is_among part.due.value.items;
+  };
 }
 
 -- A step of a call was counted, and left the folder and the pages that are due.
@@ -49,7 +54,12 @@ history_of_reader reader = history_after (world_of_reader reader) []
 abbrev pub state_of_reader : MemReader → DeviceState
 state_of_reader reader = record {
   faults = reader.failures.count;
-  access = record { folder = option_map string_bytes reader.folder; is_lent = false; reads = λ page. not (is_among reader.due.value.items page); writes = λ _. false };
+  access = record {
+    folder = option_map string_bytes reader.folder;
+    is_lent = false;
+    reads = λ page. not (is_among reader.due.value.items page);
+    writes = λ _. false;
+  };
 }
 
 -- A reader that was lent just now: no call of it has failed, and it has the host's pages.

@@ -28,8 +28,8 @@ pub record IsFaultCount {T E : Type 0} (old new : ℕ) (result : Result T E) : T
   pub same : OnOk result (new ≡ old)
   pub rose : OnErr result (new ≡ min (old + 1) (2 ^ 64 - 1))
 
--- The call was counted, failed where it was to fail, and raised the count of faults exactly where it failed; which calls
--- are to fail is as it was.
+-- The call was counted, failed where it was to fail, and raised the count of faults exactly where it failed;
+-- which calls are to fail is as it was.
 pub record IsCallCounted {T E : Type 0} (old new : Failures) (result : Result T E) : Type 0 where
   pub calls : new.calls ≡ min (old.calls + 1) (2 ^ 64 - 1)
   pub due : is_due old ≡ true → IsErr result
@@ -41,7 +41,8 @@ pub record IsCallPlanned {T E : Type 0} (old new : Failures) (result : Result T 
   pub counted : IsCallCounted old new result
   pub planned : is_err result ≡ is_due old
 
--- A step of a call raised the count of faults exactly where it failed, and left the number of calls and the plan.
+-- A step of a call raised the count of faults exactly where it failed, and left the number of calls and the
+-- plan.
 pub record IsStepCounted {T E : Type 0} (old new : Failures) (result : Result T E) : Type 0 where
   pub calls : new.calls ≡ old.calls
   pub faults : IsFaultCount old.count new.count result
@@ -53,7 +54,8 @@ pub record CountsOn (host part : Failures) : Type 0 where
   pub count : part.count ≡ 0
   pub plan : KeepsPlan host part
 
--- A host counts on after a part that is back: its calls from the greater number, and a failure where a call of the part failed.
+-- A host counts on after a part that is back: its calls from the greater number, and a failure where a call of
+-- the part failed.
 pub record IsJoined (old part new : Failures) : Type 0 where
   pub calls : new.calls ≡ max old.calls part.calls
   pub later : old.count ≤ new.count

@@ -18,9 +18,16 @@ sound start steps = record {
 -- the same of a host that has had rounds
 pub sound_during : (start : World) (events : List Event) → IsHistory (history_during start events)
 sound_during start events = record {
-  counts_now = λ t le. (length events, le, omega arith, inl (ap (λ (l : List Event). after_events l start) (sym (take_all (length events) events (omega arith)))));
+  counts_now = λ t le. (
+    length events,
+    le,
+    omega arith,
+    inl (ap (λ (l : List Event). after_events l start) (sym (take_all (length events) events (omega arith)))),
+  );
   only_now = λ world was. elim was.3 [
     | inl is ↦ is ∙ ap (λ (l : List Event). after_events l start) (take_all was.0 events was.1)
-    | inr during ↦ absurd (subst (λ (l : List Event). WasDuringFirst l (after_events (take was.0 events) start) world) (drop_all was.0 events was.1) during)
+    | inr during ↦ absurd
+        (subst (λ (l : List Event). WasDuringFirst l (after_events (take was.0 events) start) world)
+        (drop_all was.0 events was.1) during)
   ];
 }

@@ -2,7 +2,7 @@
 
 ghost use Rattle.std.specs.Prelude.{◌≡◌, ◌<◌, ◌≤◌, [], ◌∷◌, true, length, map, take, vec_len, refl, Some, IfOk, OnErr, IsErr, All};
 ghost use Rattle.std.specs.Result.{result_unwrap_or};
-ghost use Rattle.pm_disk.specs.Lending.{reader_lent, writer_lent, log_lent, BeginsLog, BeginsPages, Lends, TakesBack, Joins};
+ghost use Rattle.pm_disk.specs.Lending.{PartsLent, PartsBegin, Lends, TakesBack, Joins};
 ghost use Rattle.pm_disk.specs.States.{Binds, HasCause};
 ghost use Rattle.pm_disk.specs.Files.{Drop, ReadsFrom, ReadsWhole};
 ghost use Rattle.pm_disk.specs.Worlds.{log_changed, marks_in, marks_changed, marks_forced, slot_at, slot_change, with_taken};
@@ -152,17 +152,10 @@ impl Host for MemHost {
     ) -> Result<Lent<MemReader, MemPart, MemPart>, AllocError>
         ensures lends { Lends (state_of self.old) (state_of self.new) result }
         ensures many { IfOk result (λ lent. vec_len lent.readers ≡ workers) }
-        ensures readers { IfOk result (λ lent. All (λ reader. state_of_reader reader
-            ≡ reader_lent due.now (state_of self.old)) lent.readers.items) }
-        ensures writer { IfOk result (λ lent. state_of_part lent.writer
-            ≡ writer_lent due.now (state_of self.old)) }
-        ensures log { IfOk result (λ lent. state_of_part lent.log ≡ log_lent (state_of self.old)) }
-        ensures readers_begin { IfOk result (λ lent. All (λ reader.
-            BeginsPages (history_of self.old) (history_of_reader reader)) lent.readers.items) }
-        ensures writer_begins { IfOk result
-            (λ lent. BeginsPages (history_of self.old) (history_of_part lent.writer)) }
-        ensures log_begins { IfOk result
-            (λ lent. BeginsLog (history_of self.old) (history_of_part lent.log)) }
+        ensures parts { IfOk result (λ lent. PartsLent due.now (state_of self.old) state_of_reader
+            lent.readers.items (state_of_part lent.writer) (state_of_part lent.log)) }
+        ensures begin { IfOk result (λ lent. PartsBegin (history_of self.old) history_of_reader
+            lent.readers.items (history_of_part lent.writer) (history_of_part lent.log)) }
         ensures does { Does (history_of self.old) (history_of self.new) result (world_of self.old) }
         ensures failures { self.new.failures ≡ self.old.failures }
     {

@@ -48,7 +48,8 @@ impl PageReader for MemReader {
     fn read_page(&mut self, page: PageId, into: &mut [u8]) -> Result<bool, Failed>
         requires { length into.old ≤ PAGE_SIZE_MAX }
         ensures reads { IfOk result (λ whole. ReadsWhole
-            (pages_in (world_of_reader self.old) (part_of_id page)) (page_at page (length into.new)) whole into.new) }
+            (pages_in (world_of_reader self.old) (part_of_id page)) (page_at page (length into.new))
+            whole into.new) }
         ensures does { Does (history_of_reader self.old) (history_of_reader self.new) result
             (world_of_reader self.old) }
         ensures cause { HasCause (state_of_reader self.old) (state_of_reader self.new) result }

@@ -4,6 +4,7 @@ pub mod Batching
 pub mod DoneLines
 pub mod Forcing
 pub mod Opening
+pub mod OpeningMoments
 pub mod ReadShapes
 pub mod Replaying
 pub mod Results

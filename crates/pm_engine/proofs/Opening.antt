@@ -29,7 +29,7 @@ use Rattle.pm_records.proofs.OpeningLaw.{run_within, opened, opening_image}
 use Rattle.pm_records.proofs.Runs.{rises_from, few_go_on, one_log, neither, bool_cases, next-plain, next-seal}
 use Rattle.pm_records.proofs.Writing.{frames_after, lasting_after}
 use Rattle.pm_segments.specs.Appends.{room_steps, roll_steps, append_steps, steps_of, grown}
-use Rattle.pm_segments.specs.Ends.{LogEnd, fresh_log, has_room, LogIsOpen}
+use Rattle.pm_segments.specs.Ends.{LogEnd, EndsThere, fresh_log, has_room, LogIsOpen}
 use Rattle.pm_segments.proofs.AppendLaw.{append_written}
 use Rattle.pm_segments.proofs.OpenLog.{room_frames, append_frames, grown_end, grown_seg, append_open, append_image}
 use Rattle.pm_segments.proofs.Quiet.{append_quiet}
@@ -298,8 +298,8 @@ module _ (wanted : Shape) (old : World) (shape : Shape) (pairs : Pairs) (holds :
 
 pub opens_with : (wanted : Shape) (old mid cut now : World) (at : Place) (replay : Replay) → ReadsAll wanted old at replay → mid ≡ old → (log : LogEnd) → log ≡ fresh_log 1 at replay.shape.segment_bytes → cut ≡ world_after cut_steps at mid
     → (payload : List ℕ) → payload ≡ payload_of (Restart replay.shape) → (end : LogEnd) → end ≡ grown log (record { kind = RESTART; payload = payload }) → now ≡ world_after (append_steps log (record { kind = RESTART; payload = payload })) log.end cut
-    → OpensWith wanted old now (record { shape = replay.shape; map = replay.map; log = end; order = [] })
-opens_with wanted old mid cut now at replay all same log is_log is_cut payload is_payload end is_end is =
+    → EndsThere end now → OpensWith wanted old now (record { shape = replay.shape; map = replay.map; log = end; order = [] })
+opens_with wanted old mid cut now at replay all same log is_log is_cut payload is_payload end is_end is there =
     let to : at ≡ after_frames (place 1 0) all.frames = all.ends in
     let frame_is : record { kind = RESTART; payload = payload } ≡ restart_frame replay.shape = ap (λ p. let f : Frame = record { kind = RESTART; payload = p } in f) is_payload in
     let log_is : log ≡ fresh_log 1 (after_frames (place 1 0) all.frames) replay.shape.segment_bytes = is_log ∙ ap (λ p. fresh_log 1 p replay.shape.segment_bytes) to in
@@ -311,6 +311,7 @@ opens_with wanted old mid cut now at replay all same log is_log is_cut payload i
       end = is_end ∙ (λ i. grown (log_is i) (frame_is i));
       steps = is ∙ (λ i. world_after (append_steps (log_is i) (frame_is i)) (log_is i).end (cut_is i))
           ∙ sym (world_after-append cut_steps (append_steps (fresh_log 1 (after_frames (place 1 0) all.frames) replay.shape.segment_bytes) (restart_frame replay.shape)) (after_frames (place 1 0) all.frames) old);
+      there = there;
     }
 
 -- ---- the calls of opening

@@ -15,4 +15,5 @@ HoldsPrefix wanted image shape start lines =
 -- whatever a crash leaves, as long as no sum is right by chance, holds the map after a prefix of these lines
 abbrev pub CrashHoldsPrefix : Shape → Shape → Pairs → List Line → World → Type 0
 CrashHoldsPrefix wanted shape start lines world =
-    (image : Image) → LeavesAll world image → HasTrueFrames world image → HoldsPrefix wanted image shape start lines
+    (image : Image) → LeavesAll world image → HasTrueFrames world image
+    → HoldsPrefix wanted image shape start lines

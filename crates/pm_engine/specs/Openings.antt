@@ -1,31 +1,35 @@
 -- How a store is opened.
-use Rattle.std.specs.Prelude.{ℕ, ◌≡◌, ◌⊎◌, ◌+◌, ◌<◌, ◌≤◌, List, [], ◌∷◌, ◌++◌, Bool, true, false, Option, Some, None}
+use Rattle.std.specs.Prelude.{ℕ, ◌≡◌, ◌⊎◌, ◌+◌, ◌^◌, ◌<◌, ◌≤◌, List, [], ◌∷◌, ◌++◌, Bool, true, false, Option, Some, None}
 use Rattle.pm_types.specs.declared.fault.Field.{Field}
 use Rattle.pm_types.specs.declared.place.Place.{Place}
 use Rattle.pm_types.specs.declared.shape.Shape.{Shape}
 use Rattle.pm_frame.specs.Frames.{Frame}
 use Rattle.pm_segments.specs.Appends.{append_steps, grown}
-use Rattle.pm_segments.specs.Ends.{fresh_log}
+use Rattle.pm_segments.specs.Ends.{fresh_log, EndsThere}
 use Rattle.pm_records.specs.LogSteps.{Step, world_after, cut_steps}
 use Rattle.pm_records.specs.Records.{Record}
+use Rattle.pm_disk.specs.Images.{NothingPending}
+use Rattle.pm_disk.specs.Moments.{History, AllMoments}
 use Rattle.pm_disk.specs.Worlds.{World}
 use Rattle.pm_records.specs.FirstRecords.{restart_frame, is_restart, shape_in}
-use Rattle.pm_records.specs.LogFiles.{contents, LogGrowsBy}
+use Rattle.pm_records.specs.LogFiles.{ChangesLog, contents, LogGrowsBy}
 use Rattle.pm_records.specs.Logs.{record_in, place, all_frames, HasFrames, after_frames, IsLogFrom}
 use Rattle.pm_segments.specs.Read.{HasScanned}
 use Rattle.pm_segments.specs.Scans.{Scanned, frame_ahead, Advances}
 use Rattle.pm_model.specs.declared.line.Line.{Line}
 use Rattle.pm_model.specs.Eval.{Pairs}
-use Rattle.pm_core.specs.LogAlone.{image_of, IsHeld, LogHolds}
+use Rattle.pm_core.specs.LogAlone.{image_of, Holds, IsHeld, LogHolds, last_segment}
 use Rattle.pm_core.specs.Replays.{put_replayed, replayed}
-use Rattle.pm_engine.specs.Engines.{Running, IsAtRest}
+use Rattle.pm_engine.specs.Crashes.{CrashHoldsPrefix}
+use Rattle.pm_engine.specs.Engines.{Running, IsAtRest, SameAbove}
 use Rattle.pm_engine.specs.StoredShapes.{shape_fault}
 use Rattle.pm_engine.specs.declared.replay.Replay.{Replay}
 use Rattle.pm_engine.specs.declared.replay.ReplayStep.{ReplayStep}
 use Rattle.pm_engine.specs.declared.replay.ReplayStep.TheVariants as replay_step
 
--- The record at this place of the log is bad, and none before it is: the frames before it hold a map, and with it they hold none.
--- It is the first one and no RESTART, its payload is in no grammar, or it is a put that meets a full partition.
+-- The record at this place of the log is bad, and none before it is: the frames before it hold a map, and with
+-- it they hold none. It is the first one and no RESTART, its payload is in no grammar, or it is a put that
+-- meets a full partition.
 pub record IsBadRecord (wanted : Shape) (world : World) (at : Place) : Type 0 where
   pub before : List Frame
   pub frame : Frame
@@ -107,7 +111,8 @@ IsSame old now = now ≡ old
 
 -- no map is held: the log can't be replayed
 abbrev pub LogHoldsNothing : Shape → World → Type 0
-LogHoldsNothing wanted world = (shape : Shape) (pairs : Pairs) → LogHolds wanted (image_of world) shape pairs → ⊥
+LogHoldsNothing wanted world = (shape : Shape) (pairs : Pairs)
+    → LogHolds wanted (image_of world) shape pairs → ⊥
 
 -- a store isn't opened where its shape differs from the wanted one, or its log can't be replayed
 abbrev pub CanNotOpen : Shape → World → Type 0
@@ -123,17 +128,29 @@ pub record IsBadStore (wanted : Shape) (at : Place) (old now : World) : Type 0 w
 abbrev pub opening_steps : Place → Shape → List Step
 opening_steps end shape = cut_steps ++ append_steps (fresh_log 1 end shape.segment_bytes) (restart_frame shape)
 
--- A store was opened, whether it is sound or not: these are the frames of its log, the engine has the shape and the map that they
--- hold, and the opening's steps were done where they end.
+-- What may be at each moment of an opening. A crash leaves what the store held. Only the log changes, none of
+-- its segments past the one after its last, and nothing where the store is refused.
+pub record OpensWithin (wanted : Shape) (refused : Type 0) (old new : History) : Type 0 where
+  pub crash : (shape : Shape) (pairs : Pairs) (holds : Holds wanted (image_of old.world) shape pairs)
+      → last_segment holds < 2 ^ 62 → NothingPending old.world
+      → AllMoments old new (CrashHoldsPrefix wanted shape pairs [])
+  pub log_only : AllMoments old new (ChangesLog old.world)
+  pub above : (frames : List Frame) → IsLogFrom all_frames (contents old.world.log) (place 1 0) frames
+      → AllMoments old new (SameAbove ((after_frames (place 1 0) frames).seg + 1) old.world)
+  pub untouched : refused → AllMoments old new (IsSame old.world)
+
+-- A store was opened, whether it is sound or not: these are the frames of its log, the engine has the shape and
+-- the map that they hold, and the opening's steps were done where they end. The log goes on where it ends now.
 pub record OpensWith (wanted : Shape) (old now : World) (engine : Running) : Type 0 where
   pub frames : List Frame
   pub log : IsLogFrom all_frames (contents old.log) (place 1 0) frames
   pub held : IsHeld wanted frames engine.shape engine.map
   pub end : engine.log ≡ grown (fresh_log 1 (after_frames (place 1 0) frames) engine.shape.segment_bytes) (restart_frame engine.shape)
   pub steps : now ≡ world_after (opening_steps (after_frames (place 1 0) frames) engine.shape) (after_frames (place 1 0) frames) old
+  pub there : EndsThere engine.log now
 
--- A sound store, whose log ended in this segment, was opened: the engine is at rest, and the log is in the same segment or in the
--- next one and has one frame more.
+-- A sound store, whose log ended in this segment, was opened: the engine is at rest, and the log is in the same
+-- segment or in the next one and has one frame more.
 pub record OpensAtRest (wanted : Shape) (last : ℕ) (old now : World) (engine : Running) : Type 0 where
   pub at_rest : IsAtRest wanted engine now
   pub rises : engine.log.end.seg ≤ last + 1

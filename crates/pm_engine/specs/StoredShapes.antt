@@ -11,9 +11,11 @@ use Rattle.pm_records.specs.FirstRecords.{shape_in}
 use Rattle.pm_records.specs.LogFiles.{contents}
 use Rattle.pm_records.specs.Logs.{all_frames, record_in}
 
--- the shape that a store has: that of the RESTART with which its log begins, or the wanted one where it begins with none
+-- the shape that a store has: that of the RESTART with which its log begins, or the wanted one where it begins
+-- with none
 unfoldable pub stored_shape : Shape → World → Shape
-stored_shape wanted world = shape_in wanted (option_and_then record_in (all_frames.frame_at 1 0 (contents world.log 1)))
+stored_shape wanted world = shape_in wanted
+    (option_and_then record_in (all_frames.frame_at 1 0 (contents world.log 1)))
 
 -- the first field by which the store's shape differs from the wanted one
 unfoldable pub shape_fault : Shape → World → Option Field

@@ -19,7 +19,7 @@ ghost use Rattle.pm_segments.specs.Scans.{IsAhead};
 ghost use Rattle.pm_engine.specs.Batches.{HasOpenFault, HasStoreFault};
 ghost use Rattle.pm_core.specs.LogAlone.{image_of, Holds, last_segment};
 ghost use Rattle.pm_engine.specs.Crashes.{CrashHoldsPrefix};
-ghost use Rattle.pm_engine.specs.Openings.{ReplaysNext, IsFurther, ReadsAll, IsSame, IsBadStore, LogHoldsNothing, CanNotOpen, OpensWith, OpensAtRest};
+ghost use Rattle.pm_engine.specs.Openings.{ReplaysNext, IsFurther, ReadsAll, IsSame, IsBadStore, LogHoldsNothing, CanNotOpen, OpensWith, OpensAtRest, OpensWithin};
 ghost use Rattle.pm_engine.specs.StoredShapes.{ComparesShape, shape_fault};
 
 use crate::engine::Engine;
@@ -49,7 +49,6 @@ impl Engine {
         requires usable { IsUsable (H.state host.old) }
         requires wanted { IsShape wanted }
         ensures fresh { IfOk result (λ engine. IsShape engine.shape × (engine.order ≡ [])) }
-        ensures end { H.tells → IfOk result (λ engine. EndsThere engine.log (H.history host.new).world) }
 
         // What is found, whether the store is sound or not, which field differs, and which record is bad.
         ensures opens { H.tells → IfOk result (λ engine. OpensWith wanted
@@ -59,25 +58,15 @@ impl Engine {
         ensures bad { H.tells → (at : Place) → IsErrOf result (OpenFault.Store (StoreFault.BadRecord at)) →
             IsBadStore wanted at (H.history host.old).world (H.history host.new).world }
 
-        // What a crash leaves, meanwhile and from then on.
+        // What it leaves of a sound store, and what a crash leaves, meanwhile and from then on.
         ensures at_rest { H.tells → (shape : Shape) (pairs : Pairs) →
-            (holds : Holds wanted (image_of (H.history host.old).world) shape pairs) → last_segment holds < 2 ^ 62 →
+            (holds : Holds wanted (image_of (H.history host.old).world) shape pairs)
+            → last_segment holds < 2 ^ 62 →
             NothingPending (H.history host.old).world → IfOk result (λ engine. OpensAtRest wanted
             (last_segment holds) (H.history host.old).world (H.history host.new).world engine) }
-        ensures crash { H.tells → (shape : Shape) (pairs : Pairs) →
-            (holds : Holds wanted (image_of (H.history host.old).world) shape pairs) → last_segment holds < 2 ^ 62 →
-            NothingPending (H.history host.old).world →
-            AllMoments (H.history host.old) (H.history host.new) (CrashHoldsPrefix wanted shape pairs []) }
-        ensures log_only { H.tells → AllMoments (H.history host.old) (H.history host.new)
-            (ChangesLog (H.history host.old).world) }
-        ensures above { H.tells → (frames : List Frame) →
-            IsLogFrom all_frames (contents (H.history host.old).world.log) (place 1 0) frames →
-            AllMoments (H.history host.old) (H.history host.new)
-            (SameAbove ((after_frames (place 1 0) frames).seg + 1) (H.history host.old).world) }
-
         // A store whose shape differs or whose log can't be replayed is left as it is, at each moment.
-        ensures untouched { H.tells → CanNotOpen wanted (H.history host.old).world →
-            AllMoments (H.history host.old) (H.history host.new) (IsSame (H.history host.old).world) }
+        ensures meanwhile { H.tells → OpensWithin wanted (CanNotOpen wanted (H.history host.old).world)
+            (H.history host.old) (H.history host.new) }
         ensures cause { HasOpenFault (H.state host.old) (H.state host.new) result }
     {
         compare_shape(alloc, host, wanted)?;
@@ -89,27 +78,18 @@ impl Engine {
         requires usable { IsUsable (H.state host.old) }
         requires wanted { IsShape wanted }
         ensures fresh { IfOk result (λ engine. IsShape engine.shape × (engine.order ≡ [])) }
-        ensures end { H.tells → IfOk result (λ engine. EndsThere engine.log (H.history host.new).world) }
         ensures opens { H.tells → IfOk result (λ engine. OpensWith wanted
             (H.history host.old).world (H.history host.new).world engine) }
         ensures bad { H.tells → (at : Place) → IsErrOf result (StoreFault.BadRecord at) →
             IsBadStore wanted at (H.history host.old).world (H.history host.new).world }
         ensures at_rest { H.tells → (shape : Shape) (pairs : Pairs) →
-            (holds : Holds wanted (image_of (H.history host.old).world) shape pairs) → last_segment holds < 2 ^ 62 →
+            (holds : Holds wanted (image_of (H.history host.old).world) shape pairs)
+            → last_segment holds < 2 ^ 62 →
             NothingPending (H.history host.old).world → IfOk result (λ engine. OpensAtRest wanted
             (last_segment holds) (H.history host.old).world (H.history host.new).world engine) }
-        ensures crash { H.tells → (shape : Shape) (pairs : Pairs) →
-            (holds : Holds wanted (image_of (H.history host.old).world) shape pairs) → last_segment holds < 2 ^ 62 →
-            NothingPending (H.history host.old).world →
-            AllMoments (H.history host.old) (H.history host.new) (CrashHoldsPrefix wanted shape pairs []) }
-        ensures log_only { H.tells → AllMoments (H.history host.old) (H.history host.new)
-            (ChangesLog (H.history host.old).world) }
-        ensures above { H.tells → (frames : List Frame) →
-            IsLogFrom all_frames (contents (H.history host.old).world.log) (place 1 0) frames →
-            AllMoments (H.history host.old) (H.history host.new)
-            (SameAbove ((after_frames (place 1 0) frames).seg + 1) (H.history host.old).world) }
-        ensures untouched { H.tells → LogHoldsNothing wanted (H.history host.old).world →
-            AllMoments (H.history host.old) (H.history host.new) (IsSame (H.history host.old).world) }
+        ensures meanwhile { H.tells → OpensWithin wanted
+            (LogHoldsNothing wanted (H.history host.old).world)
+            (H.history host.old) (H.history host.new) }
         ensures cause { HasStoreFault (H.state host.old) (H.state host.new) result }
     {
         let mut replay = Replay::new(alloc, wanted);

@@ -166,7 +166,8 @@ pub fn give_page<P: Pages>(pages: &mut P, index: u32) -> Result<(), PageFault>
     ensures kept { P.kept pages.old pages.new }
     ensures readable { AllReadable (P.seen pages.new) }
     ensures gives { OnOk result (GivesPage P.tells (P.seen pages.old) (P.seen pages.new) index) }
-    ensures again { OnOk result (IsTrue ((P.seen pages.old).asked index) → (P.seen pages.old).spare ≤ (P.seen pages.new).spare) }
+    ensures again { OnOk result (IsTrue ((P.seen pages.old).asked index)
+        → (P.seen pages.old).spare ≤ (P.seen pages.new).spare) }
     ensures cause { HasGapCause P.tells (P.seen pages.old) (P.seen pages.new).faults index result }
 {
     let head = number(pages, MetaSlot::Reuse)?;

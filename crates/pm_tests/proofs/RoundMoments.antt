@@ -150,7 +150,7 @@ left_by_round old now seg at bytes page image left reached moment leaves = recor
 same_world : {T E : Type 0} (old new : History) (result : Result T E) → Does old new result old.world → new.world ≡ old.world
 same_world old new result call = elim call.either [ inl same ↦ same | inr same ↦ same ]
 
--- the parts were lent, or not for want of memory
+-- the parts were lent, or memory ran out
 pub lent_moments : {T E : Type 0} (old lent : History) (result : Result T E) (seg at : ℕ) (bytes : List ℕ) (page : PageId) (image : List ℕ) → IsHistory old → Does old lent result old.world → AllMoments old lent (RoundMoment old.world seg at bytes page image)
 lent_moments old lent result seg at bytes page image sound call =
     let P = RoundMoment old.world seg at bytes page image in

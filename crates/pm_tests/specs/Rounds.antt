@@ -8,7 +8,8 @@ use Rattle.pm_disk.specs.Worlds.{World, page_at}
 
 -- what the log part has made of a segment: nothing yet, the bytes written, or that forced
 abbrev pub IsAppended : File → ℕ → List ℕ → File → Type 0
-IsAppended old at bytes now = (now ≡ old) ⊎ ((now ≡ with_change old (Write at bytes)) ⊎ (now ≡ all_forced (with_change old (Write at bytes))))
+IsAppended old at bytes now = (now ≡ old)
+    ⊎ ((now ≡ with_change old (Write at bytes)) ⊎ (now ≡ all_forced (with_change old (Write at bytes))))
 
 -- A moment of the log part: one segment is appended to, and each other one is as it was.
 pub record LogMoment (old : World) (seg at : ℕ) (bytes : List ℕ) (now : World) : Type 0 where
@@ -23,24 +24,31 @@ pub record IsPageWritten (old : File) (at : ℕ) (bytes : List ℕ) (now : File)
 
 -- A moment of the writer: one page is written or not, and each other partition's file is as it was.
 pub record PageMoment (old : World) (page : PageId) (bytes : List ℕ) (now : World) : Type 0 where
-  pub here : (now.pages (part_of_id page) ≡ old.pages (part_of_id page)) ⊎ IsPageWritten (old.pages (part_of_id page)) (page_at page (length bytes)) bytes (now.pages (part_of_id page))
+  pub here : (now.pages (part_of_id page) ≡ old.pages (part_of_id page))
+      ⊎ IsPageWritten (old.pages (part_of_id page)) (page_at page (length bytes)) bytes
+      (now.pages (part_of_id page))
   pub there : (p : ℕ) → p ≢ part_of_id page → now.pages p ≡ old.pages p
 
 -- A moment of the round: each pair of the two, and nothing else has changed.
-pub record RoundMoment (old : World) (seg at : ℕ) (bytes : List ℕ) (page : PageId) (image : List ℕ) (now : World) : Type 0 where
+pub record RoundMoment (old : World) (seg at : ℕ) (bytes : List ℕ) (page : PageId) (image : List ℕ)
+    (now : World) : Type 0 where
   pub log : LogMoment old seg at bytes now
   pub pages : PageMoment old page image now
   pub starts : now.starts ≡ old.starts
   pub ends : now.ends ≡ old.ends
   pub said : now.said ≡ old.said
 
--- What a crash during the round, or right after it, leaves: what was lasting before the place of the append, the other
--- pages that were lasting, and of each other file what could be left before the round.
+-- What a crash during the round, or right after it, leaves: what was lasting before the place of the append,
+-- the other pages that were lasting, and of each other file what could be left before the round.
 pub record LeftByRound (old : World) (seg at : ℕ) (page : PageId) (size : ℕ) (image : Image) : Type 0 where
-  pub front : Lasting (old.log seg) 0 at → (i : ℕ) → i < at → slice_get (bytes_of (image.log seg)) i ≡ slice_get (bytes_of (old.log seg).forced) i
+  pub front : Lasting (old.log seg) 0 at → (i : ℕ) → i < at
+      → slice_get (bytes_of (image.log seg)) i ≡ slice_get (bytes_of (old.log seg).forced) i
   pub segments : (s : ℕ) → s ≢ seg → Leaves (old.log s) (image.log s)
-  pub pages : (other : ℕ) → other ≢ index_of_id page → Lasting (old.pages (part_of_id page)) (other * size) (other * size + size)
-      → (i : ℕ) → other * size ≤ i → i < other * size + size → slice_get (bytes_of (image.pages (part_of_id page))) i ≡ slice_get (bytes_of (old.pages (part_of_id page)).forced) i
+  pub pages : (other : ℕ) → other ≢ index_of_id page
+      → Lasting (old.pages (part_of_id page)) (other * size) (other * size + size)
+      → (i : ℕ) → other * size ≤ i → i < other * size + size
+      → slice_get (bytes_of (image.pages (part_of_id page))) i
+      ≡ slice_get (bytes_of (old.pages (part_of_id page)).forced) i
   pub partitions : (p : ℕ) → p ≢ part_of_id page → Leaves (old.pages p) (image.pages p)
   pub starts : Leaves old.starts image.starts
   pub ends : Leaves old.ends image.ends

@@ -1,4 +1,5 @@
-//! A whole checkpoint over a host in memory: it is stopped at each of its calls, and each crash of that leaves a store that it may.
+//! A whole checkpoint over a host in memory: it is stopped at each of its calls, and each crash of that leaves
+//! a store that it may.
 
 ghost use Rattle.std.specs.Prelude.{◌≡◌, ◌≤◌, false, length, vec_len, IfOk, OnOk};
 ghost use Rattle.pm_disk.specs.States.{IsUsable};
@@ -19,8 +20,9 @@ use std::test::Fail;
 /// How many bytes a page has.
 const PAGE_BYTES: usize = 1_024;
 
-/// How far a crash may leave the store at least and at most, where this many calls were done. It is the number of its frames where
-/// no start marker is valid, 6 with a start marker, 7 with an end marker, and 8 where the first segment is gone besides.
+/// How far a crash may leave the store at least and at most, where this many calls were done. It is the number
+/// of its frames where no start marker is valid, 6 with a start marker, 7 with an end marker, and 8 where the
+/// first segment is gone besides.
 const BOUNDS: [(u32, u32); 21] = [
     // The folder is bound, and the log is cut and forced.
     (0, 0),
@@ -52,7 +54,8 @@ const BOUNDS: [(u32, u32); 21] = [
     (8, 8),
 ];
 
-/// The picks of each crash. The cuts fall on a frame's first byte, on its middle, on its end and on the next frame.
+/// The picks of each crash. The cuts fall on a frame's first byte, on its middle, on its end and on the next
+/// frame.
 const PICKS: [Pick; 9] = [
     Pick::Kept,
     Pick::Lost,
@@ -65,8 +68,8 @@ const PICKS: [Pick; 9] = [
     Pick::Cut(65_050),
 ];
 
-/// The checkpoint's mark. Its places are in the second segment: it rebuilds the page from the begin on, and nothing stands after
-/// its CP_BEGIN.
+/// The checkpoint's mark. Its places are in the second segment: it rebuilds the page from the begin on, and
+/// nothing stands after its CP_BEGIN.
 fn mark() -> Mark
     ensures { IsMark result }
 {
@@ -224,7 +227,8 @@ fn progress_ended<H: Host>(rt: &(impl Abort + AllocGlobal), host: &mut H) -> Res
     Ok(if host.seg_len(1)?.is_some() { 7 } else { 8 })
 }
 
-/// Looks at a store with a checkpoint: its log has the page from the from place on, and nothing from the replay place on.
+/// Looks at a store with a checkpoint: its log has the page from the from place on, and nothing from the replay
+/// place on.
 fn look_at_log<H: Host>(rt: &(impl Abort + AllocGlobal), host: &mut H) -> Result<(), Fail>
     requires { IsUsable (H.state host.old) }
     ensures { IsUsable (H.state host.new) }
@@ -285,7 +289,8 @@ fn run_until(rt: &impl AllocGlobal, stop: u64) -> Result<(MemHost, bool), Fail> 
     Ok((host, is_done))
 }
 
-// Twenty calls are made: the checkpoint is in force from its start marker's force on, and its log is dropped only once its page is.
+// Twenty calls are made: the checkpoint is in force from its start marker's force on, and its log is dropped
+// only once its page is.
 #[test]
 fn each_crash_of_a_checkpoint_leaves_it_or_the_log_before_it(rt: HostRuntime) -> Result<(), Fail> {
     for (stop, (least, most)) in BOUNDS.iter().enumerate() {

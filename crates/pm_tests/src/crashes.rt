@@ -169,14 +169,15 @@ fn run_stopped(rt: &(impl Abort + AllocGlobal), stop: u64) -> Result<Run, Fail> 
     Ok(run)
 }
 
-// The whole run makes 36 calls: the folder, the configuration and the shape; the log is read, cut and forced, and the RESTART
-// written; the script is read; of each of the seven batches the records are written, forced and answered; the end is read, and the
-// log forced. Where it is stopped at a call, or at none, what is pending then are the bytes of the RESTART and of the records since
-// the last force: 37, 37, 67, 97 and 127 bytes in the first batch, 30, 60 and 90 in the third, 29, 59 and 89 in the fifth, 31, 62
-// and 93 in the seventh, and none in the 23 other runs. Of p pending bytes there are p + 2 crashes, and else one: in all
-// 908 + 14 * 2 + 23, which is 959. Restarts are stopped over three of them and over each eleventh cut, 76 in all, or over the one:
-// 14 * 3 + 76 + 23, which is 141. A restart makes 12 calls: seven as above, the questions are read, forced and answered, the end
-// is read, and the log forced. So there are 959 + 141 * 12 * (1 + 3) restarts.
+// The whole run makes 36 calls: the folder, the configuration and the shape; the log is read, cut and forced,
+// and the RESTART written; the script is read; of each of the seven batches the records are written, forced and
+// answered; the end is read, and the log forced. Where it is stopped at a call, or at none, what is pending
+// then are the bytes of the RESTART and of the records since the last force: 37, 37, 67, 97 and 127 bytes in
+// the first batch, 30, 60 and 90 in the third, 29, 59 and 89 in the fifth, 31, 62 and 93 in the seventh, and
+// none in the 23 other runs. Of p pending bytes there are p + 2 crashes, and else one: in all 908 + 14 * 2 +
+// 23, which is 959. Restarts are stopped over three of them and over each eleventh cut, 76 in all, or over the
+// one: 14 * 3 + 76 + 23, which is 141. A restart makes 12 calls: seven as above, the questions are read, forced
+// and answered, the end is read, and the log forced. So there are 959 + 141 * 12 * (1 + 3) restarts.
 #[test]
 fn each_restart_after_a_crash_has_what_was_acknowledged(rt: HostRuntime) -> Result<(), Fail> {
     let mut restarts: u32 = 0;

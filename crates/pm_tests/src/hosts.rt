@@ -117,8 +117,8 @@ const ON_PAGES: [(Call, &str); 31] = [
     (Call::ForceMark(MarkFile::End), "Ok(())"),
 ];
 
-/// Calls on the parts of a split host, and on the host between, each with its answer. What the log part buffered is written by the
-/// next call on the log, of a part or of the host.
+/// Calls on the parts of a split host, and on the host between, each with its answer. What the log part
+/// buffered is written by the next call on the log, of a part or of the host.
 const ON_PARTS: [(Call, &str); 13] = [
     (
         Call::Round(Round {

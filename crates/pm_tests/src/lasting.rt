@@ -1,4 +1,5 @@
-//! Which forces the system is asked for: a file that this run hasn't changed since it forced it isn't synced again.
+//! Which forces the system is asked for: a file that this run hasn't changed since it forced it isn't synced
+//! again.
 
 ghost use Rattle.std.specs.Prelude.{◌≡◌, false, OnOk};
 ghost use Rattle.pm_disk.specs.States.{IsUsable};

@@ -224,8 +224,8 @@ fn marks_left(rt: &impl AllocGlobal, host: &MemHost, pick: Pick) -> Result<Marks
     marks_on(rt, host.image(rt.alloc(), pick)?)
 }
 
-/// Whether a crash with this pick leaves a marker whose write was stopped at this call: the first call writes it, and the
-/// second one forces it.
+/// Whether a crash with this pick leaves a marker whose write was stopped at this call: the first call writes
+/// it, and the second one forces it.
 fn is_written(stop: u64, pick: Pick) -> bool {
     stop > 2 || (stop == 2 && pick == Pick::Kept)
 }

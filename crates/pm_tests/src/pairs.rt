@@ -1,4 +1,5 @@
-//! Crashes of a round: the log part has come so far, and the writer so far, and each pair of the two may be what a crash finds.
+//! Crashes of a round: the log part has come so far, and the writer so far, and each pair of the two may be
+//! what a crash finds.
 
 ghost use Rattle.std.specs.Prelude.{◌≡◌, IfOk};
 ghost use Rattle.pm_disk.specs.States.{IsLaterState, IsUsable, MayWrite};
@@ -46,8 +47,8 @@ const PAGE_CALLS: [OnPages; 4] = [
     OnPages::Force,
 ];
 
-/// The crashes that are looked at: all that is pending is kept, all is lost, each byte of it is a question mark, and the first
-/// byte of what is pending in the log is kept.
+/// The crashes that are looked at: all that is pending is kept, all is lost, each byte of it is a question
+/// mark, and the first byte of what is pending in the log is kept.
 const PICKS: [Pick; 4] = [Pick::Kept, Pick::Lost, Pick::Fill(b'?'), Pick::Cut(1)];
 
 /// What each crash leaves of the segment, after so many calls of the log part.
@@ -68,8 +69,8 @@ const PAGES_LEFT: [[&str; 4]; 5] = [
     ["00003333", "00003333", "00003333", "00003333"],
 ];
 
-/// How far the log part and the writer come in a round that is stopped after each number of calls of each. An append is two
-/// calls: the segment's length is asked for first.
+/// How far the log part and the writer come in a round that is stopped after each number of calls of each. An
+/// append is two calls: the segment's length is asked for first.
 const STOPPED: [(usize, usize); 7] = [(0, 0), (0, 1), (1, 2), (2, 3), (2, 4), (3, 4), (4, 4)];
 
 /// Makes a call on the log part.

@@ -8,7 +8,8 @@ use std::test::Fail;
 /// More calls than any of these runs makes.
 const CALLS_MAX: u64 = 100;
 
-/// Runs a script over a disk, stopped at the call after the one that writes its last record: the force of its only batch.
+/// Runs a script over a disk, stopped at the call after the one that writes its last record: the force of its
+/// only batch.
 fn stop_before_force(
     rt: &(impl Abort + AllocGlobal),
     script: &[u8],
@@ -47,8 +48,8 @@ fn look_at_cuts(rt: &(impl Abort + AllocGlobal), second: &Run) -> Result<(), Fai
     Ok(())
 }
 
-// The calls of the second run: the folder, the configuration and the shape; the log is read, cut and forced, the RESTART written,
-// the script read, the put written, and the force is the tenth.
+// The calls of the second run: the folder, the configuration and the shape; the log is read, cut and forced,
+// the RESTART written, the script read, the put written, and the force is the tenth.
 #[test]
 fn a_put_over_an_older_log_is_there_once_its_frame_is_whole(rt: HostRuntime) -> Result<(), Fail> {
     let first = run_over(&rt, b"put 0 a 1\n", MemDisk::empty(rt.alloc()))?;
@@ -101,8 +102,8 @@ fn look_for_none(
     Ok(())
 }
 
-/// The crashes of a restart that is stopped. Of the cuts one leaves all but the last byte of the RESTART, one leaves it whole, and one
-/// falls into the frame after it.
+/// The crashes of a restart that is stopped. Of the cuts one leaves all but the last byte of the RESTART, one
+/// leaves it whole, and one falls into the frame after it.
 const PICKS: [Pick; 7] = [
     Pick::Kept,
     Pick::Lost,
@@ -122,8 +123,8 @@ fn restart_until(rt: &(impl Abort + AllocGlobal), log: &[u8], stop: u64) -> Resu
     Ok(stopped.report.status == 0)
 }
 
-// The frame of the first put has 37 bytes, as a RESTART has: were the log not cut before one is written in its place, the two later
-// frames would follow it, whole and at their places.
+// The frame of the first put has 37 bytes, as a RESTART has: were the log not cut before one is written in its
+// place, the two later frames would follow it, whole and at their places.
 #[test]
 fn frames_after_a_torn_one_never_come_back(rt: HostRuntime) -> Result<(), Fail> {
     let log = log_without_first(&rt)?;

@@ -35,4 +35,5 @@ pub record HoldsAfter (wanted : Shape) (most : ℕ) (old : World) (shape : Shape
 -- whatever a crash at this moment leaves, as long as no sum is right by chance, keeps what was acknowledged
 abbrev pub CrashHoldsAcknowledged : Shape → ℕ → World → Shape → Pairs → List ℕ → World → Type 0
 CrashHoldsAcknowledged wanted most old shape pairs order now =
-    (image : Image) → LeavesAll now image → HasTrueFrames now image → HoldsAfter wanted most old shape pairs order now image
+    (image : Image) → LeavesAll now image → HasTrueFrames now image
+    → HoldsAfter wanted most old shape pairs order now image

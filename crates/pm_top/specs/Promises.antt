@@ -100,9 +100,9 @@ OutcomeIs Memory old new shape pairs lines order = HasNoMemory old new shape pai
 OutcomeIs Long old new shape pairs lines order = IsStopped old new shape pairs lines order (codes "fault long\n")
 OutcomeIs status old new shape pairs lines order = ⊥
 
--- A run leaves a store that is sound and holds the map after its script, and of which nothing is pending. The log, which ended in
--- this segment, has the frames that it had, a RESTART and one record for each accepted line, in order, besides SEALs, in at most
--- 2^23 segments more.
+-- A run leaves a store that is sound and holds the map after its script, and of which nothing is pending. The
+-- log, which ended in this segment, has the frames that it had, a RESTART and one record for each accepted
+-- line, in order, besides SEALs, in at most 2^23 segments more.
 pub record IsLeft (wanted : Shape) (last : ℕ) (old new : World) (shape : Shape) (pairs : Pairs) : Type 0 where
   pub holds : Holds wanted (image_of new) shape (after_all shape (script_of old.input) pairs)
   pub quiet : NothingPending new
@@ -139,7 +139,8 @@ pub record IsDamaged (old new : World) (lines : ℕ) (order : List ℕ) : Type 0
   pub unsound : LogHoldsNothing (wanted_in old) old
   pub says : OnlySays (fault_record at) old new lines order
 
--- what each status says where the words aren't a command: nothing was done but that this was said, or a prefix of it
+-- what each status says where the words aren't a command: nothing was done but that this was said, or a prefix
+-- of it
 abbrev pub RefusalIs : Status → World → World → ℕ → List ℕ → Type 0
 RefusalIs Usage old new lines order = OnlySays (codes "fault usage\n") old new lines order
 RefusalIs Failed old new lines order = (n : ℕ) × OnlySays (take n (codes "fault usage\n")) old new lines order
@@ -163,7 +164,8 @@ pub record RunHolds (old new : History) (status : Status) (lines : ℕ) (order :
 abbrev pub HoldsAtEachMoment : History → History → List ℕ → Type 0
 HoldsAtEachMoment old new order =
     (shape : Shape) (pairs : Pairs) (start : IsStart (wanted_in old.world) old.world shape pairs)
-    → AllMoments old new (CrashHoldsAcknowledged (wanted_in old.world) (last_segment start.holds + 2 ^ 24) old.world shape pairs order)
+    → AllMoments old new (CrashHoldsAcknowledged (wanted_in old.world)
+    (last_segment start.holds + 2 ^ 24) old.world shape pairs order)
 
 -- Where no call fails: a field of the configuration that is refused is named, and a script over a store that is opened is answered
 -- whole, or the limit that it passes is reported, unless memory runs out.

@@ -118,7 +118,8 @@ pub record LeavesRun (wanted : Shape) (start opened : World) (shape : Shape) (pa
 -- A script is done whole over an engine's store: this is sound, holds the map that the lines leave, nothing of its log is
 -- pending, and since it was opened its log has one record more for each accepted line.
 pub record LeavesStore (wanted : Shape) (start opened world : World) (engine : Running) : Type 0 where
-  pub holds : Holds wanted (image_of world) engine.shape (after_all engine.shape (script_of start.input) engine.map)
+  pub holds : Holds wanted (image_of world) engine.shape
+      (after_all engine.shape (script_of start.input) engine.map)
   pub lasting : (seg : ℕ) → (world.log seg).since ≡ []
   pub rises : last_segment holds ≤ engine.log.end.seg + LINES_MAX
   pub grows : LogGrowsBy opened world (logged engine.shape (script_of start.input) engine.map)

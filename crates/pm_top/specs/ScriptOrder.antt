@@ -97,14 +97,17 @@ pub record HoldsAfter (wanted : Shape) (old : World) (shape : Shape) (pairs : Pa
 -- whatever a crash at this moment leaves, as long as no sum is right by chance, keeps what was acknowledged
 abbrev pub CrashHoldsAcknowledged : Shape → World → Shape → Pairs → List ℕ → World → Type 0
 CrashHoldsAcknowledged wanted old shape pairs order now =
-    (image : Image) → LeavesAll now image → HasTrueFrames now image → HoldsAfter wanted old shape pairs order now image
+    (image : Image) → LeavesAll now image → HasTrueFrames now image
+    → HoldsAfter wanted old shape pairs order now image
 
 -- the same by the numbers of any order, without a bound on the log
 pub record HoldsSome (wanted : Shape) (old : World) (shape : Shape) (pairs : Pairs) (order : List ℕ) (now : World) (image : Image) : Type 0 where
   pub count : ℕ
   pub has : All (Contains (take count order)) (acknowledged old shape pairs now)
-  pub holds : Holds wanted image shape (orders.after_numbers shape (take count order) 1 (script_of old.input) pairs)
+  pub holds : Holds wanted image shape
+      (orders.after_numbers shape (take count order) 1 (script_of old.input) pairs)
 
 abbrev pub CrashHoldsSome : Shape → World → Shape → Pairs → List ℕ → World → Type 0
 CrashHoldsSome wanted old shape pairs order now =
-    (image : Image) → LeavesAll now image → HasTrueFrames now image → HoldsSome wanted old shape pairs order now image
+    (image : Image) → LeavesAll now image → HasTrueFrames now image
+    → HoldsSome wanted old shape pairs order now image

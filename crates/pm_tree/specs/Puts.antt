@@ -47,8 +47,8 @@ pub record IsMiddle (size cut : ℕ) : Type 0 where
   pub high : cut + cut ≤ capacity_of size + 1
   pub some : 1 ≤ cut
 
--- The same, over the pages of a partition: besides the tree's pages and the new ones no page changed but the meta page,
--- and the new ones were taken from the reuse chain or follow the last page.
+-- The same, over the pages of a partition: besides the tree's pages and the new ones no page changed but the
+-- meta page, and the new ones were taken from the reuse chain or follow the last page.
 pub record PutsIn (old new : Partition) (levels least at : ℕ) (key : List ℕ) (word : ℕ) (rest : List Entry) : Type 0 where
   pub made : List ℕ
   pub puts : PutsTree (nodes_in old) (nodes_in new) made levels least at key word rest

@@ -44,9 +44,10 @@ pub record MakesRoot (T : Type 0) (old new : Paged) (cache : ℕ) (first : Optio
   pub spare : T → IsSpare (nodes_in old.pages top)
   pub moves : T → MovesSpare old.pages new.pages (top ∷ []) []
 
--- A put into the index of a cache that had these pages and items: it has the items of the put. The pages `made` are
--- new in it, of no tree before, and were taken from the reuse chain or follow the last page. Besides the pages of the
--- index and the new ones no page changed but the meta page, and of that no other root, no bucket and not the row count.
+-- A put into the index of a cache that had these pages and items: it has the items of the put. The pages `made`
+-- are new in it, of no tree before, and were taken from the reuse chain or follow the last page. Besides the
+-- pages of the index and the new ones no page changed but the meta page, and of that no other root, no bucket
+-- and not the row count.
 pub record PutsIndex (old new : Partition) (cache : ℕ) (nodes : List ℕ) (items : List Item) (key : List ℕ) (word : ℕ) (was : Option Link) : Type 0 where
   pub was_is : was ≡ link_in items key
   pub height : ℕ

@@ -7,7 +7,8 @@ use Rattle.pm_types.specs.declared.shape.Shape.{Shape}
 use Rattle.pm_pages.specs.Paged.{Paged}
 use Rattle.pm_pages.specs.WellFormed.{AllPass}
 
--- the pages pass as those of a partition of a store of some shape, which has this page size and as many rows at most
+-- the pages pass as those of a partition of a store of some shape, which has this page size and as many rows at
+-- most
 pub record PassesAll (p : Paged) : Type 0 where
   pub shape : Shape
   pub page_size : shape.page_size ≡ p.page_size

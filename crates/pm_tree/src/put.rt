@@ -69,7 +69,8 @@ pub fn put_at<P: Pages>(
         → PutsFor (P.seen pages.old).pages (P.seen pages.new).pages (half_of (P.seen pages.old).page_size) levels at key.now word put) }
     ensures levels { IfOk result (HasLevels levels) }
     ensures cause { HasPutCause P.tells (P.seen pages.old) (P.seen pages.new) cache result }
-    ensures keeps { P.tells → (held : ℕ) → AnswersFrom (P.seen pages.old).pages key.now levels at (Some held) → IfOk result IsKept }
+    ensures keeps { P.tells → (held : ℕ)
+        → AnswersFrom (P.seen pages.old).pages key.now levels at (Some held) → IfOk result IsKept }
     ensures sound { P.tells → PassesAll (P.seen pages.old) → (held : ℕ)
         → AnswersFrom (P.seen pages.old).pages key.now levels at (Some held) → NoBadPage result }
 {

@@ -25,10 +25,11 @@ use pm_types::{Link, PageFault, PageId};
 
 /// Puts a link at a key of a cache's index, and gives the one that the key had. The meta page was asked for before.
 ///
-/// `Failed` comes only where a call on the disk failed. `BadPage` names a page that is bad, or that names a wrong
-/// one: on the way from the root, the meta page where it names no page that can be taken, a page without a place for
-/// a child that was divided; or the root of a tree that has as many levels as it may have. Where the key is there in a
-/// tree whose pages pass their checks none is bad. After an error the pages that were asked for may be half changed.
+/// `Failed` comes only where a call on the disk failed. `BadPage` names a page that is bad, or that names a
+/// wrong one: on the way from the root, the meta page where it names no page that can be taken, a page without
+/// a place for a child that was divided; or the root of a tree that has as many levels as it may have. Where
+/// the key is there in a tree whose pages pass their checks none is bad. After an error the pages that were
+/// asked for may be half changed.
 pub fn tree_put<P: Pages>(
     pages: &mut P,
     cache: u8,

@@ -173,7 +173,8 @@ fn link_of_row(i: u16) -> u64 {
     Link::new(PageId::new(2, 90), (i % 254) as u8).0
 }
 
-// Puts the keys from one number on up to another into pages and into a map, and says whether the two answered the same.
+// Puts the keys from one number on up to another into pages and into a map, and says whether the two answered
+// the same.
 fn puts_agree(
     alloc: Global,
     pages: &mut PlainPages,
@@ -271,7 +272,8 @@ fn has_tree(pages: &[Page], root: u32) -> bool
     false
 }
 
-// Puts keys by the thousand, and says whether pages and map agreed all the while, and were a tree after each thousand.
+// Puts keys by the thousand, and says whether pages and map agreed all the while, and were a tree after each
+// thousand.
 fn agree(alloc: Global, shape: &Shape, order: Order, thousands: u16) -> Result<bool, AllocError>
     requires size { IsPageSize shape.now.page_size }
     requires few { thousands ≤ 30 }
@@ -382,7 +384,8 @@ fn opened(alloc: Global, pages: Vec<Page>) -> Result<Option<PlainPages>, AllocEr
     Ok(Some(made))
 }
 
-// Looks for keys in pages with a turned byte, where each passes its check still, and puts them: each call returns.
+// Looks for keys in pages with a turned byte, where each passes its check still, and puts them: each call
+// returns.
 fn survives(
     alloc: Global,
     pages: &[Page],

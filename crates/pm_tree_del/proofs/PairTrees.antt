@@ -93,32 +93,32 @@ module _ (M L : ℕ → Node) (half : ℕ) (from : Option (List ℕ)) (left : �
 -- Two inner pages: the children of both in one row.
 module _ (M L : ℕ → Node) (g half : ℕ) (from : Option (List ℕ)) (left : ℕ) (s : List ℕ) (right : ℕ) (end : Option (List ℕ)) (low : IsFrom from s) (high : IsUpTo end s)
     (l1 l2 : ℕ) (t1 : IsTreeIn M (suc g) l1 left) (t2 : IsTreeIn M (suc g) l2 right) (half1 : (M left).half ≡ half) (half2 : (M right).half ≡ half) where
-  abbrev W2 : List Entry
-  W2 = record { from = Some s; child = index_in (M right).link } ∷ map entry (M right).items
+  abbrev right_entries : List Entry
+  right_entries = record { from = Some s; child = index_in (M right).link } ∷ map entry (M right).items
 
   abbrev W : List Entry
   W = entries (M left) ++ (record { from = Some s; child = index_in (M right).link } ∷ map entry (M right).items)
 
   row_trees : Each (IsTreeIn M g half) (entries (M left) ++ (record { from = Some s; child = index_in (M right).link } ∷ map entry (M right).items))
-  row_trees = each_joined (IsTreeIn M g half) (entries (M left)) W2 (subst (λ n. Each (IsTreeIn M g n) (entries (M left))) half1 t1.1) (subst (λ n. Each (IsTreeIn M g n) (entries (M right))) half2 t2.1)
+  row_trees = each_joined (IsTreeIn M g half) (entries (M left)) right_entries (subst (λ n. Each (IsTreeIn M g n) (entries (M left))) half1 t1.1) (subst (λ n. Each (IsTreeIn M g n) (entries (M right))) half2 t2.1)
 
   row_items : items_under M (suc g) left ++ items_under M (suc g) right ≡ flat (items_under M g) (entries (M left) ++ (record { from = Some s; child = index_in (M right).link } ∷ map entry (M right).items))
-  row_items = sym (flat_joined (items_under M g) (entries (M left)) W2)
+  row_items = sym (flat_joined (items_under M g) (entries (M left)) right_entries)
 
   row_leaves : leaves_under M (suc g) left ++ leaves_under M (suc g) right ≡ flat (leaves_under M g) (entries (M left) ++ (record { from = Some s; child = index_in (M right).link } ∷ map entry (M right).items))
-  row_leaves = sym (flat_joined (leaves_under M g) (entries (M left)) W2)
+  row_leaves = sym (flat_joined (leaves_under M g) (entries (M left)) right_entries)
 
   row_bounds : Keys (IsUpTo (Some s)) (items_under M (suc g) left) → Keys (IsFrom (Some s)) (items_under M (suc g) right) → AreBounded (items_under M g) (entries (M left) ++ (record { from = Some s; child = index_in (M right).link } ∷ map entry (M right).items)) None
-  row_bounds upto above = bounds_joined (items_under M g) (entries (M left)) W2 None (bounds_end (items_under M g) (entries (M left)) (Some s) t1.2 upto)
+  row_bounds upto above = bounds_joined (items_under M g) (entries (M left)) right_entries None (bounds_end (items_under M g) (entries (M left)) (Some s) t1.2 upto)
       (keys_left (IsFrom (Some s)) (items_under M g (index_in (M right).link)) (flat (items_under M g) (map entry (M right).items)) above, t2.2.1, t2.2.2)
 
   pub row_times : (j : ℕ) → times j (nodes_under M (suc g) left) + times j (nodes_under M (suc g) right) ≡ times j (left ∷ []) + (times j (right ∷ []) + times j (flat (nodes_under M g) (entries (M left) ++ (record { from = Some s; child = index_in (M right).link } ∷ map entry (M right).items))))
   row_times j =
-      let e = ap (λ t. times j t) (flat_joined (nodes_under M g) (entries (M left)) W2) in
+      let e = ap (λ t. times j t) (flat_joined (nodes_under M g) (entries (M left)) right_entries) in
       omega (
         arith,
         e,
-        times-append j (flat (nodes_under M g) (entries (M left))) (flat (nodes_under M g) W2),
+        times-append j (flat (nodes_under M g) (entries (M left))) (flat (nodes_under M g) right_entries),
         times-append j (left ∷ []) (flat (nodes_under M g) (entries (M left))),
         times-append j (right ∷ []) (flat (nodes_under M g) (entries (M right))),
       )
@@ -171,8 +171,8 @@ module _ (M L : ℕ → Node) (g half : ℕ) (from : Option (List ℕ)) (left : 
         (here : entries (L left) ++ (record { from = Some s'; child = index_in (L right).link } ∷ map entry (L right).items) ≡ entries (M left) ++ (record { from = Some s; child = index_in (M right).link } ∷ map entry (M right).items))
         (below : (j : ℕ) → j < length (L left).items → IsBelow (key_in (L left).items j) s') (above : (j : ℕ) → j < length (L right).items → IsBelow s' (key_in (L right).items j))
         (b : AreBounded (items_under M (suc g)) (two from left s right) end) where
-      abbrev V2 : List Entry
-      V2 = record { from = Some s'; child = index_in (L right).link } ∷ map entry (L right).items
+      abbrev entries_now : List Entry
+      entries_now = record { from = Some s'; child = index_in (L right).link } ∷ map entry (L right).items
 
       abbrev V : List Entry
       V = entries (L left) ++ (record { from = Some s'; child = index_in (L right).link } ∷ map entry (L right).items)
@@ -184,7 +184,7 @@ module _ (M L : ℕ → Node) (g half : ℕ) (from : Option (List ℕ)) (left : 
       now_trees = trees_stay M L g half V same_V (subst (Each (IsTreeIn M g half)) (sym here) row_trees)
 
       now_bounds : AreBounded (items_under L g) (entries (L left)) (Some s') × AreBounded (items_under L g) (record { from = Some s'; child = index_in (L right).link } ∷ map entry (L right).items) None
-      now_bounds = bounds_apart (items_under L g) (entries (L left)) V2 None (bounds_stay M L g V None same_V (subst (λ (es : List Entry). AreBounded (items_under M g) es None) (sym here) (row_bounds b.1 b.2.0)))
+      now_bounds = bounds_apart (items_under L g) (entries (L left)) entries_now None (bounds_stay M L g V None same_V (subst (λ (es : List Entry). AreBounded (items_under M g) es None) (sym here) (row_bounds b.1 b.2.0)))
 
       no_end : (f : ℕ → List Item) (es : List Entry) (e : Option (List ℕ)) → AreBounded f es e → AreBounded f es None
       no_end f [] e h = tt
@@ -194,19 +194,19 @@ module _ (M L : ℕ → Node) (g half : ℕ) (from : Option (List ℕ)) (left : 
       left_tree : IsTreeIn L (suc g) half left
       left_tree = (
         plain,
-        subst (λ n. Each (IsTreeIn L g n) (entries (L left))) (sym half_now) (each_left (IsTreeIn L g half) (entries (L left)) V2 now_trees),
+        subst (λ n. Each (IsTreeIn L g n) (entries (L left))) (sym half_now) (each_left (IsTreeIn L g half) (entries (L left)) entries_now now_trees),
         no_end (items_under L g) (entries (L left)) (Some s') now_bounds.0,
       )
 
       right_tree : IsTreeIn L (suc g) half right
       right_tree = (
         plain',
-        (let t = each_right (IsTreeIn L g half) (entries (L left)) V2 now_trees in subst (λ n. Each (IsTreeIn L g n) (entries (L right))) (sym half_now') t),
+        (let t = each_right (IsTreeIn L g half) (entries (L left)) entries_now now_trees in subst (λ n. Each (IsTreeIn L g n) (entries (L right))) (sym half_now') t),
         (keys_any (IsFrom None) (items_under L g (index_in (L right).link)) (λ k. tt), now_bounds.1.1, now_bounds.1.2),
       )
 
       both : {X : Type 0} (f f' : ℕ → List X) → flat f' V ≡ flat f V → flat f' (entries (L left)) ++ flat f' (entries (L right)) ≡ flat f W
-      both f f' stay = sym (flat_joined f' (entries (L left)) V2) ∙ stay ∙ ap (λ (es : List Entry). flat f es) here
+      both f f' stay = sym (flat_joined f' (entries (L left)) entries_now) ∙ stay ∙ ap (λ (es : List Entry). flat f es) here
 
       shared_items : items_under L (suc g) left ++ items_under L (suc g) right ≡ items_under M (suc g) left ++ items_under M (suc g) right
       shared_items = both (items_under M g) (items_under L g) (flat_items_stay M L g V same_V) ∙ sym row_items
@@ -235,8 +235,8 @@ module _ (M L : ℕ → Node) (g half : ℕ) (from : Option (List ℕ)) (left : 
                 arith,
                 e,
                 row_times j,
-                ap (λ t. times j t) (flat_joined (nodes_under L g) (entries (L left)) V2),
-                times-append j (flat (nodes_under L g) (entries (L left))) (flat (nodes_under L g) V2),
+                ap (λ t. times j t) (flat_joined (nodes_under L g) (entries (L left)) entries_now),
+                times-append j (flat (nodes_under L g) (entries (L left))) (flat (nodes_under L g) entries_now),
                 times-append j (left ∷ []) (flat (nodes_under L g) (entries (L left))),
                 times-append j (right ∷ []) (flat (nodes_under L g) (entries (L right))),
                 times-append j (nodes_under L (suc g) left) (nodes_under L (suc g) right ++ []),

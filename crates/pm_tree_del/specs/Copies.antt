@@ -12,7 +12,8 @@ pub record IsCopyOf (p : Paged) (i : ℕ) (bytes : List ℕ) : Type 0 where
   pub size : length bytes ≡ p.page_size
   pub readable : IsReadable bytes
 
--- page i is at hand, and can have these bytes of an index page in place of its own, which differ where the patch says
+-- page i is at hand, and can have these bytes of an index page in place of its own, which differ where the
+-- patch says
 pub record TakesBytes (p : Paged) (i : ℕ) (bytes : List ℕ) (patch : Coverage) : Type 0 where
   pub some : 1 ≤ i
   pub was : List ℕ

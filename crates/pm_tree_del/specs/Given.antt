@@ -22,4 +22,5 @@ pub record IsGiven (old new : Paged) (i : ℕ) : Type 0 where
   pub here : new.pages i ≡ Some page
   pub stored : IsStoredReuse (page_id old.part i) page
   pub meta : HasMeta new
-  pub numbers : MetaBecomes old new (λ was now. (next_of page ≡ field_of was Reuse) × SetsNumber was now Reuse i)
+  pub numbers : MetaBecomes old new
+      (λ was now. (next_of page ≡ field_of was Reuse) × SetsNumber was now Reuse i)

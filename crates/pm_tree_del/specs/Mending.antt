@@ -23,14 +23,16 @@ abbrev pub IsOfFamily : ℕ → Pair → ℕ → Type 0
 IsOfFamily at pair j = (j ≡ pair.left) ⊎ (j ≡ pair.right) ⊎ (j ≡ at)
 
 -- the left page and the one above have these bytes, and the right page was given back
-pub record MergesPages (T : Type 0) (old new : Paged) (at : ℕ) (pair : Pair) (parent left : List ℕ) (most : ℕ) : Type 0 where
+pub record MergesPages (T : Type 0) (old new : Paged) (at : ℕ) (pair : Pair) (parent left : List ℕ)
+    (most : ℕ) : Type 0 where
   pub edits : EditsPages T old new (λ j. (j ≡ 0) ⊎ IsOfFamily at pair j) most
   pub parent_now : new.pages at ≡ Some parent
   pub left_now : new.pages pair.left ≡ Some left
   pub gives : IsGiven old new pair.right
 
 -- the three pages have these bytes
-pub record SharesPages (T : Type 0) (old new : Paged) (at : ℕ) (pair : Pair) (parent left right : List ℕ) (most : ℕ) : Type 0 where
+pub record SharesPages (T : Type 0) (old new : Paged) (at : ℕ) (pair : Pair)
+    (parent left right : List ℕ) (most : ℕ) : Type 0 where
   pub edits : EditsPages T old new (IsOfFamily at pair) most
   pub parent_now : new.pages at ≡ Some parent
   pub left_now : new.pages pair.left ≡ Some left
@@ -39,8 +41,10 @@ pub record SharesPages (T : Type 0) (old new : Paged) (at : ℕ) (pair : Pair) (
 -- what was written, and whether the page above has too few items now
 abbrev pub IsWritten : Type 0 → Paged → Paged → ℕ → Pair → List ℕ → List ℕ → List ℕ → ℕ → Mend → Bool → Type 0
 IsWritten T old new at pair parent left right most Merged few =
-    MergesPages T old new at pair parent left most × (IsTrue few ↔ (length (items_of parent) < capacity_of (length parent) / 2))
-IsWritten T old new at pair parent left right most Shared few = SharesPages T old new at pair parent left right most × (few ≡ false)
+    MergesPages T old new at pair parent left most
+    × (IsTrue few ↔ (length (items_of parent) < capacity_of (length parent) / 2))
+IsWritten T old new at pair parent left right most Shared few =
+    SharesPages T old new at pair parent left right most × (few ≡ false)
 IsWritten T old new at pair parent left right most Wrong few = ⊥
 
 -- the bytes of the three pages
@@ -50,7 +54,8 @@ pub record IsFamily (p : Paged) (at : ℕ) (pair : Pair) (parent left right : Li
   pub right_is : IsCopyOf p pair.right right
 
 -- what was made of the three pages with these bytes
-pub record MendsCopies (T : Type 0) (old new : Paged) (at : ℕ) (pair : Pair) (parent left right : List ℕ) (most : ℕ) (few : Bool) : Type 0 where
+pub record MendsCopies (T : Type 0) (old new : Paged) (at : ℕ) (pair : Pair)
+    (parent left right : List ℕ) (most : ℕ) (few : Bool) : Type 0 where
   pub parent' : List ℕ
   pub left' : List ℕ
   pub right' : List ℕ
@@ -84,12 +89,16 @@ pub record MendsChild (T : Type 0) (old new : Paged) (count at i child : ℕ) (f
   pub pair_of : IsPairOf page i pair
   pub mends : MendsPair T old new at pair few
 
--- what is wrong with a page below which a child was to be mended: it isn't an inner page with two children, its children
--- at this place are no two pages of the partition of which one is that child, or they don't stand side by side there
+-- what is wrong with a page below which a child was to be mended: it isn't an inner page with two children, its
+-- children at this place are no two pages of the partition of which one is that child, or they don't stand side
+-- by side there
 abbrev pub IsWrongFor : Paged → ℕ → List ℕ → ℕ → ℕ → Type 0
 IsWrongFor p at page i child = (HasPair page i → ⊥)
-    ⊎ ((pair : Pair) × IsPairOf page i pair × ((count : ℕ) × IsNumberIn p Pages count × (MayMend pair count at child → ⊥)))
-    ⊎ ((pair : Pair) × IsPairOf page i pair × (left : List ℕ) × (right : List ℕ) × IsInHand p pair.left left × IsInHand p pair.right right × (AreNeighbours page left right pair.place → ⊥))
+    ⊎ ((pair : Pair) × IsPairOf page i pair
+    × ((count : ℕ) × IsNumberIn p Pages count × (MayMend pair count at child → ⊥)))
+    ⊎ ((pair : Pair) × IsPairOf page i pair × (left : List ℕ) × (right : List ℕ)
+    × IsInHand p pair.left left × IsInHand p pair.right right
+    × (AreNeighbours page left right pair.place → ⊥))
 
 -- a page that is at hand, and has this name, is wrong so; no page was changed
 pub record HasNoPair (T : Type 0) (old new : Paged) (id : PageId) : Type 0 where
@@ -102,8 +111,9 @@ pub record HasNoPair (T : Type 0) (old new : Paged) (id : PageId) : Type 0 where
   pub wrong : IsWrongFor new at page i child
   pub same : (j : ℕ) → IsTold T old j → new.pages j ≡ old.pages j
 
--- a call of the disk failed, a page is bad, the one before a page that is given back isn't there, or a page has no pair
--- that can be mended
+-- a call of the disk failed, a page is bad, the one before a page that is given back isn't there, or a page has
+-- no pair that can be mended
 pub record HasMendCause {R : Type 0} (T : Type 0) (old new : Paged) (result : Result R PageFault) : Type 0 where
   pub failed : IsErrOf result Failed → HasRisen old.faults new.faults
-  pub bad : (id : PageId) → IsErrOf result (BadPage id) → ((i : ℕ) × IsBadPage T old i id) ⊎ ((i : ℕ) × IsAfterGap T old i id) ⊎ HasNoPair T old new id
+  pub bad : (id : PageId) → IsErrOf result (BadPage id)
+      → ((i : ℕ) × IsBadPage T old i id) ⊎ ((i : ℕ) × IsAfterGap T old i id) ⊎ HasNoPair T old new id

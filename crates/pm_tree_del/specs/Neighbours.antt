@@ -6,8 +6,8 @@ use Rattle.pm_pages.specs.Rows.{kind_of}
 use Rattle.pm_tree_del.specs.declared.mends.Mend.{Mend}
 use Rattle.pm_tree_del.specs.declared.mends.Mend.TheVariants.{Merged, Shared, Wrong}
 
--- The items of both pages in one row. Of inner pages the key that parts them stands between, with the right one's
--- first child.
+-- The items of both pages in one row. Of inner pages the key that parts them stands between, with the right
+-- one's first child.
 abbrev pub joined_items : Bool → IndexPage → IndexPage → List ℕ → List Item
 joined_items true left right key = left.items ++ right.items
 joined_items false left right key = left.items ++ (record { key = key; word = right.link } ∷ right.items)
@@ -19,7 +19,8 @@ joined_link false left right = left.link
 
 -- what the left page says once it has the items of both
 abbrev pub joined : IndexPage → IndexPage → List ℕ → IndexPage
-joined left right key = record left { link = joined_link left.leaf left right; items = joined_items left.leaf left right key }
+joined left right key =
+    record left { link = joined_link left.leaf left right; items = joined_items left.leaf left right key }
 
 -- the items with this key in item i
 abbrev pub with_key : List Item → ℕ → List ℕ → List Item
@@ -34,7 +35,8 @@ pub record AreOfOneKind (left right : List ℕ) : Type 0 where
 abbrev pub AreApart : Bool → List Item → List Item → List ℕ → Type 0
 AreApart true left right key = AllBelow left right
 AreApart false left right key =
-    ((j : ℕ) → j < length left → IsBelow (key_in left j) key) × ((j : ℕ) → j < length right → IsBelow key (key_in right j))
+    ((j : ℕ) → j < length left → IsBelow (key_in left j) key)
+    × ((j : ℕ) → j < length right → IsBelow key (key_in right j))
 
 -- the key may stand in item i: it is above the keys before that item and below those after it
 pub record HasPlaceFor (items : List Item) (i : ℕ) (key : List ℕ) : Type 0 where
@@ -44,15 +46,19 @@ pub record HasPlaceFor (items : List Item) (i : ℕ) (key : List ℕ) : Type 0 w
 -- the key parts the items of two leaves
 abbrev pub Parts : List Item → List Item → List ℕ → Type 0
 Parts left right key =
-    ((j : ℕ) → j < length left → IsBelow (key_in left j) key) × ((j : ℕ) → j < length right → IsBelow (key_in right j) key → ⊥)
+    ((j : ℕ) → j < length left → IsBelow (key_in left j) key)
+    × ((j : ℕ) → j < length right → IsBelow (key_in right j) key → ⊥)
 
--- The pages stand side by side below the parent, where the key of its item `place` parts them: they are of one kind,
--- their keys rise from the one to the other, and each key but the first could part them as well.
+-- The pages stand side by side below the parent, where the key of its item `place` parts them: they are of one
+-- kind, their keys rise from the one to the other, and each key but the first could part them as well.
 pub record AreNeighbours (parent left right : List ℕ) (place : ℕ) : Type 0 where
   pub kind : AreOfOneKind left right
   pub apart : AreApart (index_of left).leaf (items_of left) (items_of right) (key_in (items_of parent) place)
-  pub within : (k : ℕ) → 0 < k → k < length (joined_items (index_of left).leaf (index_of left) (index_of right) (key_in (items_of parent) place))
-      → HasPlaceFor (items_of parent) place (key_in (joined_items (index_of left).leaf (index_of left) (index_of right) (key_in (items_of parent) place)) k)
+  pub within : (k : ℕ) → 0 < k → k
+      < length (joined_items (index_of left).leaf (index_of left) (index_of right) (key_in (items_of parent) place))
+      → HasPlaceFor (items_of parent) place
+      (key_in (joined_items (index_of left).leaf (index_of left) (index_of right)
+      (key_in (items_of parent) place)) k)
 
 -- the left page has the items of both, and the parent has the right one no more
 pub record Merges (parent left right : List ℕ) (place : ℕ) (parent' left' : List ℕ) : Type 0 where
@@ -63,8 +69,8 @@ pub record Merges (parent left right : List ℕ) (place : ℕ) (parent' left' : 
   pub parent_page : IsIndexPage parent'
   pub parent_is : index_of parent' ≡ with_items (index_of parent) (without_item (items_of parent) place)
 
--- The pages share their items anew: in one row these are what they were, and this key of the parent parts them. Where
--- neither page lacked more than one item, neither has too few.
+-- The pages share their items anew: in one row these are what they were, and this key of the parent parts them.
+-- Where neither page lacked more than one item, neither has too few.
 pub record Shares (parent left right : List ℕ) (place : ℕ) (parent' left' right' : List ℕ) : Type 0 where
   pub kind : AreOfOneKind left right
   pub apart : AreApart (index_of left).leaf (items_of left) (items_of right) (key_in (items_of parent) place)
@@ -79,9 +85,13 @@ pub record Shares (parent left right : List ℕ) (place : ℕ) (parent' left' ri
   pub right_link : (index_of left).leaf ≡ true → (index_of right').link ≡ (index_of right).link
   pub items : joined_items (index_of left).leaf (index_of left') (index_of right') key
       ≡ joined_items (index_of left).leaf (index_of left) (index_of right) (key_in (items_of parent) place)
-  pub parts : (index_of left).leaf ≡ true → Parts (items_of left) (items_of right) (key_in (items_of parent) place) → Parts (items_of left') (items_of right') key
-  pub full : capacity_of (length left) / 2 ≤ length (items_of left) + 1 → capacity_of (length left) / 2 ≤ length (items_of right) + 1
-      → (capacity_of (length left) / 2 ≤ length (items_of left')) × (capacity_of (length left) / 2 ≤ length (items_of right'))
+  pub parts : (index_of left).leaf ≡ true
+      → Parts (items_of left) (items_of right) (key_in (items_of parent) place)
+      → Parts (items_of left') (items_of right') key
+  pub full : capacity_of (length left) / 2 ≤ length (items_of left) + 1
+      → capacity_of (length left) / 2 ≤ length (items_of right) + 1
+      → (capacity_of (length left) / 2 ≤ length (items_of left'))
+      × (capacity_of (length left) / 2 ≤ length (items_of right'))
 
 -- what was made of two neighbours
 abbrev pub IsMend : List ℕ → List ℕ → List ℕ → ℕ → List ℕ → List ℕ → List ℕ → Mend → Type 0

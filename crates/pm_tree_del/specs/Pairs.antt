@@ -37,8 +37,8 @@ pub record IsPairIn (p : Paged) (at i : ℕ) (pair : Option Pair) : Type 0 where
   pub size : length page ≡ p.page_size
   pub is : IsPairOn page i pair
 
--- both are pages of a partition of so many pages, other than page `at` and than each other, and one of them is this
--- child
+-- both are pages of a partition of so many pages, other than page `at` and than each other, and one of them is
+-- this child
 pub record MayMend (pair : Pair) (count at child : ℕ) : Type 0 where
   pub left_some : 1 ≤ pair.left
   pub left_below : pair.left < count

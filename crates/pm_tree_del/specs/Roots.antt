@@ -50,19 +50,22 @@ pub record IsTopIn (p : Paged) (at : ℕ) (top : Top) : Type 0 where
 
 -- every number of the meta page is as it was but the reuse chain's first page and this root
 pub record KeepsButRoot (old new : Paged) (cache : ℕ) : Type 0 where
-  pub others : (slot : MetaSlot) → IsSlot slot → slot ≢ Reuse → slot ≢ Root cache → (n : ℕ) → IsNumberIn old slot n → IsNumberIn new slot n
+  pub others : (slot : MetaSlot) → IsSlot slot → slot ≢ Reuse → slot ≢ Root cache → (n : ℕ)
+      → IsNumberIn old slot n → IsNumberIn new slot n
 
 -- at most so many pages were asked for that weren't before, and no others changed than were asked for
 pub record RemovesRootPages (T : Type 0) (old new : Paged) (cache most : ℕ) : Type 0 where
   pub edits : EditsPages T old new (λ j. IsTrue (new.asked j)) most
   pub numbers : KeepsButRoot old new cache
 
--- the meta page once a root was given back: it is the first of the reuse chain, and another page is the root, or none
+-- the meta page once a root was given back: it is the first of the reuse chain, and another page is the root,
+-- or none
 pub record ReplacesNumbers (was now : List ℕ) (cache root child next : ℕ) : Type 0 where
   pub next_is : next ≡ field_of was Reuse
   pub reuse : field_of now Reuse ≡ root
   pub root_is : field_of now (Root cache) ≡ child
-  pub others : (slot : MetaSlot) → IsSlot slot → slot ≢ Reuse → slot ≢ Root cache → field_of now slot ≡ field_of was slot
+  pub others : (slot : MetaSlot) → IsSlot slot → slot ≢ Reuse → slot ≢ Root cache
+      → field_of now slot ≡ field_of was slot
 
 -- the root was given back, and another page is the root, or none
 pub record ReplacesRoot (T : Type 0) (old new : Paged) (cache root child : ℕ) : Type 0 where
@@ -76,15 +79,20 @@ pub record ReplacesRoot (T : Type 0) (old new : Paged) (cache root child : ℕ) 
 -- a root with an item stays; one without items was replaced, by its only child or, of a leaf, by none
 abbrev pub Settles : Type 0 → Paged → Paged → ℕ → ℕ → Type 0
 Settles T old new cache root =
-    ((page : List ℕ) × (old.pages root ≡ Some page) × IsFullTop page × ((j : ℕ) → IsTrue (old.known j) ⊎ T → new.pages j ≡ old.pages j))
-    ⊎ ((page : List ℕ) × (old.pages root ≡ Some page) × IsBareTop page LEAF_KIND × ReplacesRoot T old new cache root 0)
-    ⊎ ((page : List ℕ) × (old.pages root ≡ Some page) × IsBareTop page INNER_KIND × (child : ℕ) × (child ≡ child_of page 0) × (1 ≤ child) × ((n : ℕ) → IsNumberIn old Pages n → child < n) × ReplacesRoot T old new cache root child)
+    ((page : List ℕ) × (old.pages root ≡ Some page) × IsFullTop page
+    × ((j : ℕ) → IsTrue (old.known j) ⊎ T → new.pages j ≡ old.pages j))
+    ⊎ ((page : List ℕ) × (old.pages root ≡ Some page) × IsBareTop page LEAF_KIND
+    × ReplacesRoot T old new cache root 0)
+    ⊎ ((page : List ℕ) × (old.pages root ≡ Some page) × IsBareTop page INNER_KIND × (child : ℕ)
+    × (child ≡ child_of page 0) × (1 ≤ child) × ((n : ℕ) → IsNumberIn old Pages n → child < n)
+    × ReplacesRoot T old new cache root child)
 
--- A removal from the index of a cache that had these pages and items: the answer is the link that the key had, and the
--- index has the items of the removal. The pages `given` are in it no more, and stand on the reuse chain now, before those
--- that it had. Besides the pages of the index no page changed but the meta page, and of that only the reuse chain's
--- first page and this root.
-pub record RemovesIndex (old new : Partition) (cache : ℕ) (nodes : List ℕ) (items : List Item) (key : List ℕ) (was : Option Link) : Type 0 where
+-- A removal from the index of a cache that had these pages and items: the answer is the link that the key had,
+-- and the index has the items of the removal. The pages `given` are in it no more, and stand on the reuse chain
+-- now, before those that it had. Besides the pages of the index no page changed but the meta page, and of that
+-- only the reuse chain's first page and this root.
+pub record RemovesIndex (old new : Partition) (cache : ℕ) (nodes : List ℕ) (items : List Item)
+    (key : List ℕ) (was : Option Link) : Type 0 where
   pub was_is : was ≡ link_in items key
   pub height : ℕ
   pub nodes_now : List ℕ
@@ -93,10 +101,12 @@ pub record RemovesIndex (old new : Partition) (cache : ℕ) (nodes : List ℕ) (
   pub counted : (j : ℕ) → times j nodes ≡ times j nodes_now + times j given
   pub given_once : (j : ℕ) → times j given ≤ 1
   pub others : (j : ℕ) → j ≢ 0 → times j nodes ≡ 0 → new j ≡ old j
-  pub numbers : (slot : MetaSlot) → IsSlot slot → slot ≢ Reuse → slot ≢ Root cache → number_in new slot ≡ number_in old slot
+  pub numbers : (slot : MetaSlot) → IsSlot slot → slot ≢ Reuse → slot ≢ Root cache
+      → number_in new slot ≡ number_in old slot
   pub gives : GivesBack old new given
 
 -- a call of the disk failed, or the page before one that is given back isn't there
-pub record HasGiveCause {R : Type 0} (T : Type 0) (old new : Paged) (i : ℕ) (result : Result R PageFault) : Type 0 where
+pub record HasGiveCause {R : Type 0} (T : Type 0) (old new : Paged) (i : ℕ)
+    (result : Result R PageFault) : Type 0 where
   pub failed : IsErrOf result Failed → HasRisen old.faults new.faults
   pub bad : (id : PageId) → IsErrOf result (BadPage id) → IsAfterGap T old i id

@@ -21,7 +21,8 @@ pub fn copy_page<P: Pages>(pages: &mut P, index: u32, into: &mut [u8]) -> Result
     requires readable { AllReadable (P.seen pages.old) }
     ensures kept { P.kept pages.old pages.new }
     ensures looks { LooksAtPages P.tells (P.seen pages.old) (P.seen pages.new) 1 }
-    ensures again { IsTrue ((P.seen pages.old).asked index) → LooksAtPages P.tells (P.seen pages.old) (P.seen pages.new) 0 }
+    ensures again { IsTrue ((P.seen pages.old).asked index)
+        → LooksAtPages P.tells (P.seen pages.old) (P.seen pages.new) 0 }
     ensures readable { AllReadable (P.seen pages.new) }
     ensures copied { OnOk result (IsCopyOf (P.seen pages.new) index into.new) }
     ensures cause { HasPageCause P.tells (P.seen pages.old) (P.seen pages.new).faults index result }

@@ -9,7 +9,8 @@ ghost use Rattle.pm_tree_del.specs.Maps.{remove_in};
 ///
 /// A law on definitions: the function does nothing.
 pub fn removes_are_a_maps()
-    ensures here { (items : List Item) (key : List ℕ) → IsRising items → get_in (remove_in items key) key ≡ None }
+    ensures here { (items : List Item) (key : List ℕ) → IsRising items
+        → get_in (remove_in items key) key ≡ None }
     ensures others { (items : List Item) (key other : List ℕ) → IsRising items → other ≢ key
         → get_in (remove_in items key) other ≡ get_in items other }
     ensures rising { (items : List Item) (key : List ℕ) → IsRising items → IsRising (remove_in items key) }

@@ -16,8 +16,8 @@ use crate::pairs::{Pair, find_pair};
 use pm_pages::{Pages, give_page};
 use pm_types::{PAGE_SIZE_MAX, PageFault, PageId, Patch};
 
-/// Mends child i of an inner page that is at hand, which has this index and one item too few, with the one beside it.
-/// Whether the inner page has lost a child and has too few items itself then.
+/// Mends child i of an inner page that is at hand, which has this index and one item too few, with the one
+/// beside it. Whether the inner page has lost a child and has too few items itself then.
 pub fn mend_child<P: Pages>(
     pages: &mut P,
     count: u32,
@@ -128,7 +128,8 @@ fn mend_copied<P: Pages>(
     requires family { IsFamily (P.seen pages.old) at pair.now parent.old left.old right.old }
     ensures kept { P.kept pages.old pages.new }
     ensures readable { AllReadable (P.seen pages.new) }
-    ensures mends { IfOk result (MendsCopies P.tells (P.seen pages.old) (P.seen pages.new) at pair.now parent.old left.old right.old 0) }
+    ensures mends { IfOk result (MendsCopies P.tells (P.seen pages.old) (P.seen pages.new) at
+        pair.now parent.old left.old right.old 0) }
     ensures cause { HasMendCause P.tells (P.seen pages.old) (P.seen pages.new) result }
 {
     let size = pages.page_size();
@@ -168,7 +169,8 @@ fn write_merged<P: Pages>(
     requires left { TakesBytes (P.seen pages.old) pair.now.left left.now patches.now.left }
     ensures kept { P.kept pages.old pages.new }
     ensures readable { AllReadable (P.seen pages.new) }
-    ensures merges { OnOk result (MergesPages P.tells (P.seen pages.old) (P.seen pages.new) at pair.now parent.now left.now 0) }
+    ensures merges { OnOk result (MergesPages P.tells (P.seen pages.old) (P.seen pages.new) at
+        pair.now parent.now left.now 0) }
     ensures cause { HasGapCause P.tells (P.seen pages.old) (P.seen pages.new).faults pair.now.right result }
 {
     write_page(pages, pair.left, left, &patches.left)?;
@@ -195,7 +197,8 @@ fn write_shared<P: Pages>(
     requires right { TakesBytes (P.seen pages.old) pair.now.right right.now patches.now.right }
     ensures kept { P.kept pages.old pages.new }
     ensures readable { AllReadable (P.seen pages.new) }
-    ensures shares { OnOk result (SharesPages P.tells (P.seen pages.old) (P.seen pages.new) at pair.now parent.now left.now right.now 0) }
+    ensures shares { OnOk result (SharesPages P.tells (P.seen pages.old) (P.seen pages.new) at
+        pair.now parent.now left.now right.now 0) }
     ensures cause { HasDiskCause (P.seen pages.old) (P.seen pages.new).faults result }
 {
     write_page(pages, pair.left, left, &patches.left)?;

@@ -32,8 +32,8 @@ pub struct Patches {
     pub right: Patch,
 }
 
-/// Mends two pages, of which one may have too few items: the left one gets the items of both if it has room for them,
-/// and else an item goes from the one to the other. The key of the parent's item `place` parts them.
+/// Mends two pages, of which one may have too few items: the left one gets the items of both if it has room for
+/// them, and else an item goes from the one to the other. The key of the parent's item `place` parts them.
 pub fn mend_pages(
     parent: &mut [u8],
     left: &mut [u8],
@@ -87,7 +87,8 @@ fn share(
     requires key { key.now ≡ key_in (items_of parent.old) place }
     requires key_length { HasKeyLength key.now }
     requires apart { AreApart (index_of left.old).leaf (items_of left.old) (items_of right.old) key.now }
-    requires many { capacity_of (length left.old) < length (joined_items (index_of left.old).leaf (index_of left.old) (index_of right.old) key.now) }
+    requires many { capacity_of (length left.old) < length
+        (joined_items (index_of left.old).leaf (index_of left.old) (index_of right.old) key.now) }
     requires left_length { length left.old ≡ length parent.old }
     requires right_length { length right.old ≡ length parent.old }
     requires parent_size { patches.old.parent.page_size ≡ length parent.old }
@@ -125,7 +126,8 @@ fn take_first(
     requires key { key.now ≡ key_in (items_of parent.old) place }
     requires key_length { HasKeyLength key.now }
     requires apart { AreApart (index_of left.old).leaf (items_of left.old) (items_of right.old) key.now }
-    requires many { capacity_of (length left.old) < length (joined_items (index_of left.old).leaf (index_of left.old) (index_of right.old) key.now) }
+    requires many { capacity_of (length left.old) < length
+        (joined_items (index_of left.old).leaf (index_of left.old) (index_of right.old) key.now) }
     requires few { length (items_of left.old) < capacity_of (length left.old) / 2 }
     requires left_length { length left.old ≡ length parent.old }
     requires right_length { length right.old ≡ length parent.old }
@@ -171,7 +173,8 @@ fn take_last(
     requires key { key.now ≡ key_in (items_of parent.old) place }
     requires key_length { HasKeyLength key.now }
     requires apart { AreApart (index_of left.old).leaf (items_of left.old) (items_of right.old) key.now }
-    requires many { capacity_of (length left.old) < length (joined_items (index_of left.old).leaf (index_of left.old) (index_of right.old) key.now) }
+    requires many { capacity_of (length left.old) < length
+        (joined_items (index_of left.old).leaf (index_of left.old) (index_of right.old) key.now) }
     requires few { length (items_of right.old) < capacity_of (length left.old) / 2 }
     requires left_length { length left.old ≡ length parent.old }
     requires right_length { length right.old ≡ length parent.old }

@@ -23,7 +23,8 @@ pub fn are_of_one_kind(left: &[u8], right: &[u8]) -> bool
 pub fn are_apart(left: &[u8], right: &[u8], key: &[u8]) -> bool
     requires left { IsIndexPage left.now }
     requires right { IsIndexPage right.now }
-    ensures { IsTrue result ↔ AreApart (index_of left.now).leaf (items_of left.now) (items_of right.now) key.now }
+    ensures { IsTrue result ↔ AreApart (index_of left.now).leaf (items_of left.now)
+        (items_of right.now) key.now }
 {
     if is_leaf(left) {
         are_leaves_apart(left, right)
@@ -44,7 +45,8 @@ fn are_leaves_apart(left: &[u8], right: &[u8]) -> bool
 pub fn joined_count(left: &[u8], right: &[u8]) -> u16
     requires left { IsIndexPage left.now }
     requires right { IsIndexPage right.now }
-    ensures { (key : List ℕ) → result ≡ length (joined_items (index_of left.now).leaf (index_of left.now) (index_of right.now) key) }
+    ensures { (key : List ℕ) → result
+        ≡ length (joined_items (index_of left.now).leaf (index_of left.now) (index_of right.now) key) }
 {
     if is_leaf(left) {
         count(left) + count(right)

@@ -25,8 +25,8 @@ pub struct Pair {
 }
 
 impl Pair {
-    /// Whether both may be mended below page `at`, in a partition of so many pages: they are two other pages of the
-    /// partition, and one of them is `child`.
+    /// Whether both may be mended below page `at`, in a partition of so many pages: they are two other pages of
+    /// the partition, and one of them is `child`.
     pub fn may_mend(&self, count: u32, at: u32, child: u32) -> bool
         ensures { IsTrue result ↔ MayMend self.now count at child }
     {
@@ -41,8 +41,8 @@ impl Pair {
     }
 }
 
-/// Child i of an inner page and the one before it, or, of the first child, the one after it. `None` where there is no
-/// such pair.
+/// Child i of an inner page and the one before it, or, of the first child, the one after it. `None` where there
+/// is no such pair.
 pub fn pair_on(page: &[u8], i: u16) -> Option<Pair>
     requires { IsReadable page.now }
     ensures { IsPairOn page.now i result }

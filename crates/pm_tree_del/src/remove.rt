@@ -48,11 +48,13 @@ pub fn remove_at<P: Pages>(
     requires path { IsPath (P.seen pages.old) cache (8 - levels) from at }
     ensures kept { P.kept pages.old pages.new }
     ensures readable { AllReadable (P.seen pages.new) }
-    ensures changes { OnOk result (RemovesPages P.tells (P.seen pages.old) (P.seen pages.new) (2 * levels - 1)) }
+    ensures changes { OnOk result (RemovesPages P.tells (P.seen pages.old) (P.seen pages.new)
+        (2 * levels - 1)) }
     ensures levels { OnOk result (1 ≤ levels) }
     ensures held { OnOk result (IsHeld (P.seen pages.new) at) }
     ensures removes { IfOk result (λ removal. P.tells
-        → RemovesFor (P.seen pages.old).pages (P.seen pages.new).pages (half_of (P.seen pages.old).page_size) levels at key.now removal) }
+        → RemovesFor (P.seen pages.old).pages (P.seen pages.new).pages
+        (half_of (P.seen pages.old).page_size) levels at key.now removal) }
     ensures cause { HasRemoveCause P.tells (P.seen pages.old) (P.seen pages.new) cache result }
 {
     if levels == 0 {
@@ -80,8 +82,10 @@ fn remove_item<P: Pages>(pages: &mut P, at: u32, i: u16, was: u64) -> Result<Rem
     ensures kept { P.kept pages.old pages.new }
     ensures readable { AllReadable (P.seen pages.new) }
     ensures changes { OnOk result (RemovesPages P.tells (P.seen pages.old) (P.seen pages.new) 0) }
-    ensures removes { IfOk result (λ removal. P.tells → (key : List ℕ) → IsPlaceIn (P.seen pages.old) at key (Held i was) → (limit : ℕ)
-        → RemovesFor (P.seen pages.old).pages (P.seen pages.new).pages (half_of (P.seen pages.old).page_size) limit at key removal) }
+    ensures removes { IfOk result (λ removal. P.tells → (key : List ℕ)
+        → IsPlaceIn (P.seen pages.old) at key (Held i was) → (limit : ℕ)
+        → RemovesFor (P.seen pages.old).pages (P.seen pages.new).pages
+        (half_of (P.seen pages.old).page_size) limit at key removal) }
     ensures cause { HasDiskCause (P.seen pages.old) (P.seen pages.new).faults result }
 {
     let few = take_out(pages, at, i)?;

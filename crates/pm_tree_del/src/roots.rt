@@ -19,13 +19,14 @@ use pm_types::{Link, PageFault, PageId};
 
 /// Removes a key from a cache's index, and gives the link that it had, if it was there.
 ///
-/// No page but the root has fewer items than half of what it has room for then: a page that would have fewer shares
-/// items with one beside it, or the two are merged. Pages that are needed no more are given back to the reuse chain.
+/// No page but the root has fewer items than half of what it has room for then: a page that would have fewer
+/// shares items with one beside it, or the two are merged. Pages that are needed no more are given back to the
+/// reuse chain.
 ///
-/// `Failed` comes only where a call on the disk failed. `BadPage` names a page that is bad, or that names a wrong one:
-/// on the way from the root, or below a page whose children are to be mended and don't stand in their order; or the
-/// page before one that is given back, where it isn't there. After an error the pages that were asked for may be half
-/// changed.
+/// `Failed` comes only where a call on the disk failed. `BadPage` names a page that is bad, or that names a
+/// wrong one: on the way from the root, or below a page whose children are to be mended and don't stand in
+/// their order; or the page before one that is given back, where it isn't there. After an error the pages that
+/// were asked for may be half changed.
 pub fn tree_remove<P: Pages>(
     pages: &mut P,
     cache: u8,
@@ -125,7 +126,8 @@ fn replace_root<P: Pages>(pages: &mut P, cache: u8, root: u32, child: u32) -> Re
     requires held { IsHeld (P.seen pages.old) root }
     ensures kept { P.kept pages.old pages.new }
     ensures readable { AllReadable (P.seen pages.new) }
-    ensures replaces { OnOk result (ReplacesRoot P.tells (P.seen pages.old) (P.seen pages.new) cache root child) }
+    ensures replaces { OnOk result (ReplacesRoot P.tells (P.seen pages.old) (P.seen pages.new) cache
+        root child) }
     ensures cause { HasGiveCause P.tells (P.seen pages.old) (P.seen pages.new) root result }
 {
     give_page(pages, root)?;

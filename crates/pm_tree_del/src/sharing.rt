@@ -12,8 +12,8 @@ use pm_btpage::{
 };
 use pm_types::{PageId, Patch};
 
-/// Puts the items of the right page after those of the left one. Of inner pages the key that parts them goes between,
-/// with the right one's first child; a left leaf gets the right one's link.
+/// Puts the items of the right page after those of the left one. Of inner pages the key that parts them goes
+/// between, with the right one's first child; a left leaf gets the right one's link.
 pub fn join(left: &mut [u8], right: &[u8], key: &[u8], patch: &mut Patch)
     requires left { IsIndexPage left.old }
     requires right { IsIndexPage right.now }
@@ -21,7 +21,8 @@ pub fn join(left: &mut [u8], right: &[u8], key: &[u8], patch: &mut Patch)
     requires sizes { length right.now ≡ length left.old }
     requires key { HasKeyLength key.now }
     requires apart { AreApart (index_of left.old).leaf (items_of left.old) (items_of right.now) key.now }
-    requires room { length (joined_items (index_of left.old).leaf (index_of left.old) (index_of right.now) key.now) ≤ capacity_of (length left.old) }
+    requires room { length (joined_items (index_of left.old).leaf (index_of left.old)
+        (index_of right.now) key.now) ≤ capacity_of (length left.old) }
     requires size { patch.old.page_size ≡ length left.old }
     ensures page { IsIndexPage left.new }
     ensures says { index_of left.new ≡ joined (index_of left.old) (index_of right.now) key.now }
@@ -44,7 +45,9 @@ fn join_leaves(left: &mut [u8], right: &[u8], patch: &mut Patch)
     requires room { length (items_of left.old ++ items_of right.now) ≤ capacity_of (length left.old) }
     requires size { patch.old.page_size ≡ length left.old }
     ensures page { IsIndexPage left.new }
-    ensures says { index_of left.new ≡ with_link (with_items (index_of left.old) (items_of left.old ++ items_of right.now)) (index_of right.now).link }
+    ensures says { index_of left.new
+        ≡ with_link (with_items (index_of left.old) (items_of left.old ++ items_of right.now))
+        (index_of right.now).link }
     ensures noted { IsNoted patch.old patch.new left.old left.new }
 {
     merge(left, right, patch);
@@ -59,10 +62,15 @@ fn join_inner(left: &mut [u8], right: &[u8], key: &[u8], patch: &mut Patch)
     requires sizes { length right.now ≡ length left.old }
     requires key { HasKeyLength key.now }
     requires apart { AreApart false (items_of left.old) (items_of right.now) key.now }
-    requires room { length (items_of left.old ++ (record { key = key.now; word = (index_of right.now).link } ∷ items_of right.now)) ≤ capacity_of (length left.old) }
+    requires room { length (items_of left.old
+        ++ (record { key = key.now; word = (index_of right.now).link } ∷ items_of right.now))
+        ≤ capacity_of (length left.old) }
     requires size { patch.old.page_size ≡ length left.old }
     ensures page { IsIndexPage left.new }
-    ensures says { index_of left.new ≡ with_items (index_of left.old) (items_of left.old ++ (record { key = key.now; word = (index_of right.now).link } ∷ items_of right.now)) }
+    ensures says { index_of left.new
+        ≡ with_items (index_of left.old)
+        (items_of left.old ++ (record { key = key.now; word = (index_of right.now).link } ∷
+        items_of right.now)) }
     ensures noted { IsNoted patch.old patch.new left.old left.new }
 {
     let end = count(left);
@@ -78,7 +86,8 @@ pub fn set_key(parent: &mut [u8], i: u16, key: &[u8], patch: &mut Patch)
     requires place { HasPlaceFor (items_of parent.old) i key.now }
     requires size { patch.old.page_size ≡ length parent.old }
     ensures page { IsIndexPage parent.new }
-    ensures says { index_of parent.new ≡ with_items (index_of parent.old) (with_key (items_of parent.old) i key.now) }
+    ensures says { index_of parent.new
+        ≡ with_items (index_of parent.old) (with_key (items_of parent.old) i key.now) }
     ensures noted { IsNoted patch.old patch.new parent.old parent.new }
 {
     let word = word_at(parent, i);
@@ -102,7 +111,8 @@ pub fn move_first(
     requires left_size { left_patch.old.page_size ≡ length left.old }
     requires right_size { right_patch.old.page_size ≡ length right.old }
     ensures left_page { IsIndexPage left.new }
-    ensures left { index_of left.new ≡ with_items (index_of left.old) (items_of left.old ++ take 1 (items_of right.old)) }
+    ensures left { index_of left.new
+        ≡ with_items (index_of left.old) (items_of left.old ++ take 1 (items_of right.old)) }
     ensures right_page { IsIndexPage right.new }
     ensures right { index_of right.new ≡ with_items (index_of right.old) (drop 1 (items_of right.old)) }
     ensures left_noted { IsNoted left_patch.old left_patch.new left.old left.new }
@@ -124,9 +134,12 @@ pub fn move_last(left: &mut [u8], right: &mut [u8], left_patch: &mut Patch, righ
     requires left_size { left_patch.old.page_size ≡ length left.old }
     requires right_size { right_patch.old.page_size ≡ length right.old }
     ensures left_page { IsIndexPage left.new }
-    ensures left { index_of left.new ≡ with_items (index_of left.old) (take (length (items_of left.old) - 1) (items_of left.old)) }
+    ensures left { index_of left.new
+        ≡ with_items (index_of left.old) (take (length (items_of left.old) - 1) (items_of left.old)) }
     ensures right_page { IsIndexPage right.new }
-    ensures right { index_of right.new ≡ with_items (index_of right.old) (drop (length (items_of left.old) - 1) (items_of left.old) ++ items_of right.old) }
+    ensures right { index_of right.new
+        ≡ with_items (index_of right.old)
+        (drop (length (items_of left.old) - 1) (items_of left.old) ++ items_of right.old) }
     ensures left_noted { IsNoted left_patch.old left_patch.new left.old left.new }
     ensures right_noted { IsNoted right_patch.old right_patch.new right.old right.new }
 {
@@ -161,9 +174,13 @@ pub fn move_first_child(
     requires left_size { left_patch.old.page_size ≡ length left.old }
     requires right_size { right_patch.old.page_size ≡ length right.old }
     ensures left_page { IsIndexPage left.new }
-    ensures left { index_of left.new ≡ with_items (index_of left.old) (items_of left.old ++ (record { key = key.now; word = (index_of right.old).link } ∷ [])) }
+    ensures left { index_of left.new
+        ≡ with_items (index_of left.old)
+        (items_of left.old ++ (record { key = key.now; word = (index_of right.old).link } ∷ [])) }
     ensures right_page { IsIndexPage right.new }
-    ensures right { index_of right.new ≡ with_link (with_items (index_of right.old) (drop 1 (items_of right.old))) (word_in (items_of right.old) 0) }
+    ensures right { index_of right.new
+        ≡ with_link (with_items (index_of right.old) (drop 1 (items_of right.old)))
+        (word_in (items_of right.old) 0) }
     ensures left_noted { IsNoted left_patch.old left_patch.new left.old left.new }
     ensures right_noted { IsNoted right_patch.old right_patch.new right.old right.new }
 {
@@ -194,9 +211,13 @@ pub fn move_last_child(
     requires left_size { left_patch.old.page_size ≡ length left.old }
     requires right_size { right_patch.old.page_size ≡ length right.old }
     ensures left_page { IsIndexPage left.new }
-    ensures left { index_of left.new ≡ with_items (index_of left.old) (take (length (items_of left.old) - 1) (items_of left.old)) }
+    ensures left { index_of left.new
+        ≡ with_items (index_of left.old) (take (length (items_of left.old) - 1) (items_of left.old)) }
     ensures right_page { IsIndexPage right.new }
-    ensures right { index_of right.new ≡ with_link (with_items (index_of right.old) (record { key = key.now; word = (index_of right.old).link } ∷ items_of right.old)) (word_in (items_of left.old) (length (items_of left.old) - 1)) }
+    ensures right { index_of right.new
+        ≡ with_link (with_items (index_of right.old)
+        (record { key = key.now; word = (index_of right.old).link } ∷ items_of right.old))
+        (word_in (items_of left.old) (length (items_of left.old) - 1)) }
     ensures left_noted { IsNoted left_patch.old left_patch.new left.old left.new }
     ensures right_noted { IsNoted right_patch.old right_patch.new right.old right.new }
 {

@@ -313,8 +313,8 @@ fn has_tree(pages: &[Page], root: u32) -> bool
     false
 }
 
-// Puts and removes keys in no order, and says whether pages and map agreed, also on each key after it, and whether the
-// pages are a tree then.
+// Puts and removes keys in no order, and says whether pages and map agreed, also on each key after it, and
+// whether the pages are a tree then.
 fn phase_agrees(
     alloc: Global,
     pages: &mut PlainPages,

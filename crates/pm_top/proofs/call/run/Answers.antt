@@ -37,7 +37,7 @@ returns-in-Ok-clause-run g c t =
     let mid = g.H.Device.history c.open_store.new.host in
     let wanted = c.args.wanted in
     let asks = c.requires.asked t in
-    let only = at_last old mid (ChangesLog old.world) (g.H.Device.sound c.open_store.new.host t) (c.open_store.ensures.log_only t) in
+    let only = at_last old mid (ChangesLog old.world) (g.H.Device.sound c.open_store.new.host t) ((c.open_store.ensures.meanwhile t).log_only) in
     let new = g.H.Device.history c.answer_script.new.host in
     let outcome = c.answer_script.result in
     let engine = c.in-Ok.engine in
@@ -56,7 +56,7 @@ returns-in-Ok-clause-run g c t =
           let stands = c.in-Ok.ensures.at_rest t shape pairs start.holds start.numbers start.quiet in
           let runs : CanRun wanted engine mid.world = record { stands = stands.at_rest; segments = omega (arith, stands.rises, start.numbers) } in
           let maps = opens_map wanted old.world mid.world engine shape pairs opens start.holds.log in
-          is_left wanted (last_segment start.holds) old.world mid.world new.world engine shape pairs maps stands start.quiet (at_last old mid (SameFiles old.world) (g.H.Device.sound c.open_store.new.host t) (log_calls old mid (c.open_store.ensures.log_only t))) (at_last mid new (SameFiles mid.world) (g.H.Device.sound c.answer_script.new.host t) (keep_files (engine.log.end.seg + 8388608) mid new (c.answer_script.ensures.files t)))
+          is_left wanted (last_segment start.holds) old.world mid.world new.world engine shape pairs maps stands start.quiet (at_last old mid (SameFiles old.world) (g.H.Device.sound c.open_store.new.host t) (log_calls old mid ((c.open_store.ensures.meanwhile t).log_only))) (at_last mid new (SameFiles mid.world) (g.H.Device.sound c.answer_script.new.host t) (keep_files (engine.log.end.seg + 8388608) mid new (c.answer_script.ensures.files t)))
           (c.answer_script.ensures.leaves t is wanted old.world (same_console old.world mid.world only) runs));
       misconfigured = λ is. absurd (c.answer_script.ensures.cause.configured is);
       damaged = λ is. absurd (c.answer_script.ensures.cause.sound is);
@@ -68,7 +68,7 @@ returns-in-Ok-clause-crash g c t =
     let mid = g.H.Device.history c.open_store.new.host in
     let wanted = c.args.wanted in
     let asks = c.requires.asked t in
-    let only = at_last old mid (ChangesLog old.world) (g.H.Device.sound c.open_store.new.host t) (c.open_store.ensures.log_only t) in
+    let only = at_last old mid (ChangesLog old.world) (g.H.Device.sound c.open_store.new.host t) ((c.open_store.ensures.meanwhile t).log_only) in
     let new = g.H.Device.history c.answer_script.new.host in
     let outcome = c.answer_script.result in
     let engine = c.in-Ok.engine in
@@ -83,11 +83,11 @@ returns-in-Ok-clause-crash g c t =
     let its = outcome_order outcome.status old.world new.world engine.shape engine.map outcome.lines order (c.answer_script.ensures.outcome t old.world (same_console old.world mid.world only)) in
     let second : AllMoments mid new K = subst (λ (x : Shape × Pairs). AllMoments mid new (CrashHoldsSome wanted old.world x.0 x.1 order)) (λ i. (maps.0 i, maps.1 i))
     (moments_keep wanted old.world mid new engine.shape engine.map its.0 order its.1 (c.answer_script.ensures.moments t wanted old.world (same_console old.world mid.world only) runs)) in
-    let opened = c.open_store.ensures.above t start.holds.log.frames start.holds.log.log in
+    let opened = (c.open_store.ensures.meanwhile t).above start.holds.log.frames start.holds.log.log in
     let above : AllMoments old new (SameAbove (end + 8388609) old.world) = above_joined (end + 1) (engine.log.end.seg + 8388608) (end + 8388609) old mid new (omega arith) (omega (arith, stands.rises)) (g.H.Device.sound c.open_store.new.host t) opened
     (weaker mid new (KeepsFiles (engine.log.end.seg + 8388608) mid.world) (SameAbove (engine.log.end.seg + 8388608) mid.world) (λ w is. is.above) (c.answer_script.ensures.files t)) in
     bounded_moments wanted old.world shape pairs start (end + 8388609) (end + 16777216) order old new (omega arith) (omega arith) above
-    (joined old mid new K (opening_moments wanted old mid shape pairs order (c.open_store.ensures.crash t shape pairs start.holds start.numbers start.quiet) (c.open_store.ensures.log_only t)) second)
+    (joined old mid new K (opening_moments wanted old mid shape pairs order ((c.open_store.ensures.meanwhile t).crash shape pairs start.holds start.numbers start.quiet) ((c.open_store.ensures.meanwhile t).log_only)) second)
     in
     subst (λ (s : Shape). (shape : Shape) (pairs : Pairs) (start : IsStart s old.world shape pairs) → AllMoments old new (CrashHoldsAcknowledged s (last_segment start.holds + 16777216) old.world shape pairs order)) (sym asks.wanted_is) keeps
 
@@ -97,12 +97,12 @@ returns-in-Ok-clause-files g c t =
     let mid = g.H.Device.history c.open_store.new.host in
     let wanted = c.args.wanted in
     let asks = c.requires.asked t in
-    let only = at_last old mid (ChangesLog old.world) (g.H.Device.sound c.open_store.new.host t) (c.open_store.ensures.log_only t) in
+    let only = at_last old mid (ChangesLog old.world) (g.H.Device.sound c.open_store.new.host t) ((c.open_store.ensures.meanwhile t).log_only) in
     let new = g.H.Device.history c.answer_script.new.host in
     let outcome = c.answer_script.result in
     let engine = c.in-Ok.engine in
     let opens = c.in-Ok.ensures.opens t in
-    then_calls old mid new (g.H.Device.sound c.open_store.new.host t) (log_calls old mid (c.open_store.ensures.log_only t)) (keep_files (engine.log.end.seg + 8388608) mid new (c.answer_script.ensures.files t))
+    then_calls old mid new (g.H.Device.sound c.open_store.new.host t) (log_calls old mid ((c.open_store.ensures.meanwhile t).log_only)) (keep_files (engine.log.end.seg + 8388608) mid new (c.answer_script.ensures.files t))
 
 pub returns-in-Err-Shape-clause-run : goal.returns-in-Err-Shape-clause-run
 returns-in-Err-Shape-clause-run g c t =
@@ -110,12 +110,12 @@ returns-in-Err-Shape-clause-run g c t =
     let mid = g.H.Device.history c.open_store.new.host in
     let wanted = c.args.wanted in
     let asks = c.requires.asked t in
-    let only = at_last old mid (ChangesLog old.world) (g.H.Device.sound c.open_store.new.host t) (c.open_store.ensures.log_only t) in
+    let only = at_last old mid (ChangesLog old.world) (g.H.Device.sound c.open_store.new.host t) ((c.open_store.ensures.meanwhile t).log_only) in
     let printed = c.print_config_fault in
     let new = g.H.Device.history printed.new.host in
     let outcome = c.without.result in
     let differs = subst (ComparesShape wanted old.world) c.in-Err-Shape.field-0-is (c.in-Err-Shape.ensures.compared t) in
-    let first = c.open_store.ensures.untouched t (inl (c.in-Err-Shape.field, differs)) in
+    let first = (c.open_store.ensures.meanwhile t).untouched (inl (c.in-Err-Shape.field, differs)) in
     let same : mid.world ≡ old.world = at_last old mid (IsSame old.world) (g.H.Device.sound c.open_store.new.host t) first in
     let is : config_fault mid.world ≡ Some c.in-Err-Shape.field = ap config_fault same ∙ asks.fault_is ∙ differs in
     run_from old mid new outcome.status outcome.lines outcome.order.items first same
@@ -127,12 +127,12 @@ returns-in-Err-Shape-clause-crash g c t =
     let mid = g.H.Device.history c.open_store.new.host in
     let wanted = c.args.wanted in
     let asks = c.requires.asked t in
-    let only = at_last old mid (ChangesLog old.world) (g.H.Device.sound c.open_store.new.host t) (c.open_store.ensures.log_only t) in
+    let only = at_last old mid (ChangesLog old.world) (g.H.Device.sound c.open_store.new.host t) ((c.open_store.ensures.meanwhile t).log_only) in
     let printed = c.print_config_fault in
     let new = g.H.Device.history printed.new.host in
     let outcome = c.without.result in
     let differs = subst (ComparesShape wanted old.world) c.in-Err-Shape.field-0-is (c.in-Err-Shape.ensures.compared t) in
-    let first = c.open_store.ensures.untouched t (inl (c.in-Err-Shape.field, differs)) in
+    let first = (c.open_store.ensures.meanwhile t).untouched (inl (c.in-Err-Shape.field, differs)) in
     let same : mid.world ≡ old.world = at_last old mid (IsSame old.world) (g.H.Device.sound c.open_store.new.host t) first in
     crash_from old mid new outcome.order.items first same (refused_moments mid new outcome.order.items 99 (codes "onfig " ++ name_of c.in-Err-Shape.field ++ codes "\n") none_with_c (printed.ensures.moments t))
 
@@ -142,12 +142,12 @@ returns-in-Err-Shape-clause-files g c t =
     let mid = g.H.Device.history c.open_store.new.host in
     let wanted = c.args.wanted in
     let asks = c.requires.asked t in
-    let only = at_last old mid (ChangesLog old.world) (g.H.Device.sound c.open_store.new.host t) (c.open_store.ensures.log_only t) in
+    let only = at_last old mid (ChangesLog old.world) (g.H.Device.sound c.open_store.new.host t) ((c.open_store.ensures.meanwhile t).log_only) in
     let printed = c.print_config_fault in
     let new = g.H.Device.history printed.new.host in
     let outcome = c.without.result in
     let differs = subst (ComparesShape wanted old.world) c.in-Err-Shape.field-0-is (c.in-Err-Shape.ensures.compared t) in
-    let first = c.open_store.ensures.untouched t (inl (c.in-Err-Shape.field, differs)) in
+    let first = (c.open_store.ensures.meanwhile t).untouched (inl (c.in-Err-Shape.field, differs)) in
     let same : mid.world ≡ old.world = at_last old mid (IsSame old.world) (g.H.Device.sound c.open_store.new.host t) first in
     then_calls old mid new (g.H.Device.sound c.open_store.new.host t) (same_calls old mid first) (say_calls (fault_config c.in-Err-Shape.field) mid new (printed.ensures.moments t))
 
@@ -157,10 +157,10 @@ returns-in-Err-Store-Failed-clause-run g c t =
     let mid = g.H.Device.history c.open_store.new.host in
     let wanted = c.args.wanted in
     let asks = c.requires.asked t in
-    let only = at_last old mid (ChangesLog old.world) (g.H.Device.sound c.open_store.new.host t) (c.open_store.ensures.log_only t) in
+    let only = at_last old mid (ChangesLog old.world) (g.H.Device.sound c.open_store.new.host t) ((c.open_store.ensures.meanwhile t).log_only) in
     let outcome = c.without-in-Err-Store-Failed.result in
     idle_run old mid outcome.status outcome.lines outcome.order.items (inl c.without-in-Err-Store-Failed.ensures.status) only.said c.without-in-Err-Store-Failed.ensures.lines c.without-in-Err-Store-Failed.ensures.order
-    (λ none. same_log old mid (c.open_store.ensures.untouched t (can_not_open old.world wanted asks none)))
+    (λ none. same_log old mid ((c.open_store.ensures.meanwhile t).untouched (can_not_open old.world wanted asks none)))
 
 pub returns-in-Err-Store-Failed-clause-crash : goal.returns-in-Err-Store-Failed-clause-crash
 returns-in-Err-Store-Failed-clause-crash g c t =
@@ -168,12 +168,12 @@ returns-in-Err-Store-Failed-clause-crash g c t =
     let mid = g.H.Device.history c.open_store.new.host in
     let wanted = c.args.wanted in
     let asks = c.requires.asked t in
-    let only = at_last old mid (ChangesLog old.world) (g.H.Device.sound c.open_store.new.host t) (c.open_store.ensures.log_only t) in
+    let only = at_last old mid (ChangesLog old.world) (g.H.Device.sound c.open_store.new.host t) ((c.open_store.ensures.meanwhile t).log_only) in
     let order = c.without-in-Err-Store-Failed.result.order.items in
     let keeps : (shape : Shape) (pairs : Pairs) (start : IsStart wanted old.world shape pairs) → AllMoments old mid (CrashHoldsAcknowledged wanted (last_segment start.holds + 16777216) old.world shape pairs order) = λ shape pairs start.
     let end : ℕ = last_segment start.holds in
-    bounded_moments wanted old.world shape pairs start (end + 1) (end + 16777216) order old mid (omega arith) (omega arith) (c.open_store.ensures.above t start.holds.log.frames start.holds.log.log)
-    (opening_moments wanted old mid shape pairs order (c.open_store.ensures.crash t shape pairs start.holds start.numbers start.quiet) (c.open_store.ensures.log_only t))
+    bounded_moments wanted old.world shape pairs start (end + 1) (end + 16777216) order old mid (omega arith) (omega arith) ((c.open_store.ensures.meanwhile t).above start.holds.log.frames start.holds.log.log)
+    (opening_moments wanted old mid shape pairs order ((c.open_store.ensures.meanwhile t).crash shape pairs start.holds start.numbers start.quiet) ((c.open_store.ensures.meanwhile t).log_only))
     in
     subst (λ (s : Shape). (shape : Shape) (pairs : Pairs) (start : IsStart s old.world shape pairs) → AllMoments old mid (CrashHoldsAcknowledged s (last_segment start.holds + 16777216) old.world shape pairs order)) (sym asks.wanted_is) keeps
 
@@ -183,8 +183,8 @@ returns-in-Err-Store-Failed-clause-files g c t =
     let mid = g.H.Device.history c.open_store.new.host in
     let wanted = c.args.wanted in
     let asks = c.requires.asked t in
-    let only = at_last old mid (ChangesLog old.world) (g.H.Device.sound c.open_store.new.host t) (c.open_store.ensures.log_only t) in
-    log_calls old mid (c.open_store.ensures.log_only t)
+    let only = at_last old mid (ChangesLog old.world) (g.H.Device.sound c.open_store.new.host t) ((c.open_store.ensures.meanwhile t).log_only) in
+    log_calls old mid ((c.open_store.ensures.meanwhile t).log_only)
 
 pub returns-in-Err-Store-Memory-clause-run : goal.returns-in-Err-Store-Memory-clause-run
 returns-in-Err-Store-Memory-clause-run g c t =
@@ -192,10 +192,10 @@ returns-in-Err-Store-Memory-clause-run g c t =
     let mid = g.H.Device.history c.open_store.new.host in
     let wanted = c.args.wanted in
     let asks = c.requires.asked t in
-    let only = at_last old mid (ChangesLog old.world) (g.H.Device.sound c.open_store.new.host t) (c.open_store.ensures.log_only t) in
+    let only = at_last old mid (ChangesLog old.world) (g.H.Device.sound c.open_store.new.host t) ((c.open_store.ensures.meanwhile t).log_only) in
     let outcome = c.without-in-Err-Store-Memory.result in
     idle_run old mid outcome.status outcome.lines outcome.order.items (inr c.without-in-Err-Store-Memory.ensures.status) only.said c.without-in-Err-Store-Memory.ensures.lines c.without-in-Err-Store-Memory.ensures.order
-    (λ none. same_log old mid (c.open_store.ensures.untouched t (can_not_open old.world wanted asks none)))
+    (λ none. same_log old mid ((c.open_store.ensures.meanwhile t).untouched (can_not_open old.world wanted asks none)))
 
 pub returns-in-Err-Store-Memory-clause-crash : goal.returns-in-Err-Store-Memory-clause-crash
 returns-in-Err-Store-Memory-clause-crash g c t =
@@ -203,12 +203,12 @@ returns-in-Err-Store-Memory-clause-crash g c t =
     let mid = g.H.Device.history c.open_store.new.host in
     let wanted = c.args.wanted in
     let asks = c.requires.asked t in
-    let only = at_last old mid (ChangesLog old.world) (g.H.Device.sound c.open_store.new.host t) (c.open_store.ensures.log_only t) in
+    let only = at_last old mid (ChangesLog old.world) (g.H.Device.sound c.open_store.new.host t) ((c.open_store.ensures.meanwhile t).log_only) in
     let order = c.without-in-Err-Store-Memory.result.order.items in
     let keeps : (shape : Shape) (pairs : Pairs) (start : IsStart wanted old.world shape pairs) → AllMoments old mid (CrashHoldsAcknowledged wanted (last_segment start.holds + 16777216) old.world shape pairs order) = λ shape pairs start.
     let end : ℕ = last_segment start.holds in
-    bounded_moments wanted old.world shape pairs start (end + 1) (end + 16777216) order old mid (omega arith) (omega arith) (c.open_store.ensures.above t start.holds.log.frames start.holds.log.log)
-    (opening_moments wanted old mid shape pairs order (c.open_store.ensures.crash t shape pairs start.holds start.numbers start.quiet) (c.open_store.ensures.log_only t))
+    bounded_moments wanted old.world shape pairs start (end + 1) (end + 16777216) order old mid (omega arith) (omega arith) ((c.open_store.ensures.meanwhile t).above start.holds.log.frames start.holds.log.log)
+    (opening_moments wanted old mid shape pairs order ((c.open_store.ensures.meanwhile t).crash shape pairs start.holds start.numbers start.quiet) ((c.open_store.ensures.meanwhile t).log_only))
     in
     subst (λ (s : Shape). (shape : Shape) (pairs : Pairs) (start : IsStart s old.world shape pairs) → AllMoments old mid (CrashHoldsAcknowledged s (last_segment start.holds + 16777216) old.world shape pairs order)) (sym asks.wanted_is) keeps
 
@@ -218,8 +218,8 @@ returns-in-Err-Store-Memory-clause-files g c t =
     let mid = g.H.Device.history c.open_store.new.host in
     let wanted = c.args.wanted in
     let asks = c.requires.asked t in
-    let only = at_last old mid (ChangesLog old.world) (g.H.Device.sound c.open_store.new.host t) (c.open_store.ensures.log_only t) in
-    log_calls old mid (c.open_store.ensures.log_only t)
+    let only = at_last old mid (ChangesLog old.world) (g.H.Device.sound c.open_store.new.host t) ((c.open_store.ensures.meanwhile t).log_only) in
+    log_calls old mid ((c.open_store.ensures.meanwhile t).log_only)
 
 pub returns-in-Err-Store-BadRecord-clause-run : goal.returns-in-Err-Store-BadRecord-clause-run
 returns-in-Err-Store-BadRecord-clause-run g c t =
@@ -227,14 +227,14 @@ returns-in-Err-Store-BadRecord-clause-run g c t =
     let mid = g.H.Device.history c.open_store.new.host in
     let wanted = c.args.wanted in
     let asks = c.requires.asked t in
-    let only = at_last old mid (ChangesLog old.world) (g.H.Device.sound c.open_store.new.host t) (c.open_store.ensures.log_only t) in
+    let only = at_last old mid (ChangesLog old.world) (g.H.Device.sound c.open_store.new.host t) ((c.open_store.ensures.meanwhile t).log_only) in
     let printed = c.print_record_fault in
     let new = g.H.Device.history printed.new.host in
     let outcome = c.without-in-Err-Store-BadRecord.result in
     let at = c.in-Err-Store-BadRecord.at in
     let err = c.in-Err-Store-BadRecord.field-0-is ∙ ap Store c.in-Err-Store-BadRecord.field-0-0-is in
     let bad = c.in-Err-Store-BadRecord.ensures.bad t at (ap Err err) in
-    let first = c.open_store.ensures.untouched t (inr bad.unsound) in
+    let first = (c.open_store.ensures.meanwhile t).untouched (inr bad.unsound) in
     let same : mid.world ≡ old.world = at_last old mid (IsSame old.world) (g.H.Device.sound c.open_store.new.host t) first in
     let alike : shape_fault wanted old.world ≡ None = subst (ComparesShape wanted old.world) err (c.in-Err-Store-BadRecord.ensures.compared t) in
     run_from old mid new outcome.status outcome.lines outcome.order.items first same
@@ -247,14 +247,14 @@ returns-in-Err-Store-BadRecord-clause-crash g c t shape pairs start =
     let mid = g.H.Device.history c.open_store.new.host in
     let wanted = c.args.wanted in
     let asks = c.requires.asked t in
-    let only = at_last old mid (ChangesLog old.world) (g.H.Device.sound c.open_store.new.host t) (c.open_store.ensures.log_only t) in
+    let only = at_last old mid (ChangesLog old.world) (g.H.Device.sound c.open_store.new.host t) ((c.open_store.ensures.meanwhile t).log_only) in
     let printed = c.print_record_fault in
     let new = g.H.Device.history printed.new.host in
     let outcome = c.without-in-Err-Store-BadRecord.result in
     let at = c.in-Err-Store-BadRecord.at in
     let err = c.in-Err-Store-BadRecord.field-0-is ∙ ap Store c.in-Err-Store-BadRecord.field-0-0-is in
     let bad = c.in-Err-Store-BadRecord.ensures.bad t at (ap Err err) in
-    let first = c.open_store.ensures.untouched t (inr bad.unsound) in
+    let first = (c.open_store.ensures.meanwhile t).untouched (inr bad.unsound) in
     let same : mid.world ≡ old.world = at_last old mid (IsSame old.world) (g.H.Device.sound c.open_store.new.host t) first in
     absurd (bad.unsound shape pairs (subst (λ s. IsStart s old.world shape pairs) asks.wanted_is start).holds.log)
 
@@ -264,13 +264,13 @@ returns-in-Err-Store-BadRecord-clause-files g c t =
     let mid = g.H.Device.history c.open_store.new.host in
     let wanted = c.args.wanted in
     let asks = c.requires.asked t in
-    let only = at_last old mid (ChangesLog old.world) (g.H.Device.sound c.open_store.new.host t) (c.open_store.ensures.log_only t) in
+    let only = at_last old mid (ChangesLog old.world) (g.H.Device.sound c.open_store.new.host t) ((c.open_store.ensures.meanwhile t).log_only) in
     let printed = c.print_record_fault in
     let new = g.H.Device.history printed.new.host in
     let outcome = c.without-in-Err-Store-BadRecord.result in
     let at = c.in-Err-Store-BadRecord.at in
     let err = c.in-Err-Store-BadRecord.field-0-is ∙ ap Store c.in-Err-Store-BadRecord.field-0-0-is in
     let bad = c.in-Err-Store-BadRecord.ensures.bad t at (ap Err err) in
-    let first = c.open_store.ensures.untouched t (inr bad.unsound) in
+    let first = (c.open_store.ensures.meanwhile t).untouched (inr bad.unsound) in
     let same : mid.world ≡ old.world = at_last old mid (IsSame old.world) (g.H.Device.sound c.open_store.new.host t) first in
     then_calls old mid new (g.H.Device.sound c.open_store.new.host t) (same_calls old mid first) (say_calls (fault_record at) mid new (printed.ensures.moments t))
