@@ -3,7 +3,7 @@ use Rattle.std.proofs.Common.{◌≡◌, ◌⊎◌, inl, inr, ℕ, zero, suc, �
 use Rattle.std.specs.Prelude.{slice_get, IsNone}
 use Rattle.std.proofs.lemmas.List.{take-append-le, take_all}
 use Rattle.pm_disk.specs.Files.{File, Change, after, changed, at_change, content, bytes_of, with_change, all_forced}
-use Rattle.pm_disk.specs.Images.{Touches, Untouched, Leaves, Below, Lasting}
+use Rattle.pm_disk.specs.Images.{Touches, Untouched, Leaves, Lasting}
 
 -- one change more
 pub after-push : (changes : List Change) (change : Change) (file : Option (List ℕ)) → after (changes ++ change ∷ []) file ≡ changed change (after changes file)
@@ -52,14 +52,14 @@ no_bytes None is = refl
 no_bytes (Some bytes) is = cc
 
 -- lasting bytes are kept
-pub kept : (file : File) (off : ℕ) (left : Option (List ℕ)) → Below file off → Leaves file left → Kept file off left
+pub kept : (file : File) (off : ℕ) (left : Option (List ℕ)) → Lasting file 0 off → Leaves file left → Kept file off left
 kept file off None below leaves =
     let none : bytes_of (at_change file leaves.0) ≡ [] = no_bytes (at_change file leaves.0) leaves.2 in
     let zero_off : off ≤ 0 = subst (λ (l : List ℕ). off ≤ length l) none (below.long leaves.0 leaves.1) in
     record { long = zero_off; same = λ i lt. absurd (omega (arith, lt, zero_off)) }
 kept file off (Some left) below leaves =
     let long : off ≤ length left = omega (arith, leaves.no_shorter.2, below.long leaves.no_shorter.0 leaves.no_shorter.1) in
-    record { long = long; same = λ i lt. leaves.kept i (omega (arith, lt, long)) (omega (arith, lt, below.forced)) (below.untouched i lt) }
+    record { long = long; same = λ i lt. leaves.kept i (omega (arith, lt, long)) (omega (arith, lt, below.forced)) (below.untouched i (omega arith) lt) }
 
 -- what a crash left is no longer than the file was at each moment
 pub no_longer : (file : File) (n : ℕ) (left : Option (List ℕ)) → ((k : ℕ) → k ≤ length file.since → length (bytes_of (at_change file k)) ≤ n) → Leaves file left → length (bytes_of left) ≤ n
@@ -67,12 +67,12 @@ no_longer file n None short leaves = omega arith
 no_longer file n (Some left) short leaves = omega (arith, leaves.no_longer.2, short leaves.no_longer.0 leaves.no_longer.1)
 
 -- with nothing pending all bytes are lasting
-pub quiet_below : (file : File) → file.since ≡ [] → Below file (length (bytes_of file.forced))
+pub quiet_below : (file : File) → file.since ≡ [] → Lasting file 0 (length (bytes_of file.forced))
 quiet_below file quiet = record {
   forced = omega arith;
-  untouched = λ i lt. subst (λ (cs : List Change). Untouched cs i) (sym quiet) tt;
+  untouched = λ i from lt. subst (λ (cs : List Change). Untouched cs i) (sym quiet) tt;
   long = λ k le. subst (λ (cs : List Change). length (bytes_of file.forced) ≤ length (bytes_of (after (take k cs) file.forced))) (sym quiet) (long k);
-  same = λ k le i lt. subst (λ (cs : List Change). slice_get (bytes_of (after (take k cs) file.forced)) i ≡ slice_get (bytes_of file.forced) i) (sym quiet) (same k i);
+  same = λ k le i from lt. subst (λ (cs : List Change). slice_get (bytes_of (after (take k cs) file.forced)) i ≡ slice_get (bytes_of file.forced) i) (sym quiet) (same k i);
 }
   where
     long : (k : ℕ) → length (bytes_of file.forced) ≤ length (bytes_of (after (take k []) file.forced))
@@ -87,29 +87,29 @@ pub quiet_content : (file : File) → file.since ≡ [] → content file ≡ fil
 quiet_content file quiet = ap (λ (cs : List Change). after cs file.forced) quiet
 
 -- fewer bytes are lasting too
-pub below_less : (file : File) (m n : ℕ) → m ≤ n → Below file n → Below file m
+pub below_less : (file : File) (m n : ℕ) → m ≤ n → Lasting file 0 n → Lasting file 0 m
 below_less file m n le below = record {
   forced = omega (arith, le, below.forced);
-  untouched = λ i lt. below.untouched i (omega (arith, lt, le));
+  untouched = λ i from lt. below.untouched i from (omega (arith, lt, le));
   long = λ k k_le. omega (arith, le, below.long k k_le);
-  same = λ k k_le i lt. below.same k k_le i (omega (arith, lt, le));
+  same = λ k k_le i from lt. below.same k k_le i from (omega (arith, lt, le));
 }
 
 -- what is lasting stands in the content
-pub content_same : (file : File) (off : ℕ) → Below file off → (i : ℕ) → i < off → slice_get (bytes_of (content file)) i ≡ slice_get (bytes_of file.forced) i
-content_same file off below i lt = ap (λ (o : Option (List ℕ)). slice_get (bytes_of o) i) (sym (at_change-last file (length file.since) (omega arith))) ∙ below.same (length file.since) (omega arith) i lt
+pub content_same : (file : File) (off : ℕ) → Lasting file 0 off → (i : ℕ) → i < off → slice_get (bytes_of (content file)) i ≡ slice_get (bytes_of file.forced) i
+content_same file off below i lt = ap (λ (o : Option (List ℕ)). slice_get (bytes_of o) i) (sym (at_change-last file (length file.since) (omega arith))) ∙ below.same (length file.since) (omega arith) i (omega arith) lt
 
-pub content_long : (file : File) (off : ℕ) → Below file off → off ≤ length (bytes_of (content file))
+pub content_long : (file : File) (off : ℕ) → Lasting file 0 off → off ≤ length (bytes_of (content file))
 content_long file off below = subst (λ (o : Option (List ℕ)). off ≤ length (bytes_of o)) (at_change-last file (length file.since) (omega arith)) (below.long (length file.since) (omega arith))
 
 -- one change more, which keeps them
-pub below_push : (file : File) (change : Change) (off : ℕ) → Below file off → ((i : ℕ) → i < off → Touches change i → ⊥) → off ≤ length (bytes_of (changed change (content file)))
-    → ((i : ℕ) → i < off → slice_get (bytes_of (changed change (content file))) i ≡ slice_get (bytes_of (content file)) i) → Below (with_change file change) off
+pub below_push : (file : File) (change : Change) (off : ℕ) → Lasting file 0 off → ((i : ℕ) → i < off → Touches change i → ⊥) → off ≤ length (bytes_of (changed change (content file)))
+    → ((i : ℕ) → i < off → slice_get (bytes_of (changed change (content file))) i ≡ slice_get (bytes_of (content file)) i) → Lasting (with_change file change) 0 off
 below_push file change off below apart long same = record {
   forced = below.forced;
-  untouched = λ i lt. untouched-push file.since change i (below.untouched i lt) (apart i lt);
+  untouched = λ i from lt. untouched-push file.since change i (below.untouched i from lt) (apart i lt);
   long = each_change file change (λ o. off ≤ length (bytes_of o)) below.long long;
-  same = each_change file change (λ o. (i : ℕ) → i < off → slice_get (bytes_of o) i ≡ slice_get (bytes_of file.forced) i) below.same (λ i lt. same i lt ∙ content_same file off below i lt);
+  same = each_change file change (λ o. (i : ℕ) → 0 ≤ i → i < off → slice_get (bytes_of o) i ≡ slice_get (bytes_of file.forced) i) below.same (λ i from lt. same i lt ∙ content_same file off below i lt);
 }
 
 -- what a crash left has the bytes between these offsets
@@ -143,9 +143,9 @@ quiet_lasting file low high quiet le =
     let below = quiet_below file quiet in
     record {
       forced = le;
-      untouched = λ i i_le lt. below.untouched i (omega (arith, lt, le));
+      untouched = λ i i_le lt. below.untouched i (omega arith) (omega (arith, lt, le));
       long = λ k k_le. omega (arith, le, below.long k k_le);
-      same = λ k k_le i i_le lt. below.same k k_le i (omega (arith, lt, le));
+      same = λ k k_le i i_le lt. below.same k k_le i (omega arith) (omega (arith, lt, le));
     }
 
 -- lists that agree at each place

@@ -70,14 +70,8 @@ pub record NothingPending (world : World) : Type 0 where
   pub starts : world.starts.since ≡ []
   pub ends : world.ends.since ≡ []
 
--- The bytes below this offset are lasting: they were forced, and no change since touched them or left the file shorter.
-pub record Below (file : File) (off : ℕ) : Type 0 where
-  pub forced : off ≤ length (bytes_of file.forced)
-  pub untouched : (i : ℕ) → i < off → Untouched file.since i
-  pub long : (k : ℕ) → k ≤ length file.since → off ≤ length (bytes_of (at_change file k))
-  pub same : (k : ℕ) → k ≤ length file.since → (i : ℕ) → i < off → slice_get (bytes_of (at_change file k)) i ≡ slice_get (bytes_of file.forced) i
-
--- The same of the bytes between two offsets.
+-- The bytes between these offsets are lasting: they were forced, and no change since touched them or left the
+-- file shorter.
 pub record Lasting (file : File) (low high : ℕ) : Type 0 where
   pub forced : high ≤ length (bytes_of file.forced)
   pub untouched : (i : ℕ) → low ≤ i → i < high → Untouched file.since i

@@ -4,7 +4,7 @@ use Rattle.std.specs.Prelude.{slice_get}
 use Rattle.std.proofs.lemmas.List.{take_all, drop_all, append-nil, length-take}
 use Rattle.pm_disk.specs.Files.{File, Change, Write, Cut, changed, at_change, content, bytes_of, with_change, all_forced}
 use Rattle.pm_disk.specs.Worlds.{with_file}
-use Rattle.pm_disk.specs.Images.{Below}
+use Rattle.pm_disk.specs.Images.{Lasting}
 use Rattle.pm_disk.proofs.Families.{file_here, file_there, file_cases}
 use Rattle.pm_disk.proofs.Files.{quiet_below, each_change, content_change, below_push, content_long, below_less, forced_change}
 use Rattle.pm_disk.proofs.Writes.{slice_get-take, slice_get-append_left}
@@ -91,7 +91,7 @@ module _ (g : Grammar) (laws : IsGrammar g) (seg end : ℕ) (file : File) (f : F
     λ open_. stood_append (off + frame_len p) fs plain.1 run.1 (omega (arith, at)) (stood.2 plain.0),
   )
 
-  pub below_append : (off : ℕ) → off ≤ end → Below file off → Below grown off
+  pub below_append : (off : ℕ) → off ≤ end → Lasting file 0 off → Lasting grown 0 off
   below_append off le below = below_push file (Write end bytes) off below (λ i lt touch. absurd (omega (arith, lt, le, touch.0))) (omega (arith, now_length, le))
       (λ i lt. ap (λ (l : List ℕ). slice_get l i) now_is ∙ slice_get-append_left before bytes i (omega (arith, lt, le, is_end)))
 
@@ -119,7 +119,7 @@ log_append g laws log low at pending f bytes s plain fits is_bytes numbered =
     record {
       reaches = s.reaches;
       older = file_cases log at.seg grown (λ m x. low ≤ m → m < at.seg → x.since ≡ []) (λ le no. absurd (omega (arith, no))) (λ m apart. s.older m);
-      below = subst (λ (x : File). Below x at.off) back (below_append g laws at.seg end file f bytes w.exact is_bytes fits w.short numbered at.off (omega arith) s.below);
+      below = subst (λ (x : File). Lasting x 0 at.off) back (below_append g laws at.seg end file f bytes w.exact is_bytes fits w.short numbered at.off (omega arith) s.below);
       stood = subst (λ (x : File). OnlyTheseStood g at.seg x at.off (pending ++ f ∷ [])) back (stood_append g laws at.seg end file f bytes w.exact is_bytes fits w.short numbered at.off pending plain w.run refl s.stood);
       above = file_cases log at.seg grown (λ m x. at.seg < m → (k : ℕ) → k ≤ length x.since → length (bytes_of (at_change x k)) ≤ 0) (λ no. absurd (omega (arith, no))) (λ m apart. s.above m);
       tail_is = record {
@@ -143,7 +143,7 @@ log_cut g laws log low at tail s =
     record {
       reaches = s.reaches;
       older = file_cases log at.seg new (λ m x. low ≤ m → m < at.seg → x.since ≡ []) (λ le no. absurd (omega (arith, no))) (λ m apart. s.older m);
-      below = subst (λ (x : File). Below x at.off) back (below_push file c at.off s.below (λ i lt touch. absurd (omega (arith, lt, touch))) (omega (arith, len)) (λ i lt. slice_get-take at.off (bytes_of (content file)) i lt));
+      below = subst (λ (x : File). Lasting x 0 at.off) back (below_push file c at.off s.below (λ i lt touch. absurd (omega (arith, lt, touch))) (omega (arith, len)) (λ i lt. slice_get-take at.off (bytes_of (content file)) i lt));
       stood = subst (λ (x : File). OnlyTheseStood g at.seg x at.off []) back
           (each_change file c (λ o. g.frame_at at.seg at.off (bytes_of o) ≡ None) s.stood (none_past g laws at.seg at.off (take at.off (bytes_of (content file))) (omega (arith, len))));
       above = file_cases log at.seg new (λ m x. at.seg < m → (k : ℕ) → k ≤ length x.since → length (bytes_of (at_change x k)) ≤ 0) (λ no. absurd (omega (arith, no))) (λ m apart. s.above m);
@@ -162,7 +162,7 @@ log_force g laws log low at pending s plain =
     record {
       reaches = s.reaches;
       older = file_cases log at.seg new (λ m x. low ≤ m → m < at.seg → x.since ≡ []) (λ le no. absurd (omega (arith, no))) (λ m apart. s.older m);
-      below = subst (λ (x : File). Below x end) back (below_less new end (length (bytes_of (content file))) (omega (arith, w.exact)) (quiet_below new refl));
+      below = subst (λ (x : File). Lasting x 0 end) back (below_less new end (length (bytes_of (content file))) (omega (arith, w.exact)) (quiet_below new refl));
       stood = subst (λ (x : File). OnlyTheseStood g at.seg x end []) back (forced_change file (λ o. g.frame_at at.seg end (bytes_of o) ≡ None) (none_past g laws at.seg end (bytes_of (content file)) (omega (arith, w.exact))));
       above = file_cases log at.seg new (λ m x. at.seg < m → (k : ℕ) → k ≤ length x.since → length (bytes_of (at_change x k)) ≤ 0) (λ no. absurd (omega (arith, no))) (λ m apart. s.above m);
       tail_is = record {
@@ -183,7 +183,7 @@ log_force_sealed g laws log low at pending s =
     record {
       reaches = omega (arith, s.reaches);
       older = file_cases log at.seg new (λ m x. low ≤ m → m < at.seg + 1 → x.since ≡ []) (λ le lt. refl) (λ m apart le lt. s.older m le (omega arith));
-      below = record { forced = omega arith; untouched = λ i lt. absurd (omega (arith, lt)); long = λ k le. omega arith; same = λ k le i lt. absurd (omega (arith, lt)) };
+      below = record { forced = omega arith; untouched = λ i from lt. absurd (omega (arith, lt)); long = λ k le. omega arith; same = λ k le i from lt. absurd (omega (arith, lt)) };
       stood = subst (λ (x : File). OnlyTheseStood g (at.seg + 1) x 0 []) (sym there) (λ k le. none_past g laws (at.seg + 1) 0 (bytes_of (at_change (log (at.seg + 1)) k)) (empty k le));
       above = file_cases log at.seg new (λ m x. at.seg + 1 < m → (k : ℕ) → k ≤ length x.since → length (bytes_of (at_change x k)) ≤ 0) (λ isnt. absurd (omega (arith, isnt))) (λ m apart lt. s.above m (omega (arith, lt)));
       tail_is = refl;
@@ -200,7 +200,7 @@ log_force_cut g laws log low at s =
     record {
       reaches = s.reaches;
       older = file_cases log at.seg new (λ m x. low ≤ m → m < at.seg → x.since ≡ []) (λ le isnt. absurd (omega (arith, isnt))) (λ m apart. s.older m);
-      below = subst (λ (x : File). Below x at.off) back (below_less new at.off (length (bytes_of (content file))) (omega (arith, exact)) (quiet_below new refl));
+      below = subst (λ (x : File). Lasting x 0 at.off) back (below_less new at.off (length (bytes_of (content file))) (omega (arith, exact)) (quiet_below new refl));
       stood = subst (λ (x : File). OnlyTheseStood g at.seg x at.off []) back (forced_change file (λ o. g.frame_at at.seg at.off (bytes_of o) ≡ None) (none_past g laws at.seg at.off (bytes_of (content file)) (omega (arith, exact))));
       above = file_cases log at.seg new (λ m x. at.seg < m → (k : ℕ) → k ≤ length x.since → length (bytes_of (at_change x k)) ≤ 0) (λ isnt. absurd (omega (arith, isnt))) (λ m apart. s.above m);
       tail_is = record {
@@ -217,7 +217,7 @@ log_below g log low at pending tail seg x lt s =
     record {
       reaches = s.reaches;
       older = file_cases log seg x (λ m y. low ≤ m → m < at.seg → y.since ≡ []) (λ le no. absurd (omega (arith, le, lt))) (λ m apart. s.older m);
-      below = subst (λ (y : File). Below y at.off) there s.below;
+      below = subst (λ (y : File). Lasting y 0 at.off) there s.below;
       stood = subst (λ (y : File). OnlyTheseStood g at.seg y at.off pending) there s.stood;
       above = file_cases log seg x (λ m y. at.seg < m → (k : ℕ) → k ≤ length y.since → length (bytes_of (at_change y k)) ≤ 0) (λ up. absurd (omega (arith, up, lt, s.reaches))) (λ m apart. s.above m);
       tail_is = its_tail tail there s.tail_is;

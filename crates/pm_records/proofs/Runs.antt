@@ -5,7 +5,7 @@ use Rattle.std.proofs.lemmas.Bool.{eqb-true}
 use Rattle.std.proofs.lemmas.List.{nil_from_length}
 use Rattle.std.proofs.lemmas.Option.{same_Some}
 use Rattle.pm_disk.specs.Files.{File, at_change, bytes_of}
-use Rattle.pm_disk.specs.Images.{Below, Leaves, IsTrueOf}
+use Rattle.pm_disk.specs.Images.{Lasting, Leaves, IsTrueOf}
 use Rattle.pm_disk.proofs.Files.{kept, no_longer, quiet_below}
 use Rattle.pm_frame.specs.Frames.{Frame, frame_len}
 use Rattle.pm_types.specs.declared.place.Place.{Place}
@@ -249,6 +249,6 @@ log_image g laws log low at pending tail left files leaves honest = record {
   long = (kept (log at.seg) at.off (left at.seg) files.below (leaves at.seg)).long;
   kept = λ p fs leads. keeps_run g laws (forced_contents log) (λ seg. bytes_of (left seg)) low at p fs
       (λ seg le lt. let k = kept (log seg) (length (bytes_of (log seg).forced)) (left seg) (quiet_below (log seg) (files.older seg le lt)) (leaves seg) in record { long = k.long; same = k.same })
-      (λ seg is. let k = kept (log seg) at.off (left seg) (subst (λ s. Below (log s) at.off) (sym is) files.below) (leaves seg) in record { long = k.long; same = k.same })
+      (λ seg is. let k = kept (log seg) at.off (left seg) (subst (λ s. Lasting (log s) 0 at.off) (sym is) files.below) (leaves seg) in record { long = k.long; same = k.same })
       leads.kept leads.run leads.to;
 }

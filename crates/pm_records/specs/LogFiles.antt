@@ -5,7 +5,7 @@ use Rattle.pm_frame.specs.declared.kinds.TheConstants.{LOGICAL, SEAL}
 use Rattle.pm_frame.specs.declared.limits.TheConstants.{PAYLOAD_MAX}
 use Rattle.pm_frame.specs.Frames.{Frame, frame_len}
 use Rattle.pm_disk.specs.Files.{File, bytes_of, content, at_change}
-use Rattle.pm_disk.specs.Images.{Below}
+use Rattle.pm_disk.specs.Images.{Lasting}
 use Rattle.pm_disk.specs.Worlds.{World}
 use Rattle.pm_records.specs.Logs.{Grammar, all_frames, place, is_seal, is_last, is_over, after_frames, frames_len, without_seals, HasFrames, SegmentHasFrames, IsLogFrom}
 
@@ -53,7 +53,7 @@ TailIs g log at pending Ready = Writable g log at pending
 pub record FilesHoldLog (g : Grammar) (log : ℕ → File) (low : ℕ) (at : Place) (pending : List Frame) (tail : Tail) : Type 0 where
   pub reaches : low ≤ at.seg
   pub older : (seg : ℕ) → low ≤ seg → seg < at.seg → (log seg).since ≡ []
-  pub below : Below (log at.seg) at.off
+  pub below : Lasting (log at.seg) 0 at.off
   pub stood : OnlyTheseStood g at.seg (log at.seg) at.off pending
   pub above : (seg : ℕ) → at.seg < seg → (k : ℕ) → k ≤ length (log seg).since
       → length (bytes_of (at_change (log seg) k)) ≤ 0
