@@ -13,7 +13,7 @@ use Rattle.pm_pages.specs.Asked.{to_read, entry_of, entry_or_new, is_asked, is_l
 use Rattle.pm_pages.specs.PageLists.{pages_in}
 use Rattle.pm_pages.specs.Paged.{Paged, JoinsPatch, IsWhole, with_page, TakesRoom, AsksPage, MakesPage, NotesPatch}
 use Rattle.pm_pages.specs.Plain.{Shown, paged}
-use Rattle.pm_pages.specs.PlainRooms.{AreZeros, IsOfSize, IsOrdered, HasRooms, AreReady}
+use Rattle.pm_pages.specs.PlainRooms.{AreZeros, IsOfSize, IsOrdered, AreReady}
 use Rattle.pm_pages.specs.PlainLaws.{pages_in-set}
 use Rattle.pm_pages.proofs.AskedPages.{length_after}
 

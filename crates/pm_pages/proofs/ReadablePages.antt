@@ -29,7 +29,7 @@ zeros_read size is =
       reuse = λ e. absurd (omega (arith, e, kind));
     }
 
-passes_read : (page_size max_rows part i : ℕ) (page : List ℕ) → PassesAt page_size max_rows part i page → ReadsAt i page
+pub passes_read : (page_size max_rows part i : ℕ) (page : List ℕ) → PassesAt page_size max_rows part i page → ReadsAt i page
 passes_read page_size max_rows part zero page passes = passes.stored.well_made
 passes_read page_size max_rows part (suc i) page passes = elim passes.kind [
   | inl meta ↦ of_kind meta.well_made.size (λ e. absurd (omega (arith, e, meta.well_made.form.kind))) (λ e. absurd (omega (arith, e, meta.well_made.form.kind))) (λ e. absurd (omega (arith, e, meta.well_made.form.kind))) (λ e. absurd (omega (arith, e, meta.well_made.form.kind)))

@@ -1,20 +1,20 @@
 -- Two partitions with the same numbers in the meta page and the same pages below the page count have the same rows, trees and
 -- chains.
-use Rattle.std.proofs.Common.{◌≡◌, ℕ, zero, suc, ◌+◌, ◌/◌, ◌<◌, ◌≤◌, Bool, List, [], ◌∷◌, ◌++◌, ◌==◌, length, cond, refl, sym, ap, subst, ◌∙◌, arith}
-use Rattle.std.specs.Prelude.{All, Any, AllPairs, nat_le, if◌then◌else◌}
+use Rattle.std.proofs.Common.{◌≡◌, ℕ, zero, suc, ◌+◌, ◌/◌, Bool, List, [], ◌∷◌, ◌++◌, ◌==◌, length, refl, sym, ap, subst, ◌∙◌}
+use Rattle.std.specs.Prelude.{All, nat_le, if◌then◌else◌}
 use Rattle.std.specs.List.{flat_map, range_with_len}
 use Rattle.pm_types.specs.Ids.{page_id}
-use Rattle.pm_btpage.specs.IndexPages.{Item, items_of, index_of, capacity_of}
+use Rattle.pm_btpage.specs.IndexPages.{items_of, index_of, capacity_of}
 use Rattle.pm_btpage.specs.declared.layout.TheConstants.{LEAF_KIND, INNER_KIND}
 use Rattle.pm_meta.specs.declared.layout.TheConstants.{BUCKETS, REUSE_KIND}
 use Rattle.pm_types.specs.declared.limits.TheConstants.{CACHES}
 use Rattle.pm_meta.specs.declared.slots.MetaSlot.{MetaSlot}
-use Rattle.pm_meta.specs.declared.slots.MetaSlot.TheVariants.{Root, Bucket, Reuse, Pages, Rows}
+use Rattle.pm_meta.specs.declared.slots.MetaSlot.TheVariants.{Root, Bucket, Reuse, Pages}
 use Rattle.pm_pages.specs.declared.limits.TheConstants.{LEVELS_MAX}
 use Rattle.pm_pages.specs.declared.row.Row.{Row}
 use Rattle.pm_pages.specs.Rows.{Partition, page_at, number_in, page_count, kind_of, rows_on, rows_of}
 use Rattle.pm_pages.specs.Chains.{IsExactly, walk, next_of, before_of, reuse_next_of, bucket_chain, reuse_chain, is_in_bucket, NamesBefore, HasChain, HasReuseChain}
-use Rattle.pm_pages.specs.Trees.{children_of, child_of, levels_from, leaves_below, items_below, nodes_below, IsNode, KeepsBounds, IsTree, AreLinked, first_of, root_of, levels_of, nodes_of, ListsRows, IsTreeOf, HasTree}
+use Rattle.pm_pages.specs.Trees.{children_of, child_of, levels_from, leaves_below, items_below, nodes_below, IsNode, KeepsBounds, IsTree, AreLinked, root_of, levels_of, nodes_of, ListsRows, IsTreeOf, HasTree}
 use Rattle.pm_pages.specs.WellFormed.{placed_pages, EachOnce}
 
 -- the numbers and the pages are the same

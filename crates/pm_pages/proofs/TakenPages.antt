@@ -1,5 +1,5 @@
 -- Pages that are taken and given back, step by step.
-use Rattle.std.proofs.Common.{◌≡◌, ℕ, ◌+◌, ◌-◌, ◌<◌, ◌≤◌, ◌⊎◌, List, replicate, refl, sym, ap, subst, ◌∙◌, inl, inr, arith}
+use Rattle.std.proofs.Common.{◌≡◌, ℕ, ◌+◌, ◌-◌, ◌<◌, ◌≤◌, ◌⊎◌, List, length, replicate, refl, sym, ap, subst, ◌∙◌, inl, inr, arith}
 use Rattle.std.proofs.lemmas.Bool.{ne_eqb, eq-eqb}
 use Rattle.std.specs.Prelude.{Option, Some, IsSome, IsSomeAnd, Result, IfSome}
 use Rattle.pm_pages.specs.Passes.{PassesAt}
@@ -10,9 +10,9 @@ use Rattle.pm_types.specs.declared.fault.PageFault.{PageFault}
 use Rattle.pm_meta.specs.declared.slots.MetaSlot.{MetaSlot}
 use Rattle.pm_meta.specs.declared.slots.MetaSlot.TheVariants.{Reuse, Pages}
 use Rattle.pm_meta.specs.MetaPages.{field_of, next_of, IsStoredReuse}
-use Rattle.pm_pages.specs.Paged.{Paged, IsTold, IsWhole, MakesPage, WritesPage, IsBadPage, IsAfterGap, HasPageCause, HasGapCause, with_page}
+use Rattle.pm_pages.specs.Paged.{Paged, IsTold, IsInHand, IsWhole, MakesPage, WritesPage, IsBadPage, IsAfterGap, HasPageCause, HasGapCause, with_page}
 use Rattle.pm_pages.specs.Edits.{LooksAtPages, EditsPages, HasMeta, IsNumberIn}
-use Rattle.pm_pages.specs.SparePages.{IsMetaOr, SetsNumber, MetaBecomes, Takes, TakesPage, GivesPage, IsReuseIn, HasTakeCause}
+use Rattle.pm_pages.specs.SparePages.{IsMetaOr, SetsNumber, MetaBecomes, Takes, TakesPage, GivesPage, IsReuseIn, IsFirstReuse, IsAfterLast, IsTakenNext, HasTakeCause}
 use Rattle.pm_pages.proofs.EditedPages.{edits_then, edits_more, edits_made, edits_looked, edits_whole, told_still, whole_covers}
 
 -- the meta page is at hand still
@@ -129,29 +129,61 @@ gap_before T a b m i id looks gap = record {
 risen_before : (T : Type 0) (a b : Paged) (m now : ℕ) → LooksAtPages T a b m → HasRisen b.faults now → HasRisen a.faults now
 risen_before T a b m now looks risen = omega (arith, risen, looks.same.faults)
 
-pub cause_looked : {R : Type 0} (T : Type 0) (a b c : Paged) (m : ℕ) (result : Result R PageFault) → LooksAtPages T a b m → HasTakeCause T b c result → HasTakeCause T a c result
-cause_looked T a b c m result looks cause = record {
+-- the meta page is at hand before others were looked at, if it was then
+meta_before : (T : Type 0) (a b : Paged) (m : ℕ) (page : List ℕ) → HasMeta a → LooksAtPages T a b m → IsInHand b 0 page → IsInHand a 0 page
+meta_before T a b m page meta looks hand = record { known = meta.known; asked = meta.asked; page = sym (looks.pages 0 (inr meta.known)) ∙ hand.page }
+
+first_before : (T : Type 0) (a b : Paged) (m i : ℕ) → HasMeta a → LooksAtPages T a b m → IsFirstReuse b i → IsFirstReuse a i
+first_before T a b m i meta looks first = record { some = first.some; meta = first.meta; in_hand = meta_before T a b m first.meta meta looks first.in_hand; head = first.head; below = first.below }
+
+next_before : (T : Type 0) (a b : Paged) (m i : ℕ) → HasMeta a → LooksAtPages T a b m → IsTakenNext b i → IsTakenNext a i
+next_before T a b m i meta looks next = elim next [
+  | inl first ↦ inl (first_before T a b m i meta looks first)
+  | inr last ↦ inr (record { meta = last.meta; in_hand = meta_before T a b m last.meta meta looks last.in_hand; none = last.none; count = last.count })
+]
+
+pub cause_looked : {R : Type 0} (T : Type 0) (a b c : Paged) (m : ℕ) (result : Result R PageFault) → HasMeta a → LooksAtPages T a b m → HasTakeCause T b c result → HasTakeCause T a c result
+cause_looked T a b c m result meta looks cause = record {
   failed = λ e. risen_before T a b m c.faults looks (cause.failed e);
   bad = λ id e. elim (cause.bad id e) [
     | inl names ↦ inl names
     | inr r ↦ elim r [
-      | inl bad ↦ inr (inl (bad.0, bad_before T a b m bad.0 id looks bad.1))
-      | inr gap ↦ inr (inr (gap.0, gap_before T a b m gap.0 id looks gap.1))
+      | inl bad ↦ inr (inl (record { index = bad.index; is_first = first_before T a b m bad.index meta looks bad.is_first; bad = bad_before T a b m bad.index id looks bad.bad }))
+      | inr gap ↦ inr (inr (record { index = gap.index; is_next = next_before T a b m gap.index meta looks gap.is_next; gap = gap_before T a b m gap.index id looks gap.gap }))
     ]
   ];
 }
 
--- of a page that was asked for, or of one made
-pub cause_paged : {R : Type 0} (T : Type 0) (a c : Paged) (i : ℕ) (result : Result R PageFault) → HasPageCause T a c.faults i result → HasTakeCause T a c result
-cause_paged T a c i result cause = record { failed = cause.failed; bad = λ id e. inr (inl (i, cause.bad id e)) }
+-- a number of the reuse chain's first page that is below the page count
+pub first_of : (a : Paged) (i count : ℕ) → 1 ≤ i → IsNumberIn a Reuse i → IsNumberIn a Pages count → i < count → IsFirstReuse a i
+first_of a i count some head number below = record {
+  some = some;
+  meta = head.meta;
+  in_hand = head.in_hand;
+  head = sym head.is;
+  below = omega (arith, below, number_of a Pages count head.meta number head.in_hand.page);
+}
 
-pub cause_gap : {R : Type 0} (T : Type 0) (a c : Paged) (i : ℕ) (result : Result R PageFault) → HasGapCause T a c.faults i result → HasTakeCause T a c result
-cause_gap T a c i result cause = record { failed = cause.failed; bad = λ id e. inr (inr (i, cause.bad id e)) }
+-- the page count, where the reuse chain is empty
+pub last_of : (a : Paged) (i : ℕ) → IsNumberIn a Reuse 0 → IsNumberIn a Pages i → IsAfterLast a i
+last_of a i head number = record {
+  meta = head.meta;
+  in_hand = head.in_hand;
+  none = sym head.is;
+  count = number_of a Pages i head.meta number head.in_hand.page;
+}
+
+-- of the first page of the chain, and of one made
+pub cause_paged : {R : Type 0} (T : Type 0) (a c : Paged) (i : ℕ) (result : Result R PageFault) → IsFirstReuse a i → HasPageCause T a c.faults i result → HasTakeCause T a c result
+cause_paged T a c i result first cause = record { failed = cause.failed; bad = λ id e. inr (inl (record { index = i; is_first = first; bad = cause.bad id e })) }
+
+pub cause_gap : {R : Type 0} (T : Type 0) (a c : Paged) (i : ℕ) (result : Result R PageFault) → IsTakenNext a i → HasGapCause T a c.faults i result → HasTakeCause T a c result
+cause_gap T a c i result next cause = record { failed = cause.failed; bad = λ id e. inr (inr (record { index = i; is_next = next; gap = cause.bad id e })) }
 
 -- a page was made and written as a reuse page, and then it was the first of the chain: the page was given back
-pub gives_made : (T : Type 0) (a b c d e : Paged) (i next : ℕ) (page : List ℕ) → 1 ≤ i → HasMeta a → LooksAtPages T a b 0 → IsNumberIn b Reuse next → MakesPage T b c i → WritesPage c d i page → IsStoredReuse (page_id c.part i) page → next_of page ≡ next
+pub gives_made : (T : Type 0) (a b c d e : Paged) (i next : ℕ) (page : List ℕ) → 1 ≤ i → HasMeta a → LooksAtPages T a b 0 → IsNumberIn b Reuse next → MakesPage T b c i → WritesPage c d i page → length page ≡ c.page_size → IsStoredReuse (page_id c.part i) page → next_of page ≡ next
     → EditsPages T d e (λ j. j ≡ 0) 0 → MetaBecomes d e (λ was now. SetsNumber was now Reuse i) → GivesPage T a e i
-gives_made T a b c d e i next page some meta looks number makes writes stored is edits sets =
+gives_made T a b c d e i next page some meta looks number makes writes size stored is edits sets =
     let none : i ≡ 0 → ⊥ = λ z. omega (arith, z, some) in
     let none' : 0 ≡ i → ⊥ = λ z. omega (arith, z, some) in
     let told0 : IsTold T a 0 = inr meta.known in
@@ -164,6 +196,7 @@ gives_made T a b c d e i next page some meta looks number makes writes stored is
           (edits_then T a d e (λ j. (j ≡ i) ⊎ (j ≡ i)) (λ j. j ≡ 0) (0 + 1 + 0) 0 (edits_then T a c d (λ j. j ≡ i) (λ j. j ≡ i) (0 + 1) 0 made written) edits);
       page = page;
       here = edits.others i (inr (writes.known i ∙ makes.lends.known)) none ∙ writes.pages i ∙ here;
+      size = size ∙ makes.same.page_size ∙ looks.same.page_size;
       stored = subst (λ n. IsStoredReuse (page_id n i) page) part stored;
       meta = record { known = edits.known 0 (writes.known 0 ∙ makes.known 0 (looks.known 0 meta.known)); asked = edits.asked 0 (writes.asked 0 ∙ makes.room.others 0 (looks.asked 0 meta.asked)); there = subst IsSome (sym sets.after) refl };
       numbers = record {

@@ -2,11 +2,7 @@
 use Rattle.std.proofs.Common.{◌≡◌, ℕ, ◌+◌, ◌<◌, List, [], ◌∷◌, ◌++◌, length, drop, get_or, append_assoc, subst, sym, ap, ◌∙◌, arith}
 use Rattle.std.specs.Prelude.{◌↔◌, All, Any}
 use Rattle.std.proofs.lemmas.List.{length-map, drop_more, get_or_default, map-append, get_or-map}
-use Rattle.pm_types.specs.Keys.{HasKeyLength}
-use Rattle.pm_types.specs.Fields.{bytes_at}
-use Rattle.pm_types.proofs.Unchanged.{length-bytes_at}
-use Rattle.pm_btpage.specs.IndexPages.{Item, items_of, key_in, key_len_at, offset_of, IsIndexPage, IsRising}
-use Rattle.pm_btpage.proofs.ItemsByIndex.{key_in-items_of, item_bounds}
+use Rattle.pm_btpage.specs.IndexPages.{Item, key_in, IsRising}
 use Rattle.pm_pages.specs.declared.well_formed.listing.TreeItem.{TreeItem}
 use Rattle.pm_pages.specs.declared.row.Row.{Row}
 use Rattle.pm_pages.specs.TreeItems.{as_item, as_items}

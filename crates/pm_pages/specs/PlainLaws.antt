@@ -1,9 +1,9 @@
 -- The laws of plain pages.
-use Rattle.std.proofs.Common.{◌≡◌, ◌≢◌, ℕ, ◌+◌, ◌<◌, ◌≤◌, List, length, set, get_or, take, drop, ◌++◌, refl, sym, ap, subst, ◌∙◌, inl, inr, arith}
+use Rattle.std.proofs.Common.{◌≡◌, ℕ, ◌<◌, List, length, set, take, drop, ◌++◌, refl, sym, ap, subst, ◌∙◌, inl, inr, arith}
 use Rattle.std.specs.Prelude.{Vec, Option, None, Some, IsSome, IsTrue, All, slice_get}
 use Rattle.std.specs.Global.{Global}
 use Rattle.std.specs.Option.{option_map}
-use Rattle.std.specs.Vec.{vec_capacity, with_item, with_items}
+use Rattle.std.specs.Vec.{vec_capacity, with_items}
 use Rattle.std.proofs.lemmas.Bool.{cases_eq, cases_lt, eq-eqb, ne_eqb}
 use Rattle.std.proofs.lemmas.List.{length-set, get_or-set_same, get_or-set_other}
 use Rattle.std.proofs.lemmas.List.Elements.{All-set}
@@ -15,7 +15,7 @@ use Rattle.pm_pages.specs.declared.plain.PlainPages.{PlainPages}
 use Rattle.pm_pages.specs.Asked.{entry_of, is_lent_in}
 use Rattle.pm_pages.specs.PageLists.{pages_in}
 use Rattle.pm_pages.specs.Paged.{with_page, WritesPage}
-use Rattle.pm_pages.specs.PlainRooms.{IsOfSize, HasRooms, AreReady}
+use Rattle.pm_pages.specs.PlainRooms.{IsOfSize, AreReady}
 use Rattle.pm_pages.specs.Plain.{refilled, pages_with, plain_seen, plain_written, ArePlainReady, KeepsPlain}
 
 pub kept_refl : (p : PlainPages) → KeepsPlain p p

@@ -1,7 +1,9 @@
 //! Pages that are taken for a new use, and pages that are given back.
 
-ghost use Rattle.std.specs.Prelude.{◌≡◌, ◌≢◌, ℕ, ◌+◌, ◌-◌, ◌^◌, ◌<◌, ◌≤◌, ◌⊎◌, Some, None, IfOk, IfSome, IfNone, OnOk, OnErr, IsTrue, List, replicate};
+ghost use Rattle.std.specs.Prelude.{◌≡◌, ◌≢◌, ℕ, ◌+◌, ◌-◌, ◌^◌, ◌<◌, ◌≤◌, ◌⊎◌, Some, None, IfOk, IfSome, IfNone, OnOk, OnErr, IsErrOf, IsTrue, List, length, replicate};
 ghost use Rattle.pm_types.specs.Ids.{page_id};
+ghost use Rattle.pm_types.specs.declared.page_id.PageId.{PageId};
+ghost use Rattle.pm_types.specs.declared.fault.PageFault.TheVariants.{BadPage};
 ghost use Rattle.pm_meta.specs.MetaPages.{field_of, next_of, IsReusePage, IsStoredReuse};
 ghost use Rattle.pm_meta.specs.declared.slots.MetaSlot.TheVariants.{Reuse, Pages};
 ghost use Rattle.pm_meta.specs.declared.layout.TheConstants.{REUSE_KIND};
@@ -31,6 +33,8 @@ pub fn new_page<P: Pages>(pages: &mut P) -> Result<u32, PageFault>
     ensures kept { P.kept pages.old pages.new }
     ensures readable { AllReadable (P.seen pages.new) }
     ensures takes { IfOk result (TakesPage P.tells (P.seen pages.old) (P.seen pages.new) 1) }
+    ensures unchanged { (id : PageId) → IsErrOf result (BadPage id)
+        → LooksAtPages P.tells (P.seen pages.old) (P.seen pages.new) 1 }
     ensures cause { HasTakeCause P.tells (P.seen pages.old) (P.seen pages.new) result }
 {
     let head = number(pages, MetaSlot::Reuse)?;
@@ -53,6 +57,8 @@ fn next_page<P: Pages>(pages: &mut P, count: u32) -> Result<u32, PageFault>
     ensures kept { P.kept pages.old pages.new }
     ensures readable { AllReadable (P.seen pages.new) }
     ensures takes { IfOk result (TakesPage P.tells (P.seen pages.old) (P.seen pages.new) 1) }
+    ensures unchanged { (id : PageId) → IsErrOf result (BadPage id)
+        → LooksAtPages P.tells (P.seen pages.old) (P.seen pages.new) 1 }
     ensures cause { HasTakeCause P.tells (P.seen pages.old) (P.seen pages.new) result }
 {
     if count == 0 || count == u32::MAX {
@@ -75,6 +81,8 @@ fn reused_page<P: Pages>(pages: &mut P, head: u32, count: u32) -> Result<u32, Pa
     ensures kept { P.kept pages.old pages.new }
     ensures readable { AllReadable (P.seen pages.new) }
     ensures takes { IfOk result (TakesPage P.tells (P.seen pages.old) (P.seen pages.new) 1) }
+    ensures unchanged { (id : PageId) → IsErrOf result (BadPage id)
+        → LooksAtPages P.tells (P.seen pages.old) (P.seen pages.new) 1 }
     ensures cause { HasTakeCause P.tells (P.seen pages.old) (P.seen pages.new) result }
 {
     if head >= count {
@@ -99,6 +107,8 @@ fn take_head<P: Pages>(pages: &mut P, head: u32, count: u32, next: u32) -> Resul
     ensures kept { P.kept pages.old pages.new }
     ensures readable { AllReadable (P.seen pages.new) }
     ensures takes { IfOk result (TakesPage P.tells (P.seen pages.old) (P.seen pages.new) 0) }
+    ensures unchanged { (id : PageId) → IsErrOf result (BadPage id)
+        → LooksAtPages P.tells (P.seen pages.old) (P.seen pages.new) 0 }
     ensures cause { HasGapCause P.tells (P.seen pages.old) (P.seen pages.new).faults head result }
 {
     make_zeros(pages, head)?;
@@ -185,6 +195,7 @@ fn write_reuse<P: Pages>(pages: &mut P, index: u32, next: u32)
     ensures kept { P.kept pages.old pages.new }
     ensures readable { AllReadable (P.seen pages.new) }
     ensures writes { (page : List ℕ) × WritesPage (P.seen pages.old) (P.seen pages.new) index page
+        × (length page ≡ (P.seen pages.old).page_size)
         × IsStoredReuse (page_id (P.seen pages.old).part index) page × (next_of page ≡ next) }
 {
     let _size = pages.page_size();

@@ -40,7 +40,7 @@ meta_spare p readable meta =
     ]
 
 -- a page past the page count is of no tree
-past_spare : (pages : Partition) (i : ℕ) → page_count pages ≤ i → IsSpare (nodes_in pages i)
+pub past_spare : (pages : Partition) (i : ℕ) → page_count pages ≤ i → IsSpare (nodes_in pages i)
 past_spare pages i le = (let kind : kind_of (page_at pages i) ≡ 0 = simp (le-ltb i (page_count pages) le) refl in record { leaf = λ e. omega (arith, e, kind); inner = λ e. omega (arith, e, kind) })
 
 -- a page of a tree that wasn't touched says what it said

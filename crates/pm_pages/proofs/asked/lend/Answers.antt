@@ -1,4 +1,4 @@
-use Rattle.std.proofs.Common.{◌≡◌, ℕ, ◌<◌, true, List, length, set, get_or, ap, ◌∙◌, refl}
+use Rattle.std.proofs.Common.{◌≡◌, ℕ, ◌<◌, true, List, length, set, get_or, ap, ◌∙◌}
 use Rattle.std.specs.Prelude.{Some}
 use Rattle.pm_pages.specs.declared.asked.Asked.{Asked}
 use Rattle.pm_pages.specs.Asked.{entry_of, position_of, entry_or_new, RegistersPage}

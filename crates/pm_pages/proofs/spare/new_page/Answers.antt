@@ -19,7 +19,7 @@ returns-then-head-eq0-clause-cause g c =
     let b = g.P.Pages.seen c.number.new.pages in
     let d = g.P.Pages.seen c.number-2.new.pages in
     let looks = looks_then T a b d 0 0 c.number.ensures.looks c.number-2.ensures.looks in
-    cause_looked T a d (g.P.Pages.seen c.next_page.new.pages) 0 c.next_page.result looks c.next_page.ensures.cause
+    cause_looked T a d (g.P.Pages.seen c.next_page.new.pages) 0 c.next_page.result c.requires.meta looks c.next_page.ensures.cause
 
 pub returns-else-head-eq0-clause-takes : goal.returns-else-head-eq0-clause-takes
 returns-else-head-eq0-clause-takes g c =
@@ -37,4 +37,4 @@ returns-else-head-eq0-clause-cause g c =
     let b = g.P.Pages.seen c.number.new.pages in
     let d = g.P.Pages.seen c.number-2.new.pages in
     let looks = looks_then T a b d 0 0 c.number.ensures.looks c.number-2.ensures.looks in
-    cause_looked T a d (g.P.Pages.seen c.reused_page.new.pages) 0 c.reused_page.result looks c.reused_page.ensures.cause
+    cause_looked T a d (g.P.Pages.seen c.reused_page.new.pages) 0 c.reused_page.result c.requires.meta looks c.reused_page.ensures.cause

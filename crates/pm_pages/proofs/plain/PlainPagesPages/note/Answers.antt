@@ -1,4 +1,4 @@
-use Rattle.std.proofs.Common.{◌≡◌, ◌∙◌, inl, refl, sym}
+use Rattle.std.proofs.Common.{◌∙◌, inl, refl, sym}
 use Rattle.std.specs.Vec.{vec_capacity}
 use Rattle.pm_pages.specs.Asked.{entry_of}
 use Rattle.pm_pages.specs.Plain.{shown}

@@ -1,5 +1,5 @@
-use Rattle.std.proofs.Common.{◌≡◌, ◌≢◌, ◌<◌, ◌≤◌, ◌∙◌, length, refl, sym, ap, subst, inl, inr, arith}
-use Rattle.std.specs.Prelude.{Some, None, IfSome}
+use Rattle.std.proofs.Common.{◌≡◌, ◌<◌, ◌∙◌, length, refl, sym, ap, subst, inl, arith}
+use Rattle.std.specs.Prelude.{Some, IfSome}
 use Rattle.std.specs.Vec.{vec_capacity}
 use Rattle.pm_pages.specs.Asked.{entry_of}
 use Rattle.pm_pages.specs.Passes.{PassesAt}

@@ -1,5 +1,4 @@
-use Rattle.std.proofs.Common.{◌≡◌, ◌<◌, [], ◌++◌, length, get_or, subst, sym, ◌∙◌, arith}
-use Rattle.pm_types.specs.Keys.{HasKeyLength}
+use Rattle.std.proofs.Common.{◌≡◌, ◌<◌, [], ◌++◌, length, get_or, ◌∙◌, arith}
 use Rattle.pm_btpage.specs.IndexPages.{Item, items_of, key_in, word_in}
 use Rattle.pm_pages.specs.declared.well_formed.listing.TreeItem.{TreeItem}
 use Rattle.pm_pages.specs.TreeItems.{as_item, as_items}
