@@ -62,7 +62,7 @@ put_cause_take T a d cache r cause = record {
     edits = edits_looked T a a (λ j. IsTrue (a.asked j)) 0 (looks_at_none T a);
     fault = elim (cause.bad id e) [
       | inl names ↦ inr (inr (inl names))
-      | inr r2 ↦ elim r2 [ inl bad ↦ inl bad | inr gap ↦ inr (inl gap) ]
+      | inr r2 ↦ elim r2 [ inl bad ↦ inl (bad.index, bad.bad) | inr gap ↦ inr (inl gap) ]
     ];
   };
 }

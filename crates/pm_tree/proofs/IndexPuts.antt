@@ -254,7 +254,7 @@ grow_cause T a b c cache root key word m part r is_root some changes puts cause 
       between = b;
       most = m;
       edits = changes.edits;
-      fault = elim r2 [ inl names ↦ inr (inr (inl names)) | inr r3 ↦ elim r3 [ inl bad ↦ inl bad | inr gap ↦ inr (inl gap) ] ];
+      fault = elim r2 [ inl names ↦ inr (inr (inl names)) | inr r3 ↦ elim r3 [ inl bad ↦ inl (bad.index, bad.bad) | inr gap ↦ inr (inl gap) ] ];
     })
   ];
 }

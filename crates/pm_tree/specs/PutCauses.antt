@@ -5,9 +5,9 @@ use Rattle.pm_types.specs.declared.fault.PageFault.{PageFault}
 use Rattle.pm_types.specs.declared.fault.PageFault.TheVariants.{Failed, BadPage}
 use Rattle.pm_types.specs.Counts.{HasRisen}
 use Rattle.pm_types.specs.Ids.{page_id}
-use Rattle.pm_pages.specs.Paged.{Paged, IsInHand, IsBadPage, IsAfterGap}
+use Rattle.pm_pages.specs.Paged.{Paged, IsInHand, IsBadPage}
 use Rattle.pm_pages.specs.Edits.{EditsPages}
-use Rattle.pm_pages.specs.SparePages.{NamesNoSpare}
+use Rattle.pm_pages.specs.SparePages.{NamesNoSpare, HasGapBelow}
 use Rattle.pm_tree.specs.declared.put.Put.{Put}
 use Rattle.pm_tree.specs.declared.put.Put.TheVariants.{Kept, Split}
 use Rattle.pm_tree.specs.Steps.{NamesNoNode, IsTooDeep}
@@ -24,11 +24,13 @@ pub record HasNoPlace (p : Paged) (id : PageId) : Type 0 where
   pub place : ℕ
   pub no_place : IsParent page key place → ⊥
 
--- what is wrong, as it was at one moment or is at the end: a page is bad, the one before a new page isn't there, the
--- meta page names no page that can be taken, a page has no place for a child, a page on the way names a wrong one, or
+-- what is wrong, as it was at one moment or is at the end: a page is bad, the one before the page that is taken next
+-- isn't there, the meta page names no page that can be taken, a page has no place for a child, a page on the way names a wrong one, or
 -- there is one more level than may be
 abbrev pub IsPutFault : Type 0 → Paged → Paged → ℕ → PageId → Type 0
-IsPutFault T moment now cache id = ((i : ℕ) × IsBadPage T moment i id) ⊎ ((i : ℕ) × IsAfterGap T moment i id) ⊎ NamesNoSpare now id ⊎ HasNoPlace now id ⊎ NamesNoNode now cache id ⊎ IsTooDeep now cache id
+IsPutFault T moment now cache id =
+    ((i : ℕ) × IsBadPage T moment i id) ⊎ HasGapBelow T moment id ⊎ NamesNoSpare now id ⊎ HasNoPlace now id
+    ⊎ NamesNoNode now cache id ⊎ IsTooDeep now cache id
 
 -- the fault at a moment until which only pages changed that were asked for
 pub record IsPutFaultAfter (T : Type 0) (old new : Paged) (cache : ℕ) (id : PageId) : Type 0 where

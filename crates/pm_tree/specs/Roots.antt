@@ -14,9 +14,9 @@ use Rattle.pm_pages.specs.declared.limits.TheConstants.{LEVELS_MAX}
 use Rattle.pm_pages.specs.Rows.{Partition, number_in}
 use Rattle.pm_pages.specs.Chains.{times}
 use Rattle.pm_pages.specs.Trees.{index_in, root_of}
-use Rattle.pm_pages.specs.SparePages.{NamesNoSpare}
+use Rattle.pm_pages.specs.SparePages.{NamesNoSpare, HasBadReuse, HasGapBelow}
 use Rattle.pm_tree.specs.declared.put.Part.{Part}
-use Rattle.pm_pages.specs.Paged.{Paged, IsBadPage, IsAfterGap}
+use Rattle.pm_pages.specs.Paged.{Paged}
 use Rattle.pm_pages.specs.Edits.{EditsPages, HasMeta, IsNumberIn}
 use Rattle.pm_tree.specs.Maps.{put_in}
 use Rattle.pm_tree.specs.Nodes.{nodes_in}
@@ -92,4 +92,5 @@ pub record MakesTop (T : Type 0) (old new : Paged) (cache root : ℕ) (part : Pa
 pub record HasGrowCause {R : Type 0} (T : Type 0) (old new : Paged) (root levels : ℕ) (result : Result R PageFault) : Type 0 where
   pub failed : IsErrOf result Failed → HasRisen old.faults new.faults
   pub bad : (id : PageId) → IsErrOf result (BadPage id)
-      → ((id ≡ page_id old.part root) × (LEVELS_MAX ≤ levels + 1)) ⊎ NamesNoSpare new id ⊎ ((i : ℕ) × IsBadPage T old i id) ⊎ ((i : ℕ) × IsAfterGap T old i id)
+      → ((id ≡ page_id old.part root) × (LEVELS_MAX ≤ levels + 1))
+      ⊎ NamesNoSpare new id ⊎ HasBadReuse T old id ⊎ HasGapBelow T old id

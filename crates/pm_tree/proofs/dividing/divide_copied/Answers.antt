@@ -13,6 +13,13 @@ returns-in_err-make_edit-2-clause-kept g c =
     (k c.args.pages.now c.write_blank.new.pages c.make_edit.new.pages (k c.args.pages.now c.new_page.new.pages c.write_blank.new.pages c.new_page.ensures.kept c.write_blank.ensures.kept) c.make_edit.ensures.kept)
     c.make_edit-2.ensures.kept
 
+pub returns-clause-kept : goal.returns-clause-kept
+returns-clause-kept g c =
+    let k = g.met.P.Pages.kept_then in
+    k c.args.pages.now c.make_edit.new.pages c.make_edit-2.new.pages
+    (k c.args.pages.now c.write_blank.new.pages c.make_edit.new.pages (k c.args.pages.now c.new_page.new.pages c.write_blank.new.pages c.new_page.ensures.kept c.write_blank.ensures.kept) c.make_edit.ensures.kept)
+    c.make_edit-2.ensures.kept
+
 pub returns-clause-divides : goal.returns-clause-divides
 returns-clause-divides g c =
     divided g.P.Pages.tells (g.P.Pages.seen c.args.pages.now) (g.P.Pages.seen c.new_page.new.pages) (g.P.Pages.seen c.write_blank.new.pages) (g.P.Pages.seen c.make_edit.new.pages) (g.P.Pages.seen c.make_edit-2.new.pages)

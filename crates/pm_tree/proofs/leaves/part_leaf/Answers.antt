@@ -19,7 +19,7 @@ returns-in_err-right-clause-cause g c =
     let b = g.P.Pages.seen c.next_of.new.pages in
     let d = g.P.Pages.seen c.divide.new.pages in
     let p = err_from_is_err_and c.from_residual-in_err-right.result c.from_residual-in_err-right.ensures.1 in
-    cause_passed T a d c.divide.result c.from_residual-in_err-right.result c.in_err-right.field-0.0 p.0 c.in_err-right.was p.1 p.2 (cause_looked T a b d 0 c.divide.result c.next_of.ensures.looks c.divide.ensures.cause)
+    cause_passed T a d c.divide.result c.from_residual-in_err-right.result c.in_err-right.field-0.0 p.0 c.in_err-right.was p.1 p.2 (cause_looked T a b d 0 c.divide.result c.requires.meta c.next_of.ensures.looks c.divide.ensures.cause)
 
 pub link_leaves-requires-clause-left : goal.link_leaves-requires-clause-left
 link_leaves-requires-clause-left g c =

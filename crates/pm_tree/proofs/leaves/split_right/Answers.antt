@@ -68,7 +68,7 @@ returns-in_err-right-clause-cause g c =
     let b = g.P.Pages.seen c.item_at.new.pages in
     let d = g.P.Pages.seen c.part_leaf.new.pages in
     let p = err_from_is_err_and c.from_residual-in_err-right.result c.from_residual-in_err-right.ensures.1 in
-    cause_passed T a d c.part_leaf.result c.from_residual-in_err-right.result c.in_err-right.field-0.0 p.0 c.in_err-right.was p.1 p.2 (cause_looked T a b d 0 c.part_leaf.result c.item_at.ensures.looks c.part_leaf.ensures.cause)
+    cause_passed T a d c.part_leaf.result c.from_residual-in_err-right.result c.in_err-right.field-0.0 p.0 c.in_err-right.was p.1 p.2 (cause_looked T a b d 0 c.part_leaf.result c.requires.meta c.item_at.ensures.looks c.part_leaf.ensures.cause)
 
 pub returns-in_err-make_edit-clause-cause : goal.returns-in_err-make_edit-clause-cause
 returns-in_err-make_edit-clause-cause g c =
