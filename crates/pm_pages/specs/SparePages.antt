@@ -19,7 +19,8 @@ use Rattle.pm_pages.specs.Edits.{EditsPages, HasMeta}
 abbrev pub IsMetaOr : ℕ → ℕ → Type 0
 IsMetaOr i j = (j ≡ 0) ⊎ (j ≡ i)
 
--- One number of the meta page was set. Where the page passed its check and the number is in bounds, it passes it still.
+-- One number of the meta page was set. Where the page passed its check and the number is in bounds, it passes it
+-- still.
 pub record SetsNumber (was now : List ℕ) (slot : MetaSlot) (value : ℕ) : Type 0 where
   pub here : field_of now slot ≡ value
   pub others : (other : MetaSlot) → IsSlot other → other ≢ slot → field_of now other ≡ field_of was other
@@ -137,8 +138,9 @@ pub record HasGapBelow (T : Type 0) (p : Paged) (id : PageId) : Type 0 where
   pub is_next : IsTakenNext p index
   pub gap : IsAfterGap T p index id
 
--- a call of the disk failed; or the meta page names no page that can be taken, or the reuse chain's first page is bad,
--- or the page before the one that is taken next isn't there
+-- a call of the disk failed; or the meta page names no page that can be taken, or the reuse chain's first page is
+-- bad, or the page before the one that is taken next isn't there
 pub record HasTakeCause {R : Type 0} (T : Type 0) (old new : Paged) (result : Result R PageFault) : Type 0 where
   pub failed : IsErrOf result Failed → HasRisen old.faults new.faults
-  pub bad : (id : PageId) → IsErrOf result (BadPage id) → NamesNoSpare new id ⊎ HasBadReuse T old id ⊎ HasGapBelow T old id
+  pub bad : (id : PageId) → IsErrOf result (BadPage id)
+      → NamesNoSpare new id ⊎ HasBadReuse T old id ⊎ HasGapBelow T old id

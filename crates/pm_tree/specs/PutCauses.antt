@@ -24,9 +24,9 @@ pub record HasNoPlace (p : Paged) (id : PageId) : Type 0 where
   pub place : ℕ
   pub no_place : IsParent page key place → ⊥
 
--- what is wrong, as it was at one moment or is at the end: a page is bad, the one before the page that is taken next
--- isn't there, the meta page names no page that can be taken, a page has no place for a child, a page on the way names a wrong one, or
--- there is one more level than may be
+-- what is wrong, as it was at one moment or is at the end: a page is bad, the one before the page that is taken
+-- next isn't there, the meta page names no page that can be taken, a page has no place for a child, a page on the
+-- way names a wrong one, or there is one more level than may be
 abbrev pub IsPutFault : Type 0 → Paged → Paged → ℕ → PageId → Type 0
 IsPutFault T moment now cache id =
     ((i : ℕ) × IsBadPage T moment i id) ⊎ HasGapBelow T moment id ⊎ NamesNoSpare now id ⊎ HasNoPlace now id
