@@ -2,6 +2,7 @@
 
 use crate::runs::{Run, log_left, run_until};
 use pm_disk_mem::{MemDisk, Pick};
+use std::ops::Range;
 use std::process::Abort;
 use std::test::Fail;
 
@@ -31,7 +32,10 @@ const ANSWERS: [&[u8]; 13] = [
     b"value 10\nvalue 11\nvalue 9\nvalue 12\n",
 ];
 
-/// More calls than any of these runs makes.
+/// How many calls the run of the script makes.
+const CALLS: u64 = 36;
+
+/// More calls than any restart makes.
 const CALLS_MAX: u64 = 100;
 
 /// How many bytes of the log a crash of this run may lose.
@@ -169,26 +173,56 @@ fn run_stopped(rt: &(impl Abort + AllocGlobal), stop: u64) -> Result<Run, Fail> 
     Ok(run)
 }
 
+/// Restarts over each crash of the script's run, stopped at each of these calls. Answers how many restarts there
+/// were.
+fn crash_at(rt: &(impl Abort + AllocGlobal), stops: Range<u64>) -> Result<u32, Fail> {
+    let mut restarts: u32 = 0;
+    for stop in stops {
+        let run = run_stopped(rt, stop)?;
+        assert_eq!(rt; run.report.status == 0, stop == CALLS);
+        restarts = restarts.saturating_add(crash(rt, &run)?);
+    }
+    Ok(restarts)
+}
+
 // The whole run makes 36 calls: the folder, the configuration and the shape; the log is read, cut and forced,
 // and the RESTART written; the script is read; of each of the seven batches the records are written, forced and
 // answered; the end is read, and the log forced. Where it is stopped at a call, or at none, what is pending
 // then are the bytes of the RESTART and of the records since the last force: 37, 37, 67, 97 and 127 bytes in
 // the first batch, 30, 60 and 90 in the third, 29, 59 and 89 in the fifth, 31, 62 and 93 in the seventh, and
-// none in the 23 other runs. Of p pending bytes there are p + 2 crashes, and else one: in all 908 + 14 * 2 +
-// 23, which is 959. Restarts are stopped over three of them and over each eleventh cut, 76 in all, or over the
-// one: 14 * 3 + 76 + 23, which is 141. A restart makes 12 calls: seven as above, the questions are read, forced
-// and answered, the end is read, and the log forced. So there are 959 + 141 * 12 * (1 + 3) restarts.
+// none in the 23 other runs. Of p pending bytes there are p + 2 crashes, and else one. Restarts are stopped over
+// three of them and over each eleventh cut, or over the one. A restart makes 12 calls: seven as above, the
+// questions are read, forced and answered, the end is read, and the log forced. So there are p + 2 restarts and
+// (3 + (p - 1) / 11) * 12 * (1 + 3) more of a run with p pending bytes, and 1 + 12 * (1 + 3) of each other one.
+
 #[test]
-fn each_restart_after_a_crash_has_what_was_acknowledged(rt: HostRuntime) -> Result<(), Fail> {
-    let mut restarts: u32 = 0;
-    for stop in 0..CALLS_MAX {
-        let run = run_stopped(&rt, stop)?;
-        restarts = restarts.saturating_add(crash(&rt, &run)?);
-        if run.report.status == 0 {
-            assert_eq!(rt; stop, 36);
-            assert_eq!(rt; restarts, 7_727);
-            return Ok(());
-        }
-    }
-    panic!(rt; "no run was done")
+fn restarts_after_a_crash_up_to_the_first_batch_have_what_was_acknowledged(
+    rt: HostRuntime,
+) -> Result<(), Fail> {
+    assert_eq!(rt; crash_at(&rt, 0..12)?, 7 * 49 + 2 * 327 + 501 + 627 + 801);
+    Ok(())
+}
+
+#[test]
+fn restarts_after_a_crash_up_to_the_third_batch_have_what_was_acknowledged(
+    rt: HostRuntime,
+) -> Result<(), Fail> {
+    assert_eq!(rt; crash_at(&rt, 12..19)?, 4 * 49 + 272 + 446 + 620);
+    Ok(())
+}
+
+#[test]
+fn restarts_after_a_crash_up_to_the_fifth_batch_have_what_was_acknowledged(
+    rt: HostRuntime,
+) -> Result<(), Fail> {
+    assert_eq!(rt; crash_at(&rt, 19..26)?, 4 * 49 + 271 + 445 + 619);
+    Ok(())
+}
+
+#[test]
+fn restarts_after_a_crash_up_to_the_end_have_what_was_acknowledged(
+    rt: HostRuntime,
+) -> Result<(), Fail> {
+    assert_eq!(rt; crash_at(&rt, 26..37)?, 8 * 49 + 273 + 448 + 623);
+    Ok(())
 }

@@ -6,7 +6,7 @@ ghost use Rattle.pm_disk_mem.specs.Hosts.{state_of};
 
 use crate::calls::{Call, Round, answer};
 use crate::consoles::SAID;
-use crate::noted::NotedHost;
+use crate::noted::note_force;
 use crate::recorded::{TRACE, recorded_host};
 use crate::traces::count_forces;
 use pm_disk::{Failed, Host, MarkFile};
@@ -263,6 +263,13 @@ fn differing_after(
     differing(rt, memory, Pick::Kept)
 }
 
+/// Notes which file a call has forced, if one: the call was answered as wanted.
+fn note_call(rt: &(impl AllocGlobal + Files), call: &Call) {
+    if let Some(file) = call.forced_file() {
+        note_force(rt, FOLDER, file);
+    }
+}
+
 /// Makes a call on both, and looks at each answer and at the files after it. Answers what isn't as wanted.
 fn step<F: Host>(
     rt: &(impl AllocGlobal + Files),
@@ -279,6 +286,7 @@ fn step<F: Host>(
     if let Some(answers) = unlike_answers(rt.alloc(), memory, files, call, wanted)? {
         return Ok(Some(answers));
     }
+    note_call(rt, call);
     match differing_after(rt, memory, call)? {
         Some(name) => Ok(Some(String::from_str(rt.alloc(), name)?)),
         None => Ok(None),
@@ -417,28 +425,12 @@ fn remove_files(rt: &(impl AllocGlobal + Files)) -> Result<(), Fail> {
 /// What there is to read.
 const INPUT: &[u8] = b"get 0 a\nput";
 
-/// Makes all the calls on the host in memory, and on another one whose forces are noted.
-fn call_noted<F: Host + Drop>(
-    rt: &(impl AllocGlobal + Clone + Drop + Files),
-    memory: &mut MemHost,
-    files: F,
-) -> Result<Option<String>, Fail>
-    requires memory { memory.old.is_lent ≡ false }
-    requires files { (F.state files).access.is_lent ≡ false }
-{
-    let mut noted = NotedHost {
-        host: files,
-        rt: rt.clone()?,
-        folder: FOLDER,
-    };
-    bind_and_call(rt, memory, &mut noted)
-}
-
 /// Makes all the calls on the host in memory, and on one over files.
 fn call_both(rt: &HostRuntime, memory: &mut MemHost) -> Result<Option<String>, Fail>
     requires { memory.old.is_lent ≡ false }
 {
-    call_noted(rt, memory, recorded_host(rt, INPUT)?)
+    let mut files = recorded_host(rt, INPUT)?;
+    bind_and_call(rt, memory, &mut files)
 }
 
 #[test]

@@ -1,4 +1,4 @@
-//! A host that notes in the trace which forces have succeeded.
+//! Forces that have succeeded are noted in the trace: by a test, or by a host that notes its own.
 
 ghost use Rattle.std.specs.Prelude.{◌≡◌, ◌∷◌, true, map};
 ghost use Rattle.pm_disk.specs.Lending.{Joins, TakesBack};
@@ -21,7 +21,7 @@ pub struct NotedHost<H: Drop, R: Drop> {
 
 /// A file that can be forced.
 #[derive(Clone, Copy)]
-enum Forced {
+pub enum Forced {
     Segment(u64),
     Pages(u16),
     Marks(MarkFile),
@@ -37,6 +37,13 @@ fn path_of<R: AllocGlobal>(rt: &R, folder: &str, file: Forced) -> Result<String,
     }
 }
 
+/// Notes that a file of the folder is forced.
+pub fn note_force<R: Files + AllocGlobal>(rt: &R, folder: &str, file: Forced) {
+    if let Ok(path) = path_of(rt, folder, file) {
+        let _ = note(rt, FORCED, &path);
+    }
+}
+
 /// Notes that a file is forced, where it is.
 fn note_forced<R: Files + AllocGlobal>(
     rt: &R,
@@ -44,11 +51,8 @@ fn note_forced<R: Files + AllocGlobal>(
     file: Forced,
     forced: &Result<(), Failed>,
 ) {
-    if forced.is_err() {
-        return;
-    }
-    if let Ok(path) = path_of(rt, folder, file) {
-        let _ = note(rt, FORCED, &path);
+    if forced.is_ok() {
+        note_force(rt, folder, file);
     }
 }
 
