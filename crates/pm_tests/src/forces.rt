@@ -2,9 +2,8 @@
 
 ghost use Rattle.std.specs.Prelude.{◌≡◌, false};
 
-use crate::consoles::SAID;
 use crate::noted::NotedHost;
-use crate::recorded::{TRACE, recorded_host};
+use crate::recorded::{SAID, TRACE, recorded_host};
 use crate::runs::call_with;
 use crate::traces::count_forces;
 use pm_disk::Host;
@@ -47,7 +46,7 @@ fn run_noted<H: Host + Drop>(
 
 /// Answers the script over the folder. Answers the status.
 fn run_recorded(rt: &HostRuntime) -> Result<u8, Fail> {
-    run_noted(rt, recorded_host(rt, SCRIPT)?)
+    run_noted(rt, recorded_host(rt.clone()?, SCRIPT))
 }
 
 /// Looks at the trace: each force had made the segment lasting, and the names.

@@ -5,9 +5,8 @@ ghost use Rattle.pm_disk.specs.States.{IsUsable};
 ghost use Rattle.pm_disk_mem.specs.Hosts.{state_of};
 
 use crate::calls::{Call, Round, answer};
-use crate::consoles::SAID;
 use crate::noted::note_force;
-use crate::recorded::{TRACE, recorded_host};
+use crate::recorded::{SAID, TRACE, recorded_host};
 use crate::traces::count_forces;
 use pm_disk::{Failed, Host, MarkFile};
 use pm_disk_mem::{MemDisk, MemHost, Pick};
@@ -429,7 +428,7 @@ const INPUT: &[u8] = b"get 0 a\nput";
 fn call_both(rt: &HostRuntime, memory: &mut MemHost) -> Result<Option<String>, Fail>
     requires { memory.old.is_lent ≡ false }
 {
-    let mut files = recorded_host(rt, INPUT)?;
+    let mut files = recorded_host(rt.clone()?, INPUT);
     bind_and_call(rt, memory, &mut files)
 }
 

@@ -11,8 +11,6 @@ mod checkpoints;
 #[cfg(test)]
 mod configurations;
 #[cfg(test)]
-mod consoles;
-#[cfg(test)]
 mod crashes;
 #[cfg(test)]
 mod folders;

@@ -29,7 +29,7 @@ enum OnLog {
 #[derive(Clone, Copy)]
 enum OnPages {
     /// The page that is due gets these bytes.
-    Write(&'static [u8]),
+    Write(&'static [u8; 4]),
     Force,
 }
 

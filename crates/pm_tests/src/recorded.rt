@@ -1,19 +1,21 @@
 //! Real files that write a trace: which were opened, changed and synced, and which names were made and removed.
+//! Beside them a console of their own.
 
-ghost use Rattle.std.specs.Prelude.{◌≡◌, false, IfOk};
+ghost use Rattle.std.specs.Prelude.{◌≡◌, false};
 
-use crate::consoles::FileConsole;
 use pm_disk_fs::{FsHost, Lockable};
 use std::alloc::{AllocError, Allocator};
 use std::fmt::Display;
 use std::fs::{Metadata, OpenFile, OpenOptions};
-use std::io::{self, Lines, Read, Seek, SeekFrom, Write};
+use std::io::{self, BufRead, ErrorKind, Lines, Read, Seek, SeekFrom, Write};
 use std::os::unix::fs::FileExt;
 use std::rt::Files;
-use std::test::Fail;
 
 /// The file that has the trace: a line for each event, with its path.
 pub const TRACE: &str = "trace";
+
+/// The file that has what was printed.
+pub const SAID: &str = "said";
 
 /// The bytes or the length of a file were changed.
 pub const CHANGED: &str = "changed";
@@ -48,10 +50,11 @@ pub fn note<R: Files + AllocGlobal>(rt: &R, event: &str, path: &str) -> io::Resu
     trace.write_all(line.as_bytes())
 }
 
-/// A runtime whose files write the trace. All else is passed on.
+/// A runtime whose files write the trace, beside a console with this input, whose output is the file `SAID`.
 #[derive(Clone, Drop)]
 pub struct Recorded<R> {
     pub rt: R,
+    pub input: &'static [u8],
 }
 
 /// A file that writes the trace.
@@ -130,33 +133,41 @@ impl<R: Alloc> Alloc for Recorded<R> {
     }
 }
 
-impl<R: Input> Input for Recorded<R> {
-    type Reader = R::Reader;
+fn unsupported() -> io::Error {
+    io::Error::from(ErrorKind::Unsupported)
+}
 
-    fn read_line<A: Allocator + Clone>(&self, buf: &mut String<A>) -> io::Result<usize> {
-        self.rt.read_line(buf)
+impl<R> Input for Recorded<R> {
+    type Reader = &'static [u8];
+
+    fn read_line<A: Allocator + Clone>(&self, _buf: &mut String<A>) -> io::Result<usize> {
+        Err(unsupported())
     }
 
-    fn lines<A: Allocator>(&self, alloc: A) -> Lines<R::Reader, A> {
-        self.rt.lines(alloc)
+    fn lines<A: Allocator>(&self, alloc: A) -> Lines<&'static [u8], A> {
+        self.reader().lines(alloc)
     }
 
-    fn reader(&self) -> R::Reader {
-        self.rt.reader()
+    fn reader(&self) -> &'static [u8] {
+        self.input
     }
 }
 
-impl<R: Print> Print for Recorded<R> {
-    fn print<D: Display + Drop>(&self, value: D) -> io::Result<()> {
-        self.rt.print(value)
+impl<R: Files> Print for Recorded<R> {
+    fn print<D: Display + Drop>(&self, _value: D) -> io::Result<()> {
+        Err(unsupported())
     }
 
-    fn println<D: Display + Drop>(&self, value: D) -> io::Result<()> {
-        self.rt.println(value)
+    fn println<D: Display + Drop>(&self, _value: D) -> io::Result<()> {
+        Err(unsupported())
     }
 
     fn write_all(&self, bytes: &[u8]) -> io::Result<()> {
-        self.rt.write_all(bytes)
+        let mut said = OpenOptions::new()
+            .append(true)
+            .create(true)
+            .open(&self.rt, SAID)?;
+        said.write_all(bytes)
     }
 }
 
@@ -220,15 +231,8 @@ impl<R: Files + AllocGlobal + Clone + Drop> Files for Recorded<R> {
 }
 
 /// A host over files that write the trace, beside a console with this input.
-pub fn recorded_host(
-    rt: &HostRuntime,
-    input: &'static [u8],
-) -> Result<FsHost<Recorded<FileConsole<HostRuntime>>>, Fail>
-    ensures { IfOk result (λ host. host.is_lent ≡ false) }
+pub fn recorded_host(rt: HostRuntime, input: &'static [u8]) -> FsHost<Recorded<HostRuntime>>
+    ensures { result.is_lent ≡ false }
 {
-    let console = FileConsole {
-        rt: rt.clone()?,
-        input,
-    };
-    Ok(FsHost::new(Recorded { rt: console }))
+    FsHost::new(Recorded { rt, input })
 }

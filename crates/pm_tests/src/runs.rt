@@ -93,7 +93,9 @@ fn run_failing(
 }
 
 /// Runs the script of a host.
-fn run_on(rt: &impl AllocGlobal, mut host: MemHost) -> Result<Run, Fail> {
+fn run_on(rt: &impl AllocGlobal, mut host: MemHost) -> Result<Run, Fail>
+    requires { host.is_lent ≡ false }
+{
     let report = call_with(rt, &["run", "d"], &mut host)?;
     Ok(Run { report, host })
 }
