@@ -14,5 +14,8 @@ pub mod RowSwaps
 pub mod Settled
 pub mod SharedItems
 pub mod SharedPages
+pub mod SoundPages
+pub mod SoundRemovals
+pub mod SoundRows
 pub mod Stands
 pub mod WrittenPages

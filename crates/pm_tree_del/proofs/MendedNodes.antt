@@ -1,18 +1,18 @@
 -- What pages that were mended say.
-use Rattle.std.proofs.Common.{◌≡◌, ℕ, zero, suc, ◌<◌, ◌⊎◌, true, false, List, [], ◌∷◌, ◌++◌, length, sym, ap, subst, ◌∙◌, inl, inr, arith}
-use Rattle.std.specs.Prelude.{Some}
+use Rattle.std.proofs.Common.{◌≡◌, ℕ, zero, suc, ◌+◌, ◌/◌, ◌<◌, ◌≤◌, ◌⊎◌, true, false, List, [], ◌∷◌, ◌++◌, length, refl, sym, ap, subst, ◌∙◌, inl, inr, arith}
+use Rattle.std.specs.Prelude.{Bool, Some}
 use Rattle.std.proofs.lemmas.Bool.{eq-eqb}
 use Rattle.pm_btpage.specs.declared.layout.TheConstants.{LEAF_KIND, INNER_KIND}
-use Rattle.pm_btpage.specs.IndexPages.{Item, IndexPage, items_of, index_of, key_in, IsBelow, IsRising, IsIndexPage}
+use Rattle.pm_btpage.specs.IndexPages.{Item, IndexPage, items_of, index_of, key_in, with_items, capacity_of, AllBelow, IsBelow, IsRising, IsIndexPage}
 use Rattle.pm_pages.specs.Rows.{kind_of}
 use Rattle.pm_pages.specs.PageLists.{IsReadable}
-use Rattle.pm_tree.specs.Nodes.{node_of, IsFrom, IsUpTo}
+use Rattle.pm_tree.specs.Nodes.{Node, node_of, IsFrom, IsUpTo, Keys}
 use Rattle.pm_tree.proofs.KeyOrder.{below_then}
 use Rattle.pm_tree.proofs.MapLists.{keys_joined, keys_by_index, keys_at}
 use Rattle.pm_tree.proofs.Told.{leaf_kind, inner_kind}
 use Rattle.pm_tree.proofs.ForkSteps.{inner_says}
 use Rattle.pm_tree.proofs.Ascents.{rising_low, rising_high}
-use Rattle.pm_tree_del.specs.Neighbours.{joined_items, joined_link, joined, AreOfOneKind, AreApart, Shares}
+use Rattle.pm_tree_del.specs.Neighbours.{joined_items, joined_link, joined, AreOfOneKind, AreApart, Merges, Shares}
 use Rattle.pm_tree_del.proofs.RemovedItems.{Rises, rises_from, rises_to}
 use Rattle.pm_tree_del.proofs.PairSwaps.{JoinsNodes, SharesNodes}
 
@@ -52,6 +52,9 @@ rising_inner xs ys x rx ry low high =
     step : (j k : ℕ) → j < length xs → k < length (x ∷ ys) → IsBelow (key_in xs j) (key_in (x ∷ ys) k)
     step j zero j_lt k_lt = low j j_lt
     step j (suc k) j_lt k_lt = below_then (key_in xs j) x.key (key_in ys k) (low j j_lt) (high k (omega (arith, k_lt)))
+
+pub rising_leaves : (xs ys : List Item) → IsRising xs → IsRising ys → AllBelow xs ys → IsRising (xs ++ ys)
+rising_leaves xs ys rx ry below = rises_to (xs ++ ys) (rises_joined xs ys (rises_from xs rx) (rises_from ys ry) below)
 
 pub joins_nodes : (l r left' key : List ℕ) → index_of left' ≡ joined (index_of l) (index_of r) key → JoinsNodes (node_of l) (node_of r) (node_of left') key
 joins_nodes l r left' key is = record {

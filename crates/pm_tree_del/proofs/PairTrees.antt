@@ -6,7 +6,7 @@ use Rattle.pm_btpage.specs.declared.layout.TheConstants.{LEAF_KIND, INNER_KIND}
 use Rattle.pm_btpage.specs.IndexPages.{Item, key_in, IsBelow}
 use Rattle.pm_pages.specs.Chains.{times}
 use Rattle.pm_pages.specs.Trees.{index_in}
-use Rattle.pm_tree.specs.Nodes.{Node, Entry, entry, entries, items_under, leaves_under, nodes_under, IsFrom, IsUpTo, AreBounded, Each, IsPlain, IsTreeIn, first_or, AreLinkedTo, Keys}
+use Rattle.pm_tree.specs.Nodes.{Node, Entry, entry, entries, items_under, leaves_under, nodes_under, IsFrom, IsUpTo, end_before, AreBounded, Each, IsPlain, IsTreeIn, first_or, AreLinkedTo, Keys}
 use Rattle.pm_tree.specs.Puts.{flat}
 use Rattle.pm_tree.proofs.KeyOrder.{below_then, key_cases}
 use Rattle.pm_tree.proofs.MapLists.{keys_joined, keys_left, keys_right, keys_weaker}
@@ -44,10 +44,10 @@ upto_high (Some f) s k high h = below_then k s f h high
 
 -- the bounds of a pair, whatever its items are
 module _ (f : ℕ → List Item) (from : Option (List ℕ)) (left : ℕ) (s : List ℕ) (right : ℕ) (end : Option (List ℕ)) (low : IsFrom from s) (high : IsUpTo end s) (b : AreBounded f (two from left s right) end) where
-  all_from : Keys (IsFrom from) (f left ++ f right)
+  pub all_from : Keys (IsFrom from) (f left ++ f right)
   all_from = keys_joined (IsFrom from) (f left) (f right) b.0 (keys_weaker (IsFrom (Some s)) (IsFrom from) (f right) (λ k h. from_low from s k low h) b.2.0)
 
-  all_upto : Keys (IsUpTo end) (f left ++ f right)
+  pub all_upto : Keys (IsUpTo end) (f left ++ f right)
   all_upto = keys_joined (IsUpTo end) (f left) (f right) (keys_weaker (IsUpTo (Some s)) (IsUpTo end) (f left) (λ k h. upto_high end s k high h) b.1) b.2.1
 
   merged_bounds : (f' : ℕ → List Item) → f' left ≡ f left ++ f right → AreBounded f' (one from left) end

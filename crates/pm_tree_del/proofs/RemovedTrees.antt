@@ -1,19 +1,20 @@
 -- A removal below a page: from a leaf, or from the tree of a child, which is mended then.
-use Rattle.std.proofs.Common.{◌≡◌, ◌≢◌, ℕ, zero, suc, ◌+◌, ◌-◌, ◌/◌, ◌<◌, ◌≤◌, true, false, List, [], ◌∷◌, ◌++◌, length, refl, sym, ap, subst, ◌∙◌, inl, inr, arith}
-use Rattle.std.specs.Prelude.{Bool, Option, None, Some, nat_lt, if◌then◌else◌}
+use Rattle.std.proofs.Common.{◌≡◌, ◌≢◌, ℕ, zero, suc, ◌+◌, ◌-◌, ◌/◌, ◌<◌, ◌≤◌, ◌⊎◌, true, false, List, [], ◌∷◌, ◌++◌, length, refl, sym, ap, subst, ◌∙◌, inl, inr, arith}
+use Rattle.std.specs.Prelude.{Bool, Option, None, Some, IsTrue, nat_lt, if◌then◌else◌}
 use Rattle.std.proofs.lemmas.Bool.{cases_eq, cases_lt}
-use Rattle.pm_btpage.specs.declared.layout.TheConstants.{LEAF_KIND}
-use Rattle.pm_btpage.specs.IndexPages.{Item, IndexPage, items_of, index_of, without_item, capacity_of}
+use Rattle.pm_btpage.specs.declared.layout.TheConstants.{LEAF_KIND, INNER_KIND}
+use Rattle.pm_btpage.specs.IndexPages.{Item, IndexPage, items_of, index_of, without_item, capacity_of, IsIndexPage}
 use Rattle.pm_meta.specs.declared.layout.TheConstants.{REUSE_KIND}
 use Rattle.pm_meta.specs.declared.slots.MetaSlot.TheVariants.{Reuse, Pages}
-use Rattle.pm_pages.specs.Rows.{bytes_of, page_at, number_of, page_count, kind_of}
+use Rattle.pm_pages.specs.Rows.{Partition, bytes_of, page_at, number_of, page_count, kind_of}
 use Rattle.pm_pages.specs.Chains.{times}
-use Rattle.pm_pages.specs.Trees.{index_in}
+use Rattle.pm_pages.specs.Trees.{index_in, child_of}
 use Rattle.pm_pages.specs.Paged.{Paged, AllReadable}
 use Rattle.pm_pages.specs.Edits.{EditsPages, HasMeta, IsNumberIn}
+use Rattle.pm_pages.proofs.PageReads.{page_at-below}
 use Rattle.pm_tree.specs.Maps.{get_in}
 use Rattle.pm_tree.specs.Steps.{IsChildFor}
-use Rattle.pm_tree.specs.Nodes.{Node, node_of, nodes_in, Entry, first_entry, entries, items_under, nodes_under, AreBounded, Each, IsTreeIn}
+use Rattle.pm_tree.specs.Nodes.{Node, node_of, nodes_in, Entry, entry, first_entry, entries, items_under, leaves_under, nodes_under, AreBounded, Each, IsTreeIn}
 use Rattle.pm_tree.specs.Puts.{flat, IsSpare, half_of}
 use Rattle.pm_tree.specs.Edits.{IsNode}
 use Rattle.pm_tree.specs.Places.{IsPlaceIn}
@@ -23,23 +24,29 @@ use Rattle.pm_tree.proofs.Frames.{times-append, times_here, root_stands}
 use Rattle.pm_tree.proofs.MapLists.{get_found}
 use Rattle.pm_tree.proofs.Seams.{flat_joined, each_right}
 use Rattle.pm_tree.proofs.Told.{below_count, meta_spare, node_away_count, page_is, half_is, leaf_kind}
+use Rattle.pm_tree.proofs.Descents.{number_told}
+use Rattle.pm_tree.proofs.ForkSteps.{inner_says}
+use Rattle.pm_tree_del.specs.declared.remove.Removal.{Removal}
+use Rattle.pm_tree_del.specs.declared.remove.Removal.TheVariants.{Absent, Kept, Small}
 use Rattle.pm_tree_del.specs.declared.mends.Mend.{Mend}
 use Rattle.pm_tree_del.specs.declared.mends.Mend.TheVariants.{Merged, Shared, Wrong}
 use Rattle.pm_tree_del.specs.Maps.{remove_in}
 use Rattle.pm_tree_del.specs.Given.{GivesBack}
 use Rattle.pm_tree_del.specs.Neighbours.{IsMend}
-use Rattle.pm_tree_del.specs.Pairs.{IsPairOf}
+use Rattle.pm_tree_del.specs.Pairs.{HasPair, IsPairOf, MayMend}
 use Rattle.pm_tree_del.specs.Items.{TakesOutAt}
 use Rattle.pm_tree_del.specs.Mending.{IsWritten, MendsChild}
-use Rattle.pm_tree_del.specs.Causes.{as_removal}
+use Rattle.pm_tree_del.specs.Causes.{as_removal, Lifts}
+use Rattle.pm_tree_del.specs.Sound.{IsSound, CanBeMended}
 use Rattle.pm_tree_del.specs.Removes.{RemovesTree, RemovesIn, RemovesAs, RemovesFor}
 use Rattle.pm_tree_del.proofs.EditedItems.{length_without}
 use Rattle.pm_tree_del.proofs.RemovedItems.{remove_found}
 use Rattle.pm_tree_del.proofs.Stands.{Stand, stand, get_stand}
 use Rattle.pm_tree_del.proofs.RowSwaps.{RowSwap, swap_then}
-use Rattle.pm_tree_del.proofs.ParentTrees.{EachAt, LacksAt, each_at_to, at_same, row_removed, items_removed, trees_removed, others_removed, parent_removes}
+use Rattle.pm_tree_del.proofs.ParentTrees.{EachAt, LacksAt, each_at_to, count_apart, at_same, row_removed, items_removed, trees_removed, others_removed, parent_removes}
 use Rattle.pm_tree_del.proofs.MendedNodes.{leaf_says, reads_left, reads_right}
-use Rattle.pm_tree_del.proofs.MendedTrees.{RowMended, shared_row, merged_row}
+use Rattle.pm_tree_del.proofs.MendedTrees.{RowMended, may_of, left_index, right_index, wide_row, neighbours, shared_row, merged_row}
+use Rattle.pm_tree_del.proofs.SoundPages.{sound_reads, reads_now}
 use Rattle.pm_tree_del.proofs.GivenPages.{gives_then, gives_none}
 
 -- an item was taken out of a leaf
@@ -227,18 +234,12 @@ module _ (T : Type 0) (a b : Paged) (at i child : ℕ) (key : List ℕ) (half h 
       }
 
   -- the child was mended
-  module _ (c : Paged) (few : Bool) (count : ℕ) (removal : RemovesIn a.pages b.pages h (half - 1) child key) (readable : AllReadable b) (meta_b : HasMeta b) (number : IsNumberIn b Pages count) (at_lt : at < count) (size : b.page_size ≡ a.page_size) (mended : MendsChild T b c count at i child few) where
+  module _ (count : ℕ) (removal : RemovesIn a.pages b.pages h (half - 1) child key) (readable : AllReadable b) (meta_b : HasMeta b) (number : IsNumberIn b Pages count) (at_lt : at < count) (size : b.page_size ≡ a.page_size) where
     abbrev less : ℕ
     less = half - 1
 
     mended_half : half ≡ half_of b.page_size
     mended_half = half_size ∙ ap half_of (sym size)
-
-    page_same : mended.page ≡ mended.mends.parent
-    page_same = cc (mended.page_is, mended.mends.parent_is (inl t))
-
-    pair_of : IsPairOf mended.mends.parent i mended.pair
-    pair_of = subst (λ (q : List ℕ). IsPairOf q i mended.pair) page_same mended.pair_of
 
     E_still : entries (nodes_in b.pages at) ≡ entries (nodes_in a.pages at)
     E_still = ap (λ (n : Node). entries n) (still less removal)
@@ -255,59 +256,95 @@ module _ (T : Type 0) (a b : Paged) (at i child : ℕ) (key : List ℕ) (half h 
     row_alone : times at (flat (nodes_under (nodes_in b.pages) h) (entries (nodes_in b.pages at))) ≡ 0
     row_alone = subst (λ (es : List Entry). times at (flat (nodes_under (nodes_in b.pages) h) es) ≡ 0) (sym E_still) (omega (arith, row_few less removal at, once at, row_times at, times_here at []))
 
-    row_by : (mend : Mend) → IsMend mended.mends.parent mended.mends.left mended.mends.right mended.pair.place mended.mends.mends.parent' mended.mends.mends.left' mended.mends.mends.right' mend
-        → IsWritten T b c at mended.pair mended.mends.mends.parent' mended.mends.mends.left' mended.mends.mends.right' 1 mend few → RowMended b.pages c.pages h half at (entries (nodes_in b.pages at)) few
-    row_by Merged is w =
-        let m = mended.mends in
-        merged_row T b c count at i t readable meta_b place.some number at_lt mended.pair child mended.may m.parent m.left m.right (m.parent_is (inl t)) (m.left_is (inl t)) (m.right_is (inl t)) m.parent_size m.left_size m.right_size
-        (reads_left m.left m.right is.kind m.left_reads) (reads_right m.left m.right is.kind m.right_reads) pair_of h half (half - 1) mended_half (omega arith) row_trees row_bounded row_once row_alone
-        m.mends.parent' m.mends.left' is (m.mends.sizes.0, m.mends.sizes.1) 1 w.0 few
-        (λ not_few. elim (cases_lt (length (items_of m.mends.parent')) (capacity_of (length m.mends.parent') / 2)) [ inl lt ↦ absurd (not_few (w.1.1 lt)) | inr from ↦ from ])
-    row_by Shared is w =
-        let m = mended.mends in
-        shared_row T b c count at i t readable meta_b place.some number at_lt mended.pair child mended.may m.parent m.left m.right (m.parent_is (inl t)) (m.left_is (inl t)) (m.right_is (inl t)) m.parent_size m.left_size m.right_size
-        (reads_left m.left m.right is.kind m.left_reads) (reads_right m.left m.right is.kind m.right_reads) pair_of h half (half - 1) mended_half (omega arith) row_trees row_bounded row_once row_alone
-        m.mends.parent' m.mends.left' m.mends.right' is m.mends.sizes 1 w.0 few
-    row_by Wrong is w = absurd w
+    page_b : b.pages at ≡ Some place.page
+    page_b = removal.others at (λ e. omega (arith, e, place.some)) (omega (arith, child_few at, once at, row_times at, times_here at [])) ∙ place.in_hand.page
 
-    rm : RowMended b.pages c.pages h half at (entries (nodes_in b.pages at)) few
-    rm = row_by mended.mends.mends.mend mended.mends.mends.is mended.mends.mends.written
+    items_some : 1 ≤ least → 1 ≤ length (items_of place.page)
+    items_some some = (let e : length (nodes_in a.pages at).items ≡ length (items_of place.page) = ap (λ (q : List ℕ). length (items_of q)) page_at_is in omega (arith, some, tree.0.full, e))
 
-    rm_swap : RowSwap (nodes_in b.pages) (nodes_in c.pages) h (entries (nodes_in a.pages at)) rm.row None rm.given
-    rm_swap = subst (λ (es : List Entry). RowSwap (nodes_in b.pages) (nodes_in c.pages) h es rm.row None rm.given) E_still rm.swap
-
-    row_none : (j : ℕ) → times j (nodes_under (nodes_in a.pages) (suc h) at) ≡ 0 → times j (flat (nodes_under (nodes_in b.pages) h) (entries (nodes_in b.pages at))) ≡ 0
-    row_none j none = subst (λ (es : List Entry). times j (flat (nodes_under (nodes_in b.pages) h) es) ≡ 0) (sym E_still) (omega (arith, none, row_times j, row_few less removal j))
-
-    not_at : (j : ℕ) → times j (nodes_under (nodes_in a.pages) (suc h) at) ≡ 0 → j ≢ at
-    not_at j none e = omega (arith, none, root_stands (nodes_in a.pages) (suc h) at, ap (λ n. times n (nodes_under (nodes_in a.pages) (suc h) at)) e)
-
-    pages_others : (j : ℕ) → j ≢ 0 → times j (nodes_under (nodes_in a.pages) (suc h) at) ≡ 0 → c.pages j ≡ a.pages j
-    pages_others j not_zero none = rm.others j not_zero (not_at j none) (row_none j none) ∙ removal.others j not_zero (not_below less removal j none)
-
-    all_gives : GivesBack a.pages c.pages (rm.given ++ removal.given)
-    all_gives = gives_then a.pages b.pages c.pages removal.given rm.given removal.gives rm.gives
-
-    nodes_others : (j : ℕ) → (IsSpare (nodes_in a.pages j) → ⊥) → times j (nodes_under (nodes_in a.pages) (suc h) at) ≡ 0 → nodes_in c.pages j ≡ nodes_in a.pages j
-    nodes_others j used none =
-        let not_zero : j ≢ 0 = λ e. used (subst (λ n. IsSpare (nodes_in a.pages n)) (sym e) (meta_spare a readable_a meta)) in
-        λ k. node_of (if nat_lt j (all_gives.count k) then bytes_of (pages_others j not_zero none k) else [])
-
-    mended_in : (least' : ℕ) → least' ≤ length (nodes_in c.pages at).items → RemovesIn a.pages c.pages (suc h) least' at key
-    mended_in least' full = record {
-      given = rm.given ++ removal.given;
-      removes = parent_removes (nodes_in a.pages) (nodes_in c.pages) (rm.given ++ removal.given) h least least' at key rm.row (record { kind_is = rm.kind; full = full }) (rm.half_now ∙ sym half_here) rm.here tree.2
-          (swap_then (nodes_in a.pages) (nodes_in b.pages) (nodes_in c.pages) h (entries (nodes_in a.pages at)) (entries (nodes_in a.pages at)) rm.row None removal.given rm.given (swap_up less removal) rm_swap)
-          (subst (λ n. Each (IsTreeIn (nodes_in c.pages) h n) rm.row) (sym half_here) rm.trees)
-          (rm.items ∙ ap (λ (es : List Entry). flat (items_under (nodes_in b.pages) h) es) E_still ∙ items_up less removal)
-          nodes_others;
-      others = pages_others;
-      gives = all_gives;
+    -- the child can be mended, where no page is bad
+    pub can_be_mended : IsSound b → 1 ≤ least → CanBeMended b count at i child
+    can_be_mended sound some = record {
+      below = omega (arith, at_lt, number_told b Pages count number);
+      has = λ page is. (let e : place.page ≡ page = cc (page_b, is) in subst (λ (q : List ℕ). HasPair q i) e (record { kind = place.is.kind; some = items_some some; in_range = place.is.for_key.in_range }));
+      may = λ page is pair pair_is. (let e : place.page ≡ page = cc (page_b, is) in
+          let c : child_of page i ≡ child = ap (λ (q : List ℕ). child_of q i) (sym e) ∙ sym place.is.is in
+          subst (MayMend pair count at) c (may_of T b b count at i t readable meta_b place.some number at_lt pair page is pair_is h half (half - 1) mended_half (omega arith) row_trees row_bounded row_once row_alone));
+      stand = λ page is pair pair_is. record {
+        each = λ parent left right p l r p_size l_size r_size.
+            (let e : page ≡ parent = cc (is, p) in
+            let pair_of : IsPairOf parent i pair = subst (λ (q : List ℕ). IsPairOf q i pair) e pair_is in
+            let may = may_of T b b count at i t readable meta_b place.some number at_lt pair parent p pair_of h half (half - 1) mended_half (omega arith) row_trees row_bounded row_once row_alone in
+            let reads = sound_reads b sound readable in
+            let lr = reads_now b sound readable pair.left left may.left_some (omega (arith, may.left_below, number_told b Pages count number)) l in
+            let rr = reads_now b sound readable pair.right right may.right_some (omega (arith, may.right_below, number_told b Pages count number)) r in
+            neighbours T b b count at i t readable meta_b place.some number at_lt pair parent p pair_of h half (half - 1) mended_half (omega arith) row_trees row_bounded row_once row_alone (child_of parent i) may left right l r p_size l_size r_size
+            (left_index T b b count at i t readable meta_b place.some number at_lt pair parent p pair_of h half (half - 1) mended_half (omega arith) row_trees row_bounded row_once row_alone left l lr)
+            (right_index T b b count at i t readable meta_b place.some number at_lt pair parent p pair_of h half (half - 1) mended_half (omega arith) row_trees row_bounded row_once row_alone right r rr)
+            (wide_row T b b count at i t readable meta_b place.some number at_lt pair parent p pair_of h half (half - 1) mended_half (omega arith) row_trees row_bounded row_once row_alone reads));
+      };
     }
 
-    long_b : length (nodes_in b.pages at).items ≡ length (nodes_in a.pages at).items
-    long_b = ap (λ (n : Node). length n.items) (still less removal)
+    module _ (c : Paged) (few : Bool) (mended : MendsChild T b c count at i child few) where
+      page_same : mended.page ≡ mended.mends.parent
+      page_same = cc (mended.page_is, mended.mends.parent_is (inl t))
 
-    pub mended_as : (f : Bool) → few ≡ f → (was : ℕ) → get_in (items_under (nodes_in a.pages) (suc h) at) key ≡ Some was → least ≤ half → RemovesAs a.pages c.pages (suc h) least at key (as_removal was f)
-    mended_as true e was word le = (word, mended_in (least - 1) (elim rm.count [ inl x ↦ omega (arith, x, long_b, tree.0.full) | inr x ↦ omega (arith, x.0, long_b, tree.0.full) ]))
-    mended_as false e was word le = (word, mended_in least (elim rm.count [ inl x ↦ omega (arith, x, long_b, tree.0.full) | inr x ↦ (let enough = x.1 (λ z. absurd (let q = sym e ∙ z in cc q)) in omega (arith, enough, le)) ]))
+      pair_of : IsPairOf mended.mends.parent i mended.pair
+      pair_of = subst (λ (q : List ℕ). IsPairOf q i mended.pair) page_same mended.pair_of
+
+      row_by : (mend : Mend) → IsMend mended.mends.parent mended.mends.left mended.mends.right mended.pair.place mended.mends.mends.parent' mended.mends.mends.left' mended.mends.mends.right' mend
+          → IsWritten T b c at mended.pair mended.mends.mends.parent' mended.mends.mends.left' mended.mends.mends.right' 1 mend few → RowMended b.pages c.pages h half at (entries (nodes_in b.pages at)) few
+      row_by Merged is w =
+          let m = mended.mends in
+          merged_row T b c count at i t readable meta_b place.some number at_lt mended.pair m.parent (m.parent_is (inl t)) pair_of h half (half - 1) mended_half (omega arith) row_trees row_bounded row_once row_alone
+          child mended.may m.left m.right (m.left_is (inl t)) (m.right_is (inl t)) m.parent_size m.left_size m.right_size (reads_left m.left m.right is.kind m.left_reads) (reads_right m.left m.right is.kind m.right_reads)
+          m.mends.parent' m.mends.left' is (m.mends.sizes.0, m.mends.sizes.1) 1 w.0 few
+          (λ not_few. elim (cases_lt (length (items_of m.mends.parent')) (capacity_of (length m.mends.parent') / 2)) [ inl lt ↦ absurd (not_few (w.1.1 lt)) | inr from ↦ from ])
+      row_by Shared is w =
+          let m = mended.mends in
+          shared_row T b c count at i t readable meta_b place.some number at_lt mended.pair m.parent (m.parent_is (inl t)) pair_of h half (half - 1) mended_half (omega arith) row_trees row_bounded row_once row_alone
+          child mended.may m.left m.right (m.left_is (inl t)) (m.right_is (inl t)) m.parent_size m.left_size m.right_size (reads_left m.left m.right is.kind m.left_reads) (reads_right m.left m.right is.kind m.right_reads)
+          m.mends.parent' m.mends.left' m.mends.right' is m.mends.sizes 1 w.0 few
+      row_by Wrong is w = absurd w
+
+      rm : RowMended b.pages c.pages h half at (entries (nodes_in b.pages at)) few
+      rm = row_by mended.mends.mends.mend mended.mends.mends.is mended.mends.mends.written
+
+      rm_swap : RowSwap (nodes_in b.pages) (nodes_in c.pages) h (entries (nodes_in a.pages at)) rm.row None rm.given
+      rm_swap = subst (λ (es : List Entry). RowSwap (nodes_in b.pages) (nodes_in c.pages) h es rm.row None rm.given) E_still rm.swap
+
+      row_none : (j : ℕ) → times j (nodes_under (nodes_in a.pages) (suc h) at) ≡ 0 → times j (flat (nodes_under (nodes_in b.pages) h) (entries (nodes_in b.pages at))) ≡ 0
+      row_none j none = subst (λ (es : List Entry). times j (flat (nodes_under (nodes_in b.pages) h) es) ≡ 0) (sym E_still) (omega (arith, none, row_times j, row_few less removal j))
+
+      not_at : (j : ℕ) → times j (nodes_under (nodes_in a.pages) (suc h) at) ≡ 0 → j ≢ at
+      not_at j none e = omega (arith, none, root_stands (nodes_in a.pages) (suc h) at, ap (λ n. times n (nodes_under (nodes_in a.pages) (suc h) at)) e)
+
+      pages_others : (j : ℕ) → j ≢ 0 → times j (nodes_under (nodes_in a.pages) (suc h) at) ≡ 0 → c.pages j ≡ a.pages j
+      pages_others j not_zero none = rm.others j not_zero (not_at j none) (row_none j none) ∙ removal.others j not_zero (not_below less removal j none)
+
+      all_gives : GivesBack a.pages c.pages (rm.given ++ removal.given)
+      all_gives = gives_then a.pages b.pages c.pages removal.given rm.given removal.gives rm.gives
+
+      nodes_others : (j : ℕ) → (IsSpare (nodes_in a.pages j) → ⊥) → times j (nodes_under (nodes_in a.pages) (suc h) at) ≡ 0 → nodes_in c.pages j ≡ nodes_in a.pages j
+      nodes_others j used none =
+          let not_zero : j ≢ 0 = λ e. used (subst (λ n. IsSpare (nodes_in a.pages n)) (sym e) (meta_spare a readable_a meta)) in
+          λ k. node_of (if nat_lt j (all_gives.count k) then bytes_of (pages_others j not_zero none k) else [])
+
+      mended_in : (least' : ℕ) → least' ≤ length (nodes_in c.pages at).items → RemovesIn a.pages c.pages (suc h) least' at key
+      mended_in least' full = record {
+        given = rm.given ++ removal.given;
+        removes = parent_removes (nodes_in a.pages) (nodes_in c.pages) (rm.given ++ removal.given) h least least' at key rm.row (record { kind_is = rm.kind; full = full }) (rm.half_now ∙ sym half_here) rm.here tree.2
+            (swap_then (nodes_in a.pages) (nodes_in b.pages) (nodes_in c.pages) h (entries (nodes_in a.pages at)) (entries (nodes_in a.pages at)) rm.row None removal.given rm.given (swap_up less removal) rm_swap)
+            (subst (λ n. Each (IsTreeIn (nodes_in c.pages) h n) rm.row) (sym half_here) rm.trees)
+            (rm.items ∙ ap (λ (es : List Entry). flat (items_under (nodes_in b.pages) h) es) E_still ∙ items_up less removal)
+            nodes_others;
+        others = pages_others;
+        gives = all_gives;
+      }
+
+      long_b : length (nodes_in b.pages at).items ≡ length (nodes_in a.pages at).items
+      long_b = ap (λ (n : Node). length n.items) (still less removal)
+
+      pub mended_as : (f : Bool) → few ≡ f → (was : ℕ) → get_in (items_under (nodes_in a.pages) (suc h) at) key ≡ Some was → least ≤ half → RemovesAs a.pages c.pages (suc h) least at key (as_removal was f)
+      mended_as true e was word le = (word, mended_in (least - 1) (elim rm.count [ inl x ↦ omega (arith, x, long_b, tree.0.full) | inr x ↦ omega (arith, x.0, long_b, tree.0.full) ]))
+      mended_as false e was word le = (word, mended_in least (elim rm.count [ inl x ↦ omega (arith, x, long_b, tree.0.full) | inr x ↦ (let enough = x.1 (λ z. absurd (let q = sym e ∙ z in cc q)) in omega (arith, enough, le)) ]))

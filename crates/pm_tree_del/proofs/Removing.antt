@@ -1,23 +1,26 @@
 -- The calls of a removal, one after the other.
-use Rattle.std.proofs.Common.{◌≡◌, ℕ, zero, suc, ◌+◌, ◌-◌, ◌<◌, ◌≤◌, ◌⊎◌, List, length, refl, sym, ap, subst, ◌∙◌, inl, inr, arith}
-use Rattle.std.specs.Prelude.{Bool, None, Some, IsTrue, Result, Err}
+use Rattle.std.proofs.Common.{◌≡◌, ◌≢◌, ℕ, zero, suc, ◌+◌, ◌-◌, ◌<◌, ◌≤◌, ◌⊎◌, List, length, refl, sym, ap, subst, ◌∙◌, inl, inr, arith}
+use Rattle.std.specs.Prelude.{Bool, Option, None, Some, IsSome, IsTrue, Result, Err}
+use Rattle.pm_types.specs.Ids.{page_id}
 use Rattle.pm_types.specs.declared.page_id.PageId.{PageId}
 use Rattle.pm_types.specs.declared.fault.PageFault.{PageFault}
 use Rattle.pm_types.specs.declared.fault.PageFault.TheVariants.{Failed, BadPage}
 use Rattle.pm_btpage.specs.declared.layout.TheConstants.{INNER_KIND}
 use Rattle.pm_btpage.specs.IndexPages.{items_of}
-use Rattle.pm_meta.specs.declared.slots.MetaSlot.TheVariants.{Pages}
-use Rattle.pm_pages.specs.Rows.{Partition, page_count, kind_of}
+use Rattle.pm_meta.specs.declared.slots.MetaSlot.{MetaSlot}
+use Rattle.pm_meta.specs.declared.slots.MetaSlot.TheVariants.{Reuse, Pages}
+use Rattle.pm_meta.specs.MetaPages.{IsSlot}
+use Rattle.pm_pages.specs.Rows.{Partition, number_of, page_count, kind_of}
 use Rattle.pm_pages.specs.Chains.{times}
-use Rattle.pm_pages.specs.Paged.{Paged, AllReadable, IsInHand, HasPageCause}
+use Rattle.pm_pages.specs.Paged.{Paged, AllReadable, IsThere, IsInHand, IsBadPage, HasPageCause, HasGapCause}
 use Rattle.pm_pages.specs.Edits.{LooksAtPages, EditsPages, HasMeta, IsNumberIn, HasDiskCause}
 use Rattle.pm_pages.proofs.EditedPages.{edits_then, edits_more, edits_looked, looks_at_none}
 use Rattle.pm_pages.proofs.TakenPages.{meta_looked, number_looked}
 use Rattle.pm_tree.specs.Maps.{get_in}
-use Rattle.pm_tree.specs.Nodes.{nodes_in, nodes_under, IsTreeIn}
+use Rattle.pm_tree.specs.Nodes.{nodes_in, items_under, nodes_under, IsTreeIn}
 use Rattle.pm_tree.specs.Puts.{half_of}
 use Rattle.pm_tree.specs.Places.{IsPlaceIn}
-use Rattle.pm_tree.specs.declared.places.Place.TheVariants.{Below}
+use Rattle.pm_tree.specs.declared.places.Place.TheVariants.{Gap, Full, Below}
 use Rattle.pm_tree.specs.Places.{HasGap}
 use Rattle.pm_tree.proofs.MapLists.{get_between}
 use Rattle.pm_tree.proofs.Divided.{number_is, number_now, number_stays, meta_stays}
@@ -32,7 +35,16 @@ use Rattle.pm_tree_del.specs.Pairs.{MayMend}
 use Rattle.pm_tree_del.specs.Mending.{IsOfFamily, IsWritten, MendsChild, HasMendCause}
 use Rattle.pm_tree_del.specs.Causes.{KeepsNumbers, RemovesPages, IsRemoveFaultAfter, HasRemoveCause, as_removal, Lifts}
 use Rattle.pm_tree_del.specs.Removes.{RemovesIn, RemovesAs, RemovesFor}
-use Rattle.pm_tree_del.proofs.RemovedTrees.{child_tree, child_once, get_here, kept_up, mended_as}
+use Rattle.pm_tree_del.specs.Sound.{IsSound, CanBeMended, HasTree}
+use Rattle.pm_tree_del.proofs.RemovedTrees.{child_tree, child_once, get_here, kept_up, can_be_mended, mended_as}
+use Rattle.pm_tree_del.proofs.SoundPages.{sound_edited, sound_looked, node_within}
+
+-- a page that is at hand
+there_at : (p : Paged) (j i : ℕ) → j ≡ i → IsTrue (p.known i) → IsThere p i → IsTrue (p.known j) × IsThere p j
+there_at p j i e known there = (subst (λ n. IsTrue (p.known n)) (sym e) known, subst (λ n. IsThere p n) (sym e) there)
+
+held_at : (p : Paged) (j i : ℕ) (bytes : List ℕ) → j ≡ i → IsTrue (p.known i) → p.pages i ≡ Some bytes → IsTrue (p.known j) × IsThere p j
+held_at p j i bytes e known is = there_at p j i e known (subst IsSome (sym is) refl)
 
 -- numbers of the meta page that are kept
 keeps_then : (a b c : Paged) → KeepsNumbers a b → KeepsNumbers b c → KeepsNumbers a c
@@ -48,6 +60,7 @@ changes_then T a b c m n k le x y = record {
       (edits_then T a b c (λ j. IsTrue (b.asked j)) (λ j. IsTrue (c.asked j)) m n x.edits y.edits);
   meta = y.meta;
   numbers = keeps_then a b c x.numbers y.numbers;
+  sound = λ t h. y.sound t (x.sound t h);
 }
 
 pub changes_looked : (T : Type 0) (a b : Paged) (m : ℕ) → HasMeta a → LooksAtPages T a b m → RemovesPages T a b m
@@ -55,19 +68,21 @@ changes_looked T a b m meta looks = record {
   edits = edits_looked T a b (λ j. IsTrue (b.asked j)) m looks;
   meta = meta_looked T a b m looks meta;
   numbers = record { others = λ slot is_slot ne n is. number_looked T a b m slot n looks is };
+  sound = λ t h. sound_looked T a b m t looks h;
 }
 
 pub changes_more : (T : Type 0) (a b : Paged) (m n : ℕ) → m ≤ n → RemovesPages T a b m → RemovesPages T a b n
-changes_more T a b m n le x = record { edits = edits_more T a b (λ j. IsTrue (b.asked j)) (λ j. IsTrue (b.asked j)) m n (λ j h. h) le x.edits; meta = x.meta; numbers = x.numbers }
+changes_more T a b m n le x = record { edits = edits_more T a b (λ j. IsTrue (b.asked j)) (λ j. IsTrue (b.asked j)) m n (λ j h. h) le x.edits; meta = x.meta; numbers = x.numbers; sound = x.sound }
 
 -- one page was changed, which was asked for
-pub changes_one : (T : Type 0) (a c : Paged) (at : ℕ) → 1 ≤ at → HasMeta a → IsTrue (a.asked at) → EditsPages T a c (λ j. j ≡ at) 0 → RemovesPages T a c 0
-changes_one T a c at some meta asked edits =
+pub changes_one : (T : Type 0) (a c : Paged) (at : ℕ) (now : List ℕ) → 1 ≤ at → HasMeta a → IsTrue (a.asked at) → IsTrue (a.known at) → c.pages at ≡ Some now → EditsPages T a c (λ j. j ≡ at) 0 → RemovesPages T a c 0
+changes_one T a c at now some meta asked known here edits =
     let out : 0 ≡ at → ⊥ = λ e. omega (arith, e, some) in
     record {
       edits = edits_more T a c (λ j. j ≡ at) (λ j. IsTrue (c.asked j)) 0 0 (λ j e. subst (λ n. IsTrue (c.asked n)) (sym e) (edits.asked at asked)) (omega arith) edits;
       meta = meta_stays T a c (λ j. j ≡ at) 0 edits out meta;
       numbers = keeps_edited T a c (λ j. j ≡ at) 0 edits out;
+      sound = λ t h. sound_edited T a c (λ j. j ≡ at) 0 t edits (λ j e. held_at c j at now e (edits.known at known) here) (ap (λ o. number_of o Pages) (edits.others 0 (inl t) out)) h;
     }
 
 -- a child was mended
@@ -83,6 +98,12 @@ changes_mended T b c count at i child few some meta mended = by mended.mends.men
     out : IsOfFamily at mended.pair 0 → ⊥
     out h = elim h [ inl e ↦ omega (arith, e, mended.may.left_some) | inr z ↦ elim z [ inl e ↦ omega (arith, e, mended.may.right_some) | inr e ↦ omega (arith, e, some) ] ]
 
+    family_held : (parent left right : List ℕ) → c.pages at ≡ Some parent → c.pages mended.pair.left ≡ Some left → c.pages mended.pair.right ≡ Some right → (j : ℕ) → IsOfFamily at mended.pair j → IsTrue (c.known j) × IsThere c j
+    family_held parent left right p l r j h = elim h [
+      | inl e ↦ held_at c j mended.pair.left left e (mended.mends.known mended.pair.left (inl refl)) l
+      | inr z ↦ elim z [ inl e ↦ held_at c j mended.pair.right right e (mended.mends.known mended.pair.right (inr (inl refl))) r | inr e ↦ held_at c j at parent e (mended.mends.known at (inr (inr refl))) p ]
+    ]
+
     by : (mend : Mend) → IsWritten T b c at mended.pair mended.mends.mends.parent' mended.mends.mends.left' mended.mends.mends.right' 1 mend few → RemovesPages T b c 1
     by Merged w =
         let n = w.0.gives.numbers in
@@ -90,11 +111,15 @@ changes_mended T b c count at i child few some meta mended = by mended.mends.men
           edits = edits_more T b c (λ j. (j ≡ 0) ⊎ IsOfFamily at mended.pair j) (λ j. IsTrue (c.asked j)) 1 1 (λ j h. elim h [ inl e ↦ subst (λ k. IsTrue (c.asked k)) (sym e) w.0.gives.meta.asked | inr z ↦ mended.mends.asked j z ]) (omega arith) w.0.edits;
           meta = w.0.gives.meta;
           numbers = record { others = λ slot is_slot ne k is. number_now c slot k n.now w.0.gives.meta n.after (number_is b slot k n.was is n.before ∙ sym (n.change.1.others slot is_slot ne)) };
+          sound = λ t h. sound_edited T b c (λ j. (j ≡ 0) ⊎ IsOfFamily at mended.pair j) 1 t w.0.edits
+              (λ j h2. elim h2 [ inl e ↦ there_at c j 0 e w.0.gives.meta.known w.0.gives.meta.there | inr z ↦ family_held mended.mends.mends.parent' mended.mends.mends.left' w.0.gives.page w.0.parent_now w.0.left_now w.0.gives.here j z ])
+              (ap (λ o. number_of o Pages) n.after ∙ n.change.1.others Pages tt (λ e. cc e) ∙ sym (ap (λ o. number_of o Pages) n.before)) h;
         }
     by Shared w = record {
       edits = edits_more T b c (IsOfFamily at mended.pair) (λ j. IsTrue (c.asked j)) 1 1 mended.mends.asked (omega arith) w.0.edits;
       meta = meta_stays T b c (IsOfFamily at mended.pair) 1 w.0.edits out meta;
       numbers = keeps_edited T b c (IsOfFamily at mended.pair) 1 w.0.edits out;
+      sound = λ t h. sound_edited T b c (IsOfFamily at mended.pair) 1 t w.0.edits (family_held mended.mends.mends.parent' mended.mends.mends.left' mended.mends.mends.right' w.0.parent_now w.0.left_now w.0.right_now) (ap (λ o. number_of o Pages) (w.0.edits.others 0 (inl t) out)) h;
     }
     by Wrong w = absurd w
 
@@ -185,6 +210,32 @@ module _ (T : Type 0) (a b c : Paged) (count at i child limit : ℕ) (key : List
         (child_tree T a b at i child key (half_of a.page_size) h least t meta readable_a place below refl tree once)
         (child_once T a b at i child key (half_of a.page_size) h least t meta readable_a place below refl tree once)
 
+  -- the child can be mended once it has an item less
+  height_is : (tree : HasTree a limit at) → (h : ℕ) × (tree.height ≡ suc h)
+  height_is tree = by tree.height tree.tree
+    where
+      by : (n : ℕ) → IsTreeIn (nodes_in a.pages) n tree.least at → (h : ℕ) × (n ≡ suc h)
+      by zero x = absurd (omega (arith, inner_here, x.kind_is))
+      by (suc h) x = (h, refl)
+
+  module _ (tree : HasTree a limit at) where
+    tree_0 : IsTreeIn (nodes_in a.pages) (suc (height_is tree).0) tree.least at
+    tree_0 = subst (λ n. IsTreeIn (nodes_in a.pages) n tree.least at) (height_is tree).1 tree.tree
+
+    once_0 : (j : ℕ) → times j (nodes_under (nodes_in a.pages) (suc (height_is tree).0) at) ≤ 1
+    once_0 j = subst (λ n. times j (nodes_under (nodes_in a.pages) n at) ≤ 1) (height_is tree).1 (tree.once j)
+
+    few_0 : suc (height_is tree).0 < limit
+    few_0 = omega (arith, tree.few, (height_is tree).1)
+
+    pub mendable_small : (was : ℕ) → RemovesFor a.pages b.pages (half_of a.page_size) (limit - 1) child key (Small was) → IsSound b → CanBeMended b count at i child
+    mendable_small was removes sound =
+        let x = of_child (Small was) removes (height_is tree).0 few_0 tree.least tree_0 once_0 in
+        can_be_mended T a b at i child key (half_of a.page_size) (height_is tree).0 tree.least t meta readable_a place below refl tree_0 once_0 count x.1 readable changes.meta number_b at_lt changes.edits.same.page_size sound tree.some
+
+  pub mendable_if : (tree : HasTree a limit at) (removal : Removal) → RemovesFor a.pages b.pages (half_of a.page_size) (limit - 1) child key removal → IsSound b → (was : ℕ) → removal ≡ Small was → CanBeMended b count at i child
+  mendable_if tree removal removes sound was is = mendable_small tree was (subst (RemovesFor a.pages b.pages (half_of a.page_size) (limit - 1) child key) is removes) sound
+
   absent_step : RemovesFor a.pages b.pages (half_of a.page_size) (limit - 1) child key Absent → ((j : ℕ) → c.pages j ≡ b.pages j) → RemovesFor a.pages c.pages (half_of a.page_size) limit at key Absent
   absent_step removes same = by_height Absent (λ h few least le tree once. (let x = of_child Absent removes h few least tree once in
       (get_here T a b at i child key (half_of a.page_size) h least t meta readable_a place below refl tree once None x.0, λ j. same j ∙ x.1 j)))
@@ -197,7 +248,7 @@ module _ (T : Type 0) (a b c : Paged) (count at i child limit : ℕ) (key : List
 
   mended_step : (was : ℕ) (f : Bool) → RemovesFor a.pages b.pages (half_of a.page_size) (limit - 1) child key (Small was) → MendsChild T b c count at i child f → RemovesFor a.pages c.pages (half_of a.page_size) limit at key (as_removal was f)
   mended_step was f removes mended = by_height (as_removal was f) (λ h few least le tree once. (let x = of_child (Small was) removes h few least tree once in
-      mended_as T a b at i child key (half_of a.page_size) h least t meta readable_a place below refl tree once c f count x.1 readable changes.meta number_b at_lt changes.edits.same.page_size mended f refl was
+      mended_as T a b at i child key (half_of a.page_size) h least t meta readable_a place below refl tree once count x.1 readable changes.meta number_b at_lt changes.edits.same.page_size c f mended f refl was
       (get_here T a b at i child key (half_of a.page_size) h least t meta readable_a place below refl tree once (Some was) x.0) le))
 
   pub lift_step : (removal lifted : Removal) → RemovesFor a.pages b.pages (half_of a.page_size) (limit - 1) child key removal → Lifts T b c count at i child removal lifted → RemovesFor a.pages c.pages (half_of a.page_size) limit at key lifted

@@ -1,6 +1,6 @@
 -- The entries of an inner page, divided at the child below which a key stands, or at two neighbours.
-use Rattle.std.proofs.Common.{◌≡◌, ℕ, zero, suc, ◌+◌, ◌<◌, List, [], ◌∷◌, ◌++◌, map, length, take, drop, refl, ap, ◌∙◌, arith}
-use Rattle.std.specs.Prelude.{None, Some}
+use Rattle.std.proofs.Common.{◌≡◌, ℕ, zero, suc, ◌+◌, ◌<◌, ◌≤◌, List, [], ◌∷◌, ◌++◌, map, length, take, drop, refl, sym, ap, subst, ◌∙◌, arith}
+use Rattle.std.specs.Prelude.{Option, None, Some}
 use Rattle.pm_btpage.specs.IndexPages.{Item, IsBelow, IsRising, key_in, word_in, without_item, with_item}
 use Rattle.pm_pages.specs.Trees.{index_in}
 use Rattle.pm_tree.specs.Maps.{get_in}
@@ -80,6 +80,25 @@ remove_stand f first items key i s =
     ∙ remove_after (flat f s.before) (f s.here.child ++ flat f s.after) key s.below
     ∙ ap (λ (t : List Item). flat f s.before ++ t) (remove_before (f s.here.child) (flat f s.after) key s.above)
 
+-- the key is above this one, if there is one
+abbrev pub IsAbove : Option (List ℕ) → List ℕ → Type 0
+IsAbove None key = Unit {0}
+IsAbove (Some from) key = IsBelow from key
+
+above_from_it : (from : Option (List ℕ)) (key : List ℕ) → IsAbove from key → IsFrom from key
+above_from_it None key h = tt
+above_from_it (Some s) key h = λ below. not_below_itself s (below_then s key s h below)
+
+above_more : (from : Option (List ℕ)) (a b : List ℕ) → IsAbove from a → IsBelow a b → IsAbove from b
+above_more None a b h lt = tt
+above_more (Some s) a b h lt = below_then s a b h lt
+
+-- a key below the first is below all
+below_all : (xs : List Item) (key : List ℕ) → IsRising xs → IsUpTo (end_before (map entry xs) None) key → (j : ℕ) → j < length xs → IsBelow key (key_in xs j)
+below_all [] key rising upto j lt = absurd (omega (arith, lt))
+below_all (x ∷ xs) key rising upto zero lt = upto
+below_all (x ∷ xs) key rising upto (suc j) lt = below_then key x.key (key_in xs j) upto (rising 0 (suc j) (omega arith) lt)
+
 -- the entries of two neighbours: the second one is that of item `place`, whose key parts them
 pub record Two (first : Entry) (items : List Item) (place : ℕ) : Type 0 where
   pub before : List Entry
@@ -93,6 +112,9 @@ pub record Two (first : Entry) (items : List Item) (place : ℕ) : Type 0 where
   pub key_is : item.key ≡ key_in items place
   pub low : IsFrom left.from item.key
   pub high : IsUpTo (end_before after None) item.key
+  pub low_first : (key : List ℕ) → IsAbove left.from key → IsAbove first.from key
+  pub below : (key : List ℕ) → IsAbove left.from key → (j : ℕ) → j < place → IsBelow (key_in items j) key
+  pub above : (key : List ℕ) → IsUpTo (end_before after None) key → (j : ℕ) → place + 1 ≤ j → j < length items → IsBelow key (key_in items j)
   pub without : (first ∷ map entry (without_item items place)) ≡ before ++ (left ∷ after)
   pub rekeyed : (key : List ℕ) → (first ∷ map entry (with_key items place key)) ≡ before ++ (left ∷ record { from = Some key; child = index_in item.word } ∷ after)
 
@@ -112,7 +134,7 @@ without_more x xs n = ap (λ (t : List Item). (x ∷ take n xs) ++ t) (drop_more
 pub with_more : (x : Item) (xs : List Item) (n : ℕ) (key : List ℕ) → with_key (x ∷ xs) (suc n) key ≡ x ∷ with_key xs n key
 with_more x xs n key = ap (λ (t : List Item). with_item t (suc n) (record { key = key; word = word_in xs n })) (without_more x xs n)
 
-pub two_of : (first : Entry) (items : List Item) (place : ℕ) → place < length items → IsRising items → ((j : ℕ) → j < length items → IsFrom first.from (key_in items j)) → Two first items place
+pub two_of : (first : Entry) (items : List Item) (place : ℕ) → place < length items → IsRising items → ((j : ℕ) → j < length items → IsAbove first.from (key_in items j)) → Two first items place
 unfolding kid
 two_of first [] place lt rising low = absurd (omega (arith, lt))
 two_of first (x ∷ xs) zero lt rising low = record {
@@ -125,8 +147,11 @@ two_of first (x ∷ xs) zero lt rising low = record {
   left_is = refl;
   right_is = kid_first xs;
   key_is = refl;
-  low = low 0 (omega arith);
+  low = above_from_it first.from x.key (low 0 (omega arith));
   high = high_of x xs rising;
+  low_first = λ key h. h;
+  below = λ key h j less. absurd (omega (arith, less));
+  above = after_first;
   without = refl;
   rekeyed = λ key. refl;
 }
@@ -134,8 +159,12 @@ two_of first (x ∷ xs) zero lt rising low = record {
     kid_first : (xs : List Item) → index_in x.word ≡ kid (index_in x.word) xs zero
     kid_first [] = refl
     kid_first (y ∷ ys) = refl
+
+    after_first : (key : List ℕ) → IsUpTo (end_before (map entry xs) None) key → (j : ℕ) → 0 + 1 ≤ j → j < length (x ∷ xs) → IsBelow key (key_in (x ∷ xs) j)
+    after_first key upto zero ge less = absurd (omega (arith, ge))
+    after_first key upto (suc j) ge less = below_all xs key (rising_tail x xs rising) upto j (omega (arith, less))
 two_of first (x ∷ xs) (suc p) lt rising low =
-    let t = two_of (entry x) xs p (omega (arith, lt)) (rising_tail x xs rising) (λ j less below. not_below_itself x.key (below_then x.key (key_in xs j) x.key (rising 0 (suc j) (omega arith) (omega (arith, less))) below)) in
+    let t = two_of (entry x) xs p (omega (arith, lt)) (rising_tail x xs rising) (λ j less. rising 0 (suc j) (omega arith) (omega (arith, less))) in
     record {
       before = first ∷ t.before;
       left = t.left;
@@ -148,6 +177,17 @@ two_of first (x ∷ xs) (suc p) lt rising low =
       key_is = t.key_is;
       low = t.low;
       high = t.high;
+      low_first = λ key h. above_more first.from x.key key (low 0 (omega arith)) (t.low_first key h);
+      below = λ key h j less. up_to t key h j less;
+      above = λ key h j ge less. past t key h j ge less;
       without = ap (λ (u : List Item). first ∷ map entry u) (without_more x xs p) ∙ ap (λ u. first ∷ u) t.without;
       rekeyed = λ key. ap (λ (u : List Item). first ∷ map entry u) (with_more x xs p key) ∙ ap (λ u. first ∷ u) (t.rekeyed key);
     }
+  where
+    up_to : (t : Two (entry x) xs p) (key : List ℕ) → IsAbove t.left.from key → (j : ℕ) → j < suc p → IsBelow (key_in (x ∷ xs) j) key
+    up_to t key h zero less = t.low_first key h
+    up_to t key h (suc j) less = t.below key h j (omega (arith, less))
+
+    past : (t : Two (entry x) xs p) (key : List ℕ) → IsUpTo (end_before t.after None) key → (j : ℕ) → suc p + 1 ≤ j → j < length (x ∷ xs) → IsBelow key (key_in (x ∷ xs) j)
+    past t key h zero ge less = absurd (omega (arith, ge))
+    past t key h (suc j) ge less = t.above key h j (omega (arith, ge)) (omega (arith, less))

@@ -1,5 +1,5 @@
 -- Pages that were copied, mended as copies, and written back.
-use Rattle.std.proofs.Common.{◌≡◌, ◌≢◌, ℕ, ◌+◌, ◌-◌, ◌≤◌, ◌⊎◌, List, refl, sym, ap, subst, ◌∙◌, inl, inr, arith}
+use Rattle.std.proofs.Common.{◌≡◌, ◌≢◌, ℕ, ◌+◌, ◌-◌, ◌<◌, ◌≤◌, ◌⊎◌, List, length, refl, sym, ap, subst, ◌∙◌, inl, inr, arith}
 use Rattle.std.specs.Prelude.{Bool, None, Some, IsTrue, IfOk, OnOk, Result, Ok, Err}
 use Rattle.std.proofs.lemmas.Bool.{cases_eq}
 use Rattle.pm_types.specs.Ids.{page_id}
@@ -7,15 +7,15 @@ use Rattle.pm_types.specs.Spans.{Coverage}
 use Rattle.pm_types.specs.declared.page_id.PageId.{PageId}
 use Rattle.pm_types.specs.declared.fault.PageFault.{PageFault}
 use Rattle.pm_types.specs.declared.fault.PageFault.TheVariants.{Failed, BadPage}
-use Rattle.pm_meta.specs.declared.slots.MetaSlot.TheVariants.{Pages}
-use Rattle.pm_meta.specs.MetaPages.{IsStoredReuse}
+use Rattle.pm_meta.specs.declared.slots.MetaSlot.TheVariants.{Reuse, Pages}
+use Rattle.pm_meta.specs.MetaPages.{field_of, next_of, IsStoredReuse}
 use Rattle.pm_btpage.specs.IndexPages.{IsIndexPage}
 use Rattle.pm_types.specs.Pages.{IsNoted}
 use Rattle.pm_pages.specs.Paged.{Paged, IsTold, IsInHand, IsAfterGap, HasRoomFor, HasPageCause, HasGapCause}
-use Rattle.pm_pages.specs.Edits.{LooksAtPages, EditsPages, HasMeta, HasDiskCause}
-use Rattle.pm_pages.specs.SparePages.{IsMetaOr, GivesPage}
+use Rattle.pm_pages.specs.Edits.{LooksAtPages, EditsPages, HasMeta, IsNumberIn, HasDiskCause}
+use Rattle.pm_pages.specs.SparePages.{IsMetaOr, SetsNumber, GivesPage}
 use Rattle.pm_pages.proofs.EditedPages.{edits_then, edits_more, edits_looked, told_still, looks_then}
-use Rattle.pm_pages.proofs.TakenPages.{bad_before, number_looked}
+use Rattle.pm_pages.proofs.TakenPages.{bad_before, meta_looked, number_looked}
 use Rattle.pm_tree.proofs.Descents.{in_hand_looked}
 use Rattle.pm_tree_del.specs.declared.pairs.Pair.{Pair}
 use Rattle.pm_tree_del.specs.declared.mends.Mend.{Mend}
@@ -23,7 +23,7 @@ use Rattle.pm_tree_del.specs.declared.mends.Mend.TheVariants.{Merged, Shared, Wr
 use Rattle.pm_tree_del.specs.Pairs.{IsPairOf, IsPairIn, MayMend, CanMend}
 use Rattle.pm_tree_del.specs.Copies.{IsCopyOf, TakesBytes}
 use Rattle.pm_tree_del.specs.Given.{IsGiven}
-use Rattle.pm_tree_del.specs.Mending.{IsOfFamily, MergesPages, SharesPages, IsWritten, IsFamily, MendsCopies, MendsPair, MendsChild, IsWrongFor, HasMendCause}
+use Rattle.pm_tree_del.specs.Mending.{IsOfFamily, MergesPages, SharesPages, IsWritten, IsFamily, MendsCopies, MendsPair, MendsChild, HasNoPair, IsWrongFor, HasMendCause}
 
 -- a page that another's change leaves as it was takes its bytes still
 pub takes_after : (T : Type 0) (a b : Paged) (k i : ℕ) (bytes : List ℕ) (patch : Coverage) → i ≢ k → EditsPages T a b (λ j. j ≡ k) 0 → TakesBytes a i bytes patch → TakesBytes b i bytes patch
@@ -185,6 +185,17 @@ written_asked T b c at pair parent left right m Merged few w j asked = w.0.edits
 written_asked T b c at pair parent left right m Shared few w j asked = w.0.edits.asked j asked
 written_asked T b c at pair parent left right m Wrong few w j asked = absurd w
 
+written_known : (T : Type 0) (b c : Paged) (at : ℕ) (pair : Pair) (parent left right : List ℕ) (m : ℕ) (mend : Mend) (few : Bool) → IsWritten T b c at pair parent left right m mend few → (j : ℕ) → IsTrue (b.known j) → IsTrue (c.known j)
+written_known T b c at pair parent left right m Merged few w j known = w.0.edits.known j known
+written_known T b c at pair parent left right m Shared few w j known = w.0.edits.known j known
+written_known T b c at pair parent left right m Wrong few w j known = absurd w
+
+family_known : (p : Paged) (at : ℕ) (pair : Pair) (parent left right : List ℕ) → IsFamily p at pair parent left right → (j : ℕ) → IsOfFamily at pair j → IsTrue (p.known j)
+family_known p at pair parent left right family j h = elim h [
+  | inl e ↦ subst (λ n. IsTrue (p.known n)) (sym e) family.left_is.in_hand.known
+  | inr z ↦ elim z [ inl e ↦ subst (λ n. IsTrue (p.known n)) (sym e) family.right_is.in_hand.known | inr e ↦ subst (λ n. IsTrue (p.known n)) (sym e) family.parent_is.in_hand.known ]
+]
+
 family_asked : (p : Paged) (at : ℕ) (pair : Pair) (parent left right : List ℕ) → IsFamily p at pair parent left right → (j : ℕ) → IsOfFamily at pair j → IsTrue (p.asked j)
 family_asked p at pair parent left right family j h = elim h [
   | inl e ↦ subst (λ n. IsTrue (p.asked n)) (sym e) family.left_is.in_hand.asked
@@ -223,6 +234,7 @@ module _ (T : Type 0) (a b c d : Paged) (at : ℕ) (pair : Pair) (parent left ri
         left_reads = family.left_is.readable;
         right_reads = family.right_is.readable;
         asked = λ j h. written_asked T d e at pair mends.parent' mends.left' mends.right' 0 mends.mend few mends.written j (family_asked d at pair parent left right family j h);
+        known = λ j h. written_known T d e at pair mends.parent' mends.left' mends.right' 0 mends.mend few mends.written j (family_known d at pair parent left right family j h);
         mends = record {
           parent' = mends.parent';
           left' = mends.left';
@@ -316,6 +328,7 @@ child_mended T a b e count at i child pair (Ok few) meta looks known is may mend
     left_reads = mends.left_reads;
     right_reads = mends.right_reads;
     asked = mends.asked;
+    known = mends.known;
     mends = record {
       parent' = mends.mends.parent';
       left' = mends.mends.left';

@@ -8,3 +8,4 @@ pub mod Neighbours
 pub mod Pairs
 pub mod Removes
 pub mod Roots
+pub mod Sound

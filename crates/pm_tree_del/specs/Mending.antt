@@ -1,5 +1,5 @@
 -- Two pages below an inner page, of which one had too few items, over the pages of a partition.
-use Rattle.std.specs.Prelude.{◌≡◌, ℕ, ◌/◌, ◌<◌, ◌⊎◌, ◌↔◌, Bool, false, List, Some, IsTrue, Result, IsErrOf, length}
+use Rattle.std.specs.Prelude.{◌≡◌, ◌≢◌, ℕ, ◌+◌, ◌/◌, ◌<◌, ◌≤◌, ◌⊎◌, ◌↔◌, Bool, false, List, Some, IsTrue, Result, IsErrOf, length}
 use Rattle.pm_types.specs.declared.page_id.PageId.{PageId}
 use Rattle.pm_types.specs.declared.fault.PageFault.{PageFault}
 use Rattle.pm_types.specs.declared.fault.PageFault.TheVariants.{Failed, BadPage}
@@ -78,6 +78,7 @@ pub record MendsPair (T : Type 0) (old new : Paged) (at : ℕ) (pair : Pair) (fe
   pub left_reads : IsReadable left
   pub right_reads : IsReadable right
   pub asked : (j : ℕ) → IsOfFamily at pair j → IsTrue (new.asked j)
+  pub known : (j : ℕ) → IsOfFamily at pair j → IsTrue (new.known j)
   pub mends : MendsCopies T old new at pair parent left right 1 few
 
 -- child i of an inner page, which has this index, was mended with the one beside it

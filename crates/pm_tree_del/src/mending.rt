@@ -5,6 +5,9 @@ ghost use Rattle.pm_btpage.specs.IndexPages.{IsIndexPage};
 ghost use Rattle.pm_meta.specs.declared.slots.MetaSlot.TheVariants.{Pages};
 ghost use Rattle.pm_pages.specs.Paged.{AllReadable, IsInHand, HasGapCause};
 ghost use Rattle.pm_pages.specs.Edits.{HasMeta, IsNumberIn, HasDiskCause};
+ghost use Rattle.pm_tree.specs.Sound.{NoBadPage};
+ghost use Rattle.pm_tree_del.specs.Neighbours.{AreNeighbours};
+ghost use Rattle.pm_tree_del.specs.Sound.{IsSound, StandSo, CanBeMended};
 ghost use Rattle.pm_tree_del.specs.Pairs.{IsPairOf, MayMend, CanMend};
 ghost use Rattle.pm_tree_del.specs.Copies.{TakesBytes};
 ghost use Rattle.pm_tree_del.specs.Mending.{IsFamily, MergesPages, SharesPages, MendsCopies, MendsPair, MendsChild, HasMendCause};
@@ -38,6 +41,8 @@ pub fn mend_child<P: Pages>(
     ensures readable { AllReadable (P.seen pages.new) }
     ensures mends { IfOk result (MendsChild P.tells (P.seen pages.old) (P.seen pages.new) count at i child) }
     ensures cause { HasMendCause P.tells (P.seen pages.old) (P.seen pages.new) result }
+    ensures sound { P.tells → IsSound (P.seen pages.old)
+        → CanBeMended (P.seen pages.old) count at i child → NoBadPage result }
 {
     match find_pair(pages, at, i)? {
         Some(pair) => mend_pair(pages, count, at, child, &pair),
@@ -66,6 +71,8 @@ fn mend_pair<P: Pages>(
     ensures may { OnOk result (MayMend pair.now count at child) }
     ensures mends { IfOk result (MendsPair P.tells (P.seen pages.old) (P.seen pages.new) at pair.now) }
     ensures cause { HasMendCause P.tells (P.seen pages.old) (P.seen pages.new) result }
+    ensures sound { P.tells → IsSound (P.seen pages.old)
+        → MayMend pair.now count at child → StandSo (P.seen pages.old) at pair.now → NoBadPage result }
 {
     if !pair.may_mend(count, at, child) {
         return Err(PageFault::BadPage(PageId::new(pages.part(), at)));
@@ -105,6 +112,8 @@ fn mend_over<P: Pages>(
     ensures readable { AllReadable (P.seen pages.new) }
     ensures mends { IfOk result (MendsPair P.tells (P.seen pages.old) (P.seen pages.new) at pair.now) }
     ensures cause { HasMendCause P.tells (P.seen pages.old) (P.seen pages.new) result }
+    ensures sound { P.tells → IsSound (P.seen pages.old)
+        → StandSo (P.seen pages.old) at pair.now → NoBadPage result }
 {
     copy_page(pages, at, parent)?;
     copy_page(pages, pair.left, left)?;
@@ -131,6 +140,8 @@ fn mend_copied<P: Pages>(
     ensures mends { IfOk result (MendsCopies P.tells (P.seen pages.old) (P.seen pages.new) at
         pair.now parent.old left.old right.old 0) }
     ensures cause { HasMendCause P.tells (P.seen pages.old) (P.seen pages.new) result }
+    ensures sound { P.tells → IsSound (P.seen pages.old)
+        → AreNeighbours parent.old left.old right.old pair.now.place → NoBadPage result }
 {
     let size = pages.page_size();
     let mut patches = Patches {

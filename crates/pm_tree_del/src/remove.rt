@@ -8,6 +8,9 @@ ghost use Rattle.pm_tree.specs.Steps.{IsPath};
 ghost use Rattle.pm_tree.specs.Puts.{half_of};
 ghost use Rattle.pm_tree.specs.Places.{IsPlaceIn};
 ghost use Rattle.pm_tree.specs.declared.places.Place.TheVariants.{Held};
+ghost use Rattle.pm_tree.specs.Sound.{NoBadPage};
+ghost use Rattle.pm_tree_del.specs.declared.remove.Removal.TheVariants.{Small};
+ghost use Rattle.pm_tree_del.specs.Sound.{IsSound, CanBeMended, HasTree};
 ghost use Rattle.pm_tree_del.specs.Items.{HasItemAt};
 ghost use Rattle.pm_tree_del.specs.Removes.{RemovesFor};
 ghost use Rattle.pm_tree_del.specs.Causes.{RemovesPages, IsHeld, HasRemoveCause, Lifts, as_removal};
@@ -56,6 +59,8 @@ pub fn remove_at<P: Pages>(
         → RemovesFor (P.seen pages.old).pages (P.seen pages.new).pages
         (half_of (P.seen pages.old).page_size) levels at key.now removal) }
     ensures cause { HasRemoveCause P.tells (P.seen pages.old) (P.seen pages.new) cache result }
+    ensures sound { P.tells → IsSound (P.seen pages.old)
+        → HasTree (P.seen pages.old) levels at → NoBadPage result }
 {
     if levels == 0 {
         return Err(PageFault::BadPage(PageId::new(pages.part(), from)));
@@ -125,6 +130,8 @@ fn lift<P: Pages>(
     ensures changes { OnOk result (RemovesPages P.tells (P.seen pages.old) (P.seen pages.new) 1) }
     ensures lifts { IfOk result (Lifts P.tells (P.seen pages.old) (P.seen pages.new) count at i child removal) }
     ensures cause { (cache : ℕ) → HasRemoveCause P.tells (P.seen pages.old) (P.seen pages.new) cache result }
+    ensures sound { P.tells → IsSound (P.seen pages.old)
+        → ((was : ℕ) → removal ≡ Small was → CanBeMended (P.seen pages.old) count at i child) → NoBadPage result }
 {
     match removal {
         Removal::Absent => Ok(Removal::Absent),

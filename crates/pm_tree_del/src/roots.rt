@@ -8,7 +8,10 @@ ghost use Rattle.pm_pages.specs.Trees.{root_of};
 ghost use Rattle.pm_pages.specs.Paged.{AllReadable};
 ghost use Rattle.pm_pages.specs.Edits.{HasMeta, IsNumberIn};
 ghost use Rattle.pm_tree.specs.Indexes.{IsIndex};
+ghost use Rattle.pm_tree.specs.Sound.{PassesAll, NoBadPage};
+ghost use Rattle.pm_tree.specs.Nodes.{nodes_in, IsTreeIn};
 ghost use Rattle.pm_tree_del.specs.Causes.{IsHeld, HasRemoveCause};
+ghost use Rattle.pm_tree_del.specs.Sound.{IsSound};
 ghost use Rattle.pm_tree_del.specs.Roots.{RemovesRootPages, ReplacesRoot, Settles, RemovesIndex, HasGiveCause};
 
 use crate::remove::{Removal, remove_at};
@@ -25,8 +28,8 @@ use pm_types::{Link, PageFault, PageId};
 ///
 /// `Failed` comes only where a call on the disk failed. `BadPage` names a page that is bad, or that names a
 /// wrong one: on the way from the root, or below a page whose children are to be mended and don't stand in
-/// their order; or the page before one that is given back, where it isn't there. After an error the pages that
-/// were asked for may be half changed.
+/// their order; or the page before one that is given back, where it isn't there. In a tree whose pages pass their
+/// checks none is bad. After an error the pages that were asked for may be half changed.
 pub fn tree_remove<P: Pages>(
     pages: &mut P,
     cache: u8,
@@ -43,6 +46,9 @@ pub fn tree_remove<P: Pages>(
         → IsIndex (P.seen pages.old).pages (root_of (P.seen pages.old).pages cache) height nodes items
         → RemovesIndex (P.seen pages.old).pages (P.seen pages.new).pages cache nodes items key.now was) }
     ensures cause { HasRemoveCause P.tells (P.seen pages.old) (P.seen pages.new) cache result }
+    ensures sound { P.tells → PassesAll (P.seen pages.old) → (height : ℕ) (nodes : List ℕ) (items : List Item)
+        → IsIndex (P.seen pages.old).pages (root_of (P.seen pages.old).pages cache) height nodes items
+        → NoBadPage result }
 {
     match find_number(pages, MetaSlot::Root(cache))? {
         None => Ok(None),
@@ -76,6 +82,8 @@ fn remove_below<P: Pages>(
         → IsIndex (P.seen pages.old).pages root height nodes items
         → RemovesIndex (P.seen pages.old).pages (P.seen pages.new).pages cache nodes items key.now was) }
     ensures cause { HasRemoveCause P.tells (P.seen pages.old) (P.seen pages.new) cache result }
+    ensures sound { P.tells → IsSound (P.seen pages.old) → (height : ℕ) (nodes : List ℕ) (items : List Item)
+        → IsIndex (P.seen pages.old).pages root height nodes items → NoBadPage result }
 {
     let _size = pages.page_size();
     let count = number(pages, MetaSlot::Pages)?;
@@ -103,6 +111,8 @@ fn settle<P: Pages>(pages: &mut P, cache: u8, count: u32, root: u32) -> Result<(
     ensures changes { OnOk result (RemovesRootPages P.tells (P.seen pages.old) (P.seen pages.new) cache 0) }
     ensures settles { OnOk result (Settles P.tells (P.seen pages.old) (P.seen pages.new) cache root) }
     ensures cause { HasRemoveCause P.tells (P.seen pages.old) (P.seen pages.new) cache result }
+    ensures sound { P.tells → IsSound (P.seen pages.old) → (height : ℕ)
+        → IsTreeIn (nodes_in (P.seen pages.old).pages) height 0 root → NoBadPage result }
 {
     match find_top(pages, root)? {
         Top::Full => Ok(()),

@@ -1,5 +1,5 @@
 use Rattle.std.specs.Prelude.{IsTrue}
-use Rattle.std.proofs.Common.{◌≡◌, ◌+◌, ◌-◌, ◌*◌, subst, sym, ap, ◌∙◌, inl, inr, arith}
+use Rattle.std.proofs.Common.{◌≡◌, ◌+◌, ◌-◌, ◌*◌, ◌<◌, ◌≤◌, refl, subst, sym, ap, ◌∙◌, inl, inr, arith}
 use Rattle.std.proofs.lemmas.Result.{IfOk-weaker, on_ok_weaker, err_from_is_err_and}
 use Rattle.pm_types.specs.Ids.{page_id}
 use Rattle.pm_meta.specs.declared.slots.MetaSlot.TheVariants.{Pages}
@@ -12,6 +12,9 @@ use Rattle.pm_tree.specs.Steps.{IsPath}
 use Rattle.pm_tree.proofs.Descents.{path_looked}
 use Rattle.pm_tree.proofs.Climbs.{below_count_of, at_place, path_below, names_no_place}
 use Rattle.pm_tree_del.proofs.Removing.{changes_looked, changes_then, changes_more, removes_looked, absent_removes, lift_step, remove_cause_disk, remove_cause_page, remove_cause_after, remove_cause_passed}
+use Rattle.pm_tree_del.proofs.Removing.{mendable_if}
+use Rattle.pm_tree_del.proofs.SoundPages.{sound_looked, sound_not_bad, node_within, no_bad_passed}
+use Rattle.pm_tree_del.proofs.SoundRemovals.{tree_looked, not_other, tree_of_child}
 use Rattle.pm_tree_del.proofs.remove.+remove_at.Goals as goal
 
 pub remove_item-requires-clause-item : goal.remove_item-requires-clause-item
@@ -323,3 +326,56 @@ returns-then-levels-eq0-clause-cause g t c =
             fault = inr (inr (inr (inr (record { from = c.args.from; at = c.args.at; name = sym is ∙ c.new.ensures ∙ ap (λ n. page_id n c.args.from) c.part.ensures; path = subst (λ n. IsPath a c.args.cache n c.args.from c.args.at) e c.requires.path }))));
           };
     }
+
+pub returns-then-levels-eq0-clause-sound : goal.returns-then-levels-eq0-clause-sound
+returns-then-levels-eq0-clause-sound g t c = λ told sound tree id h. omega (arith, tree.few, c.if-levels-eq0.true)
+
+pub returns-in_err-i-clause-sound : goal.returns-in_err-i-clause-sound
+returns-in_err-i-clause-sound g t c = λ told sound tree.
+    let T = g.P.Pages.tells in
+    let a = g.P.Pages.seen c.args.pages.now in
+    let p = err_from_is_err_and c.from_residual.result c.from_residual.ensures.1 in
+    no_bad_passed c.find_place.result c.from_residual.result c.in_err-i.field-0.0 p.0 c.in_err-i.was p.1 p.2
+    (λ id h. sound_not_bad T a c.args.at id told sound (node_within a tree.height tree.least c.args.at c.requires.readable c.requires.meta tree.tree).1 (c.find_place.ensures.cause.bad id h))
+
+pub returns-in-Held-clause-sound : goal.returns-in-Held-clause-sound
+returns-in-Held-clause-sound g t c = λ told sound tree id h. c.remove_item.ensures.cause.not_bad id h
+
+pub returns-in-Other-clause-sound : goal.returns-in-Other-clause-sound
+returns-in-Other-clause-sound g t c = λ told sound tree id h.
+    let T = g.P.Pages.tells in
+    let a = g.P.Pages.seen c.args.pages.now in
+    let b = g.P.Pages.seen c.find_place.new.pages in
+    let looks = c.find_place.ensures.looks in
+    let number = number_looked T a b 1 Pages c.args.count looks c.requires.count in
+    let look = subst (IsPlace b c.args.count c.args.at c.args.key.now) {y = Other} c.in-Other.is c.in_ok-i.ensures.place in
+    not_other b c.args.count c.args.levels c.args.at c.args.key.now c.find_place.ensures.readable (meta_looked T a b 1 looks c.requires.meta) number (tree_looked T a b 1 c.args.levels c.args.at told looks tree) look
+
+pub returns-in_err-removal-in-Below-clause-sound : goal.returns-in_err-removal-in-Below-clause-sound
+returns-in_err-removal-in-Below-clause-sound g t c = λ told sound tree.
+    let T = g.P.Pages.tells in
+    let a = g.P.Pages.seen c.args.pages.now in
+    let b = g.P.Pages.seen c.find_place.new.pages in
+    let looks = c.find_place.ensures.looks in
+    let number = number_looked T a b 1 Pages c.args.count looks c.requires.count in
+    let place = at_place b c.args.count c.args.at c.args.key.now (Below c.in-Below.i c.in-Below.child) (λ e. absurd (cc e)) (subst (IsPlace b c.args.count c.args.at c.args.key.now) {y = Below c.in-Below.i c.in-Below.child} c.in-Below.is c.in_ok-i.ensures.place) in
+    let p = err_from_is_err_and c.from_residual-in_err-removal-in-Below.result c.from_residual-in_err-removal-in-Below.ensures.1 in
+    no_bad_passed c.remove_at.result c.from_residual-in_err-removal-in-Below.result c.in_err-removal-in-Below.field-0.0 p.0 c.in_err-removal-in-Below.was p.1 p.2
+    (c.remove_at.ensures.sound told (sound_looked T a b 1 told looks sound)
+    (tree_of_child T b c.args.count c.args.at c.in-Below.i c.in-Below.child c.args.levels c.args.key.now told (meta_looked T a b 1 looks c.requires.meta) c.find_place.ensures.readable place.1 number place.0 (tree_looked T a b 1 c.args.levels c.args.at told looks tree)))
+
+pub returns-in_ok-removal-in-Below-clause-sound : goal.returns-in_ok-removal-in-Below-clause-sound
+returns-in_ok-removal-in-Below-clause-sound g t c = λ told sound tree.
+    let T = g.P.Pages.tells in
+    let a = g.P.Pages.seen c.args.pages.now in
+    let b = g.P.Pages.seen c.find_place.new.pages in
+    let looks = c.find_place.ensures.looks in
+    let number = number_looked T a b 1 Pages c.args.count looks c.requires.count in
+    let place = at_place b c.args.count c.args.at c.args.key.now (Below c.in-Below.i c.in-Below.child) (λ e. absurd (cc e)) (subst (IsPlace b c.args.count c.args.at c.args.key.now) {y = Below c.in-Below.i c.in-Below.child} c.in-Below.is c.in_ok-i.ensures.place) in
+    let d = g.P.Pages.seen c.remove_at.new.pages in
+    let changes = c.in_ok-removal-in-Below.ensures.changes in
+    let e = g.P.Pages.seen c.lift.new.pages in
+    let sound_d = changes.sound told (sound_looked T a b 1 told looks sound) in
+    c.lift.ensures.sound told sound_d
+    (mendable_if T b d e c.args.count c.args.at c.in-Below.i c.in-Below.child c.args.levels c.args.key.now (2 * (c.args.levels - 1) - 1) told (meta_looked T a b 1 looks c.requires.meta) c.find_place.ensures.readable place.1 number place.0
+    (omega (arith, c.if-levels-eq0.false)) changes c.remove_at.ensures.readable (tree_looked T a b 1 c.args.levels c.args.at told looks tree) c.in_ok-removal-in-Below.removal (c.in_ok-removal-in-Below.ensures.removes told) sound_d)

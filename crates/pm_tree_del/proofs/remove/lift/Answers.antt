@@ -2,9 +2,10 @@ use Rattle.std.proofs.Common.{refl, subst, sym, arith}
 use Rattle.std.proofs.lemmas.Result.{err_from_is_err_and}
 use Rattle.pm_pages.proofs.EditedPages.{looks_at_none}
 use Rattle.pm_tree_del.specs.declared.remove.Removal.{Removal}
-use Rattle.pm_tree_del.specs.declared.remove.Removal.TheVariants.{Absent, Kept}
+use Rattle.pm_tree_del.specs.declared.remove.Removal.TheVariants.{Absent, Kept, Small}
 use Rattle.pm_tree_del.specs.Causes.{Lifts}
 use Rattle.pm_tree_del.proofs.Removing.{changes_looked, changes_more, changes_mended, remove_cause_mend, remove_cause_passed}
+use Rattle.pm_tree_del.proofs.SoundPages.{no_bad_passed}
 use Rattle.pm_tree_del.proofs.remove.lift.Goals as goal
 
 pub returns-in-Absent-clause-changes : goal.returns-in-Absent-clause-changes
@@ -42,3 +43,8 @@ returns-in_err-few-in-Small-clause-cause g c = λ cache.
     let d = g.P.Pages.seen c.mend_child.new.pages in
     let p = err_from_is_err_and c.from_residual.result c.from_residual.ensures.1 in
     remove_cause_passed T a d cache c.mend_child.result c.from_residual.result c.in_err-few-in-Small.field-0.0 p.0 c.in_err-few-in-Small.was p.1 p.2 (remove_cause_mend T a d cache c.mend_child.result c.mend_child.ensures.cause)
+
+pub returns-in_err-few-in-Small-clause-sound : goal.returns-in_err-few-in-Small-clause-sound
+returns-in_err-few-in-Small-clause-sound g c = λ t sound may.
+    let p = err_from_is_err_and c.from_residual.result c.from_residual.ensures.1 in
+    no_bad_passed c.mend_child.result c.from_residual.result c.in_err-few-in-Small.field-0.0 p.0 c.in_err-few-in-Small.was p.1 p.2 (c.mend_child.ensures.sound t sound (may c.in-Small.was c.in-Small.is))

@@ -2,6 +2,7 @@ use Rattle.std.proofs.Common.{refl}
 use Rattle.pm_tree_del.proofs.Removing.{changes_one}
 use Rattle.pm_tree_del.proofs.RemovedTrees.{leaf_removes}
 use Rattle.std.proofs.Common.{subst, sym}
+use Rattle.pm_pages.specs.Rows.{Partition}
 use Rattle.pm_tree.specs.Puts.{half_of}
 use Rattle.pm_tree_del.specs.declared.remove.Removal.{Removal}
 use Rattle.pm_tree_del.specs.Removes.{RemovesFor}
@@ -12,7 +13,7 @@ returns-clause-changes g c =
     let T = g.P.Pages.tells in
     let a = g.P.Pages.seen c.args.pages.now in
     let d = g.P.Pages.seen c.take_out.new.pages in
-    changes_one T a d c.args.at c.requires.item.some c.requires.meta c.requires.item.in_hand.asked c.take_out.ensures.edits
+    changes_one T a d c.args.at c.in_ok-few.ensures.takes.now c.requires.item.some c.requires.meta c.requires.item.in_hand.asked c.requires.item.in_hand.known c.in_ok-few.ensures.takes.after c.take_out.ensures.edits
 
 pub returns-clause-removes : goal.returns-clause-removes
 returns-clause-removes g c =

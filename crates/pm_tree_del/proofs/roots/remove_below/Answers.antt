@@ -1,4 +1,5 @@
-use Rattle.std.proofs.Common.{refl, subst, arith}
+use Rattle.std.proofs.Common.{◌≡◌, ◌+◌, refl, subst, sym, ap, arith}
+use Rattle.std.specs.Prelude.{IsTrue}
 use Rattle.std.proofs.lemmas.Result.{err_from_is_err_and}
 use Rattle.pm_types.specs.PageSizes.{IsPageSize}
 use Rattle.pm_meta.specs.declared.slots.MetaSlot.TheVariants.{Root, Pages}
@@ -9,6 +10,8 @@ use Rattle.pm_tree_del.specs.Removes.{RemovesFor}
 use Rattle.pm_tree_del.proofs.Removing.{changes_looked, changes_then, removes_looked, remove_cause_disk, remove_cause_after, remove_cause_passed}
 use Rattle.pm_tree_del.proofs.Settled.{root_changed, root_then}
 use Rattle.pm_tree_del.proofs.IndexCalls.{absent_height, kept_height, settled_height}
+use Rattle.pm_tree_del.proofs.SoundPages.{sound_looked, no_bad_passed}
+use Rattle.pm_tree_del.proofs.SoundRemovals.{tree_looked, index_tree, small_tree}
 use Rattle.pm_tree_del.proofs.roots.remove_below.Goals as goal
 
 pub remove_at-requires-clause-path : goal.remove_at-requires-clause-path
@@ -137,3 +140,32 @@ returns-in_err-remove_at-clause-cause g c =
     let x = changes_looked T a b 0 c.requires.meta c.number.ensures.looks in
     let p = err_from_is_err_and c.from_residual-in_err-remove_at.result c.from_residual-in_err-remove_at.ensures.1 in
     remove_cause_passed T a d c.args.cache c.remove_at.result c.from_residual-in_err-remove_at.result c.in_err-remove_at.field-0.0 p.0 c.in_err-remove_at.was p.1 p.2 (remove_cause_after T a b d 0 c.args.cache c.remove_at.result x.edits c.remove_at.ensures.cause)
+
+pub returns-in_err-count-clause-sound : goal.returns-in_err-count-clause-sound
+returns-in_err-count-clause-sound g c = λ t sound height nodes items index.
+    let p = err_from_is_err_and c.from_residual.result c.from_residual.ensures.1 in
+    no_bad_passed c.number.result c.from_residual.result c.in_err-count.field-0.0 p.0 c.in_err-count.was p.1 p.2 (λ id h. c.number.ensures.cause.not_bad id h)
+
+pub returns-in_err-remove_at-clause-sound : goal.returns-in_err-remove_at-clause-sound
+returns-in_err-remove_at-clause-sound g c = λ t sound height nodes items index.
+    let T = g.P.Pages.tells in
+    let a = g.P.Pages.seen c.args.pages.now in
+    let b = g.P.Pages.seen c.number.new.pages in
+    let looks = c.number.ensures.looks in
+    let p = err_from_is_err_and c.from_residual-in_err-remove_at.result c.from_residual-in_err-remove_at.ensures.1 in
+    let tree = index_tree a c.args.root (subst IsPageSize c.page_size-size.ensures.size c.page_size-size.ensures.page_size) c.requires.some height nodes items index in
+    no_bad_passed c.remove_at.result c.from_residual-in_err-remove_at.result c.in_err-remove_at.field-0.0 p.0 c.in_err-remove_at.was p.1 p.2 (c.remove_at.ensures.sound t (sound_looked T a b 0 t looks sound) (tree_looked T a b 0 8 c.args.root t looks tree))
+
+pub returns-in_err-settle-in-Small-clause-sound : goal.returns-in_err-settle-in-Small-clause-sound
+returns-in_err-settle-in-Small-clause-sound g c = λ t sound height nodes items index.
+    let T = g.P.Pages.tells in
+    let a = g.P.Pages.seen c.args.pages.now in
+    let b = g.P.Pages.seen c.number.new.pages in
+    let d = g.P.Pages.seen c.remove_at.new.pages in
+    let looks = c.number.ensures.looks in
+    let p = err_from_is_err_and c.from_residual-in_err-settle-in-Small.result c.from_residual-in_err-settle-in-Small.ensures.1 in
+    let removes = removes_looked T a b d 0 8 c.args.root c.args.key.now c.in_ok-remove_at.field-0 t looks (c.in_ok-remove_at.ensures.removes t) in
+    let is = subst (RemovesFor a.pages d.pages (half_of a.page_size) 8 c.args.root c.args.key.now) {y = Small c.in-Small.was} c.in-Small.is removes in
+    let tree = small_tree a d c.args.root c.in-Small.was c.args.key.now height nodes items (subst IsPageSize c.page_size-size.ensures.size c.page_size-size.ensures.page_size) c.requires.some index is in
+    no_bad_passed c.settle.result c.from_residual-in_err-settle-in-Small.result c.in_err-settle-in-Small.field-0.0 p.0 c.in_err-settle-in-Small.was p.1 p.2
+    (c.settle.ensures.sound t (c.in_ok-remove_at.ensures.changes.sound t (sound_looked T a b 0 t looks sound)) tree.0 tree.1)

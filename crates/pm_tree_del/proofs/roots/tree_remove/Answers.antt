@@ -1,4 +1,4 @@
-use Rattle.std.proofs.Common.{ℕ, Option, subst, arith}
+use Rattle.std.proofs.Common.{ℕ, ◌≡◌, ◌≢◌, Option, sym, ap, subst, ◌∙◌, arith}
 use Rattle.std.specs.Prelude.{IfSome, IfNone, IsTrue}
 use Rattle.std.proofs.lemmas.Result.{IfOk-weaker, on_ok_weaker, err_from_is_err_and}
 use Rattle.pm_meta.specs.declared.slots.MetaSlot.TheVariants.{Root}
@@ -7,6 +7,9 @@ use Rattle.pm_pages.specs.Edits.{IsNumberIn}
 use Rattle.pm_pages.proofs.EditedPages.{edits_looked, looks_at_none}
 use Rattle.pm_tree_del.proofs.Removing.{remove_cause_page, remove_cause_after, remove_cause_passed}
 use Rattle.pm_tree_del.proofs.Settled.{root_looked, root_then, index_looked, none_looked, zero_looked, meta_of}
+use Rattle.pm_tree.proofs.SoundLooks.{meta_not_bad}
+use Rattle.pm_tree_del.proofs.SoundPages.{sound_all, sound_looked, no_bad_passed}
+use Rattle.pm_tree_del.proofs.SoundRemovals.{index_seen}
 use Rattle.pm_tree_del.proofs.roots.tree_remove.Goals as goal
 
 pub returns-in-None-clause-changes : goal.returns-in-None-clause-changes
@@ -97,3 +100,19 @@ returns-in_err-find_number-clause-cause g c =
     let looks = c.find_number.ensures.looks in
     let p = err_from_is_err_and c.from_residual.result c.from_residual.ensures.1 in
     remove_cause_passed T a b c.args.cache c.find_number.result c.from_residual.result c.in_err-find_number.field-0.0 p.0 c.in_err-find_number.was p.1 p.2 (remove_cause_page T a b c.args.cache 0 c.find_number.result c.find_number.ensures.cause)
+
+pub returns-in_err-find_number-clause-sound : goal.returns-in_err-find_number-clause-sound
+returns-in_err-find_number-clause-sound g c = λ t all height nodes items index.
+    let T = g.P.Pages.tells in
+    let a = g.P.Pages.seen c.args.pages.now in
+    let p = err_from_is_err_and c.from_residual.result c.from_residual.ensures.1 in
+    no_bad_passed c.find_number.result c.from_residual.result c.in_err-find_number.field-0.0 p.0 c.in_err-find_number.was p.1 p.2 (λ id h. meta_not_bad T a id t all (c.find_number.ensures.cause.bad id h))
+
+pub returns-else-root-eq0-clause-sound : goal.returns-else-root-eq0-clause-sound
+returns-else-root-eq0-clause-sound g c = λ t all height nodes items index.
+    let T = g.P.Pages.tells in
+    let a = g.P.Pages.seen c.args.pages.now in
+    let b = g.P.Pages.seen c.find_number.new.pages in
+    let looks = c.find_number.ensures.looks in
+    let number : IsNumberIn b (Root c.args.cache) c.in-Some.root = subst (λ (o : Option ℕ). IfSome o (IsNumberIn b (Root c.args.cache))) c.in-Some.is c.in_ok-find_number.ensures.number in
+    c.remove_below.ensures.sound t (sound_looked T a b 1 t looks (sound_all a all)) height nodes items (index_seen T a b c.args.cache c.in-Some.root 1 t looks number height nodes items index)
