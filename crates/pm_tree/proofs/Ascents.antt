@@ -121,6 +121,10 @@ module _ (T : Type 0) (a b : Paged) (at i child : ℕ) (key : List ℕ) (word ha
   pub child_once : (j : ℕ) → times j (nodes_under (nodes_in a.pages) h child) ≤ 1
   child_once j = omega (arith, child_few j, below_once j)
 
+  -- the page itself isn't one of them
+  pub child_apart : times at (nodes_under (nodes_in a.pages) h child) < 1
+  child_apart = omega (arith, once at, times_here at (flat (nodes_under (nodes_in a.pages) h) (entries (nodes_in a.pages at))), child_few at)
+
   pub get_here : (was : Option ℕ) → was ≡ get_in (items_under (nodes_in a.pages) h child) key → was ≡ get_in (items_under (nodes_in a.pages) (suc h) at) key
   get_here was is = is ∙ ap (λ n. get_in (items_under (nodes_in a.pages) h n) key) (sym child_is) ∙ sym (get_seam (items_under (nodes_in a.pages) h) first (nodes_in a.pages at).items key i at_seam)
 

@@ -11,7 +11,7 @@ use Rattle.pm_meta.specs.declared.slots.MetaSlot.TheVariants.{Pages}
 use Rattle.pm_pages.specs.Rows.{Partition}
 use Rattle.pm_pages.specs.Chains.{times}
 use Rattle.pm_pages.specs.Trees.{index_in}
-use Rattle.pm_pages.specs.Paged.{Paged, AllReadable, IsInHand, HasPageCause}
+use Rattle.pm_pages.specs.Paged.{Paged, AllReadable, IsThere, IsInHand, HasPageCause}
 use Rattle.pm_pages.specs.Edits.{LooksAtPages, EditsPages, HasMeta, IsNumberIn, HasDiskCause}
 use Rattle.pm_pages.specs.SparePages.{HasTakeCause}
 use Rattle.pm_pages.proofs.EditedPages.{edits_then, edits_more, edits_looked, looks_at_none}
@@ -30,7 +30,9 @@ use Rattle.pm_tree.specs.Divisions.{KeepsNumbers, PutsPages, IsFullLeaf}
 use Rattle.pm_tree.specs.Grown.{IsParent, IsParentAt, child_item, Grows, Forks, TakesChild}
 use Rattle.pm_tree.specs.PutCauses.{IsPutFaultAfter, HasPutCause, Lifts}
 use Rattle.pm_tree.specs.Spare.{MovesSpare}
-use Rattle.pm_tree.proofs.Divided.{numbers_looked, numbers_stay, numbers_then, meta_stays}
+use Rattle.pm_tree.proofs.SpareRoom.{can_take_less, can_take_looked}
+use Rattle.pm_tree.proofs.LeafChanges.{held_node, changes_one}
+use Rattle.pm_tree.proofs.Divided.{numbers_looked, numbers_then, added_looked}
 use Rattle.pm_tree.proofs.LeafSteps.{puts_pages}
 use Rattle.pm_tree.proofs.Told.{below_count, count_there, is_inner}
 use Rattle.pm_tree.proofs.Descents.{pages_told, number_told}
@@ -44,13 +46,14 @@ changes_then T a b c m n k le x y = record {
       (edits_then T a b c (λ j. IsTrue (b.asked j)) (λ j. IsTrue (c.asked j)) m n x.edits y.edits);
   meta = y.meta;
   numbers = numbers_then a b c x.numbers y.numbers;
+  takes = λ t limit left can. y.takes t limit left (x.takes t limit (n + left) (can_take_less limit a (k + left) (m + (n + left)) (omega (arith, le)) can));
 }
 
 pub changes_looked : (T : Type 0) (a b : Paged) (m : ℕ) → HasMeta a → LooksAtPages T a b m → PutsPages T a b m
-changes_looked T a b m meta looks = record { edits = edits_looked T a b (λ j. IsTrue (b.asked j)) m looks; meta = meta_looked T a b m looks meta; numbers = numbers_looked T a b m looks }
+changes_looked T a b m meta looks = record { edits = edits_looked T a b (λ j. IsTrue (b.asked j)) m looks; meta = meta_looked T a b m looks meta; numbers = numbers_looked T a b m looks; takes = λ t limit left can. can_take_looked T a b m t looks limit left (can_take_less limit a (m + left) left (omega arith) can) }
 
 pub changes_more : (T : Type 0) (a b : Paged) (m n : ℕ) → m ≤ n → PutsPages T a b m → PutsPages T a b n
-changes_more T a b m n le x = record { edits = edits_more T a b (λ j. IsTrue (b.asked j)) (λ j. IsTrue (b.asked j)) m n (λ j h. h) le x.edits; meta = x.meta; numbers = x.numbers }
+changes_more T a b m n le x = record { edits = edits_more T a b (λ j. IsTrue (b.asked j)) (λ j. IsTrue (b.asked j)) m n (λ j h. h) le x.edits; meta = x.meta; numbers = x.numbers; takes = λ t limit left can. x.takes t limit left (can_take_less limit a (n + left) (m + left) (omega (arith, le)) can) }
 
 -- causes
 pub put_cause_take : {R : Type 0} (T : Type 0) (a d : Paged) (cache : ℕ) (r : Result R PageFault) → HasTakeCause T a d r → HasPutCause T a d cache r
@@ -192,16 +195,23 @@ parent_of p at key i page some below in_hand size parent = record { some = some;
 -- changes of an inner page
 pub changes_grown : (T : Type 0) (a c : Paged) (at i : ℕ) (part : Part) → 1 ≤ at → HasMeta a → Grows T a c at i part → PutsPages T a c 1
 changes_grown T a c at i part some meta grows =
-    let out : 0 ≡ at → ⊥ = λ e. omega (arith, e, some) in
-    puts_pages T a c (λ j. j ≡ at) 0 1 (omega arith) grows.edits (λ j e. subst (λ n. IsTrue (c.asked n)) (sym e) grows.after.in_hand.asked) (meta_stays T a c (λ j. j ≡ at) 0 grows.edits out meta) (numbers_stay T a c (λ j. j ≡ at) 0 grows.edits out)
+    changes_more T a c 0 1 (omega arith) (changes_one T a c at grows.says _ some meta grows.before grows.after grows.edits)
 
 pub changes_forked : (T : Type 0) (a c : Paged) (at i : ℕ) (part forked : Part) → Forks T a c at i part forked → PutsPages T a c 1
 changes_forked T a c at i part forked forks =
-    puts_pages T a c (λ j. (j ≡ 0) ⊎ (j ≡ forked.right) ⊎ (j ≡ at)) 1 1 (omega arith) forks.edits
+    puts_pages T a c (λ j. (j ≡ 0) ⊎ (j ≡ forked.right) ⊎ (j ≡ at)) 1 1 (forked.right ∷ []) (omega arith) forks.edits
     (λ j h. elim h [
       | inl e ↦ subst (λ n. IsTrue (c.asked n)) (sym e) forks.meta.asked
       | inr h2 ↦ elim h2 [ inl e ↦ subst (λ n. IsTrue (c.asked n)) (sym e) forks.right_is.in_hand.asked | inr e ↦ subst (λ n. IsTrue (c.asked n)) (sym e) forks.left_is.in_hand.asked ]
     ]) forks.meta forks.numbers
+    (λ j h. elim h [
+      | inl e ↦ subst (λ n. IsTrue (c.known n) × IsThere c n) (sym e) (forks.meta.known, forks.meta.there)
+      | inr h2 ↦ elim h2 [
+        | inl e ↦ subst (λ n. IsTrue (c.known n) × IsThere c n) (sym e) (held_node c forked.right _ forks.right_is)
+        | inr e ↦ subst (λ n. IsTrue (c.known n) × IsThere c n) (sym e) (held_node c at _ forks.left_is)
+      ]
+    ])
+    (λ t j lt. elim (forks.added t j lt) [ inl old ↦ inl old | inr e ↦ inr (inr (inl e)) ]) forks.moves (omega arith)
 
 -- an inner page took a child after it was looked at
 pub grows_looked : (T : Type 0) (a b c : Paged) (at i : ℕ) (part : Part) → IsTrue (a.known at) → IsTrue (a.asked at) → LooksAtPages T a b 0 → Grows T b c at i part → Grows T a c at i part
@@ -240,6 +250,7 @@ forks_looked T a b c at i part forked known asked looks g = record {
   meta = g.meta;
   numbers = numbers_then a b c (numbers_looked T a b 0 looks) g.numbers;
   spare = λ t. subst (λ (q : Partition). IsSpare (nodes_in q forked.right)) (pages_told T a b 0 t looks) (g.spare t);
+  added = λ t j lt. added_looked T a b 0 forked.right t looks j (g.added t j lt);
   moves = λ t. subst (λ (q : Partition). MovesSpare q c.pages (forked.right ∷ []) []) (pages_told T a b 0 t looks) (g.moves t);
 }
 

@@ -61,19 +61,23 @@ kid_is child items zero = refl
 kid_is child [] (suc i) = refl
 kid_is child (x ∷ xs) (suc i) = kid_is (index_in x.word) xs i
 
-lower_is : (from : Option (List ℕ)) (items : List Item) (j : ℕ) → j < length items → lower from items (suc j) ≡ Some (key_in items j)
+pub lower_first : (from : Option (List ℕ)) (items : List Item) → lower from items zero ≡ from
+unfolding lower
+lower_first from items = refl
+
+pub lower_is : (from : Option (List ℕ)) (items : List Item) (j : ℕ) → j < length items → lower from items (suc j) ≡ Some (key_in items j)
 unfolding lower
 lower_is from [] j lt = absurd (omega (arith, lt))
 lower_is from (x ∷ xs) zero lt = refl
 lower_is from (x ∷ xs) (suc j) lt = lower_is (Some x.key) xs j (omega (arith, lt))
 
-upper_is : (items : List Item) (i : ℕ) → i < length items → upper items i ≡ Some (key_in items i)
+pub upper_is : (items : List Item) (i : ℕ) → i < length items → upper items i ≡ Some (key_in items i)
 unfolding upper
 upper_is [] i lt = absurd (omega (arith, lt))
 upper_is (x ∷ xs) zero lt = refl
 upper_is (x ∷ xs) (suc i) lt = upper_is xs i (omega (arith, lt))
 
-upper_none : (items : List Item) (i : ℕ) → length items ≤ i → upper items i ≡ None
+pub upper_none : (items : List Item) (i : ℕ) → length items ≤ i → upper items i ≡ None
 unfolding upper
 upper_none [] i le = refl
 upper_none (x ∷ xs) zero le = absurd (omega (arith, le))

@@ -1,7 +1,7 @@
 -- A page of a tree is divided, step by step.
 use Rattle.std.proofs.Common.{◌≡◌, ◌≢◌, ℕ, ◌+◌, ◌<◌, ◌≤◌, ◌⊎◌, List, [], ◌∷◌, length, drop, refl, sym, ap, subst, ◌∙◌, inl, inr, arith}
 use Rattle.std.specs.Prelude.{Option, None, Some, IsSome}
-use Rattle.std.proofs.lemmas.Bool.{le-ltb}
+use Rattle.std.proofs.lemmas.Bool.{cases_eq, le-ltb}
 use Rattle.pm_types.specs.Ids.{page_id}
 use Rattle.pm_types.specs.declared.page_id.PageId.{PageId}
 use Rattle.pm_btpage.specs.IndexPages.{IndexPage, items_of, index_of, with_items, IsIndexPage}
@@ -72,6 +72,10 @@ numbers_stay T a b touched m edits out = record {
   count = λ n is. (n, number_stays T a b touched m Pages n edits out is, omega arith);
   others = λ slot is_slot r p n is. number_stays T a b touched m slot n edits out is;
 }
+
+-- the page count stays where the meta page does
+pub count_of : (T : Type 0) (a b : Paged) (touched : ℕ → Type 0) (m : ℕ) → T → EditsPages T a b touched m → (touched 0 → ⊥) → page_count b.pages ≡ page_count a.pages
+count_of T a b touched m t edits out = ap (λ o. number_of o Pages) (edits.others 0 (inl t) out)
 
 -- a page that is taken is of no tree
 pub spare_taken : (T : Type 0) (a b : Paged) (n i : ℕ) → T → TakesPage T a b n i → IsSpare (nodes_in a.pages i)
@@ -160,6 +164,20 @@ can_looked T a b m at page first start end meta looks can = record {
 pub numbers_looked : (T : Type 0) (a b : Paged) (m : ℕ) → LooksAtPages T a b m → KeepsNumbers a b
 numbers_looked T a b m looks = numbers_stay T a b (λ j. ⊥) m (edits_looked T a b (λ j. ⊥) m looks) (λ h. h)
 
+-- a page that the partition has now, before others were looked at
+pub added_looked : (T : Type 0) (a b : Paged) (m right : ℕ) → T → LooksAtPages T a b m → (j : ℕ) → (j < page_count b.pages) ⊎ (j ≡ right) → (j < page_count a.pages) ⊎ (j ≡ right)
+added_looked T a b m right t looks j h = elim h [ inl lt ↦ inl (omega (arith, lt, ap (λ o. number_of o Pages) (looks.pages 0 (inl t)))) | inr e ↦ inr e ]
+
+-- only a page that was taken is one that the partition hadn't
+pub added_taken : (T : Type 0) (a b : Paged) (n i : ℕ) → TakesPage T a b n i → (j : ℕ) → j < page_count b.pages → (j < page_count a.pages) ⊎ (j ≡ i)
+added_taken T a b n i takes j lt =
+    let was = ap (λ o. number_of o Pages) takes.numbers.before in
+    let now = ap (λ o. number_of o Pages) takes.numbers.after in
+    elim takes.numbers.change [
+      | inl r ↦ inl (omega (arith, lt, was, now, r.sets.others Pages tt (λ e. cc e)))
+      | inr x ↦ elim (cases_eq j i) [ inl e ↦ inr e | inr ne ↦ inl (omega (arith, lt, was, now, ne, x.sets.here, x.index)) ]
+    ]
+
 -- a page was divided after looks
 pub divides_looked : (T : Type 0) (a b c : Paged) (at right : ℕ) (page : List ℕ) (first : Option PageId) (start end : ℕ) → LooksAtPages T a b 0 → Divides T b c at page first start end right → Divides T a c at page first start end right
 divides_looked T a b c at right page first start end looks d = record {
@@ -173,6 +191,7 @@ divides_looked T a b c at right page first start end looks d = record {
   meta = d.meta;
   numbers = numbers_then a b c (numbers_looked T a b 0 looks) d.numbers;
   spare = λ t. subst (λ (q : Partition). IsSpare (nodes_in q right)) (λ k j. looks.pages j (inl t) k) (d.spare t);
+  added = λ t j lt. added_looked T a b 0 right t looks j (d.added t j lt);
   moves = λ t. subst (λ (q : Partition). MovesSpare q c.pages (right ∷ []) []) (λ k j. looks.pages j (inl t) k) (d.moves t);
 }
 
@@ -221,6 +240,9 @@ divided T a b c d e at right page first start end meta can takes edits_c node ed
       numbers = numbers_then a b e (numbers_taken T a b 1 right takes)
           (numbers_then b c e (numbers_stay T b c (λ j. j ≡ right) 0 edits_c not_zero) (numbers_then c d e (numbers_stay T c d (λ j. j ≡ right) 0 edits_d not_zero) (numbers_stay T d e (λ j. j ≡ at) 0 edits_e at_some)));
       spare = λ t. spare_taken T a b 1 right t takes;
+      added = λ t j lt.
+          added_taken T a b 1 right takes j
+          (omega (arith, lt, count_of T b c (λ j. j ≡ right) 0 t edits_c not_zero, count_of T c d (λ j. j ≡ right) 0 t edits_d not_zero, count_of T d e (λ j. j ≡ at) 0 t edits_e at_some));
       moves = λ t.
           let blank_at : IsNode c right (blank (page_id b.part right) first) = node in
           let tail_at = node_edited T c d right 0 page (Tail start) (blank (page_id b.part right) first) edits_d node tail in

@@ -15,7 +15,7 @@ use Rattle.pm_meta.specs.MetaPages.{field_of, IsSlot}
 use Rattle.pm_pages.specs.Rows.{Partition, number_in, page_count}
 use Rattle.pm_pages.specs.Chains.{times}
 use Rattle.pm_pages.specs.Trees.{root_of, AreLinked, first_of, leaves_below, nodes_below}
-use Rattle.pm_pages.specs.Paged.{Paged, AllReadable}
+use Rattle.pm_pages.specs.Paged.{Paged, AllReadable, IsThere}
 use Rattle.pm_pages.specs.Edits.{LooksAtPages, HasMeta, IsNumberIn}
 use Rattle.pm_pages.proofs.EditedPages.{some_bytes, edits_then, edits_more}
 use Rattle.pm_tree.specs.declared.put.Part.{Part}
@@ -33,6 +33,9 @@ use Rattle.pm_tree.proofs.Climbs.{changes_looked, fault_after}
 use Rattle.pm_tree.proofs.SpareMoves.{moves_then}
 use Rattle.pm_tree.proofs.Decoded.{leaves_same, nodes_same, items_same, tree_to, tree_from}
 use Rattle.pm_tree.proofs.Frames.{times-append, times_here, used}
+use Rattle.pm_tree.specs.Sound.{CanTake}
+use Rattle.pm_tree.proofs.SpareRoom.{can_take_less, can_take_after, can_take_looked}
+use Rattle.pm_tree.proofs.LeafChanges.{held_node}
 use Rattle.pm_tree.proofs.LeafPuts.{PutsRoot, root_kept, root_grown, root_planted}
 use Rattle.pm_tree.proofs.Told.{node_away_count, below_count, link_is, items_are, half_is, is_leaf, is_inner}
 use Rattle.pm_tree.proofs.Descents.{number_told}
@@ -203,6 +206,16 @@ tall_height a b root key word part some puts many (suc levels) nodes items index
     let p = puts.each levels index.few 1 (tree_to a.pages levels 1 root index.tree) once in
     omega (arith, p.1, many, index.few)
 
+-- what can be taken still once there is a new root
+pub can_take_root : (T : Type 0) (a c : Paged) (cache : ℕ) (first : Option PageId) (key : List ℕ) (word : ℕ) → T → MakesRoot T a c cache first key word → (limit left : ℕ) → CanTake limit a (1 + left) → CanTake limit c left
+can_take_root T a c cache first key word t makes limit left can =
+    can_take_after T a c (λ j. (j ≡ 0) ⊎ (j ≡ makes.top)) 1 1 (makes.top ∷ []) t makes.edits
+    (λ j h. elim h [
+      | inl e ↦ subst (λ n. IsTrue (c.known n) × IsThere c n) (sym e) (makes.meta.known, makes.meta.there)
+      | inr e ↦ subst (λ n. IsTrue (c.known n) × IsThere c n) (sym e) (held_node c makes.top _ makes.node)
+    ])
+    (λ j lt. elim (makes.added t j lt) [ inl old ↦ inl old | inr e ↦ inr (inr e) ]) (makes.moves t) (omega arith) limit left can
+
 -- what was changed, with a new root
 pub changes_root : (T : Type 0) (a b c : Paged) (cache m n : ℕ) (first : Option PageId) (key : List ℕ) (word : ℕ) → m + 1 ≤ n → PutsPages T a b m → MakesRoot T b c cache first key word → PutsRootPages T a c cache n
 changes_root T a b c cache m n first key word le x makes = record {
@@ -211,10 +224,11 @@ changes_root T a b c cache m n first key word le x makes = record {
       (edits_then T a b c (λ j. IsTrue (b.asked j)) (λ j. (j ≡ 0) ⊎ (j ≡ makes.top)) m 1 x.edits makes.edits);
   meta = makes.meta;
   numbers = but_root_then a b c cache x.numbers makes.numbers;
+  takes = λ t limit left can. can_take_root T b c cache first key word t makes limit left (x.takes t limit (1 + left) (can_take_less limit a (n + left) (m + (1 + left)) (omega (arith, le)) can));
 }
 
 pub changes_same_root : (T : Type 0) (a b : Paged) (cache m n : ℕ) → m ≤ n → PutsPages T a b m → PutsRootPages T a b cache n
-changes_same_root T a b cache m n le x = record { edits = edits_more T a b (λ j. IsTrue (b.asked j)) (λ j. IsTrue (b.asked j)) m n (λ j h. h) le x.edits; meta = x.meta; numbers = keeps_but_root a b cache x.numbers }
+changes_same_root T a b cache m n le x = record { edits = edits_more T a b (λ j. IsTrue (b.asked j)) (λ j. IsTrue (b.asked j)) m n (λ j h. h) le x.edits; meta = x.meta; numbers = keeps_but_root a b cache x.numbers; takes = λ t limit left can. x.takes t limit left (can_take_less limit a (n + left) (m + left) (omega (arith, le)) can) }
 
 -- after pages were looked at
 pub root_changes_looked : (T : Type 0) (a b c : Paged) (cache n : ℕ) → HasMeta a → LooksAtPages T a b 0 → PutsRootPages T b c cache n → PutsRootPages T a c cache n
@@ -225,6 +239,7 @@ root_changes_looked T a b c cache n meta looks x =
           (edits_then T a b c (λ j. IsTrue (b.asked j)) (λ j. IsTrue (c.asked j)) 0 n y.edits x.edits);
       meta = x.meta;
       numbers = but_root_then a b c cache y.numbers x.numbers;
+      takes = λ t limit left can. x.takes t limit left (can_take_looked T a b 0 t looks limit (n + left) can);
     }
 
 pub tree_cause : {R : Type 0} (T : Type 0) (a d : Paged) (cache : ℕ) (r : Result R PageFault) → HasPutCause T a d cache r → HasTreePutCause T a d cache r

@@ -1,24 +1,25 @@
 -- Puts into a leaf, over the calls that make them.
 use Rattle.std.proofs.Common.{◌≡◌, ◌≢◌, ℕ, ◌+◌, ◌-◌, ◌<◌, ◌≤◌, ◌⊎◌, true, List, [], ◌∷◌, length, take, drop, refl, sym, ap, subst, ◌∙◌, inl, inr, arith}
-use Rattle.std.specs.Prelude.{None, Some, IsTrue}
-use Rattle.std.proofs.lemmas.Bool.{eq-eqb}
+use Rattle.std.specs.Prelude.{None, Some, IsSome, IsTrue}
+use Rattle.std.proofs.lemmas.Bool.{cases_eq, eq-eqb}
 use Rattle.std.proofs.lemmas.List.{length-take-le, length-drop, get_or-take, get_or-drop}
 use Rattle.pm_types.specs.Ids.{page_id}
 use Rattle.pm_types.specs.Keys.{HasKeyLength}
 use Rattle.pm_types.specs.PageSizes.{IsPageSize}
 use Rattle.pm_btpage.specs.declared.layout.TheConstants.{LEAF_KIND}
-use Rattle.pm_btpage.specs.IndexPages.{Item, IndexPage, items_of, index_of, key_in, with_items, with_link, empty_leaf, capacity_of, IsBelow, IsBetween}
+use Rattle.pm_btpage.specs.IndexPages.{Item, IndexPage, items_of, index_of, key_in, with_items, with_link, empty_leaf, capacity_of, IsBelow, IsBetween, IsIndexPage}
 use Rattle.pm_btpage.proofs.ItemsByIndex.{items_within}
 use Rattle.pm_meta.specs.declared.layout.TheConstants.{REUSE_KIND}
 use Rattle.pm_meta.specs.declared.slots.MetaSlot.TheVariants.{Pages}
 use Rattle.pm_pages.specs.Rows.{Partition, kind_of, page_at, page_count}
-use Rattle.pm_pages.specs.Paged.{Paged, AllReadable}
+use Rattle.pm_pages.specs.Paged.{Paged, AllReadable, IsInHand, IsThere}
 use Rattle.pm_pages.specs.Edits.{LooksAtPages, EditsPages, HasMeta, IsNumberIn}
 use Rattle.pm_pages.proofs.EditedPages.{edits_then, edits_more, edits_looked}
 use Rattle.pm_tree.specs.declared.put.Put.TheVariants.{Kept, Split}
 use Rattle.pm_tree.specs.Nodes.{nodes_in}
 use Rattle.pm_tree.specs.Puts.{IsSpare, PutsFor, half_of, IsMiddle}
-use Rattle.pm_tree.specs.Edits.{IsNode, TakesEdit, EditsNodeAt}
+use Rattle.pm_tree.specs.Edits.{edited, IsNode, TakesEdit, EditsNodeAt}
+use Rattle.pm_tree.specs.declared.edits.Edit.{Edit}
 use Rattle.pm_tree.specs.declared.edits.Edit.TheVariants.{Word, Insert}
 use Rattle.pm_tree.specs.Places.{IsPlaceIn}
 use Rattle.pm_tree.specs.declared.places.Place.TheVariants.{Held, Gap}
@@ -28,18 +29,34 @@ use Rattle.pm_tree.specs.Spare.{MovesSpare}
 use Rattle.pm_tree.proofs.NodeEdits.{node_stays}
 use Rattle.pm_tree.proofs.SpareMoves.{moves_on}
 use Rattle.pm_tree.proofs.SpareSteps.{node_kind, moves_page}
-use Rattle.pm_tree.proofs.Divided.{node_edited, meta_stays, numbers_stay, numbers_then, numbers_looked, number_back}
+use Rattle.pm_tree.proofs.Divided.{node_edited, meta_stays, numbers_stay, numbers_then, numbers_looked, number_back, count_of, added_looked}
 use Rattle.pm_tree.proofs.Told.{below_count, counts_rise}
 use Rattle.pm_tree.proofs.LeafSteps.{puts_pages, leaf_kept, leaf_parted, Halves, left_half, right_half}
 
 leaf_says : (page : List ℕ) → kind_of page ≡ LEAF_KIND → (index_of page).leaf ≡ true
 leaf_says page kind = eq-eqb (kind_of page) LEAF_KIND kind
 
+-- what a page says once it took a change
+abbrev says_after : IndexPage → List ℕ → Edit → IndexPage
+says_after says bytes edit = edited says bytes edit
+
+-- a page that says something is at hand
+pub held_node : (p : Paged) (i : ℕ) (says : IndexPage) → IsNode p i says → IsTrue (p.known i) × IsThere p i
+held_node p i says node = (node.in_hand.known, subst IsSome (sym node.in_hand.page) refl)
+
 -- one page of the tree was changed, which was asked for
-pub changes_one : (T : Type 0) (a c : Paged) (at : ℕ) → 1 ≤ at → HasMeta a → IsTrue (a.asked at) → EditsPages T a c (λ j. j ≡ at) 0 → PutsPages T a c 0
-changes_one T a c at some meta asked edits =
+pub changes_one : (T : Type 0) (a c : Paged) (at : ℕ) (says now : IndexPage) → 1 ≤ at → HasMeta a → IsNode a at says → IsNode c at now → EditsPages T a c (λ j. j ≡ at) 0 → PutsPages T a c 0
+changes_one T a c at says now some meta node node' edits =
     let out : 0 ≡ at → ⊥ = λ e. omega (arith, e, some) in
-    puts_pages T a c (λ j. j ≡ at) 0 0 (omega arith) edits (λ j e. subst (λ n. IsTrue (c.asked n)) (sym e) (edits.asked at asked)) (meta_stays T a c (λ j. j ≡ at) 0 edits out meta) (numbers_stay T a c (λ j. j ≡ at) 0 edits out)
+    puts_pages T a c (λ j. j ≡ at) 0 0 [] (omega arith) edits (λ j e. subst (λ n. IsTrue (c.asked n)) (sym e) node'.in_hand.asked) (meta_stays T a c (λ j. j ≡ at) 0 edits out meta) (numbers_stay T a c (λ j. j ≡ at) 0 edits out)
+    (λ j e. subst (λ n. IsTrue (c.known n) × IsThere c n) (sym e) (held_node c at now node')) (λ t j lt. inl (omega (arith, lt, count_of T a c (λ j. j ≡ at) 0 t edits out)))
+    (λ t. moves_page T a c at 0 t some edits (node_kind a at says node) (node_kind c at now node')) (omega arith)
+
+-- the page of a leaf that took a change
+pub changes_leaf : (T : Type 0) (a c : Paged) (at : ℕ) (key : List ℕ) (edit : Edit) (page : List ℕ) → 1 ≤ at → HasMeta a → IsInHand a at page → IsIndexPage page → length page ≡ a.page_size → EditsPages T a c (λ j. j ≡ at) 0 → EditsNodeAt a c at key edit → PutsPages T a c 0
+changes_leaf T a c at key edit page some meta in_hand index size edits changed =
+    let node : IsNode a at (index_of page) = record { page = page; in_hand = in_hand; well_made = index; size = size; is = refl } in
+    changes_one T a c at (index_of page) (edited (index_of page) key edit) some meta node (node_edited T a c at 0 key edit (index_of page) edits node changed) edits
 
 -- a leaf has another word at a key
 pub set_puts : (T : Type 0) (a c : Paged) (at i was : ℕ) (key : List ℕ) (word half : ℕ) → T → AllReadable a → HasMeta a → ((n : ℕ) → IsNumberIn a Pages n → at < n) → IsPlaceIn a at key (Held i was) → EditsPages T a c (λ j. j ≡ at) 0 → EditsNodeAt a c at key (Word i word)
@@ -122,6 +139,7 @@ parts_looked T a b c at page cut right looks d = record {
   meta = d.meta;
   numbers = numbers_then a b c (numbers_looked T a b 0 looks) d.numbers;
   spare = λ t. subst (λ (q : Partition). IsSpare (nodes_in q right)) (λ k j. looks.pages j (inl t) k) (d.spare t);
+  added = λ t j lt. added_looked T a b 0 right t looks j (d.added t j lt);
   moves = λ t. subst (λ (q : Partition). MovesSpare q c.pages (right ∷ []) []) (λ k j. looks.pages j (inl t) k) (d.moves t);
 }
 
@@ -142,8 +160,33 @@ module _ (T : Type 0) (a c d : Paged) (at : ℕ) (key : List ℕ) (i cut word ri
   meta_d : HasMeta d
   meta_d = meta_stays T c d (λ j. j ≡ into) 0 edits not_zero parts.meta
 
+  into_there : 1 ≤ into
+  into_there = elim is_half [ inl e ↦ omega (arith, e, parts.some) | inr e ↦ omega (arith, e, leaf.some) ]
+
+  -- what the page said that took the item
+  into_was : (says : IndexPage) × IsNode c into says
+  into_was = elim is_half [
+    | inl e ↦ (with_link (with_items (empty_leaf (page_id a.part right)) (drop cut (items_of leaf.page))) (index_of leaf.page).link, subst (λ n. IsNode c n (with_link (with_items (empty_leaf (page_id a.part right)) (drop cut (items_of leaf.page))) (index_of leaf.page).link)) (sym e) parts.right_is)
+    | inr e ↦ (with_link (with_items (index_of leaf.page) (take cut (items_of leaf.page))) right, subst (λ n. IsNode c n (with_link (with_items (index_of leaf.page) (take cut (items_of leaf.page))) right)) (sym e) parts.left_is)
+  ]
+
+  into_now : IsNode d into (says_after into_was.0 key (Insert k word))
+  into_now = node_edited T c d into 0 key (Insert k word) into_was.0 edits into_was.1 edited
+
+  still_there : (i : ℕ) (says : IndexPage) → IsNode c i says → IsTrue (d.known i) × IsThere d i
+  still_there i says node = elim (cases_eq i into) [
+    | inl e ↦ subst (λ n. IsTrue (d.known n) × IsThere d n) (sym e) (held_node d into _ into_now)
+    | inr ne ↦ held_node d i says (node_stays T c d (λ j. j ≡ into) 0 i says edits ne node)
+  ]
+
+  right_held : IsTrue (d.known right) × IsThere d right
+  right_held = still_there right _ parts.right_is
+
+  left_held : IsTrue (d.known at) × IsThere d at
+  left_held = still_there at _ parts.left_is
+
   pub half_changes : PutsPages T a d 1
-  half_changes = puts_pages T a d (λ j. (j ≡ 0) ⊎ (j ≡ right) ⊎ (j ≡ at)) 1 1 (omega arith) all_edits
+  half_changes = puts_pages T a d (λ j. (j ≡ 0) ⊎ (j ≡ right) ⊎ (j ≡ at)) 1 1 (right ∷ []) (omega arith) all_edits
       (λ j h. elim h [
         | inl e ↦ subst (λ n. IsTrue (d.asked n)) (sym e) meta_d.asked
         | inr h2 ↦ elim h2 [
@@ -151,6 +194,16 @@ module _ (T : Type 0) (a c d : Paged) (at : ℕ) (key : List ℕ) (i cut word ri
           | inr e ↦ subst (λ n. IsTrue (d.asked n)) (sym e) (edits.asked at parts.left_is.in_hand.asked)
         ]
       ]) meta_d all_numbers
+      (λ j h. elim h [
+        | inl e ↦ subst (λ n. IsTrue (d.known n) × IsThere d n) (sym e) (meta_d.known, meta_d.there)
+        | inr h2 ↦ elim h2 [
+          | inl e ↦ subst (λ n. IsTrue (d.known n) × IsThere d n) (sym e) right_held
+          | inr e ↦ subst (λ n. IsTrue (d.known n) × IsThere d n) (sym e) left_held
+        ]
+      ])
+      (λ t j lt. elim (parts.added t j (omega (arith, lt, count_of T c d (λ j. j ≡ into) 0 t edits not_zero))) [ inl old ↦ inl old | inr e ↦ inr (inr (inl e)) ])
+      (λ t. moves_on a.pages c.pages d.pages (right ∷ []) [] (parts.moves t) (moves_page T c d into 0 t into_there edits (node_kind c into into_was.0 into_was.1) (node_kind d into _ into_now)))
+      (omega arith)
 
   module _ (t : T) (readable : AllReadable a) where
     at_in : at < page_count d.pages

@@ -9,7 +9,7 @@ use Rattle.pm_btpage.specs.IndexPages.{Item, IndexPage, key_in, with_item, IsBel
 use Rattle.pm_meta.specs.declared.slots.MetaSlot.TheVariants.{Pages}
 use Rattle.pm_pages.specs.Rows.{page_count}
 use Rattle.pm_pages.specs.Chains.{times}
-use Rattle.pm_pages.specs.Paged.{Paged, AllReadable}
+use Rattle.pm_pages.specs.Paged.{Paged, AllReadable, IsThere}
 use Rattle.pm_pages.specs.Edits.{EditsPages, HasMeta, IsNumberIn}
 use Rattle.pm_tree.specs.declared.put.Put.TheVariants.{Kept, Split}
 use Rattle.pm_tree.specs.Maps.{get_in, put_in}
@@ -18,6 +18,7 @@ use Rattle.pm_tree.specs.Puts.{IsSpare, PutsAs, PutsFor}
 use Rattle.pm_tree.specs.Edits.{IsNode}
 use Rattle.pm_tree.specs.Divisions.{KeepsNumbers, PutsPages}
 use Rattle.pm_tree.specs.Spare.{MovesSpare}
+use Rattle.pm_tree.proofs.SpareRoom.{can_take_after}
 use Rattle.pm_tree.proofs.KeyOrder.{below_then, not_below_itself}
 use Rattle.pm_tree.proofs.SpareSteps.{node_kind, moves_page}
 use Rattle.pm_tree.proofs.MapLists.{keys_by_index}
@@ -26,8 +27,9 @@ use Rattle.pm_tree.proofs.LeafPuts.{leaf_puts, leaf_divided}
 use Rattle.pm_tree.proofs.Told.{node_away, below_count, link_is, items_are, is_leaf}
 
 -- what changed is what was asked for
-pub puts_pages : (T : Type 0) (a c : Paged) (touched : ℕ → Type 0) (m n : ℕ) → m ≤ n → EditsPages T a c touched m → ((j : ℕ) → touched j → IsTrue (c.asked j)) → HasMeta c → KeepsNumbers a c → PutsPages T a c n
-puts_pages T a c touched m n le edits asked meta numbers = record {
+pub puts_pages : (T : Type 0) (a c : Paged) (touched : ℕ → Type 0) (m n : ℕ) (made : List ℕ) → m ≤ n → EditsPages T a c touched m → ((j : ℕ) → touched j → IsTrue (c.asked j)) → HasMeta c → KeepsNumbers a c
+    → ((j : ℕ) → touched j → IsTrue (c.known j) × IsThere c j) → (T → (j : ℕ) → j < page_count c.pages → (j < page_count a.pages) ⊎ touched j) → (T → MovesSpare a.pages c.pages made []) → length made ≤ n → PutsPages T a c n
+puts_pages T a c touched m n made le edits asked meta numbers held added moves few = record {
   edits = record {
     others = λ j told out. edits.others j told (λ h. out (asked j h));
     known = edits.known;
@@ -40,6 +42,7 @@ puts_pages T a c touched m n le edits asked meta numbers = record {
   };
   meta = meta;
   numbers = numbers;
+  takes = λ t limit left can. can_take_after T a c touched m n made t edits held (added t) (moves t) few limit left can;
 }
 
 -- only a leaf is a tree of one level whose page is a leaf

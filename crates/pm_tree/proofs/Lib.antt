@@ -27,3 +27,8 @@ pub mod IndexPuts
 pub mod TallTrees
 pub mod MapLaws
 pub mod SoundPuts
+pub mod SoundPages
+pub mod SoundTrees
+pub mod PartedKeys
+pub mod GrownTrees
+pub mod SpareRoom

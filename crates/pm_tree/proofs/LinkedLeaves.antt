@@ -16,7 +16,7 @@ use Rattle.pm_tree.specs.Divisions.{CanDivide, Divides, LinksLeaves, PartsLeaf}
 use Rattle.pm_tree.proofs.NodeEdits.{node_stays}
 use Rattle.pm_tree.proofs.SpareMoves.{moves_on}
 use Rattle.pm_tree.proofs.SpareSteps.{node_kind, moves_pages}
-use Rattle.pm_tree.proofs.Divided.{node_edited, meta_stays, numbers_then, numbers_stay, number_back}
+use Rattle.pm_tree.proofs.Divided.{node_edited, meta_stays, numbers_then, numbers_stay, number_back, count_of}
 
 -- a change that the other page's leaves possible
 pub takes_still : (T : Type 0) (a b : Paged) (at right next : ℕ) → right ≢ at → EditsPages T a b (λ j. j ≡ right) 0 → TakesEdit a at [] (Next next) → TakesEdit b at [] (Next next)
@@ -54,6 +54,7 @@ parts_leaf T a b c d at right next cut page can looks next_is divides links =
       meta = meta_stays T c d (λ j. (j ≡ right) ⊎ (j ≡ at)) 0 links.edits zero_out divides.meta;
       numbers = numbers_then a c d divides.numbers (numbers_stay T c d (λ j. (j ≡ right) ⊎ (j ≡ at)) 0 links.edits zero_out);
       spare = divides.spare;
+      added = λ t j lt. divides.added t j (omega (arith, lt, count_of T c d (λ j. (j ≡ right) ⊎ (j ≡ at)) 0 t links.edits zero_out));
       moves = λ t.
           let left = with_items (index_of page) (take cut (items_of page)) in
           let tail = with_items (empty_leaf (page_id a.part right)) (drop cut (items_of page)) in

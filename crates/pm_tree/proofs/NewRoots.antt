@@ -8,6 +8,7 @@ use Rattle.pm_btpage.specs.IndexPages.{Item, IndexPage, index_of, with_items, wi
 use Rattle.pm_meta.specs.declared.slots.MetaSlot.{MetaSlot}
 use Rattle.pm_meta.specs.declared.slots.MetaSlot.TheVariants.{Root, Pages}
 use Rattle.pm_meta.specs.MetaPages.{IsSlot}
+use Rattle.pm_pages.specs.Rows.{number_of, page_count}
 use Rattle.pm_pages.specs.Paged.{Paged}
 use Rattle.pm_pages.specs.Edits.{EditsPages, HasMeta, IsNumberIn}
 use Rattle.pm_pages.specs.SparePages.{IsMetaOr, SetsNumber, MetaBecomes, TakesPage}
@@ -19,7 +20,7 @@ use Rattle.pm_tree.specs.Roots.{KeepsButRoot, MakesRoot}
 use Rattle.pm_tree.proofs.NodeEdits.{node_stays}
 use Rattle.pm_tree.proofs.SpareMoves.{moves_on}
 use Rattle.pm_tree.proofs.SpareSteps.{node_kind, zeros_at, moves_page, moves_number, moves_take}
-use Rattle.pm_tree.proofs.Divided.{number_is, number_now, node_edited, meta_stays, numbers_taken, numbers_then, numbers_stay, number_back, below_taken, spare_taken, blank_items}
+use Rattle.pm_tree.proofs.Divided.{number_is, number_now, node_edited, meta_stays, numbers_taken, numbers_then, numbers_stay, number_back, below_taken, spare_taken, blank_items, count_of, added_taken}
 use Rattle.pm_tree.proofs.LeafChanges.{capacity_bounds}
 
 -- a page without items takes the first one
@@ -90,6 +91,16 @@ makes_root T a b c d e cache top first key word takes edits_c node edits_d edite
       meta = meta_set T d e cache top edits_e meta_d sets;
       numbers = set_numbers T d e cache top edits_e meta_d sets a numbers_d;
       spare = λ t. spare_taken T a b 1 top t takes;
+      added = λ t j lt.
+          added_taken T a b 1 top takes j (omega (
+            arith,
+            lt,
+            count_of T b c (λ j. j ≡ top) 0 t edits_c not_zero,
+            count_of T c d (λ j. j ≡ top) 0 t edits_d not_zero,
+            ap (λ o. number_of o Pages) sets.before,
+            ap (λ o. number_of o Pages) sets.after,
+            sets.change.others Pages tt (λ z. cc z),
+          ));
       moves = λ t.
           moves_on a.pages d.pages e.pages (top ∷ []) []
           (moves_on a.pages c.pages d.pages (top ∷ []) []

@@ -22,7 +22,7 @@ use Rattle.pm_tree.specs.declared.steps.Step.TheVariants.{Other}
 use Rattle.pm_tree.proofs.Descents.{pages_told, number_told, page_told}
 
 -- the first page, if it is there, and each page below the page count
-meta_passes : (a : Paged) → PassesAll a → (page : List ℕ) → a.pages 0 ≡ Some page → PassesIn a 0 page
+pub meta_passes : (a : Paged) → PassesAll a → (page : List ℕ) → a.pages 0 ≡ Some page → PassesIn a 0 page
 meta_passes a all page is =
     let passes : PassesAsMeta all.shape.page_size all.shape.max_rows (page_id a.part 0) page = subst (λ o. IfSome o (PassesAsMeta all.shape.page_size all.shape.max_rows (page_id a.part 0))) is all.pass.meta in
     subst (λ (q : ℕ × ℕ). PassesAsMeta q.0 q.1 (page_id a.part 0) page) {x = (all.shape.page_size, all.shape.max_rows)} {y = (a.page_size, a.max_rows)} (λ k. (all.page_size k, all.max_rows k)) passes

@@ -58,6 +58,7 @@ moves_then a b c made made' given given' x y = record {
     times-append j given' given,
     added_then (page_count a) (page_count b) (page_count c) j x.count y.count,
   );
+  room = λ h. omega (arith, x.room h, y.room (x.sound h), length-append made' made, length-append given' given);
 }
 
 -- a change after which the chain stays
@@ -85,6 +86,7 @@ module _ (a b : Partition) (first : number_in b Reuse ≡ number_in a Reuse) (co
       below = subst (λ (p : List ℕ × ℕ). All (λ i. i < p.1) p.0) {x = (reuse_chain a, page_count a)} {y = (reuse_chain b, page_count b)} (λ k. (sym same_chain k, sym count k)) h.below;
     };
     moved = λ h j. omega (arith, ap (λ t. times j t) same_chain, added_none (page_count a) (page_count b) j (omega (arith, count)));
+    room = λ h. omega (arith, ap length same_chain, count);
   }
 
 -- no change at all
@@ -116,6 +118,7 @@ moves_next a b i none none' count count' =
           added_out (page_count a) (page_count b) j (elim (cases_lt j i) [ inl lt ↦ inl (omega (arith, lt, count)) | inr le ↦ inr (omega (arith, le, ne, count')) ]),
         )
       ];
+      room = λ h. omega (arith, count, count', ap length chain, ap length chain');
     }
 
 -- the pages of the chain, and others that aren't on it, are fewer than the page count
@@ -212,7 +215,7 @@ module _ (a b : Partition) (i next : ℕ) (some : 1 ≤ i) (first : number_in a 
     )
 
   pub moves_taken : MovesSpare a b (i ∷ []) []
-  moves_taken = record { count = omega (arith, count); sound = spare_now; moved = moved_now }
+  moves_taken = record { count = omega (arith, count); sound = spare_now; moved = moved_now; room = λ h. omega (arith, count, ap length was_chain, ap length (now_chain h)) }
 
 -- A page became the chain's first.
 module _ (a b : Partition) (i head : ℕ) (some : 1 ≤ i) (below : i < page_count a) (away : times i (reuse_chain a) ≡ 0) (first : number_in a Reuse ≡ head) (count : page_count b ≡ page_count a) (first' : number_in b Reuse ≡ i)
@@ -289,4 +292,4 @@ module _ (a b : Partition) (i head : ℕ) (some : 1 ≤ i) (below : i < page_cou
     )
 
   pub moves_given : MovesSpare a b [] (i ∷ [])
-  moves_given = record { count = omega (arith, count); sound = given_spare; moved = given_moved }
+  moves_given = record { count = omega (arith, count); sound = given_spare; moved = given_moved; room = λ h. omega (arith, count, ap length (chain_now h)) }

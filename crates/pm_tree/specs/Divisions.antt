@@ -1,16 +1,18 @@
 -- A page of a tree divided into two.
-use Rattle.std.specs.Prelude.{◌≡◌, ◌≢◌, ℕ, ◌<◌, ◌≤◌, ◌⊎◌, Bool, true, false, List, [], ◌∷◌, length, take, drop, Option, None, Some, IsTrue}
+use Rattle.std.specs.Prelude.{◌≡◌, ◌≢◌, ℕ, ◌+◌, ◌<◌, ◌≤◌, ◌⊎◌, Bool, true, false, List, [], ◌∷◌, length, take, drop, Option, None, Some, IsTrue}
 use Rattle.pm_types.specs.Ids.{page_id}
 use Rattle.pm_types.specs.declared.page_id.PageId.{PageId}
 use Rattle.pm_btpage.specs.IndexPages.{IndexPage, items_of, index_of, with_items, with_link, empty_leaf, capacity_of, IsIndexPage}
 use Rattle.pm_meta.specs.declared.slots.MetaSlot.{MetaSlot}
 use Rattle.pm_meta.specs.declared.slots.MetaSlot.TheVariants.{Reuse, Pages}
 use Rattle.pm_meta.specs.MetaPages.{IsSlot}
+use Rattle.pm_pages.specs.Rows.{page_count}
 use Rattle.pm_pages.specs.Paged.{Paged, IsInHand}
 use Rattle.pm_pages.specs.Edits.{EditsPages, HasMeta, IsNumberIn}
 use Rattle.pm_tree.specs.Nodes.{nodes_in}
 use Rattle.pm_tree.specs.Puts.{IsSpare}
 use Rattle.pm_tree.specs.Spare.{MovesSpare}
+use Rattle.pm_tree.specs.Sound.{CanTake}
 use Rattle.pm_tree.specs.Edits.{blank, IsNode}
 use Rattle.pm_tree.specs.Places.{HasGap}
 
@@ -46,14 +48,16 @@ pub record Divides (T : Type 0) (old new : Paged) (at : ℕ) (page : List ℕ) (
   pub meta : HasMeta new
   pub numbers : KeepsNumbers old new
   pub spare : T → IsSpare (nodes_in old.pages right)
+  pub added : T → (j : ℕ) → j < page_count new.pages → (j < page_count old.pages) ⊎ (j ≡ right)
   pub moves : T → MovesSpare old.pages new.pages (right ∷ []) []
 
 -- What a put changed, whatever the pages say: at most so many were asked for that weren't before, and no others
--- changed than were asked for.
+-- changed than were asked for. At most so many were taken.
 pub record PutsPages (T : Type 0) (old new : Paged) (most : ℕ) : Type 0 where
   pub edits : EditsPages T old new (λ j. IsTrue (new.asked j)) most
   pub meta : HasMeta new
   pub numbers : KeepsNumbers old new
+  pub takes : T → (limit left : ℕ) → CanTake limit old (most + left) → CanTake limit new left
 
 -- a leaf was divided, and the new one stands after it
 pub record PartsLeaf (T : Type 0) (old new : Paged) (at : ℕ) (page : List ℕ) (cut right : ℕ) : Type 0 where
@@ -66,6 +70,7 @@ pub record PartsLeaf (T : Type 0) (old new : Paged) (at : ℕ) (page : List ℕ)
   pub meta : HasMeta new
   pub numbers : KeepsNumbers old new
   pub spare : T → IsSpare (nodes_in old.pages right)
+  pub added : T → (j : ℕ) → j < page_count new.pages → (j < page_count old.pages) ⊎ (j ≡ right)
   pub moves : T → MovesSpare old.pages new.pages (right ∷ []) []
 
 -- a leaf that is at hand has no room for a key, which would stand before item i

@@ -4,7 +4,7 @@ use Rattle.pm_types.specs.Ids.{page_id}
 use Rattle.pm_btpage.specs.declared.layout.TheConstants.{INNER_KIND}
 use Rattle.pm_btpage.specs.IndexPages.{Item, IndexPage, items_of, with_items, with_item, capacity_of, IsBetween, IsIndexPage}
 use Rattle.pm_meta.specs.declared.slots.MetaSlot.TheVariants.{Pages}
-use Rattle.pm_pages.specs.Rows.{kind_of}
+use Rattle.pm_pages.specs.Rows.{page_count, kind_of}
 use Rattle.pm_pages.specs.Trees.{index_in}
 use Rattle.pm_pages.specs.Paged.{Paged, IsInHand}
 use Rattle.pm_pages.specs.Edits.{EditsPages, HasMeta, IsNumberIn}
@@ -85,6 +85,7 @@ pub record Forks (T : Type 0) (old new : Paged) (at i : ℕ) (part forked : Part
   pub meta : HasMeta new
   pub numbers : KeepsNumbers old new
   pub spare : T → IsSpare (nodes_in old.pages forked.right)
+  pub added : T → (j : ℕ) → j < page_count new.pages → (j < page_count old.pages) ⊎ (j ≡ forked.right)
   pub moves : T → MovesSpare old.pages new.pages (forked.right ∷ []) []
 
 -- what became of the inner page

@@ -10,5 +10,6 @@ pub mod PutCauses
 pub mod Puts
 pub mod Roots
 pub mod Sound
+pub mod SoundPuts
 pub mod Spare
 pub mod Steps

@@ -11,7 +11,7 @@ use Rattle.pm_meta.specs.declared.slots.MetaSlot.{MetaSlot}
 use Rattle.pm_meta.specs.declared.slots.MetaSlot.TheVariants.{Root, Reuse, Pages}
 use Rattle.pm_meta.specs.MetaPages.{IsSlot}
 use Rattle.pm_pages.specs.declared.limits.TheConstants.{LEVELS_MAX}
-use Rattle.pm_pages.specs.Rows.{Partition, number_in}
+use Rattle.pm_pages.specs.Rows.{Partition, number_in, page_count}
 use Rattle.pm_pages.specs.Chains.{times}
 use Rattle.pm_pages.specs.Trees.{index_in, root_of}
 use Rattle.pm_pages.specs.SparePages.{NamesNoSpare, HasBadReuse, HasGapBelow}
@@ -23,6 +23,7 @@ use Rattle.pm_tree.specs.Nodes.{nodes_in}
 use Rattle.pm_tree.specs.Indexes.{IsIndex, link_in}
 use Rattle.pm_tree.specs.Puts.{IsSpare}
 use Rattle.pm_tree.specs.Spare.{MovesSpare}
+use Rattle.pm_tree.specs.Sound.{CanTake}
 use Rattle.pm_tree.specs.Edits.{blank, IsNode}
 use Rattle.pm_tree.specs.PutCauses.{IsPutFaultAfter}
 
@@ -42,6 +43,7 @@ pub record MakesRoot (T : Type 0) (old new : Paged) (cache : ℕ) (first : Optio
   pub meta : HasMeta new
   pub numbers : KeepsButRoot old new cache
   pub spare : T → IsSpare (nodes_in old.pages top)
+  pub added : T → (j : ℕ) → j < page_count new.pages → (j < page_count old.pages) ⊎ (j ≡ top)
   pub moves : T → MovesSpare old.pages new.pages (top ∷ []) []
 
 -- A put into the index of a cache that had these pages and items: it has the items of the put. The pages `made`
@@ -67,6 +69,7 @@ pub record PutsRootPages (T : Type 0) (old new : Paged) (cache most : ℕ) : Typ
   pub edits : EditsPages T old new (λ j. IsTrue (new.asked j)) most
   pub meta : HasMeta new
   pub numbers : KeepsButRoot old new cache
+  pub takes : T → (limit left : ℕ) → CanTake limit old (most + left) → CanTake limit new left
 
 -- the tree has as many levels as it may have, and all pages on the way are full; the root has this name
 pub record IsTooTall (T : Type 0) (p : Paged) (cache : ℕ) (id : PageId) : Type 0 where

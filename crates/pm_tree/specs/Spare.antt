@@ -1,5 +1,5 @@
 -- The pages that can be taken anew, and what a change took from them and gave back to them.
-use Rattle.std.specs.Prelude.{◌≡◌, ℕ, ◌+◌, ◌<◌, ◌≤◌, nat_le, nat_lt, Bool, ◌&&◌, List, if◌then◌else◌, All}
+use Rattle.std.specs.Prelude.{◌≡◌, ℕ, ◌+◌, ◌<◌, ◌≤◌, nat_le, nat_lt, Bool, ◌&&◌, List, length, if◌then◌else◌, All}
 use Rattle.pm_pages.specs.Rows.{Partition, page_count}
 use Rattle.pm_pages.specs.Chains.{times, reuse_chain, HasReuseChain}
 
@@ -24,3 +24,5 @@ pub record MovesSpare (old new : Partition) (made given : List ℕ) : Type 0 whe
       → times j (reuse_chain new) + times j made
       ≡ times j (reuse_chain old) + times j given +
       (if is_added (page_count old) (page_count new) j then 1 else 0)
+  pub room : HasSpare old
+      → page_count new + length (reuse_chain old) + length given ≡ page_count old + length (reuse_chain new) + length made

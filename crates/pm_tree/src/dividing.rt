@@ -5,6 +5,7 @@ ghost use Rattle.pm_btpage.specs.IndexPages.{IsIndexPage};
 ghost use Rattle.pm_pages.specs.Paged.{AllReadable, IsInHand};
 ghost use Rattle.pm_pages.specs.Edits.{LooksAtPages, HasMeta, HasDiskCause};
 ghost use Rattle.pm_pages.specs.SparePages.{HasTakeCause};
+ghost use Rattle.pm_tree.specs.Sound.{NoBadPage, MayTake};
 ghost use Rattle.pm_tree.specs.Divisions.{CanDivide, Divides};
 
 use crate::edits::{Edit, make_edit, write_blank};
@@ -32,6 +33,7 @@ pub fn divide<P: Pages>(
     ensures divides { IfOk result (λ right. (page : List ℕ) → (P.seen pages.old).pages at ≡ Some page
         → Divides P.tells (P.seen pages.old) (P.seen pages.new) at page first start end right) }
     ensures cause { HasTakeCause P.tells (P.seen pages.old) (P.seen pages.new) result }
+    ensures sound { MayTake P.tells (P.seen pages.old) → NoBadPage result }
 {
     let mut copy = [0; PAGE_SIZE_MAX];
     let size = pages.page_size() as usize;
@@ -58,6 +60,7 @@ fn divide_over<P: Pages>(
     ensures divides { IfOk result (λ right. (page : List ℕ) → (P.seen pages.old).pages at ≡ Some page
         → Divides P.tells (P.seen pages.old) (P.seen pages.new) at page first start end right) }
     ensures cause { HasTakeCause P.tells (P.seen pages.old) (P.seen pages.new) result }
+    ensures sound { MayTake P.tells (P.seen pages.old) → NoBadPage result }
 {
     copy_page(pages, at, copy)?;
     divide_copied(pages, at, copy, first, start, end)
@@ -101,6 +104,7 @@ fn divide_copied<P: Pages>(
     ensures readable { AllReadable (P.seen pages.new) }
     ensures divides { IfOk result (Divides P.tells (P.seen pages.old) (P.seen pages.new) at copy.now first start end) }
     ensures cause { HasTakeCause P.tells (P.seen pages.old) (P.seen pages.new) result }
+    ensures sound { MayTake P.tells (P.seen pages.old) → NoBadPage result }
 {
     let right = new_page(pages)?;
     write_blank(pages, right, first);

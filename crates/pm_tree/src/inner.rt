@@ -7,6 +7,7 @@ ghost use Rattle.pm_pages.specs.Trees.{index_in};
 ghost use Rattle.pm_pages.specs.Paged.{AllReadable};
 ghost use Rattle.pm_pages.specs.Edits.{HasMeta, HasDiskCause};
 ghost use Rattle.pm_pages.specs.SparePages.{HasTakeCause};
+ghost use Rattle.pm_tree.specs.Sound.{NoBadPage, MayTake};
 ghost use Rattle.pm_tree.specs.Puts.{half_of};
 ghost use Rattle.pm_tree.specs.Grown.{IsParentAt, Grows, Forks, TakesChild};
 ghost use Rattle.pm_tree.specs.declared.put.Put.TheVariants.{Kept, Split};
@@ -49,6 +50,7 @@ pub fn fork<P: Pages>(pages: &mut P, at: u32, i: u16, part: Part) -> Result<Part
     ensures readable { AllReadable (P.seen pages.new) }
     ensures forks { IfOk result (Forks P.tells (P.seen pages.old) (P.seen pages.new) at i part) }
     ensures cause { HasTakeCause P.tells (P.seen pages.old) (P.seen pages.new) result }
+    ensures sound { MayTake P.tells (P.seen pages.old) → NoBadPage result }
 {
     let half = capacity(pages.page_size()) / 2;
     if i < half {
@@ -74,6 +76,7 @@ fn fork_middle<P: Pages>(pages: &mut P, at: u32, i: u16, part: Part) -> Result<P
     ensures readable { AllReadable (P.seen pages.new) }
     ensures forks { IfOk result (Forks P.tells (P.seen pages.old) (P.seen pages.new) at i part) }
     ensures cause { HasTakeCause P.tells (P.seen pages.old) (P.seen pages.new) result }
+    ensures sound { MayTake P.tells (P.seen pages.old) → NoBadPage result }
 {
     let child = child_name(pages.part(), part.right);
     let right = divide(pages, at, Some(child), i, i)?;
@@ -101,6 +104,7 @@ fn fork_left<P: Pages>(
     ensures readable { AllReadable (P.seen pages.new) }
     ensures forks { IfOk result (Forks P.tells (P.seen pages.old) (P.seen pages.new) at i part) }
     ensures cause { HasTakeCause P.tells (P.seen pages.old) (P.seen pages.new) result }
+    ensures sound { MayTake P.tells (P.seen pages.old) → NoBadPage result }
 {
     let item = item_at(pages, at, half - 1)?;
     let right = divide(pages, at, Some(PageId(item.1)), half, half - 1)?;
@@ -130,6 +134,7 @@ fn fork_right<P: Pages>(
     ensures readable { AllReadable (P.seen pages.new) }
     ensures forks { IfOk result (Forks P.tells (P.seen pages.old) (P.seen pages.new) at i part) }
     ensures cause { HasTakeCause P.tells (P.seen pages.old) (P.seen pages.new) result }
+    ensures sound { MayTake P.tells (P.seen pages.old) → NoBadPage result }
 {
     let item = item_at(pages, at, half)?;
     let right = divide(pages, at, Some(PageId(item.1)), half + 1, half)?;

@@ -7,6 +7,7 @@ ghost use Rattle.pm_pages.specs.Paged.{AllReadable, IsInHand};
 ghost use Rattle.pm_pages.specs.Edits.{LooksAtPages, HasMeta, IsNumberIn, HasDiskCause};
 ghost use Rattle.pm_pages.specs.SparePages.{HasTakeCause};
 ghost use Rattle.pm_tree.specs.declared.edits.Edit.TheVariants.{Next, Insert};
+ghost use Rattle.pm_tree.specs.Sound.{NoBadPage, MayTake};
 ghost use Rattle.pm_tree.specs.Edits.{TakesEdit};
 ghost use Rattle.pm_tree.specs.Divisions.{CanDivide, LinksLeaves, PartsLeaf, PutsPages, IsFullLeaf};
 ghost use Rattle.pm_tree.specs.Puts.{PutsFor, IsKept, HasLevels, half_of, IsMiddle};
@@ -79,6 +80,7 @@ fn part_leaf<P: Pages>(pages: &mut P, at: u32, cut: u16) -> Result<u32, PageFaul
     ensures parts { IfOk result (λ right. (page : List ℕ) → (P.seen pages.old).pages at ≡ Some page
         → PartsLeaf P.tells (P.seen pages.old) (P.seen pages.new) at page cut right) }
     ensures cause { HasTakeCause P.tells (P.seen pages.old) (P.seen pages.new) result }
+    ensures sound { MayTake P.tells (P.seen pages.old) → NoBadPage result }
 {
     let next = next_of(pages, at)?;
     let right = divide(pages, at, None, cut, cut)?;
@@ -176,6 +178,7 @@ pub fn split_leaf<P: Pages>(
         → PutsFor (P.seen pages.old).pages (P.seen pages.new).pages (half_of (P.seen pages.old).page_size) limit at key.now word put) }
     ensures levels { IfOk result (HasLevels 1) }
     ensures cause { HasTakeCause P.tells (P.seen pages.old) (P.seen pages.new) result }
+    ensures sound { MayTake P.tells (P.seen pages.old) → NoBadPage result }
 {
     let cut = capacity(pages.page_size()).div_ceil(2);
     if i <= cut {
@@ -209,6 +212,7 @@ fn split_left<P: Pages>(
         → PutsFor (P.seen pages.old).pages (P.seen pages.new).pages (half_of (P.seen pages.old).page_size) limit at key.now word put) }
     ensures levels { IfOk result (HasLevels 1) }
     ensures cause { HasTakeCause P.tells (P.seen pages.old) (P.seen pages.new) result }
+    ensures sound { MayTake P.tells (P.seen pages.old) → NoBadPage result }
 {
     let item = item_at(pages, at, cut)?;
     let right = part_leaf(pages, at, cut)?;
@@ -240,6 +244,7 @@ fn split_right<P: Pages>(
         → PutsFor (P.seen pages.old).pages (P.seen pages.new).pages (half_of (P.seen pages.old).page_size) limit at key.now word put) }
     ensures levels { IfOk result (HasLevels 1) }
     ensures cause { HasTakeCause P.tells (P.seen pages.old) (P.seen pages.new) result }
+    ensures sound { MayTake P.tells (P.seen pages.old) → NoBadPage result }
 {
     let item = item_at(pages, at, cut)?;
     let right = part_leaf(pages, at, cut)?;

@@ -11,7 +11,10 @@ ghost use Rattle.pm_tree.specs.Steps.{IsPath};
 ghost use Rattle.pm_tree.specs.Divisions.{PutsPages};
 ghost use Rattle.pm_tree.specs.Puts.{PutsFor, IsKept, HasLevels, half_of};
 ghost use Rattle.pm_tree.specs.Indexes.{AnswersFrom};
-ghost use Rattle.pm_tree.specs.Sound.{PassesAll, NoBadPage};
+ghost use Rattle.pm_tree.specs.Sound.{NoBadPage, MayTake};
+ghost use Rattle.pm_tree.specs.SoundPuts.{MayPut, MayTakeChild};
+ghost use Rattle.pm_tree.specs.declared.put.Part.{Part};
+ghost use Rattle.pm_tree.specs.declared.put.Put.TheVariants.{Split};
 ghost use Rattle.pm_tree.specs.Grown.{IsParentAt, TakesChild};
 ghost use Rattle.pm_tree.specs.PutCauses.{HasPutCause, Lifts};
 
@@ -71,8 +74,7 @@ pub fn put_at<P: Pages>(
     ensures cause { HasPutCause P.tells (P.seen pages.old) (P.seen pages.new) cache result }
     ensures keeps { P.tells → (held : ℕ)
         → AnswersFrom (P.seen pages.old).pages key.now levels at (Some held) → IfOk result IsKept }
-    ensures sound { P.tells → PassesAll (P.seen pages.old) → (held : ℕ)
-        → AnswersFrom (P.seen pages.old).pages key.now levels at (Some held) → NoBadPage result }
+    ensures sound { MayPut P.tells (P.seen pages.old) levels at key.now → NoBadPage result }
 {
     if levels == 0 {
         return Err(PageFault::BadPage(PageId::new(pages.part(), from)));
@@ -107,7 +109,8 @@ fn lift<P: Pages>(pages: &mut P, at: u32, i: u16, put: Put) -> Result<Put, PageF
     ensures levels { IfOk result (λ lifted. (limit : ℕ) → HasLevels limit put → HasLevels (limit + 1) lifted) }
     ensures cause { (cache : ℕ) → HasPutCause P.tells (P.seen pages.old) (P.seen pages.new) cache result }
     ensures keeps { IsKept put → IfOk result IsKept }
-    ensures sound { IsKept put → NoBadPage result }
+    ensures sound { ((part : Part) → put ≡ Split part → MayTakeChild P.tells (P.seen pages.old) at i part)
+        → NoBadPage result }
 {
     match put {
         Put::Kept(was) => Ok(Put::Kept(was)),
@@ -132,6 +135,7 @@ fn take_child<P: Pages>(pages: &mut P, at: u32, i: u16, part: Part) -> Result<Pu
     ensures takes { IfOk result (TakesChild P.tells (P.seen pages.old) (P.seen pages.new) at i part) }
     ensures levels { IfOk result (λ put. (limit : ℕ) → part.levels < limit → HasLevels (limit + 1) put) }
     ensures cause { (cache : ℕ) → HasPutCause P.tells (P.seen pages.old) (P.seen pages.new) cache result }
+    ensures sound { MayTakeChild P.tells (P.seen pages.old) at i part → NoBadPage result }
 {
     match find_fit(pages, at, i, part.from.key())? {
         Fit::Room => take_with_room(pages, at, i, &part),
@@ -152,6 +156,7 @@ fn take_with_room<P: Pages>(pages: &mut P, at: u32, i: u16, part: &Part) -> Resu
     ensures takes { IfOk result (TakesChild P.tells (P.seen pages.old) (P.seen pages.new) at i part.now) }
     ensures levels { IfOk result (λ put. (limit : ℕ) → HasLevels limit put) }
     ensures cause { HasTakeCause P.tells (P.seen pages.old) (P.seen pages.new) result }
+    ensures sound { MayTake P.tells (P.seen pages.old) → NoBadPage result }
 {
     add_child(pages, at, i, part)?;
     Ok(Put::Kept(None))
@@ -171,6 +176,7 @@ fn take_without_room<P: Pages>(pages: &mut P, at: u32, i: u16, part: Part) -> Re
     ensures takes { IfOk result (TakesChild P.tells (P.seen pages.old) (P.seen pages.new) at i part) }
     ensures levels { IfOk result (λ put. (limit : ℕ) → part.levels < limit → HasLevels (limit + 1) put) }
     ensures cause { HasTakeCause P.tells (P.seen pages.old) (P.seen pages.new) result }
+    ensures sound { MayTake P.tells (P.seen pages.old) → NoBadPage result }
 {
     let forked = fork(pages, at, i, part)?;
     Ok(Put::Split(forked))

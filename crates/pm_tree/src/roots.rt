@@ -12,7 +12,8 @@ ghost use Rattle.pm_pages.specs.Edits.{HasMeta, IsNumberIn};
 ghost use Rattle.pm_pages.specs.SparePages.{HasTakeCause};
 ghost use Rattle.pm_types.specs.declared.page_id.Link.{Link};
 ghost use Rattle.pm_tree.specs.Indexes.{IsIndex, link_in};
-ghost use Rattle.pm_tree.specs.Sound.{PassesAll, NoBadPage};
+ghost use Rattle.pm_tree.specs.Sound.{PassesAll, NoBadPage, MayTake};
+ghost use Rattle.pm_tree.specs.SoundPuts.{HasSparePages, MayPutBelow};
 ghost use Rattle.pm_tree.specs.Roots.{MakesRoot, MakesTop, PutsIndex, PutsRootPages, HasGrowCause, HasTreePutCause};
 
 use crate::edits::{Edit, make_edit, write_blank};
@@ -28,8 +29,8 @@ use pm_types::{Link, PageFault, PageId};
 /// `Failed` comes only where a call on the disk failed. `BadPage` names a page that is bad, or that names a
 /// wrong one: on the way from the root, the meta page where it names no page that can be taken, a page without
 /// a place for a child that was divided; or the root of a tree that has as many levels as it may have. Where
-/// the key is there in a tree whose pages pass their checks none is bad. After an error the pages that were
-/// asked for may be half changed.
+/// the key is there in a tree whose pages pass their checks none is bad, and neither is one where it isn't there if
+/// 17 more pages can be taken. After an error the pages that were asked for may be half changed.
 pub fn tree_put<P: Pages>(
     pages: &mut P,
     cache: u8,
@@ -52,6 +53,9 @@ pub fn tree_put<P: Pages>(
     ensures sound { P.tells → PassesAll (P.seen pages.old) → (height : ℕ) (nodes : List ℕ) (items : List Item)
         → IsIndex (P.seen pages.old).pages (root_of (P.seen pages.old).pages cache) height nodes items
         → (held : Link) → link_in items key.now ≡ Some held → NoBadPage result }
+    ensures sound_with_room { P.tells → HasSparePages (P.seen pages.old) 17 → (height : ℕ) (nodes : List ℕ) (items : List Item)
+        → IsIndex (P.seen pages.old).pages (root_of (P.seen pages.old).pages cache) height nodes items
+        → length items ≤ (P.seen pages.old).max_rows → NoBadPage result }
 {
     let root = number(pages, MetaSlot::Root(cache))?;
     if root == 0 {
@@ -82,6 +86,7 @@ fn plant<P: Pages>(
         → IsIndex (P.seen pages.old).pages 0 height nodes items
         → PutsIndex (P.seen pages.old).pages (P.seen pages.new).pages cache nodes items key.now link.0 was) }
     ensures cause { HasTreePutCause P.tells (P.seen pages.old) (P.seen pages.new) cache result }
+    ensures sound { MayTake P.tells (P.seen pages.old) → NoBadPage result }
 {
     make_root(pages, cache, None, key, link.0)?;
     Ok(None)
@@ -113,6 +118,7 @@ fn put_below<P: Pages>(
     ensures sound { P.tells → PassesAll (P.seen pages.old) → (height : ℕ) (nodes : List ℕ) (items : List Item)
         → IsIndex (P.seen pages.old).pages root height nodes items
         → (held : Link) → link_in items key.now ≡ Some held → NoBadPage result }
+    ensures sound_with_room { MayPutBelow P.tells (P.seen pages.old) root → NoBadPage result }
 {
     let count = number(pages, MetaSlot::Pages)?;
     let put = put_at(pages, cache, count, 0, root, key, link.0, LEVELS_MAX)?;
@@ -139,6 +145,7 @@ fn grow<P: Pages>(
     ensures readable { AllReadable (P.seen pages.new) }
     ensures grows { IfOk result (λ was. (was ≡ None) × (part.levels < 7) × MakesTop P.tells (P.seen pages.old) (P.seen pages.new) cache root part) }
     ensures cause { HasGrowCause P.tells (P.seen pages.old) (P.seen pages.new) root part.levels result }
+    ensures sound { part.levels < 7 → MayTake P.tells (P.seen pages.old) → NoBadPage result }
 {
     if part.levels + 1 >= LEVELS_MAX {
         return Err(PageFault::BadPage(PageId::new(pages.part(), root)));
@@ -167,6 +174,7 @@ fn make_root<P: Pages>(
     ensures readable { AllReadable (P.seen pages.new) }
     ensures makes { OnOk result (MakesRoot P.tells (P.seen pages.old) (P.seen pages.new) cache first key.now word) }
     ensures cause { HasTakeCause P.tells (P.seen pages.old) (P.seen pages.new) result }
+    ensures sound { MayTake P.tells (P.seen pages.old) → NoBadPage result }
 {
     let top = new_page(pages)?;
     write_blank(pages, top, first);

@@ -82,7 +82,7 @@ module _ (a b : Partition) (i head : ℕ) (some : 1 ≤ i) (below : i < page_cou
   second_step : GivesBack (λ j. if j == 0 then a 0 else (if j == i then a i else b j)) b (i ∷ [])
   second_step = record {
     count = count;
-    moves = record { count = omega (arith, count); sound = λ h. (moves_by h).sound h; moved = λ h. (moves_by h).moved h };
+    moves = record { count = omega (arith, count); sound = λ h. (moves_by h).sound h; moved = λ h. (moves_by h).moved h; room = λ h. (moves_by h).room h };
     chain = λ h. chain_now mid b i head some below (away h) first count first' kind names mid_same h;
   }
 

@@ -14,7 +14,6 @@ pub mod RowSwaps
 pub mod Settled
 pub mod SharedItems
 pub mod SharedPages
-pub mod SoundPages
 pub mod SoundRemovals
 pub mod SoundRows
 pub mod Stands

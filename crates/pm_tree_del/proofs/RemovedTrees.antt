@@ -37,7 +37,8 @@ use Rattle.pm_tree_del.specs.Pairs.{HasPair, IsPairOf, MayMend}
 use Rattle.pm_tree_del.specs.Items.{TakesOutAt}
 use Rattle.pm_tree_del.specs.Mending.{IsWritten, MendsChild}
 use Rattle.pm_tree_del.specs.Causes.{as_removal, Lifts}
-use Rattle.pm_tree_del.specs.Sound.{IsSound, CanBeMended}
+use Rattle.pm_tree.specs.Sound.{IsSound}
+use Rattle.pm_tree_del.specs.Sound.{CanBeMended}
 use Rattle.pm_tree_del.specs.Removes.{RemovesTree, RemovesIn, RemovesAs, RemovesFor}
 use Rattle.pm_tree_del.proofs.EditedItems.{length_without}
 use Rattle.pm_tree_del.proofs.RemovedItems.{remove_found}
@@ -46,7 +47,7 @@ use Rattle.pm_tree_del.proofs.RowSwaps.{RowSwap, swap_then}
 use Rattle.pm_tree_del.proofs.ParentTrees.{EachAt, LacksAt, each_at_to, count_apart, at_same, row_removed, items_removed, trees_removed, others_removed, parent_removes}
 use Rattle.pm_tree_del.proofs.MendedNodes.{leaf_says, reads_left, reads_right}
 use Rattle.pm_tree_del.proofs.MendedTrees.{RowMended, may_of, left_index, right_index, wide_row, neighbours, shared_row, merged_row}
-use Rattle.pm_tree_del.proofs.SoundPages.{sound_reads, reads_now}
+use Rattle.pm_tree.proofs.SoundPages.{sound_reads, reads_now}
 use Rattle.pm_tree_del.proofs.GivenPages.{gives_then, gives_none}
 
 -- an item was taken out of a leaf

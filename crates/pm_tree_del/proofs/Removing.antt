@@ -35,9 +35,10 @@ use Rattle.pm_tree_del.specs.Pairs.{MayMend}
 use Rattle.pm_tree_del.specs.Mending.{IsOfFamily, IsWritten, MendsChild, HasMendCause}
 use Rattle.pm_tree_del.specs.Causes.{KeepsNumbers, RemovesPages, IsRemoveFaultAfter, HasRemoveCause, as_removal, Lifts}
 use Rattle.pm_tree_del.specs.Removes.{RemovesIn, RemovesAs, RemovesFor}
-use Rattle.pm_tree_del.specs.Sound.{IsSound, CanBeMended, HasTree}
+use Rattle.pm_tree.specs.Sound.{IsSound, HasTree}
+use Rattle.pm_tree_del.specs.Sound.{CanBeMended}
 use Rattle.pm_tree_del.proofs.RemovedTrees.{child_tree, child_once, get_here, kept_up, can_be_mended, mended_as}
-use Rattle.pm_tree_del.proofs.SoundPages.{sound_edited, sound_looked, node_within}
+use Rattle.pm_tree.proofs.SoundPages.{sound_edited, sound_looked, node_within}
 
 -- a page that is at hand
 there_at : (p : Paged) (j i : ℕ) → j ≡ i → IsTrue (p.known i) → IsThere p i → IsTrue (p.known j) × IsThere p j

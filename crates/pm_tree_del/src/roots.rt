@@ -11,7 +11,7 @@ ghost use Rattle.pm_tree.specs.Indexes.{IsIndex};
 ghost use Rattle.pm_tree.specs.Sound.{PassesAll, NoBadPage};
 ghost use Rattle.pm_tree.specs.Nodes.{nodes_in, IsTreeIn};
 ghost use Rattle.pm_tree_del.specs.Causes.{IsHeld, HasRemoveCause};
-ghost use Rattle.pm_tree_del.specs.Sound.{IsSound};
+ghost use Rattle.pm_tree.specs.Sound.{IsSound};
 ghost use Rattle.pm_tree_del.specs.Roots.{RemovesRootPages, ReplacesRoot, Settles, RemovesIndex, HasGiveCause};
 
 use crate::remove::{Removal, remove_at};

@@ -11,6 +11,8 @@ use Rattle.pm_tree.specs.Grown.{Forks}
 use Rattle.pm_tree.proofs.Divided.{can_looked, divides_looked}
 use Rattle.pm_tree.proofs.LinkedLeaves.{cause_passed, disk_passed}
 use Rattle.pm_tree.proofs.ForkSteps.{can_fork, half_in, right_forks, takes_high}
+use Rattle.pm_tree.proofs.SpareRoom.{may_take_looked}
+use Rattle.pm_tree.proofs.SoundPages.{no_bad_passed}
 use Rattle.pm_tree.proofs.inner.fork_right.Goals as goal
 
 pub item_at-requires-clause-page : goal.item_at-requires-clause-page
@@ -92,3 +94,9 @@ pub returns-clause-kept : goal.returns-clause-kept
 returns-clause-kept g c =
     let k = g.met.P.Pages.kept_then in
     k c.args.pages.now c.divide.new.pages c.make_edit.new.pages (k c.args.pages.now c.item_at.new.pages c.divide.new.pages c.item_at.ensures.kept c.divide.ensures.kept) c.make_edit.ensures.kept
+
+pub returns-in_err-right-clause-sound : goal.returns-in_err-right-clause-sound
+returns-in_err-right-clause-sound g c = λ may.
+    let p = err_from_is_err_and c.from_residual-in_err-right.result c.from_residual-in_err-right.ensures.1 in
+    no_bad_passed c.divide.result c.from_residual-in_err-right.result c.in_err-right.field-0.0 p.0 c.in_err-right.was p.1 p.2
+    (c.divide.ensures.sound (may_take_looked g.P.Pages.tells (g.P.Pages.seen c.args.pages.now) (g.P.Pages.seen c.item_at.new.pages) 0 c.item_at.ensures.looks may))

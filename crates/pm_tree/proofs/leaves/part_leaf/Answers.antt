@@ -5,6 +5,8 @@ use Rattle.std.proofs.lemmas.Result.{err_from_is_err_and}
 use Rattle.pm_pages.proofs.TakenPages.{cause_looked}
 use Rattle.pm_tree.proofs.Divided.{can_looked, divides_looked}
 use Rattle.pm_tree.proofs.LinkedLeaves.{takes_next, parts_leaf, cause_passed}
+use Rattle.pm_tree.proofs.SpareRoom.{may_take_looked}
+use Rattle.pm_tree.proofs.SoundPages.{no_bad_passed}
 use Rattle.pm_tree.proofs.leaves.part_leaf.Goals as goal
 
 pub divide-requires-clause-page : goal.divide-requires-clause-page
@@ -46,3 +48,9 @@ returns-clause-parts g c = λ page is.
     parts_leaf T a b d (g.P.Pages.seen c.link_leaves.new.pages) c.args.at c.in_ok-right.right c.in_ok-next.next c.args.cut page can c.next_of.ensures.looks (c.in_ok-next.ensures.next page is)
     (divides_looked T a b d c.args.at c.in_ok-right.right page None c.args.cut c.args.cut c.next_of.ensures.looks (c.in_ok-right.ensures.divides page (c.next_of.ensures.looks.pages c.args.at (inr can.in_hand.known) ∙ is)))
     c.in_ok-link_leaves.ensures.links
+
+pub returns-in_err-right-clause-sound : goal.returns-in_err-right-clause-sound
+returns-in_err-right-clause-sound g c = λ may.
+    let p = err_from_is_err_and c.from_residual-in_err-right.result c.from_residual-in_err-right.ensures.1 in
+    no_bad_passed c.divide.result c.from_residual-in_err-right.result c.in_err-right.field-0.0 p.0 c.in_err-right.was p.1 p.2
+    (c.divide.ensures.sound (may_take_looked g.P.Pages.tells (g.P.Pages.seen c.args.pages.now) (g.P.Pages.seen c.next_of.new.pages) 0 c.next_of.ensures.looks may))

@@ -1,5 +1,5 @@
 use Rattle.pm_tree.specs.Puts.{half_of}
-use Rattle.pm_tree.proofs.LeafChanges.{changes_one, set_puts}
+use Rattle.pm_tree.proofs.LeafChanges.{changes_leaf, set_puts}
 use Rattle.pm_tree.proofs.leaves.set_item.Goals as goal
 
 pub make_edit-requires-clause-takes : goal.make_edit-requires-clause-takes
@@ -16,7 +16,7 @@ pub returns-clause-changes : goal.returns-clause-changes
 returns-clause-changes g c =
     let T = g.P.Pages.tells in
     let a = g.P.Pages.seen c.args.pages.now in
-    changes_one T a (g.P.Pages.seen c.make_edit.new.pages) c.args.at c.requires.item.some c.requires.meta c.requires.item.in_hand.asked c.make_edit.ensures.edits
+    changes_leaf T a (g.P.Pages.seen c.make_edit.new.pages) c.args.at c.args.key.now _ c.requires.item.page c.requires.item.some c.requires.meta c.requires.item.in_hand c.requires.item.is.well_made c.requires.item.size c.make_edit.ensures.edits c.in_ok-make_edit.ensures.edited
 
 pub returns-clause-puts : goal.returns-clause-puts
 returns-clause-puts g c = λ t limit.

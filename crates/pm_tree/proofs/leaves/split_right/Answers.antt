@@ -6,6 +6,8 @@ use Rattle.pm_tree.specs.Puts.{half_of, PutsFor, HasLevels}
 use Rattle.pm_tree.proofs.Divided.{can_looked}
 use Rattle.pm_tree.proofs.LinkedLeaves.{cause_passed, disk_passed}
 use Rattle.pm_tree.proofs.LeafChanges.{cut_below, can_part, parts_looked, half_changes, right_puts, takes_right}
+use Rattle.pm_tree.proofs.SpareRoom.{may_take_looked}
+use Rattle.pm_tree.proofs.SoundPages.{no_bad_passed}
 use Rattle.pm_tree.proofs.leaves.split_right.Goals as goal
 
 pub item_at-requires-clause-page : goal.item_at-requires-clause-page
@@ -88,3 +90,9 @@ returns-clause-kept g c =
 
 pub returns-clause-levels : goal.returns-clause-levels
 returns-clause-levels g c = subst (HasLevels 1) (sym c.split_off.ensures) (omega arith)
+
+pub returns-in_err-right-clause-sound : goal.returns-in_err-right-clause-sound
+returns-in_err-right-clause-sound g c = λ may.
+    let p = err_from_is_err_and c.from_residual-in_err-right.result c.from_residual-in_err-right.ensures.1 in
+    no_bad_passed c.part_leaf.result c.from_residual-in_err-right.result c.in_err-right.field-0.0 p.0 c.in_err-right.was p.1 p.2
+    (c.part_leaf.ensures.sound (may_take_looked g.P.Pages.tells (g.P.Pages.seen c.args.pages.now) (g.P.Pages.seen c.item_at.new.pages) 0 c.item_at.ensures.looks may))

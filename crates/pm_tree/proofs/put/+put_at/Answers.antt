@@ -7,11 +7,15 @@ use Rattle.pm_pages.proofs.EditedPages.{edits_looked, looks_at_none}
 use Rattle.pm_pages.proofs.TakenPages.{meta_looked, number_looked}
 use Rattle.pm_tree.specs.declared.places.Place.TheVariants.{Held, Gap, Full, Below, Other}
 use Rattle.pm_tree.specs.Places.{IsPlace}
-use Rattle.pm_tree.specs.Puts.{HasLevels}
+use Rattle.pm_tree.specs.Puts.{HasLevels, PutsFor, half_of}
 use Rattle.pm_tree.specs.Steps.{IsPath}
 use Rattle.pm_tree.proofs.Descents.{path_looked}
 use Rattle.pm_tree.proofs.Climbs.{changes_looked, changes_then, below_count_of, below_after, at_place, full_leaf, path_below, puts_looked, lift_step, levels_more, names_no_place, put_cause_take, put_cause_disk, put_cause_page, put_cause_after, put_cause_passed}
 use Rattle.pm_tree.proofs.SoundLooks.{bad_passed, passes_looked, answers_not_bad, answers_end}
+use Rattle.pm_tree.proofs.SoundPages.{sound_not_bad, node_within}
+use Rattle.pm_tree.proofs.SoundTrees.{tree_looked, not_other}
+use Rattle.pm_tree.proofs.SpareRoom.{may_take, can_take_looked}
+use Rattle.pm_tree.proofs.GrownTrees.{either, kept_takes, grow_below, takes_place}
 use Rattle.pm_tree.proofs.SoundPuts.{no_gap, child_has, place_is_node}
 use Rattle.pm_tree.proofs.put.+put_at.Goals as goal
 
@@ -347,19 +351,42 @@ returns-then-levels-eq0-clause-cause g t c =
 
 -- where the key is there
 pub returns-then-levels-eq0-clause-sound : goal.returns-then-levels-eq0-clause-sound
-returns-then-levels-eq0-clause-sound g t c = λ told all held answers id e.
-    answers_end (g.P.Pages.seen c.args.pages.now) c.args.levels c.args.at c.args.key.now (Some held) c.if-levels-eq0.true answers
+returns-then-levels-eq0-clause-sound g t c = λ may id e. either may
+    (λ f.
+    let told = f.told in
+    let all = f.all in
+    let held = f.held in
+    let answers = f.answers in
+    answers_end (g.P.Pages.seen c.args.pages.now) c.args.levels c.args.at c.args.key.now (Some held) c.if-levels-eq0.true answers)
+    (λ n. omega (arith, n.tree.few, c.if-levels-eq0.true))
 
 pub returns-in_err-i-clause-sound : goal.returns-in_err-i-clause-sound
-returns-in_err-i-clause-sound g t c = λ told all held answers id e.
+returns-in_err-i-clause-sound g t c = λ may id e. either may
+    (λ f.
+    let told = f.told in
+    let all = f.all in
+    let held = f.held in
+    let answers = f.answers in
     let T = g.P.Pages.tells in
     let a = g.P.Pages.seen c.args.pages.now in
     let p = err_from_is_err_and c.from_residual.result c.from_residual.ensures.1 in
     let bad = c.find_place.ensures.cause.bad id (bad_passed c.find_place.result c.from_residual.result c.in_err-i.field-0.0 p.0 c.in_err-i.was p.1 p.2 id e) in
-    answers_not_bad T a a 0 c.args.levels c.args.at c.args.key.now (Some held) id told all (looks_at_none T a) answers bad
+    answers_not_bad T a a 0 c.args.levels c.args.at c.args.key.now (Some held) id told all (looks_at_none T a) answers bad)
+    (λ n.
+    let p = err_from_is_err_and c.from_residual.result c.from_residual.ensures.1 in
+    let bad = c.find_place.ensures.cause.bad id (bad_passed c.find_place.result c.from_residual.result c.in_err-i.field-0.0 p.0 c.in_err-i.was p.1 p.2 id e) in
+    let a = g.P.Pages.seen c.args.pages.now in
+    sound_not_bad g.P.Pages.tells a c.args.at id n.told n.take.sound (node_within a n.tree.height n.tree.least c.args.at c.requires.readable c.requires.meta n.tree.tree).1 bad)
 
 pub returns-in-Held-clause-sound : goal.returns-in-Held-clause-sound
-returns-in-Held-clause-sound g t c = λ told all held answers id e. c.set_item.ensures.cause.not_bad id e
+returns-in-Held-clause-sound g t c = λ may id e. either may
+    (λ f.
+    let told = f.told in
+    let all = f.all in
+    let held = f.held in
+    let answers = f.answers in
+    c.set_item.ensures.cause.not_bad id e)
+    (λ n. c.set_item.ensures.cause.not_bad id e)
 
 pub returns-in-Gap-clause-keeps : goal.returns-in-Gap-clause-keeps
 returns-in-Gap-clause-keeps g t c = λ told held answers.
@@ -372,7 +399,14 @@ returns-in-Gap-clause-keeps g t c = λ told held answers.
     absurd (no_gap T a b 1 c.args.count c.args.at c.args.levels c.in-Gap.i held c.args.key.now found.1.page told looks number found.0 found.1.in_hand found.1.is.0 answers)
 
 pub returns-in-Gap-clause-sound : goal.returns-in-Gap-clause-sound
-returns-in-Gap-clause-sound g t c = λ told all held answers id e. c.add_item.ensures.cause.not_bad id e
+returns-in-Gap-clause-sound g t c = λ may id e. either may
+    (λ f.
+    let told = f.told in
+    let all = f.all in
+    let held = f.held in
+    let answers = f.answers in
+    c.add_item.ensures.cause.not_bad id e)
+    (λ n. c.add_item.ensures.cause.not_bad id e)
 
 pub returns-in-Full-clause-keeps : goal.returns-in-Full-clause-keeps
 returns-in-Full-clause-keeps g t c = λ told held answers.
@@ -385,17 +419,32 @@ returns-in-Full-clause-keeps g t c = λ told held answers.
     absurd (no_gap T a b 1 c.args.count c.args.at c.args.levels c.in-Full.i held c.args.key.now found.1.page told looks number found.0 found.1.in_hand found.1.is.0 answers)
 
 pub returns-in-Full-clause-sound : goal.returns-in-Full-clause-sound
-returns-in-Full-clause-sound g t c = λ told all held answers id e.
+returns-in-Full-clause-sound g t c = λ may id e. either may
+    (λ f.
+    let told = f.told in
+    let all = f.all in
+    let held = f.held in
+    let answers = f.answers in
     let T = g.P.Pages.tells in
     let a = g.P.Pages.seen c.args.pages.now in
     let b = g.P.Pages.seen c.find_place.new.pages in
     let looks = c.find_place.ensures.looks in
     let number = number_looked T a b 1 Pages c.args.count looks c.requires.count in
     let found = at_place b c.args.count c.args.at c.args.key.now (Full c.in-Full.i) (λ e. absurd (cc e)) (subst (IsPlace b c.args.count c.args.at c.args.key.now) {y = (Full c.in-Full.i)} c.in-Full.is c.in_ok-i.ensures.place) in
-    no_gap T a b 1 c.args.count c.args.at c.args.levels c.in-Full.i held c.args.key.now found.1.page told looks number found.0 found.1.in_hand found.1.is.0 answers
+    no_gap T a b 1 c.args.count c.args.at c.args.levels c.in-Full.i held c.args.key.now found.1.page told looks number found.0 found.1.in_hand found.1.is.0 answers)
+    (λ n.
+    let T = g.P.Pages.tells in
+    let a = g.P.Pages.seen c.args.pages.now in
+    let b = g.P.Pages.seen c.find_place.new.pages in
+    c.split_leaf.ensures.sound (may_take T b n.limit (2 * c.args.levels) n.told n.small (omega (arith, c.if-levels-eq0.false)) (can_take_looked T a b 1 n.told c.find_place.ensures.looks n.limit (2 * c.args.levels) n.take)) id e)
 
 pub returns-in_err-put-in-Below-clause-sound : goal.returns-in_err-put-in-Below-clause-sound
-returns-in_err-put-in-Below-clause-sound g t c = λ told all held answers id e.
+returns-in_err-put-in-Below-clause-sound g t c = λ may id e. either may
+    (λ f.
+    let told = f.told in
+    let all = f.all in
+    let held = f.held in
+    let answers = f.answers in
     let T = g.P.Pages.tells in
     let a = g.P.Pages.seen c.args.pages.now in
     let b = g.P.Pages.seen c.find_place.new.pages in
@@ -404,8 +453,18 @@ returns-in_err-put-in-Below-clause-sound g t c = λ told all held answers id e.
     let found = at_place b c.args.count c.args.at c.args.key.now (Below c.in-Below.i c.in-Below.child) (λ e. absurd (cc e)) (subst (IsPlace b c.args.count c.args.at c.args.key.now) {y = (Below c.in-Below.i c.in-Below.child)} c.in-Below.is c.in_ok-i.ensures.place) in
     let below = child_has T a b 1 c.args.count c.args.at c.args.levels c.in-Below.i c.in-Below.child held c.args.key.now told looks number found.0 found.1 answers in
     let p = err_from_is_err_and c.from_residual-in_err-put-in-Below.result c.from_residual-in_err-put-in-Below.ensures.1 in
-    c.put_at.ensures.sound told (passes_looked T a b 1 told looks all) held below id
-    (bad_passed c.put_at.result c.from_residual-in_err-put-in-Below.result c.in_err-put-in-Below.field-0.0 p.0 c.in_err-put-in-Below.was p.1 p.2 id e)
+    c.put_at.ensures.sound (inl (record { told = told; all = passes_looked T a b 1 told looks all; held = held; answers = below })) id
+    (bad_passed c.put_at.result c.from_residual-in_err-put-in-Below.result c.in_err-put-in-Below.field-0.0 p.0 c.in_err-put-in-Below.was p.1 p.2 id e))
+    (λ n.
+    let T = g.P.Pages.tells in
+    let a = g.P.Pages.seen c.args.pages.now in
+    let b = g.P.Pages.seen c.find_place.new.pages in
+    let looks = c.find_place.ensures.looks in
+    let number = number_looked T a b 1 Pages c.args.count looks c.requires.count in
+    let found = at_place b c.args.count c.args.at c.args.key.now (Below c.in-Below.i c.in-Below.child) (λ e. absurd (cc e)) (subst (IsPlace b c.args.count c.args.at c.args.key.now) {y = (Below c.in-Below.i c.in-Below.child)} c.in-Below.is c.in_ok-i.ensures.place) in
+    let p = err_from_is_err_and c.from_residual-in_err-put-in-Below.result c.from_residual-in_err-put-in-Below.ensures.1 in
+    let grow = grow_below T a b 1 c.args.count c.args.at c.in-Below.i c.in-Below.child c.args.levels c.args.key.now looks (meta_looked T a b 1 looks c.requires.meta) c.find_place.ensures.readable found.1 number found.0 n in
+    c.put_at.ensures.sound (inr grow) id (bad_passed c.put_at.result c.from_residual-in_err-put-in-Below.result c.in_err-put-in-Below.field-0.0 p.0 c.in_err-put-in-Below.was p.1 p.2 id e))
 
 pub returns-in_ok-put-in-Below-clause-keeps : goal.returns-in_ok-put-in-Below-clause-keeps
 returns-in_ok-put-in-Below-clause-keeps g t c = λ told held answers.
@@ -418,20 +477,48 @@ returns-in_ok-put-in-Below-clause-keeps g t c = λ told held answers.
     c.lift.ensures.keeps (c.in_ok-put-in-Below.ensures.keeps told held (child_has T a b 1 c.args.count c.args.at c.args.levels c.in-Below.i c.in-Below.child held c.args.key.now told looks number found.0 found.1 answers))
 
 pub returns-in_ok-put-in-Below-clause-sound : goal.returns-in_ok-put-in-Below-clause-sound
-returns-in_ok-put-in-Below-clause-sound g t c = λ told all held answers id e.
+returns-in_ok-put-in-Below-clause-sound g t c = λ may id e. either may
+    (λ f.
+    let told = f.told in
+    let all = f.all in
+    let held = f.held in
+    let answers = f.answers in
     let T = g.P.Pages.tells in
     let a = g.P.Pages.seen c.args.pages.now in
     let b = g.P.Pages.seen c.find_place.new.pages in
     let looks = c.find_place.ensures.looks in
     let number = number_looked T a b 1 Pages c.args.count looks c.requires.count in
     let found = at_place b c.args.count c.args.at c.args.key.now (Below c.in-Below.i c.in-Below.child) (λ e. absurd (cc e)) (subst (IsPlace b c.args.count c.args.at c.args.key.now) {y = (Below c.in-Below.i c.in-Below.child)} c.in-Below.is c.in_ok-i.ensures.place) in
-    c.lift.ensures.sound (c.in_ok-put-in-Below.ensures.keeps told held (child_has T a b 1 c.args.count c.args.at c.args.levels c.in-Below.i c.in-Below.child held c.args.key.now told looks number found.0 found.1 answers)) id e
-
-pub returns-in-Other-clause-sound : goal.returns-in-Other-clause-sound
-returns-in-Other-clause-sound g t c = λ told all held answers id e.
+    c.lift.ensures.sound (kept_takes g.P.Pages.tells (g.P.Pages.seen c.put_at.new.pages) c.args.at c.in-Below.i c.in_ok-put-in-Below.put (c.in_ok-put-in-Below.ensures.keeps told held (child_has T a b 1 c.args.count c.args.at c.args.levels c.in-Below.i c.in-Below.child held c.args.key.now told looks number found.0 found.1 answers))) id e)
+    (λ n.
     let T = g.P.Pages.tells in
     let a = g.P.Pages.seen c.args.pages.now in
     let b = g.P.Pages.seen c.find_place.new.pages in
     let looks = c.find_place.ensures.looks in
     let number = number_looked T a b 1 Pages c.args.count looks c.requires.count in
-    place_is_node T a b 1 c.args.count c.args.levels c.args.at held c.args.key.now told all looks number answers (subst (IsPlace b c.args.count c.args.at c.args.key.now) {y = Other} c.in-Other.is c.in_ok-i.ensures.place)
+    let found = at_place b c.args.count c.args.at c.args.key.now (Below c.in-Below.i c.in-Below.child) (λ e. absurd (cc e)) (subst (IsPlace b c.args.count c.args.at c.args.key.now) {y = (Below c.in-Below.i c.in-Below.child)} c.in-Below.is c.in_ok-i.ensures.place) in
+    c.lift.ensures.sound (λ part is. takes_place T a b (g.P.Pages.seen c.put_at.new.pages) 1 c.args.count c.args.at c.in-Below.i c.in-Below.child c.args.levels c.args.word c.args.key.now part looks (meta_looked T a b 1 looks c.requires.meta)
+    found.1 number found.0 (omega (arith, c.if-levels-eq0.false)) n c.put_at.ensures.readable c.in_ok-put-in-Below.ensures.changes
+    (subst (PutsFor b.pages (g.P.Pages.seen c.put_at.new.pages).pages (half_of b.page_size) (c.args.levels - 1) c.in-Below.child c.args.key.now c.args.word) is (c.in_ok-put-in-Below.ensures.puts n.told))) id e)
+
+pub returns-in-Other-clause-sound : goal.returns-in-Other-clause-sound
+returns-in-Other-clause-sound g t c = λ may id e. either may
+    (λ f.
+    let told = f.told in
+    let all = f.all in
+    let held = f.held in
+    let answers = f.answers in
+    let T = g.P.Pages.tells in
+    let a = g.P.Pages.seen c.args.pages.now in
+    let b = g.P.Pages.seen c.find_place.new.pages in
+    let looks = c.find_place.ensures.looks in
+    let number = number_looked T a b 1 Pages c.args.count looks c.requires.count in
+    place_is_node T a b 1 c.args.count c.args.levels c.args.at held c.args.key.now told all looks number answers (subst (IsPlace b c.args.count c.args.at c.args.key.now) {y = Other} c.in-Other.is c.in_ok-i.ensures.place))
+    (λ n.
+    let T = g.P.Pages.tells in
+    let a = g.P.Pages.seen c.args.pages.now in
+    let b = g.P.Pages.seen c.find_place.new.pages in
+    let looks = c.find_place.ensures.looks in
+    let number = number_looked T a b 1 Pages c.args.count looks c.requires.count in
+    not_other b c.args.count c.args.levels c.args.at c.args.key.now c.find_place.ensures.readable (meta_looked T a b 1 looks c.requires.meta) number (tree_looked T a b 1 c.args.levels c.args.at n.told looks n.tree)
+    (subst (IsPlace b c.args.count c.args.at c.args.key.now) {y = Other} c.in-Other.is c.in_ok-i.ensures.place))

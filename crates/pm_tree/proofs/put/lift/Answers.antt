@@ -39,4 +39,4 @@ pub returns-in-Split-clause-keeps : goal.returns-in-Split-clause-keeps
 returns-in-Split-clause-keeps g c = λ kept. absurd (subst IsKept {y = Split c.in-Split.part} c.in-Split.is kept)
 
 pub returns-in-Split-clause-sound : goal.returns-in-Split-clause-sound
-returns-in-Split-clause-sound g c = λ kept id e. subst IsKept {y = Split c.in-Split.part} c.in-Split.is kept
+returns-in-Split-clause-sound g c = λ may. c.take_child.ensures.sound (may c.in-Split.part c.in-Split.is)

@@ -5,7 +5,11 @@ use Rattle.pm_types.specs.Ids.{page_id}
 use Rattle.pm_btpage.specs.IndexPages.{items_of, capacity_of}
 use Rattle.pm_pages.proofs.EditedPages.{edits_looked, looks_at_none}
 use Rattle.pm_tree.specs.declared.fits.Fit.TheVariants.{Room, Full, Wrong}
-use Rattle.pm_tree.specs.Grown.{IsFitIn, IsParentAt}
+use Rattle.pm_tree.specs.Grown.{IsFitIn, IsParent, IsParentAt}
+use Rattle.pm_tree.proofs.Told.{below_count}
+use Rattle.pm_tree.proofs.SoundLooks.{bad_passed}
+use Rattle.pm_tree.proofs.SoundPages.{sound_not_bad}
+use Rattle.pm_tree.proofs.SpareRoom.{may_take_looked}
 use Rattle.pm_tree.proofs.Divided.{numbers_looked}
 use Rattle.pm_tree.proofs.Climbs.{changes_looked, changes_then, below_after, parent_of, takes_looked, put_cause_take, put_cause_page, put_cause_after, put_cause_passed}
 use Rattle.pm_tree.proofs.put.take_child.Goals as goal
@@ -123,3 +127,26 @@ returns-in_err-find_fit-clause-cause g c = λ cache.
     let b = g.P.Pages.seen c.find_fit.new.pages in
     let p = err_from_is_err_and c.from_residual.result c.from_residual.ensures.1 in
     put_cause_passed T a b cache c.find_fit.result c.from_residual.result c.in_err-find_fit.field-0.0 p.0 c.in_err-find_fit.was p.1 p.2 (put_cause_page T a b cache c.args.at c.find_fit.result c.find_fit.ensures.cause)
+
+pub returns-in-Room-clause-sound : goal.returns-in-Room-clause-sound
+returns-in-Room-clause-sound g c = λ may. c.take_with_room.ensures.sound (may_take_looked g.P.Pages.tells (g.P.Pages.seen c.args.pages.now) (g.P.Pages.seen c.find_fit.new.pages) 0 c.find_fit.ensures.looks may.take)
+
+pub returns-in-Full-clause-sound : goal.returns-in-Full-clause-sound
+returns-in-Full-clause-sound g c = λ may. c.take_without_room.ensures.sound (may_take_looked g.P.Pages.tells (g.P.Pages.seen c.args.pages.now) (g.P.Pages.seen c.find_fit.new.pages) 0 c.find_fit.ensures.looks may.take)
+
+pub returns-in-Wrong-clause-sound : goal.returns-in-Wrong-clause-sound
+returns-in-Wrong-clause-sound g c = λ may id e.
+    let T = g.P.Pages.tells in
+    let b = g.P.Pages.seen c.find_fit.new.pages in
+    let fit = subst (IsFitIn b c.args.at c.key.result.now c.args.i) {y = Wrong} c.in-Wrong.is c.in_ok-find_fit.ensures.fit in
+    let here = c.find_fit.ensures.looks.pages c.args.at (inl may.take.told) ∙ may.here in
+    let same : may.page ≡ fit.page = cc (here, fit.in_hand.page) in
+    fit.is (subst (λ (q : List ℕ × List ℕ). IsParent q.0 q.1 c.args.i) {x = (may.page, c.args.part.from)} {y = (fit.page, c.key.result.now)} (λ z. (same z, sym c.key.ensures.key z)) may.parent)
+
+pub returns-in_err-find_fit-clause-sound : goal.returns-in_err-find_fit-clause-sound
+returns-in_err-find_fit-clause-sound g c = λ may id e.
+    let T = g.P.Pages.tells in
+    let a = g.P.Pages.seen c.args.pages.now in
+    let p = err_from_is_err_and c.from_residual.result c.from_residual.ensures.1 in
+    let bad = c.find_fit.ensures.cause.bad id (bad_passed c.find_fit.result c.from_residual.result c.in_err-find_fit.field-0.0 p.0 c.in_err-find_fit.was p.1 p.2 id e) in
+    sound_not_bad T a c.args.at id may.take.told may.take.take.sound (below_count a c.args.at c.requires.meta c.requires.below) bad

@@ -2,6 +2,7 @@ use Rattle.std.proofs.Common.{arith}
 use Rattle.std.proofs.lemmas.Result.{err_from_is_err_and}
 use Rattle.pm_pages.proofs.EditedPages.{looks_at_none}
 use Rattle.pm_tree.proofs.LinkedLeaves.{cause_passed}
+use Rattle.pm_tree.proofs.SoundPages.{no_bad_passed}
 use Rattle.pm_tree.proofs.Climbs.{changes_looked, put_cause_take}
 use Rattle.pm_tree.proofs.IndexPuts.{plants_index, changes_root, tree_cause}
 use Rattle.pm_tree.proofs.roots.plant.Goals as goal
@@ -26,3 +27,8 @@ returns-in_err-make_root-clause-cause g c =
     let d = g.P.Pages.seen c.make_root.new.pages in
     let p = err_from_is_err_and c.from_residual.result c.from_residual.ensures.1 in
     tree_cause T a d c.args.cache c.from_residual.result (put_cause_take T a d c.args.cache c.from_residual.result (cause_passed T a d c.make_root.result c.from_residual.result c.in_err-make_root.field-0.0 p.0 c.in_err-make_root.was p.1 p.2 c.make_root.ensures.cause))
+
+pub returns-in_err-make_root-clause-sound : goal.returns-in_err-make_root-clause-sound
+returns-in_err-make_root-clause-sound g c = λ may.
+    let p = err_from_is_err_and c.from_residual.result c.from_residual.ensures.1 in
+    no_bad_passed c.make_root.result c.from_residual.result c.in_err-make_root.field-0.0 p.0 c.in_err-make_root.was p.1 p.2 (c.make_root.ensures.sound may)

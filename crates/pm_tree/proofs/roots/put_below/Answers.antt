@@ -1,7 +1,7 @@
-use Rattle.std.proofs.Common.{refl, subst, sym, arith}
+use Rattle.std.proofs.Common.{refl, subst, sym, inl, inr, arith}
 use Rattle.std.proofs.lemmas.Result.{IfOk-weaker, err_from_is_err_and}
 use Rattle.pm_meta.specs.declared.slots.MetaSlot.TheVariants.{Root}
-use Rattle.pm_pages.proofs.TakenPages.{number_looked}
+use Rattle.pm_pages.proofs.TakenPages.{number_looked, meta_looked}
 use Rattle.pm_tree.specs.declared.put.Put.TheVariants.{Kept, Split}
 use Rattle.std.specs.Prelude.{Some}
 use Rattle.pm_tree.specs.Maps.{get_in}
@@ -13,6 +13,7 @@ use Rattle.pm_tree.proofs.IndexPuts.{keeps_height, grows_height, changes_root, c
 use Rattle.pm_tree.proofs.Descents.{pages_told, index_answers}
 use Rattle.pm_tree.proofs.SoundLooks.{bad_passed, passes_looked}
 use Rattle.pm_tree.proofs.SoundPuts.{held_word}
+use Rattle.pm_tree.proofs.GrownTrees.{may_grow_root, may_put_looked, may_take_root, not_tall}
 use Rattle.pm_tree.proofs.roots.put_below.Goals as goal
 
 pub put_at-requires-clause-path : goal.put_at-requires-clause-path
@@ -123,7 +124,7 @@ returns-in_err-put-clause-sound g c = λ t all height nodes items index held the
     let answers : AnswersFrom b.pages c.args.key.now 8 c.args.root (Some word.0) = subst (AnswersFrom b.pages c.args.key.now 8 c.args.root) word.1
     (index_answers a.pages b.pages c.args.root height nodes items c.args.key.now (pages_told T a b 0 t c.number.ensures.looks) c.requires.some index) in
     let p = err_from_is_err_and c.from_residual-in_err-put.result c.from_residual-in_err-put.ensures.1 in
-    c.put_at.ensures.sound t (passes_looked T a b 0 t c.number.ensures.looks all) word.0 answers id
+    c.put_at.ensures.sound (inl (record { told = t; all = passes_looked T a b 0 t c.number.ensures.looks all; held = word.0; answers = answers })) id
     (bad_passed c.put_at.result c.from_residual-in_err-put.result c.in_err-put.field-0.0 p.0 c.in_err-put.was p.1 p.2 id e)
 
 pub returns-in-Split-clause-sound : goal.returns-in-Split-clause-sound
@@ -135,3 +136,26 @@ returns-in-Split-clause-sound g c = λ t all height nodes items index held there
     let answers : AnswersFrom b.pages c.args.key.now 8 c.args.root (Some word.0) = subst (AnswersFrom b.pages c.args.key.now 8 c.args.root) word.1
     (index_answers a.pages b.pages c.args.root height nodes items c.args.key.now (pages_told T a b 0 t c.number.ensures.looks) c.requires.some index) in
     subst IsKept {y = Split c.in-Split.part} c.in-Split.is (c.in_ok-put.ensures.keeps t word.0 answers)
+
+-- where pages can be taken
+pub returns-in_err-count-clause-sound_with_room : goal.returns-in_err-count-clause-sound_with_room
+returns-in_err-count-clause-sound_with_room g c = λ may id e.
+    let p = err_from_is_err_and c.from_residual.result c.from_residual.ensures.1 in
+    c.number.ensures.cause.not_bad id (bad_passed c.number.result c.from_residual.result c.in_err-count.field-0.0 p.0 c.in_err-count.was p.1 p.2 id e)
+
+pub returns-in_err-put-clause-sound_with_room : goal.returns-in_err-put-clause-sound_with_room
+returns-in_err-put-clause-sound_with_room g c = λ may id e.
+    let p = err_from_is_err_and c.from_residual-in_err-put.result c.from_residual-in_err-put.ensures.1 in
+    c.put_at.ensures.sound (inr (may_grow_root g.P.Pages.tells (g.P.Pages.seen c.args.pages.now) (g.P.Pages.seen c.number.new.pages) 0 c.args.root c.requires.some c.number.ensures.looks may)) id
+    (bad_passed c.put_at.result c.from_residual-in_err-put.result c.in_err-put.field-0.0 p.0 c.in_err-put.was p.1 p.2 id e)
+
+pub returns-in-Split-clause-sound_with_room : goal.returns-in-Split-clause-sound_with_room
+returns-in-Split-clause-sound_with_room g c = λ may.
+    let T = g.P.Pages.tells in
+    let a = g.P.Pages.seen c.args.pages.now in
+    let b = g.P.Pages.seen c.number.new.pages in
+    let d = g.P.Pages.seen c.put_at.new.pages in
+    let puts : PutsFor b.pages d.pages (half_of b.page_size) 8 c.args.root c.args.key.now c.args.link.0 (Split c.in-Split.part) =
+    subst (PutsFor b.pages d.pages (half_of b.page_size) 8 c.args.root c.args.key.now c.args.link.0) {y = Split c.in-Split.part} c.in-Split.is (c.in_ok-put.ensures.puts may.told) in
+    c.grow.ensures.sound (not_tall T b d c.args.root c.args.key.now c.args.link.0 c.in-Split.part c.requires.some c.number.ensures.readable (meta_looked T a b 0 c.number.ensures.looks c.requires.meta) (may_put_looked T a b 0 c.args.root c.number.ensures.looks may) puts)
+    (may_take_root T a b d 0 c.args.root c.number.ensures.looks c.in_ok-put.ensures.changes may)

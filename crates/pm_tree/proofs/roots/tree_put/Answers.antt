@@ -1,4 +1,4 @@
-use Rattle.std.proofs.Common.{◌≡◌, ℕ, subst, sym, ap, ◌∙◌}
+use Rattle.std.proofs.Common.{◌≡◌, ℕ, ◌+◌, ◌*◌, arith, subst, sym, ap, ◌∙◌}
 use Rattle.std.proofs.lemmas.Result.{IfOk-weaker, on_ok_weaker, err_from_is_err_and}
 use Rattle.pm_meta.specs.declared.slots.MetaSlot.TheVariants.{Root}
 use Rattle.pm_pages.specs.Edits.{IsNumberIn}
@@ -11,6 +11,8 @@ use Rattle.pm_tree.proofs.Climbs.{put_cause_disk, put_cause_passed}
 use Rattle.pm_tree.proofs.IndexPuts.{root_changes_looked, tree_cause, tree_cause_looked}
 use Rattle.pm_tree.proofs.SoundLooks.{bad_passed, passes_looked}
 use Rattle.pm_tree.proofs.SoundPuts.{none_held}
+use Rattle.pm_tree.proofs.SpareRoom.{may_take, may_take_looked}
+use Rattle.pm_tree.proofs.GrownTrees.{can_take_spare, limit_small, may_put_below, may_put_looked}
 use Rattle.pm_tree.proofs.roots.tree_put.Goals as goal
 
 pub returns-then-root-eq0-clause-changes : goal.returns-then-root-eq0-clause-changes
@@ -105,3 +107,26 @@ returns-else-root-eq0-clause-sound g c = λ t all height nodes items index held 
     let root : root_of a.pages c.args.cache ≡ c.in_ok-root.root = ap (λ (q : Partition). root_of q c.args.cache) (sym same) ∙ number_told b (Root c.args.cache) c.in_ok-root.root c.in_ok-root.ensures.number in
     let index_b : IsIndex b.pages c.in_ok-root.root height nodes items = subst (λ (q : Partition × ℕ). IsIndex q.0 q.1 height nodes items) {x = (a.pages, root_of a.pages c.args.cache)} {y = (b.pages, c.in_ok-root.root)} (λ z. (sym same z, root z)) index in
     c.put_below.ensures.sound t (passes_looked T a b 0 t c.number.ensures.looks all) height nodes items index_b held there id e
+
+-- where pages can be taken
+pub returns-in_err-root-clause-sound_with_room : goal.returns-in_err-root-clause-sound_with_room
+returns-in_err-root-clause-sound_with_room g c = λ t spare height nodes items index few id e.
+    let p = err_from_is_err_and c.from_residual.result c.from_residual.ensures.1 in
+    c.number.ensures.cause.not_bad id (bad_passed c.number.result c.from_residual.result c.in_err-root.field-0.0 p.0 c.in_err-root.was p.1 p.2 id e)
+
+pub returns-then-root-eq0-clause-sound_with_room : goal.returns-then-root-eq0-clause-sound_with_room
+returns-then-root-eq0-clause-sound_with_room g c = λ t spare height nodes items index few.
+    let T = g.P.Pages.tells in
+    let a = g.P.Pages.seen c.args.pages.now in
+    let b = g.P.Pages.seen c.number.new.pages in
+    let take = can_take_spare a 17 c.requires.meta spare in
+    c.plant.ensures.sound (may_take_looked T a b 0 c.number.ensures.looks (may_take T a (2 * a.max_rows + 256) 17 t (limit_small a.max_rows spare.rows) (omega arith) take))
+
+pub returns-else-root-eq0-clause-sound_with_room : goal.returns-else-root-eq0-clause-sound_with_room
+returns-else-root-eq0-clause-sound_with_room g c = λ t spare height nodes items index few.
+    let T = g.P.Pages.tells in
+    let a = g.P.Pages.seen c.args.pages.now in
+    let b = g.P.Pages.seen c.number.new.pages in
+    let same = pages_told T a b 0 t c.number.ensures.looks in
+    let root : root_of a.pages c.args.cache ≡ c.in_ok-root.root = ap (λ (q : Partition). root_of q c.args.cache) (sym same) ∙ number_told b (Root c.args.cache) c.in_ok-root.root c.in_ok-root.ensures.number in
+    c.put_below.ensures.sound_with_room (may_put_looked T a b 0 c.in_ok-root.root c.number.ensures.looks (may_put_below T a c.in_ok-root.root t c.requires.meta spare height nodes items (subst (λ n. IsIndex a.pages n height nodes items) root index) few))

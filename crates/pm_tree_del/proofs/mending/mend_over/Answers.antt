@@ -6,7 +6,7 @@ use Rattle.pm_meta.specs.declared.slots.MetaSlot.TheVariants.{Pages}
 use Rattle.pm_pages.proofs.EditedPages.{looks_then}
 use Rattle.pm_tree.proofs.Descents.{number_told}
 use Rattle.pm_tree_del.proofs.WrittenPages.{can_looked}
-use Rattle.pm_tree_del.proofs.SoundPages.{sound_looked, sound_not_bad, no_bad_passed}
+use Rattle.pm_tree.proofs.SoundPages.{sound_looked, sound_not_bad, no_bad_passed}
 use Rattle.pm_tree_del.proofs.SoundRemovals.{stand_looked}
 use Rattle.pm_tree_del.proofs.mending.mend_over.Goals as goal
 

@@ -14,12 +14,11 @@ use Rattle.pm_pages.proofs.ReadablePages.{passes_read}
 use Rattle.pm_pages.proofs.EditedPages.{edits_looked}
 use Rattle.pm_tree.specs.Nodes.{nodes_in, IsTreeIn}
 use Rattle.pm_tree.specs.Puts.{IsSpare}
-use Rattle.pm_tree.specs.Sound.{PassesAll, NoBadPage}
+use Rattle.pm_tree.specs.Sound.{PassesAll, NoBadPage, IsSound}
 use Rattle.pm_tree.proofs.Descents.{pages_told}
 use Rattle.pm_tree.proofs.Frames.{root_stands, used}
 use Rattle.pm_tree.proofs.SoundLooks.{page_passes, page_there}
 use Rattle.pm_tree.proofs.Told.{meta_spare, past_spare}
-use Rattle.pm_tree_del.specs.Sound.{IsSound}
 
 -- each page but the first reads as what it says
 pub sound_reads : (p : Paged) → IsSound p → AllReadable p → (j : ℕ) → 1 ≤ j → j < page_count p.pages → (bytes : List ℕ) × (p.pages j ≡ Some bytes) × IsReadable bytes
@@ -36,10 +35,14 @@ reads_now p sound readable j bytes some lt is =
     let e : x.0 ≡ bytes = cc (x.1, is) in
     subst IsReadable e x.2
 
--- pages that were changed are at hand
-pub sound_edited : (T : Type 0) (a c : Paged) (touched : ℕ → Type 0) (m : ℕ) → T → EditsPages T a c touched m → ((j : ℕ) → touched j → IsTrue (c.known j) × IsThere c j) → page_count c.pages ≡ page_count a.pages → IsSound a → IsSound c
-sound_edited T a c touched m t edits held counts sound = record { each = λ i lt. by i (omega (arith, lt, counts)) (c.pages i) refl (c.known i) refl }
+-- pages that were changed are at hand, and so is each page that the partition has besides
+pub sound_grown : (T : Type 0) (a c : Paged) (touched : ℕ → Type 0) (m : ℕ) → T → EditsPages T a c touched m → ((j : ℕ) → touched j → IsTrue (c.known j) × IsThere c j) → ((j : ℕ) → j < page_count c.pages → (j < page_count a.pages) ⊎ touched j) → IsSound a → IsSound c
+sound_grown T a c touched m t edits held counts sound = record { each = λ i lt. elim (counts i lt) [ inl old ↦ by i old (c.pages i) refl (c.known i) refl | inr new ↦ here i (held i new) (c.pages i) refl ] }
   where
+    here : (i : ℕ) → IsTrue (c.known i) × IsThere c i → (o : Option (List ℕ)) → c.pages i ≡ o → IsSomeAnd (c.pages i) (λ page. IsTrue (c.known i) ⊎ PassesIn c i page)
+    here i h None e = absurd (let z = subst IsSome e h.1 in cc z)
+    here i h (Some page) e = subst (λ o. IsSomeAnd o (λ q. IsTrue (c.known i) ⊎ PassesIn c i q)) (sym e) (inl h.0)
+
     passes_same : (i : ℕ) (page : List ℕ) → PassesIn a i page → PassesIn c i page
     passes_same i page h = subst (λ (q : ℕ × ℕ × ℕ). PassesAt q.0 q.1 q.2 i page) {x = (a.page_size, a.max_rows, a.part)} {y = (c.page_size, c.max_rows, c.part)} (λ z. (sym edits.same.page_size z, sym edits.same.max_rows z, sym edits.same.part z)) h
 
@@ -54,6 +57,9 @@ sound_edited T a c touched m t edits held counts sound = record { each = λ i lt
         let out : touched i → ⊥ = λ h. (let z = subst IsSome e (held i h).1 in absurd (cc z)) in
         let same : c.pages i ≡ a.pages i = edits.others i (inl t) out in
         absurd (subst (λ o. IsSomeAnd o (λ q. IsTrue (a.known i) ⊎ PassesIn a i q)) (sym same ∙ e) (sound.each i lt))
+
+pub sound_edited : (T : Type 0) (a c : Paged) (touched : ℕ → Type 0) (m : ℕ) → T → EditsPages T a c touched m → ((j : ℕ) → touched j → IsTrue (c.known j) × IsThere c j) → page_count c.pages ≡ page_count a.pages → IsSound a → IsSound c
+sound_edited T a c touched m t edits held counts sound = sound_grown T a c touched m t edits held (λ j lt. inl (omega (arith, lt, counts))) sound
 
 pub sound_looked : (T : Type 0) (a b : Paged) (m : ℕ) → T → LooksAtPages T a b m → IsSound a → IsSound b
 sound_looked T a b m t looks sound = sound_edited T a b (λ j. ⊥) m t (edits_looked T a b (λ j. ⊥) m looks) (λ j h. absurd h) (ap (λ (q : Partition). page_count q) (pages_told T a b m t looks)) sound
@@ -73,17 +79,23 @@ sound_not_bad T p i id t sound lt bad = by (p.pages i) refl (sound.each i lt)
       | inr passes ↦ (let wrong : PassesIn p i page → ⊥ = subst (λ o. IfSome o (λ bytes. PassesIn p i bytes → ⊥)) e (bad.told t) in wrong passes)
     ]
 
+pub sound_no_gap_upto : (T : Type 0) (p : Paged) (i : ℕ) (id : PageId) → T → IsSound p → i ≤ page_count p.pages → IsAfterGap T p i id → ⊥
+sound_no_gap_upto T p i id t sound le gap =
+    subst (λ o. IsSomeAnd o (λ page. IsTrue (p.known (i - 1)) ⊎ PassesIn p (i - 1) page)) (gap.absent (inl t)) (sound.each (i - 1) (omega (arith, le, gap.later)))
+
 pub sound_no_gap : (T : Type 0) (p : Paged) (i : ℕ) (id : PageId) → T → IsSound p → i < page_count p.pages → IsAfterGap T p i id → ⊥
-sound_no_gap T p i id t sound lt gap =
-    subst (λ o. IsSomeAnd o (λ page. IsTrue (p.known (i - 1)) ⊎ PassesIn p (i - 1) page)) (gap.absent (inl t)) (sound.each (i - 1) (omega (arith, lt, gap.later)))
+sound_no_gap T p i id t sound lt gap = sound_no_gap_upto T p i id t sound (omega (arith, lt)) gap
+
+-- a page of some tree is one of the partition, and not the first
+pub used_within : (p : Paged) (j : ℕ) → AllReadable p → HasMeta p → (IsSpare (nodes_in p.pages j) → ⊥) → (1 ≤ j) × (j < page_count p.pages)
+used_within p j readable meta not_spare = (
+  elim (cases_lt 0 j) [ inl lt ↦ lt | inr le ↦ absurd (let e : j ≡ 0 = omega (arith, le) in not_spare (subst (λ n. IsSpare (nodes_in p.pages n)) (sym e) (meta_spare p readable meta))) ],
+  elim (cases_lt j (page_count p.pages)) [ inl lt ↦ lt | inr le ↦ absurd (not_spare (past_spare p.pages j le)) ],
+)
 
 -- the page of a tree is one of the partition, and not the first
 pub node_within : (p : Paged) (h least at : ℕ) → AllReadable p → HasMeta p → IsTreeIn (nodes_in p.pages) h least at → (1 ≤ at) × (at < page_count p.pages)
-node_within p h least at readable meta tree =
-    let not_spare : IsSpare (nodes_in p.pages at) → ⊥ = used (nodes_in p.pages) h least at at tree (root_stands (nodes_in p.pages) h at) in (
-      elim (cases_lt 0 at) [ inl lt ↦ lt | inr le ↦ absurd (let e : at ≡ 0 = omega (arith, le) in not_spare (subst (λ n. IsSpare (nodes_in p.pages n)) (sym e) (meta_spare p readable meta))) ],
-      elim (cases_lt at (page_count p.pages)) [ inl lt ↦ lt | inr le ↦ absurd (not_spare (past_spare p.pages at le)) ],
-    )
+node_within p h least at readable meta tree = used_within p at readable meta (used (nodes_in p.pages) h least at at tree (root_stands (nodes_in p.pages) h at))
 
 -- an error that is passed on is one of the call before
 pub no_bad_passed : {R S : Type 0} (r : Result R PageFault) (s : Result S PageFault) (f e : PageFault) → r ≡ Err f → s ≡ Err e → e ≡ f → NoBadPage r → NoBadPage s
