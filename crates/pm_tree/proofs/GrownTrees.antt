@@ -4,13 +4,13 @@ use Rattle.std.proofs.lemmas.Bool.{cases_lt}
 use Rattle.pm_types.specs.PageSizes.{IsPageSize}
 use Rattle.pm_btpage.specs.IndexPages.{Item}
 use Rattle.pm_meta.specs.declared.slots.MetaSlot.TheVariants.{Pages}
-use Rattle.pm_pages.specs.Rows.{Partition, page_at, page_count}
+use Rattle.pm_pages.specs.Rows.{Partition, page_at}
 use Rattle.pm_pages.specs.Chains.{times}
 use Rattle.pm_pages.specs.Paged.{Paged, AllReadable, PassesIn}
 use Rattle.pm_pages.specs.Edits.{LooksAtPages, HasMeta, IsNumberIn}
 use Rattle.pm_tree.specs.declared.put.Part.{Part}
 use Rattle.pm_tree.specs.declared.put.Put.{Put}
-use Rattle.pm_tree.specs.declared.put.Put.TheVariants.{Kept, Split}
+use Rattle.pm_tree.specs.declared.put.Put.TheVariants.{Split}
 use Rattle.pm_tree.specs.declared.places.Place.TheVariants.{Below}
 use Rattle.pm_tree.specs.Places.{IsPlaceIn}
 use Rattle.pm_tree.specs.Puts.{IsKept, PutsFor, half_of}

@@ -8,7 +8,7 @@ use Rattle.pm_btpage.specs.IndexPages.{Item, IndexPage, index_of, with_items, wi
 use Rattle.pm_meta.specs.declared.slots.MetaSlot.{MetaSlot}
 use Rattle.pm_meta.specs.declared.slots.MetaSlot.TheVariants.{Root, Pages}
 use Rattle.pm_meta.specs.MetaPages.{IsSlot}
-use Rattle.pm_pages.specs.Rows.{number_of, page_count}
+use Rattle.pm_pages.specs.Rows.{number_of}
 use Rattle.pm_pages.specs.Paged.{Paged}
 use Rattle.pm_pages.specs.Edits.{EditsPages, HasMeta, IsNumberIn}
 use Rattle.pm_pages.specs.SparePages.{IsMetaOr, SetsNumber, MetaBecomes, TakesPage}

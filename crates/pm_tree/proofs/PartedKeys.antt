@@ -1,24 +1,24 @@
 -- The key that parts a tree from a new one beside it has its place in the page above.
-use Rattle.std.proofs.Common.{◌≡◌, ◌≢◌, ℕ, zero, suc, ◌+◌, ◌-◌, ◌<◌, ◌≤◌, List, [], ◌∷◌, ◌++◌, map, length, refl, sym, ap, subst, ◌∙◌, inl, inr, arith}
-use Rattle.std.specs.Prelude.{Option, None, Some}
-use Rattle.std.proofs.lemmas.Bool.{cases_lt, cases_eq}
+use Rattle.std.proofs.Common.{◌≡◌, ℕ, zero, suc, ◌-◌, ◌<◌, ◌≤◌, List, [], ◌∷◌, ◌++◌, map, length, refl, sym, ap, subst, ◌∙◌, inl, inr, arith}
+use Rattle.std.specs.Prelude.{None, Some}
+use Rattle.std.proofs.lemmas.Bool.{cases_lt}
 use Rattle.std.proofs.lemmas.List.{length-append}
 use Rattle.pm_btpage.specs.declared.layout.TheConstants.{INNER_KIND}
 use Rattle.pm_btpage.specs.IndexPages.{Item, items_of, index_of, key_in, capacity_of, IsBelow, IsBetween, IsRising}
 use Rattle.pm_meta.specs.declared.slots.MetaSlot.TheVariants.{Pages}
-use Rattle.pm_pages.specs.Rows.{bytes_of, page_at, page_count, kind_of}
+use Rattle.pm_pages.specs.Rows.{page_at, page_count, kind_of}
 use Rattle.pm_pages.specs.Chains.{times}
-use Rattle.pm_pages.specs.Trees.{index_in, child_of}
+use Rattle.pm_pages.specs.Trees.{index_in}
 use Rattle.pm_pages.specs.Paged.{Paged, AllReadable}
 use Rattle.pm_pages.specs.Edits.{HasMeta, IsNumberIn}
 use Rattle.pm_tree.specs.declared.put.Part.{Part}
 use Rattle.pm_tree.specs.declared.put.Put.TheVariants.{Split}
 use Rattle.pm_tree.specs.declared.places.Place.TheVariants.{Below}
 use Rattle.pm_tree.specs.Maps.{put_in}
-use Rattle.pm_tree.specs.Nodes.{Node, Entry, entry, first_entry, entries, nodes_in, items_under, nodes_under, Keys, IsFrom, IsUpTo, AreBounded, Each, IsTreeIn}
+use Rattle.pm_tree.specs.Nodes.{Node, entry, first_entry, entries, nodes_in, items_under, nodes_under, Keys, IsFrom, IsUpTo, AreBounded, IsTreeIn}
 use Rattle.pm_tree.specs.Steps.{IsChildFor}
 use Rattle.pm_tree.specs.Places.{IsPlaceIn}
-use Rattle.pm_tree.specs.Puts.{flat, row, half_of, IsSpare, PutsIn, PutsFor}
+use Rattle.pm_tree.specs.Puts.{flat, row, half_of, PutsIn, PutsFor}
 use Rattle.pm_tree.specs.Grown.{IsParent}
 use Rattle.pm_tree.specs.Sound.{IsSound, HasTree}
 use Rattle.pm_tree.proofs.KeyOrder.{below_then, key_cases}

@@ -1,6 +1,6 @@
 -- Pages of which each is there, and at hand or passes its check, and calls that keep them so.
 use Rattle.std.proofs.Common.{◌≡◌, ℕ, zero, suc, ◌-◌, ◌<◌, ◌≤◌, ◌⊎◌, true, false, List, refl, sym, ap, subst, ◌∙◌, inl, inr, arith}
-use Rattle.std.specs.Prelude.{Bool, Option, None, Some, IsSome, IfSome, IsSomeAnd, IsTrue, Result, Err, IsErrOf}
+use Rattle.std.specs.Prelude.{Bool, Option, None, Some, IsSome, IfSome, IsSomeAnd, IsTrue, Result, Err}
 use Rattle.std.proofs.lemmas.Bool.{cases_lt}
 use Rattle.pm_types.specs.declared.page_id.PageId.{PageId}
 use Rattle.pm_types.specs.declared.fault.PageFault.{PageFault}

@@ -29,8 +29,8 @@ use pm_types::{Link, PageFault, PageId};
 /// `Failed` comes only where a call on the disk failed. `BadPage` names a page that is bad, or that names a
 /// wrong one: on the way from the root, the meta page where it names no page that can be taken, a page without
 /// a place for a child that was divided; or the root of a tree that has as many levels as it may have. Where
-/// the key is there in a tree whose pages pass their checks none is bad, and neither is one where it isn't there if
-/// 17 more pages can be taken. After an error the pages that were asked for may be half changed.
+/// the key is there in a tree whose pages pass their checks none is bad; and where it isn't there, none is bad if 17
+/// more pages can be taken. After an error the pages that were asked for may be half changed.
 pub fn tree_put<P: Pages>(
     pages: &mut P,
     cache: u8,
@@ -53,7 +53,8 @@ pub fn tree_put<P: Pages>(
     ensures sound { P.tells → PassesAll (P.seen pages.old) → (height : ℕ) (nodes : List ℕ) (items : List Item)
         → IsIndex (P.seen pages.old).pages (root_of (P.seen pages.old).pages cache) height nodes items
         → (held : Link) → link_in items key.now ≡ Some held → NoBadPage result }
-    ensures sound_with_room { P.tells → HasSparePages (P.seen pages.old) 17 → (height : ℕ) (nodes : List ℕ) (items : List Item)
+    ensures sound_with_room { P.tells → HasSparePages (P.seen pages.old) 17
+        → (height : ℕ) (nodes : List ℕ) (items : List Item)
         → IsIndex (P.seen pages.old).pages (root_of (P.seen pages.old).pages cache) height nodes items
         → length items ≤ (P.seen pages.old).max_rows → NoBadPage result }
 {
