@@ -1,18 +1,18 @@
 -- What pages that were mended say.
-use Rattle.std.proofs.Common.{◌≡◌, ℕ, zero, suc, ◌+◌, ◌/◌, ◌<◌, ◌≤◌, ◌⊎◌, true, false, List, [], ◌∷◌, ◌++◌, length, refl, sym, ap, subst, ◌∙◌, inl, inr, arith}
-use Rattle.std.specs.Prelude.{Bool, Some}
+use Rattle.std.proofs.Common.{◌≡◌, ℕ, zero, suc, ◌<◌, ◌⊎◌, true, false, List, [], ◌∷◌, ◌++◌, length, sym, ap, subst, ◌∙◌, inl, inr, arith}
+use Rattle.std.specs.Prelude.{Some}
 use Rattle.std.proofs.lemmas.Bool.{eq-eqb}
 use Rattle.pm_btpage.specs.declared.layout.TheConstants.{LEAF_KIND, INNER_KIND}
-use Rattle.pm_btpage.specs.IndexPages.{Item, IndexPage, items_of, index_of, key_in, with_items, capacity_of, AllBelow, IsBelow, IsRising, IsIndexPage}
+use Rattle.pm_btpage.specs.IndexPages.{Item, IndexPage, items_of, index_of, key_in, AllBelow, IsBelow, IsRising, IsIndexPage}
 use Rattle.pm_pages.specs.Rows.{kind_of}
 use Rattle.pm_pages.specs.PageLists.{IsReadable}
-use Rattle.pm_tree.specs.Nodes.{Node, node_of, IsFrom, IsUpTo, Keys}
+use Rattle.pm_tree.specs.Nodes.{node_of, IsFrom, IsUpTo}
 use Rattle.pm_tree.proofs.KeyOrder.{below_then}
 use Rattle.pm_tree.proofs.MapLists.{keys_joined, keys_by_index, keys_at}
 use Rattle.pm_tree.proofs.Told.{leaf_kind, inner_kind}
 use Rattle.pm_tree.proofs.ForkSteps.{inner_says}
 use Rattle.pm_tree.proofs.Ascents.{rising_low, rising_high}
-use Rattle.pm_tree_del.specs.Neighbours.{joined_items, joined_link, joined, AreOfOneKind, AreApart, Merges, Shares}
+use Rattle.pm_tree_del.specs.Neighbours.{joined_items, joined_link, joined, AreOfOneKind, AreApart, Shares}
 use Rattle.pm_tree_del.proofs.RemovedItems.{Rises, rises_from, rises_to}
 use Rattle.pm_tree_del.proofs.PairSwaps.{JoinsNodes, SharesNodes}
 

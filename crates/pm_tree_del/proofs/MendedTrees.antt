@@ -1,6 +1,6 @@
 -- A child that was mended with the one beside it, for the row of children.
 use Rattle.std.proofs.Common.{◌≡◌, ◌≢◌, ℕ, zero, suc, ◌+◌, ◌-◌, ◌/◌, ◌<◌, ◌≤◌, ◌⊎◌, false, List, [], ◌∷◌, ◌++◌, map, length, refl, sym, ap, subst, ◌∙◌, inl, inr, arith}
-use Rattle.std.specs.Prelude.{Bool, Option, None, Some, IsTrue, ◌==◌, nat_lt, if◌then◌else◌}
+use Rattle.std.specs.Prelude.{Bool, None, Some, IsTrue, nat_lt, if◌then◌else◌}
 use Rattle.std.proofs.lemmas.Bool.{cases_eq, cases_lt, eq-eqb}
 use Rattle.std.proofs.lemmas.List.{length-append}
 use Rattle.pm_btpage.specs.declared.layout.TheConstants.{LEAF_KIND, INNER_KIND}
@@ -18,8 +18,8 @@ use Rattle.pm_pages.specs.Edits.{EditsPages, HasMeta, IsNumberIn}
 use Rattle.pm_pages.proofs.PageReads.{page_at-below}
 use Rattle.pm_tree.specs.Nodes.{Node, node_of, nodes_in, Entry, entry, first_entry, entries, items_under, nodes_under, IsFrom, IsUpTo, end_before, AreBounded, Each, IsTreeIn, Keys}
 use Rattle.pm_tree.specs.Puts.{flat, IsSpare, half_of}
-use Rattle.pm_tree.proofs.Decoded.{kid, kid_is}
-use Rattle.pm_tree.proofs.Frames.{times-append, times_here, times_other, root_stands, used, flat_trees_used}
+use Rattle.pm_tree.proofs.Decoded.{kid_is}
+use Rattle.pm_tree.proofs.Frames.{times-append, times_here, root_stands, used}
 use Rattle.pm_tree.proofs.Seams.{flat_joined}
 use Rattle.pm_tree.proofs.RowPuts.{bounds_apart}
 use Rattle.pm_tree.proofs.MapLists.{keys_at, keys_left, keys_right}
@@ -30,12 +30,10 @@ use Rattle.pm_tree.proofs.LeafChanges.{capacity_bounds}
 use Rattle.pm_tree.proofs.Told.{meta_spare, past_spare, node_away_count, page_is}
 use Rattle.pm_tree.proofs.Descents.{number_told}
 use Rattle.pm_tree_del.specs.declared.pairs.Pair.{Pair}
-use Rattle.pm_tree_del.specs.declared.mends.Mend.{Mend}
-use Rattle.pm_tree_del.specs.declared.mends.Mend.TheVariants.{Merged, Shared, Wrong}
-use Rattle.pm_tree_del.specs.Neighbours.{joined_items, with_key, AreApart, HasPlaceFor, AreNeighbours, IsMend, Merges, Shares}
+use Rattle.pm_tree_del.specs.Neighbours.{joined_items, with_key, AreApart, HasPlaceFor, AreNeighbours, Merges, Shares}
 use Rattle.pm_tree_del.specs.Pairs.{IsPairOf, MayMend}
 use Rattle.pm_tree_del.specs.Given.{GivesBack}
-use Rattle.pm_tree_del.specs.Mending.{IsOfFamily, MergesPages, SharesPages, IsWritten, MendsPair, MendsChild}
+use Rattle.pm_tree_del.specs.Mending.{IsOfFamily, MergesPages, SharesPages}
 use Rattle.pm_tree_del.proofs.EditedItems.{length_without}
 use Rattle.pm_tree_del.proofs.Stands.{IsAbove, Two, two_of}
 use Rattle.pm_tree_del.proofs.SoundRows.{above_then, between_row, AreWide, trees_some, leaves_apart}
@@ -43,7 +41,7 @@ use Rattle.pm_tree_del.proofs.SharedItems.{joined_after_key, joined_before}
 use Rattle.pm_tree_del.proofs.RowSwaps.{RowSwap}
 use Rattle.pm_tree_del.proofs.PairTrees.{two, one, PairSwap, all_from, all_upto}
 use Rattle.pm_tree_del.proofs.PairSwaps.{JoinsNodes, SharesNodes, pair_merged, pair_shared}
-use Rattle.pm_tree_del.proofs.ParentTrees.{EachAt, LacksAt, row_mended, trees_mended, items_mended, pair_trees}
+use Rattle.pm_tree_del.proofs.ParentTrees.{EachAt, LacksAt, row_mended, trees_mended, items_mended}
 use Rattle.pm_tree_del.proofs.MendedNodes.{leaf_says, kind_kept, rising_leaves, joins_nodes, shares_nodes}
 use Rattle.pm_tree_del.proofs.GivenPages.{IsOfNoChain, gives_none, gives_one}
 

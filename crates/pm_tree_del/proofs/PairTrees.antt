@@ -6,7 +6,7 @@ use Rattle.pm_btpage.specs.declared.layout.TheConstants.{LEAF_KIND, INNER_KIND}
 use Rattle.pm_btpage.specs.IndexPages.{Item, key_in, IsBelow}
 use Rattle.pm_pages.specs.Chains.{times}
 use Rattle.pm_pages.specs.Trees.{index_in}
-use Rattle.pm_tree.specs.Nodes.{Node, Entry, entry, entries, items_under, leaves_under, nodes_under, IsFrom, IsUpTo, end_before, AreBounded, Each, IsPlain, IsTreeIn, first_or, AreLinkedTo, Keys}
+use Rattle.pm_tree.specs.Nodes.{Node, Entry, entry, entries, items_under, leaves_under, nodes_under, IsFrom, IsUpTo, AreBounded, Each, IsPlain, IsTreeIn, first_or, AreLinkedTo, Keys}
 use Rattle.pm_tree.specs.Puts.{flat}
 use Rattle.pm_tree.proofs.KeyOrder.{below_then, key_cases}
 use Rattle.pm_tree.proofs.MapLists.{keys_joined, keys_left, keys_right, keys_weaker}

@@ -1,20 +1,19 @@
 -- A removal below a page: from a leaf, or from the tree of a child, which is mended then.
-use Rattle.std.proofs.Common.{◌≡◌, ◌≢◌, ℕ, zero, suc, ◌+◌, ◌-◌, ◌/◌, ◌<◌, ◌≤◌, ◌⊎◌, true, false, List, [], ◌∷◌, ◌++◌, length, refl, sym, ap, subst, ◌∙◌, inl, inr, arith}
-use Rattle.std.specs.Prelude.{Bool, Option, None, Some, IsTrue, nat_lt, if◌then◌else◌}
+use Rattle.std.proofs.Common.{◌≡◌, ◌≢◌, ℕ, zero, suc, ◌+◌, ◌-◌, ◌/◌, ◌<◌, ◌≤◌, true, false, List, [], ◌∷◌, ◌++◌, length, refl, sym, ap, subst, ◌∙◌, inl, inr, arith}
+use Rattle.std.specs.Prelude.{Bool, Option, None, Some, nat_lt, if◌then◌else◌}
 use Rattle.std.proofs.lemmas.Bool.{cases_eq, cases_lt}
-use Rattle.pm_btpage.specs.declared.layout.TheConstants.{LEAF_KIND, INNER_KIND}
-use Rattle.pm_btpage.specs.IndexPages.{Item, IndexPage, items_of, index_of, without_item, capacity_of, IsIndexPage}
+use Rattle.pm_btpage.specs.declared.layout.TheConstants.{LEAF_KIND}
+use Rattle.pm_btpage.specs.IndexPages.{Item, IndexPage, items_of, index_of, without_item, capacity_of}
 use Rattle.pm_meta.specs.declared.layout.TheConstants.{REUSE_KIND}
 use Rattle.pm_meta.specs.declared.slots.MetaSlot.TheVariants.{Reuse, Pages}
-use Rattle.pm_pages.specs.Rows.{Partition, bytes_of, page_at, number_of, page_count, kind_of}
+use Rattle.pm_pages.specs.Rows.{bytes_of, page_at, number_of, page_count, kind_of}
 use Rattle.pm_pages.specs.Chains.{times}
 use Rattle.pm_pages.specs.Trees.{index_in, child_of}
 use Rattle.pm_pages.specs.Paged.{Paged, AllReadable}
 use Rattle.pm_pages.specs.Edits.{EditsPages, HasMeta, IsNumberIn}
-use Rattle.pm_pages.proofs.PageReads.{page_at-below}
 use Rattle.pm_tree.specs.Maps.{get_in}
 use Rattle.pm_tree.specs.Steps.{IsChildFor}
-use Rattle.pm_tree.specs.Nodes.{Node, node_of, nodes_in, Entry, entry, first_entry, entries, items_under, leaves_under, nodes_under, AreBounded, Each, IsTreeIn}
+use Rattle.pm_tree.specs.Nodes.{Node, node_of, nodes_in, Entry, first_entry, entries, items_under, nodes_under, AreBounded, Each, IsTreeIn}
 use Rattle.pm_tree.specs.Puts.{flat, IsSpare, half_of}
 use Rattle.pm_tree.specs.Edits.{IsNode}
 use Rattle.pm_tree.specs.Places.{IsPlaceIn}
@@ -25,9 +24,6 @@ use Rattle.pm_tree.proofs.MapLists.{get_found}
 use Rattle.pm_tree.proofs.Seams.{flat_joined, each_right}
 use Rattle.pm_tree.proofs.Told.{below_count, meta_spare, node_away_count, page_is, half_is, leaf_kind}
 use Rattle.pm_tree.proofs.Descents.{number_told}
-use Rattle.pm_tree.proofs.ForkSteps.{inner_says}
-use Rattle.pm_tree_del.specs.declared.remove.Removal.{Removal}
-use Rattle.pm_tree_del.specs.declared.remove.Removal.TheVariants.{Absent, Kept, Small}
 use Rattle.pm_tree_del.specs.declared.mends.Mend.{Mend}
 use Rattle.pm_tree_del.specs.declared.mends.Mend.TheVariants.{Merged, Shared, Wrong}
 use Rattle.pm_tree_del.specs.Maps.{remove_in}
@@ -36,7 +32,7 @@ use Rattle.pm_tree_del.specs.Neighbours.{IsMend}
 use Rattle.pm_tree_del.specs.Pairs.{HasPair, IsPairOf, MayMend}
 use Rattle.pm_tree_del.specs.Items.{TakesOutAt}
 use Rattle.pm_tree_del.specs.Mending.{IsWritten, MendsChild}
-use Rattle.pm_tree_del.specs.Causes.{as_removal, Lifts}
+use Rattle.pm_tree_del.specs.Causes.{as_removal}
 use Rattle.pm_tree.specs.Sound.{IsSound}
 use Rattle.pm_tree_del.specs.Sound.{CanBeMended}
 use Rattle.pm_tree_del.specs.Removes.{RemovesTree, RemovesIn, RemovesAs, RemovesFor}
@@ -44,7 +40,7 @@ use Rattle.pm_tree_del.proofs.EditedItems.{length_without}
 use Rattle.pm_tree_del.proofs.RemovedItems.{remove_found}
 use Rattle.pm_tree_del.proofs.Stands.{Stand, stand, get_stand}
 use Rattle.pm_tree_del.proofs.RowSwaps.{RowSwap, swap_then}
-use Rattle.pm_tree_del.proofs.ParentTrees.{EachAt, LacksAt, each_at_to, count_apart, at_same, row_removed, items_removed, trees_removed, others_removed, parent_removes}
+use Rattle.pm_tree_del.proofs.ParentTrees.{EachAt, LacksAt, each_at_to, at_same, row_removed, items_removed, trees_removed, others_removed, parent_removes}
 use Rattle.pm_tree_del.proofs.MendedNodes.{leaf_says, reads_left, reads_right}
 use Rattle.pm_tree_del.proofs.MendedTrees.{RowMended, may_of, left_index, right_index, wide_row, neighbours, shared_row, merged_row}
 use Rattle.pm_tree.proofs.SoundPages.{sound_reads, reads_now}

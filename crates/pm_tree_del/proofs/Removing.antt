@@ -1,26 +1,23 @@
 -- The calls of a removal, one after the other.
-use Rattle.std.proofs.Common.{◌≡◌, ◌≢◌, ℕ, zero, suc, ◌+◌, ◌-◌, ◌<◌, ◌≤◌, ◌⊎◌, List, length, refl, sym, ap, subst, ◌∙◌, inl, inr, arith}
-use Rattle.std.specs.Prelude.{Bool, Option, None, Some, IsSome, IsTrue, Result, Err}
-use Rattle.pm_types.specs.Ids.{page_id}
+use Rattle.std.proofs.Common.{◌≡◌, ℕ, zero, suc, ◌+◌, ◌-◌, ◌<◌, ◌≤◌, ◌⊎◌, List, length, refl, sym, ap, subst, ◌∙◌, inl, inr, arith}
+use Rattle.std.specs.Prelude.{Bool, None, Some, IsSome, IsTrue, Result, Err}
 use Rattle.pm_types.specs.declared.page_id.PageId.{PageId}
 use Rattle.pm_types.specs.declared.fault.PageFault.{PageFault}
 use Rattle.pm_types.specs.declared.fault.PageFault.TheVariants.{Failed, BadPage}
 use Rattle.pm_btpage.specs.declared.layout.TheConstants.{INNER_KIND}
 use Rattle.pm_btpage.specs.IndexPages.{items_of}
-use Rattle.pm_meta.specs.declared.slots.MetaSlot.{MetaSlot}
-use Rattle.pm_meta.specs.declared.slots.MetaSlot.TheVariants.{Reuse, Pages}
-use Rattle.pm_meta.specs.MetaPages.{IsSlot}
+use Rattle.pm_meta.specs.declared.slots.MetaSlot.TheVariants.{Pages}
 use Rattle.pm_pages.specs.Rows.{Partition, number_of, page_count, kind_of}
 use Rattle.pm_pages.specs.Chains.{times}
-use Rattle.pm_pages.specs.Paged.{Paged, AllReadable, IsThere, IsInHand, IsBadPage, HasPageCause, HasGapCause}
+use Rattle.pm_pages.specs.Paged.{Paged, AllReadable, IsThere, IsInHand, HasPageCause}
 use Rattle.pm_pages.specs.Edits.{LooksAtPages, EditsPages, HasMeta, IsNumberIn, HasDiskCause}
 use Rattle.pm_pages.proofs.EditedPages.{edits_then, edits_more, edits_looked, looks_at_none}
 use Rattle.pm_pages.proofs.TakenPages.{meta_looked, number_looked}
 use Rattle.pm_tree.specs.Maps.{get_in}
-use Rattle.pm_tree.specs.Nodes.{nodes_in, items_under, nodes_under, IsTreeIn}
+use Rattle.pm_tree.specs.Nodes.{nodes_in, nodes_under, IsTreeIn}
 use Rattle.pm_tree.specs.Puts.{half_of}
 use Rattle.pm_tree.specs.Places.{IsPlaceIn}
-use Rattle.pm_tree.specs.declared.places.Place.TheVariants.{Gap, Full, Below}
+use Rattle.pm_tree.specs.declared.places.Place.TheVariants.{Below}
 use Rattle.pm_tree.specs.Places.{HasGap}
 use Rattle.pm_tree.proofs.MapLists.{get_between}
 use Rattle.pm_tree.proofs.Divided.{number_is, number_now, number_stays, meta_stays}
@@ -38,7 +35,7 @@ use Rattle.pm_tree_del.specs.Removes.{RemovesIn, RemovesAs, RemovesFor}
 use Rattle.pm_tree.specs.Sound.{IsSound, HasTree}
 use Rattle.pm_tree_del.specs.Sound.{CanBeMended}
 use Rattle.pm_tree_del.proofs.RemovedTrees.{child_tree, child_once, get_here, kept_up, can_be_mended, mended_as}
-use Rattle.pm_tree.proofs.SoundPages.{sound_edited, sound_looked, node_within}
+use Rattle.pm_tree.proofs.SoundPages.{sound_edited, sound_looked}
 
 -- a page that is at hand
 there_at : (p : Paged) (j i : ℕ) → j ≡ i → IsTrue (p.known i) → IsThere p i → IsTrue (p.known j) × IsThere p j

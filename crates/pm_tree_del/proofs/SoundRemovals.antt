@@ -1,26 +1,19 @@
 -- Trees of pages that pass their checks, of which no page is bad.
-use Rattle.std.proofs.Common.{◌≡◌, ◌≢◌, ℕ, zero, suc, ◌-◌, ◌<◌, ◌≤◌, ◌⊎◌, List, length, refl, sym, ap, subst, ◌∙◌, inl, inr, arith}
-use Rattle.std.specs.Prelude.{Some, IsTrue}
+use Rattle.std.proofs.Common.{◌≡◌, ◌≢◌, ℕ, zero, suc, ◌<◌, ◌≤◌, List, sym, ap, subst, ◌∙◌, inl, arith}
 use Rattle.pm_types.specs.PageSizes.{IsPageSize}
-use Rattle.pm_btpage.specs.declared.layout.TheConstants.{LEAF_KIND, INNER_KIND}
-use Rattle.pm_btpage.specs.IndexPages.{Item, items_of, index_of}
-use Rattle.pm_meta.specs.declared.slots.MetaSlot.TheVariants.{Root, Pages}
-use Rattle.pm_pages.specs.Rows.{Partition, page_count, kind_of}
+use Rattle.pm_btpage.specs.declared.layout.TheConstants.{LEAF_KIND}
+use Rattle.pm_btpage.specs.IndexPages.{Item}
+use Rattle.pm_pages.specs.Rows.{page_count, kind_of}
 use Rattle.pm_pages.specs.Chains.{times}
-use Rattle.pm_pages.specs.Trees.{root_of, child_of, index_in}
-use Rattle.pm_pages.specs.Paged.{Paged, AllReadable, IsInHand}
-use Rattle.pm_pages.specs.Edits.{LooksAtPages, HasMeta, IsNumberIn}
+use Rattle.pm_pages.specs.Trees.{index_in}
+use Rattle.pm_pages.specs.Paged.{Paged, AllReadable}
+use Rattle.pm_pages.specs.Edits.{LooksAtPages, HasMeta}
 use Rattle.pm_tree.specs.Indexes.{IsIndex}
-use Rattle.pm_tree.specs.Nodes.{Node, node_of, nodes_in, nodes_under, IsTreeIn}
-use Rattle.pm_tree.specs.Places.{IsPlaceIn, IsPlace}
-use Rattle.pm_tree.specs.Puts.{IsSpare, half_of}
-use Rattle.pm_tree.specs.Steps.{IsNoNode}
-use Rattle.pm_tree.specs.declared.places.Place.TheVariants.{Below, Other}
+use Rattle.pm_tree.specs.Nodes.{Node, node_of, nodes_in, IsTreeIn}
+use Rattle.pm_tree.specs.Puts.{half_of}
 use Rattle.pm_tree.proofs.Decoded.{nodes_same, tree_to}
-use Rattle.pm_tree.proofs.Descents.{number_told, pages_told}
-use Rattle.pm_tree.proofs.Frames.{root_stands, used}
 use Rattle.pm_tree.proofs.LeafChanges.{capacity_bounds}
-use Rattle.pm_tree.proofs.Told.{below_count, page_is}
+use Rattle.pm_tree.proofs.Told.{page_is}
 use Rattle.pm_tree_del.specs.declared.pairs.Pair.{Pair}
 use Rattle.pm_tree_del.specs.declared.remove.Removal.TheVariants.{Small}
 use Rattle.pm_tree_del.specs.declared.tops.Top.TheVariants as top

@@ -1,5 +1,5 @@
 -- The entries of an inner page, divided at the child below which a key stands, or at two neighbours.
-use Rattle.std.proofs.Common.{◌≡◌, ℕ, zero, suc, ◌+◌, ◌<◌, ◌≤◌, List, [], ◌∷◌, ◌++◌, map, length, take, drop, refl, sym, ap, subst, ◌∙◌, arith}
+use Rattle.std.proofs.Common.{◌≡◌, ℕ, zero, suc, ◌+◌, ◌<◌, ◌≤◌, List, [], ◌∷◌, ◌++◌, map, length, take, drop, refl, ap, ◌∙◌, arith}
 use Rattle.std.specs.Prelude.{Option, None, Some}
 use Rattle.pm_btpage.specs.IndexPages.{Item, IsBelow, IsRising, key_in, word_in, without_item, with_item}
 use Rattle.pm_pages.specs.Trees.{index_in}

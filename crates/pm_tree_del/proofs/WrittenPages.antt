@@ -1,5 +1,5 @@
 -- Pages that were copied, mended as copies, and written back.
-use Rattle.std.proofs.Common.{◌≡◌, ◌≢◌, ℕ, ◌+◌, ◌-◌, ◌<◌, ◌≤◌, ◌⊎◌, List, length, refl, sym, ap, subst, ◌∙◌, inl, inr, arith}
+use Rattle.std.proofs.Common.{◌≡◌, ◌≢◌, ℕ, ◌+◌, ◌-◌, ◌≤◌, ◌⊎◌, List, refl, sym, ap, subst, ◌∙◌, inl, inr, arith}
 use Rattle.std.specs.Prelude.{Bool, None, Some, IsTrue, IfOk, OnOk, Result, Ok, Err}
 use Rattle.std.proofs.lemmas.Bool.{cases_eq}
 use Rattle.pm_types.specs.Ids.{page_id}
@@ -7,15 +7,15 @@ use Rattle.pm_types.specs.Spans.{Coverage}
 use Rattle.pm_types.specs.declared.page_id.PageId.{PageId}
 use Rattle.pm_types.specs.declared.fault.PageFault.{PageFault}
 use Rattle.pm_types.specs.declared.fault.PageFault.TheVariants.{Failed, BadPage}
-use Rattle.pm_meta.specs.declared.slots.MetaSlot.TheVariants.{Reuse, Pages}
-use Rattle.pm_meta.specs.MetaPages.{field_of, next_of, IsStoredReuse}
+use Rattle.pm_meta.specs.declared.slots.MetaSlot.TheVariants.{Pages}
+use Rattle.pm_meta.specs.MetaPages.{IsStoredReuse}
 use Rattle.pm_btpage.specs.IndexPages.{IsIndexPage}
 use Rattle.pm_types.specs.Pages.{IsNoted}
 use Rattle.pm_pages.specs.Paged.{Paged, IsTold, IsInHand, IsAfterGap, HasRoomFor, HasPageCause, HasGapCause}
-use Rattle.pm_pages.specs.Edits.{LooksAtPages, EditsPages, HasMeta, IsNumberIn, HasDiskCause}
-use Rattle.pm_pages.specs.SparePages.{IsMetaOr, SetsNumber, GivesPage}
+use Rattle.pm_pages.specs.Edits.{LooksAtPages, EditsPages, HasMeta, HasDiskCause}
+use Rattle.pm_pages.specs.SparePages.{IsMetaOr, GivesPage}
 use Rattle.pm_pages.proofs.EditedPages.{edits_then, edits_more, edits_looked, told_still, looks_then}
-use Rattle.pm_pages.proofs.TakenPages.{bad_before, meta_looked, number_looked}
+use Rattle.pm_pages.proofs.TakenPages.{bad_before, number_looked}
 use Rattle.pm_tree.proofs.Descents.{in_hand_looked}
 use Rattle.pm_tree_del.specs.declared.pairs.Pair.{Pair}
 use Rattle.pm_tree_del.specs.declared.mends.Mend.{Mend}
@@ -23,7 +23,7 @@ use Rattle.pm_tree_del.specs.declared.mends.Mend.TheVariants.{Merged, Shared, Wr
 use Rattle.pm_tree_del.specs.Pairs.{IsPairOf, IsPairIn, MayMend, CanMend}
 use Rattle.pm_tree_del.specs.Copies.{IsCopyOf, TakesBytes}
 use Rattle.pm_tree_del.specs.Given.{IsGiven}
-use Rattle.pm_tree_del.specs.Mending.{IsOfFamily, MergesPages, SharesPages, IsWritten, IsFamily, MendsCopies, MendsPair, MendsChild, HasNoPair, IsWrongFor, HasMendCause}
+use Rattle.pm_tree_del.specs.Mending.{IsOfFamily, MergesPages, SharesPages, IsWritten, IsFamily, MendsCopies, MendsPair, MendsChild, IsWrongFor, HasMendCause}
 
 -- a page that another's change leaves as it was takes its bytes still
 pub takes_after : (T : Type 0) (a b : Paged) (k i : ℕ) (bytes : List ℕ) (patch : Coverage) → i ≢ k → EditsPages T a b (λ j. j ≡ k) 0 → TakesBytes a i bytes patch → TakesBytes b i bytes patch

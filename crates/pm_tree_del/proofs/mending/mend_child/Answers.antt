@@ -1,8 +1,7 @@
-use Rattle.std.proofs.Common.{◌≡◌, refl, sym, ap, subst, ◌∙◌, inl, inr}
+use Rattle.std.proofs.Common.{refl, sym, ap, subst, ◌∙◌, inl}
 use Rattle.std.specs.Prelude.{None, Some}
-use Rattle.std.proofs.lemmas.Result.{IfOk-weaker}
 use Rattle.pm_types.specs.Ids.{page_id}
-use Rattle.pm_tree_del.specs.Pairs.{IsPairOn, IsPairIn}
+use Rattle.pm_tree_del.specs.Pairs.{IsPairIn}
 use Rattle.pm_tree_del.proofs.WrittenPages.{mend_cause_looked, no_pair_cause, child_mended}
 use Rattle.std.proofs.lemmas.Result.{err_from_is_err_and}
 use Rattle.pm_tree.proofs.SoundPages.{sound_looked, sound_not_bad, no_bad_passed}

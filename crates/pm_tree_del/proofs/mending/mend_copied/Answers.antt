@@ -1,7 +1,6 @@
-use Rattle.std.proofs.Common.{◌≡◌, ◌<◌, refl, sym, ap, subst, ◌∙◌, inl, inr, arith}
+use Rattle.std.proofs.Common.{refl, ap, subst, ◌∙◌, inr, arith}
 use Rattle.std.proofs.lemmas.Result.{err_from_is_err_and}
 use Rattle.pm_types.specs.Ids.{page_id}
-use Rattle.pm_tree_del.specs.declared.mends.Mend.{Mend}
 use Rattle.pm_tree_del.specs.declared.mends.Mend.TheVariants.{Merged, Shared, Wrong}
 use Rattle.pm_tree_del.specs.Neighbours.{IsMend}
 use Rattle.pm_tree_del.proofs.WrittenPages.{pair_of_copy, mend_cause_gap, mend_cause_disk, mend_cause_passed, no_pair_cause}

@@ -1,4 +1,4 @@
-use Rattle.std.proofs.Common.{◌≡◌, false, true, refl, sym, ap, ◌∙◌, inl, inr}
+use Rattle.std.proofs.Common.{refl, sym, ap, ◌∙◌, inl, inr}
 use Rattle.pm_types.specs.Ids.{page_id}
 use Rattle.pm_tree_del.proofs.WrittenPages.{no_pair_cause}
 use Rattle.pm_tree_del.proofs.mending.mend_pair.Goals as goal

@@ -2,7 +2,7 @@ use Rattle.std.proofs.Common.{refl, subst, sym, arith}
 use Rattle.std.proofs.lemmas.Result.{err_from_is_err_and}
 use Rattle.pm_pages.proofs.EditedPages.{looks_at_none}
 use Rattle.pm_tree_del.specs.declared.remove.Removal.{Removal}
-use Rattle.pm_tree_del.specs.declared.remove.Removal.TheVariants.{Absent, Kept, Small}
+use Rattle.pm_tree_del.specs.declared.remove.Removal.TheVariants.{Absent, Kept}
 use Rattle.pm_tree_del.specs.Causes.{Lifts}
 use Rattle.pm_tree_del.proofs.Removing.{changes_looked, changes_more, changes_mended, remove_cause_mend, remove_cause_passed}
 use Rattle.pm_tree.proofs.SoundPages.{no_bad_passed}

@@ -2,7 +2,6 @@ use Rattle.std.proofs.Common.{refl}
 use Rattle.pm_tree_del.proofs.Removing.{changes_one}
 use Rattle.pm_tree_del.proofs.RemovedTrees.{leaf_removes}
 use Rattle.std.proofs.Common.{subst, sym}
-use Rattle.pm_pages.specs.Rows.{Partition}
 use Rattle.pm_tree.specs.Puts.{half_of}
 use Rattle.pm_tree_del.specs.declared.remove.Removal.{Removal}
 use Rattle.pm_tree_del.specs.Removes.{RemovesFor}

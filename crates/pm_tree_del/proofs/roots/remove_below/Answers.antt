@@ -1,5 +1,4 @@
-use Rattle.std.proofs.Common.{◌≡◌, ◌+◌, refl, subst, sym, ap, arith}
-use Rattle.std.specs.Prelude.{IsTrue}
+use Rattle.std.proofs.Common.{refl, subst, arith}
 use Rattle.std.proofs.lemmas.Result.{err_from_is_err_and}
 use Rattle.pm_types.specs.PageSizes.{IsPageSize}
 use Rattle.pm_meta.specs.declared.slots.MetaSlot.TheVariants.{Root, Pages}

@@ -1,11 +1,11 @@
-use Rattle.std.proofs.Common.{◌≡◌, ◌≢◌, ◌<◌, ◌≤◌, refl, subst, sym, ap, ◌∙◌, inl, inr, arith}
+use Rattle.std.proofs.Common.{refl, subst, ap, ◌∙◌, arith}
 use Rattle.std.proofs.lemmas.Result.{on_ok_weaker}
 use Rattle.pm_types.specs.Ids.{page_id}
 use Rattle.pm_meta.specs.declared.slots.MetaSlot.TheVariants.{Root, Pages}
 use Rattle.pm_pages.proofs.TakenPages.{number_looked}
 use Rattle.pm_tree_del.specs.declared.tops.Top.TheVariants.{Full, Empty, Only, Other}
 use Rattle.pm_tree_del.specs.Roots.{IsTopIn}
-use Rattle.pm_tree_del.proofs.Settled.{root_looked, changes_replaced, settles_full, settles_empty, settles_only, cause_given, cause_named, root_no_node, child_no_node}
+use Rattle.pm_tree_del.proofs.Settled.{root_looked, changes_replaced, settles_full, settles_empty, settles_only, cause_given, cause_named, root_no_node}
 use Rattle.std.proofs.lemmas.Result.{err_from_is_err_and}
 use Rattle.pm_pages.proofs.TakenPages.{meta_looked}
 use Rattle.pm_tree.proofs.SoundPages.{sound_looked, sound_not_bad, sound_no_gap, node_within, no_bad_passed}
