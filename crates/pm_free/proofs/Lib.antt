@@ -1,0 +1,15 @@
+pub mod ChainCauses
+pub mod Changed
+pub mod EditedData
+pub mod Neighbours
+pub mod NewPages
+pub mod PlacedPages
+pub mod PlacedRows
+pub mod Relinked
+pub mod RowLists
+pub mod Runs
+pub mod Settled
+pub mod SpareMoves
+pub mod SpareSteps
+pub mod Views
+pub mod Walks

@@ -1,0 +1,6 @@
+use Rattle.pm_pages.proofs.ReadablePages.{readable_asked}
+use Rattle.pm_free.proofs.buckets.find_head.Goals as goal
+
+pub returns-in-Some-clause-readable : goal.returns-in-Some-clause-readable
+returns-in-Some-clause-readable g c =
+    readable_asked g.P.Pages.tells (g.P.Pages.seen c.args.pages.now) (g.P.Pages.seen c.view.follows.lender-at-none) 0 c.requires.readable c.view.follows.holds-at-none.1

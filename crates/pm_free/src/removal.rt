@@ -1,0 +1,109 @@
+//! Rows that are taken out.
+
+ghost use Rattle.std.specs.Prelude.{◌≡◌, ◌≢◌, ℕ, ◌+◌, ◌<◌, ◌≤◌, ◌↔◌, List, [], IfOk, OnOk, IsTrue};
+ghost use Rattle.pm_types.specs.Ids.{page_id, link};
+ghost use Rattle.pm_data.specs.DataPages.{rows_of, IsDataPage};
+ghost use Rattle.pm_meta.specs.declared.layout.TheConstants.{BUCKETS};
+ghost use Rattle.pm_pages.specs.Paged.{AllReadable};
+ghost use Rattle.pm_pages.specs.Edits.{LooksAtPages, HasMeta, HasDiskCause};
+ghost use Rattle.pm_free.specs.DataEdits.{IsDataIn, IsDataAt};
+ghost use Rattle.pm_free.specs.Placed.{TakesRow, HasRowAt, HasItemAt, DropsPage, ChangesRows};
+ghost use Rattle.pm_free.specs.Causes.{HasChainCause};
+
+use crate::chains::{settle, unlink};
+use crate::edits::{Edit, make_edit};
+use crate::seats::seat_at;
+use pm_data::room;
+use pm_pages::{Pages, give_page};
+use pm_types::{Link, PageFault};
+
+// What a data page has before its slots, in bytes.
+const HEAD_BYTES: usize = 32;
+
+/// Takes a row out, whose page is at hand. The page then stands in the chain for its room, or, where that
+/// was its last row, is given back.
+///
+/// `Failed` comes only where a call on the disk failed. `BadPage` names a page that names a wrong neighbour
+/// or first page of a chain, a page so named that is bad, or the page before the row's page where that
+/// isn't there. After an error the pages that were asked for may be half changed.
+pub fn take_out<P: Pages>(pages: &mut P, link: Link) -> Result<(), PageFault>
+    requires ready { P.ready pages.old }
+    requires meta { HasMeta (P.seen pages.old) }
+    requires room { 3 ≤ (P.seen pages.old).spare }
+    requires readable { AllReadable (P.seen pages.old) }
+    requires row { HasRowAt (P.seen pages.old) link }
+    ensures kept { P.kept pages.old pages.new }
+    ensures readable { AllReadable (P.seen pages.new) }
+    ensures takes { OnOk result (ChangesRows P.tells (P.seen pages.old) (P.seen pages.new) 3
+        (λ old new. TakesRow (P.seen pages.old).part old new link)) }
+    ensures cause { HasChainCause P.tells (P.seen pages.old) (P.seen pages.new) result }
+{
+    take_item(pages, link.page().index(), link.item())
+}
+
+// Takes the row of an item out of a page.
+fn take_item<P: Pages>(pages: &mut P, at: u32, item: u8) -> Result<(), PageFault>
+    requires ready { P.ready pages.old }
+    requires meta { HasMeta (P.seen pages.old) }
+    requires room { 3 ≤ (P.seen pages.old).spare }
+    requires readable { AllReadable (P.seen pages.old) }
+    requires row { HasItemAt (P.seen pages.old) at item }
+    ensures kept { P.kept pages.old pages.new }
+    ensures readable { AllReadable (P.seen pages.new) }
+    ensures takes { OnOk result (ChangesRows P.tells (P.seen pages.old) (P.seen pages.new) 3
+        (λ old new. TakesRow (P.seen pages.old).part old new
+        (link (page_id (P.seen pages.old).part at) item))) }
+    ensures cause { HasChainCause P.tells (P.seen pages.old) (P.seen pages.new) result }
+{
+    let seat = seat_at(pages, at)?;
+    make_edit(pages, at, Edit::Remove(item), b"")?;
+    if is_empty(pages, at)? {
+        drop_page(pages, at, seat.bucket)
+    } else {
+        settle(pages, at, seat.bucket)
+    }
+}
+
+// Takes a page without rows out of the chain of its bucket, and gives it back.
+fn drop_page<P: Pages>(pages: &mut P, at: u32, bucket: u8) -> Result<(), PageFault>
+    requires ready { P.ready pages.old }
+    requires meta { HasMeta (P.seen pages.old) }
+    requires room { 2 ≤ (P.seen pages.old).spare }
+    requires readable { AllReadable (P.seen pages.old) }
+    requires page { IsDataAt (P.seen pages.old) at }
+    requires bucket { bucket < BUCKETS }
+    ensures kept { P.kept pages.old pages.new }
+    ensures readable { AllReadable (P.seen pages.new) }
+    ensures drops { OnOk result (ChangesRows P.tells (P.seen pages.old) (P.seen pages.new) 2
+        (λ old new. DropsPage old new at bucket)) }
+    ensures cause { HasChainCause P.tells (P.seen pages.old) (P.seen pages.new) result }
+{
+    unlink(pages, at, bucket)?;
+    give_page(pages, at)
+}
+
+// Whether a data page that is at hand has no rows.
+fn is_empty<P: Pages>(pages: &mut P, at: u32) -> Result<bool, PageFault>
+    requires ready { P.ready pages.old }
+    requires page { IsDataAt (P.seen pages.old) at }
+    requires readable { AllReadable (P.seen pages.old) }
+    ensures kept { P.kept pages.old pages.new }
+    ensures looks { LooksAtPages P.tells (P.seen pages.old) (P.seen pages.new) 0 }
+    ensures readable { AllReadable (P.seen pages.new) }
+    ensures empty { IfOk result (λ empty. (page : List ℕ) → IsDataIn (P.seen pages.old) at page
+        → IsTrue empty ↔ (rows_of page ≡ [])) }
+    ensures cause { HasDiskCause (P.seen pages.old) (P.seen pages.new).faults result }
+{
+    match pages.view(at)? {
+        None => Ok(false),
+        Some(page) => Ok(is_empty_on(page)),
+    }
+}
+
+// A page without rows has the most room.
+fn is_empty_on(page: &[u8]) -> bool
+    requires { IsDataPage page.now }
+    ensures { IsTrue result ↔ (rows_of page.now ≡ []) }
+{
+    room(page) as usize + HEAD_BYTES == page.len()
+}
