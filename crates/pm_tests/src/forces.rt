@@ -2,10 +2,10 @@
 
 ghost use Rattle.std.specs.Prelude.{◌≡◌, false};
 
-use crate::noted::NotedHost;
+use crate::noted::{Forced, note_force};
 use crate::recorded::{SAID, TRACE, recorded_host};
 use crate::runs::call_with;
-use crate::traces::count_forces;
+use crate::traces::{count_forces, count_prints};
 use pm_disk::Host;
 use std::fs;
 use std::process::Abort;
@@ -29,41 +29,28 @@ fn status_of<H: Host>(rt: &impl AllocGlobal, host: &mut H) -> Result<u8, Fail>
     Ok(report.status)
 }
 
-/// Answers the script over a host, whose forces are noted. Answers the status.
-fn run_noted<H: Host + Drop>(
-    rt: &(impl AllocGlobal + Clone + Drop + Files),
-    host: H,
-) -> Result<u8, Fail>
-    requires { (H.state host).access.is_lent ≡ false }
-{
-    let mut noted = NotedHost {
-        host,
-        rt: rt.clone()?,
-        folder: FOLDER,
-    };
-    status_of(rt, &mut noted)
-}
-
 /// Answers the script over the folder. Answers the status.
 fn run_recorded(rt: &HostRuntime) -> Result<u8, Fail> {
-    run_noted(rt, recorded_host(rt.clone()?, SCRIPT))
+    let mut host = recorded_host(rt.clone()?, SCRIPT);
+    status_of(rt, &mut host)
 }
 
-/// Looks at the trace: each force had made the segment lasting, and the names.
-fn look_at_forces(rt: &(impl Abort + AllocGlobal + Files)) -> Result<(), Fail> {
+/// Looks at the trace of so many runs: whenever something was printed the segment lasted, and the names, and so
+/// they did at the end of each run.
+fn look_at_forces(rt: &(impl Abort + AllocGlobal + Files), runs: usize) -> Result<(), Fail> {
+    note_force(rt, FOLDER, Forced::Segment(1));
     let trace = fs::read_to_string(rt, TRACE)?;
-    let forces = count_forces(&trace, FOLDER, SEGMENT);
-    assert!(rt; forces.is_some());
-    assert!(rt; forces != Some(0));
+    assert_eq!(rt; count_forces(&trace, FOLDER, SEGMENT), Some(runs));
+    assert_eq!(rt; count_prints(&trace, FOLDER, SEGMENT), Some(runs));
     Ok(())
 }
 
 #[test]
-fn what_a_run_forces_lasts(rt: HostRuntime) -> Result<(), Fail> {
+fn what_a_run_prints_lasts(rt: HostRuntime) -> Result<(), Fail> {
     assert_eq!(rt; run_recorded(&rt)?, 0);
-    look_at_forces(&rt)?;
+    look_at_forces(&rt, 1)?;
     assert_eq!(rt; run_recorded(&rt)?, 0);
-    look_at_forces(&rt)?;
+    look_at_forces(&rt, 2)?;
     fs::remove_dir_all(&rt, FOLDER)?;
     fs::remove_file(&rt, TRACE)?;
     Ok(fs::remove_file(&rt, SAID)?)

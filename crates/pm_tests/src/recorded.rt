@@ -32,6 +32,9 @@ pub const MADE: &str = "made";
 /// A name was removed.
 pub const REMOVED: &str = "removed";
 
+/// Something was printed.
+pub const PRINTED: &str = "printed";
+
 /// A host has answered that a file is forced.
 pub const FORCED: &str = "forced";
 
@@ -153,7 +156,7 @@ impl<R> Input for Recorded<R> {
     }
 }
 
-impl<R: Files> Print for Recorded<R> {
+impl<R: Files + AllocGlobal> Print for Recorded<R> {
     fn print<D: Display + Drop>(&self, _value: D) -> io::Result<()> {
         Err(unsupported())
     }
@@ -163,6 +166,7 @@ impl<R: Files> Print for Recorded<R> {
     }
 
     fn write_all(&self, bytes: &[u8]) -> io::Result<()> {
+        note(&self.rt, PRINTED, SAID)?;
         let mut said = OpenOptions::new()
             .append(true)
             .create(true)

@@ -1,6 +1,6 @@
 //! What a trace says of the forces of a file.
 
-use crate::recorded::{CHANGED, FORCED, MADE, REMOVED, SYNCED};
+use crate::recorded::{CHANGED, FORCED, MADE, PRINTED, REMOVED, SAID, SYNCED};
 
 /// What lasts after the events so far.
 #[derive(Clone, Copy)]
@@ -47,6 +47,17 @@ fn after(was: Lasting, event: &str, path: &str, folder: &str, file: &str) -> Las
 /// How often the file was forced by the trace, and none where that was answered once and the file, or the
 /// names in the folder, didn't last. Before the first event the file lasts, and the names aren't known to.
 pub fn count_forces(trace: &str, folder: &str, file: &str) -> Option<usize> {
+    count_lasting(trace, folder, file, (FORCED, file))
+}
+
+/// How often something was printed by the trace, and none where that was done once and the file, or the names
+/// in the folder, didn't last.
+pub fn count_prints(trace: &str, folder: &str, file: &str) -> Option<usize> {
+    count_lasting(trace, folder, file, (PRINTED, SAID))
+}
+
+/// How often this event is in the trace, and none where the file, or the names in the folder, didn't last once.
+fn count_lasting(trace: &str, folder: &str, file: &str, wanted: (&str, &str)) -> Option<usize> {
     let mut lasting = Lasting {
         file: true,
         names: false,
@@ -55,7 +66,7 @@ pub fn count_forces(trace: &str, folder: &str, file: &str) -> Option<usize> {
     for line in trace.lines() {
         let (event, path) = line.split_once(' ').unwrap_or((line, ""));
         lasting = after(lasting, event, path, folder, file);
-        if event == FORCED && path == file {
+        if (event, path) == wanted {
             if !lasting.file || !lasting.names {
                 return None;
             }
