@@ -1,0 +1,12 @@
+mod Chains
+mod Emptying
+mod Forcing
+mod Joining
+mod Merging
+mod Appending
+mod Opening
+mod OperationBytes
+mod RecordBytes
+mod RecordLoop
+mod Splits
+mod Taking

@@ -1,0 +1,9 @@
+pub mod Blocks
+pub mod Fronts
+pub mod Inboxes
+pub mod LogCalls
+pub mod LogEnds
+pub mod Loggers
+pub mod Merges
+pub mod Operations
+pub mod Rings

@@ -1,0 +1,70 @@
+-- How the log writer merges what the workers hand over: it appends the operations of each worker in their
+-- order.
+use Rattle.std.specs.Prelude.{◌≡◌, ◌<◌, ℕ, List, [], ◌∷◌, ◌++◌, length, ◌==◌, if◌then◌else◌, Some}
+use Rattle.std.specs.List.{slice_get}
+use Rattle.pm_disk.specs.Moments.{History}
+use Rattle.pm_logger.specs.Blocks.{joined}
+use Rattle.pm_logger.specs.Fronts.{WriterState, Appends, Fails}
+use Rattle.pm_logger.specs.Inboxes.{kept, Takes}
+use Rattle.pm_logger.specs.Operations.{Operation, AreOperations, operation_bytes, operations_bytes}
+use Rattle.pm_logger.specs.declared.inbox.Inbox.{Inbox}
+
+-- An operation in the log, and the worker whose it is.
+pub record Entry : Type 0 where
+  pub worker : ℕ
+  pub operation : Operation
+
+-- the operations, in the log's order
+abbrev pub operations_in : List Entry → List Operation
+operations_in [] = []
+operations_in (entry ∷ entries) = entry.operation ∷ operations_in entries
+
+-- those of one worker, in the same order
+abbrev pub of_worker : ℕ → List Entry → List Operation
+of_worker worker [] = []
+of_worker worker (entry ∷ entries) =
+    if entry.worker == worker then entry.operation ∷ of_worker worker entries else of_worker worker entries
+
+-- each is of one of so many workers
+abbrev pub AreOfWorkers : ℕ → List Entry → Type 0
+AreOfWorkers count [] = Unit {0}
+AreOfWorkers count (entry ∷ entries) = (entry.worker < count) × AreOfWorkers count entries
+
+-- Of what a worker's ring and its kept bytes held these operations were appended, in their order, and the
+-- rest is kept.
+pub record HandsOver (was inbox : Inbox) (appended : List Operation) : Type 0 where
+  pub came : List (List ℕ)
+  pub takes : Takes was inbox came
+  pub operations_are : AreOperations appended
+  pub bytes_are : kept was ++ joined came ≡ operations_bytes appended ++ kept inbox
+
+-- What was appended is a merge: of each worker it has what this worker handed over, in its order, and it has
+-- nothing else.
+pub record Merges (was inboxes : List Inbox) (entries : List Entry) : Type 0 where
+  pub many : length inboxes ≡ length was
+  pub of_these : AreOfWorkers (length was) entries
+  pub each : (worker : ℕ) (old new : Inbox) → slice_get was worker ≡ Some old
+      → slice_get inboxes worker ≡ Some new
+      → HandsOver old new (of_worker worker entries)
+
+-- this operation stands at the front of these bytes
+abbrev pub StandsFirst : Operation → List ℕ → Type 0
+StandsFirst operation bytes = (rest : List ℕ) × (bytes ≡ operation_bytes operation ++ rest)
+
+-- A merge of what the workers handed over was appended.
+pub record AppendsMerge (tells : Type 0) (old new : History) (before now : WriterState)
+    (was inboxes : List Inbox) : Type 0 where
+  pub entries : List Entry
+  pub merges : Merges was inboxes entries
+  pub appends : Appends tells old new before now (operations_in entries)
+
+-- So it was up to an operation that failed: it is still the first of what is kept of its worker.
+pub record FailsInMerge (tells : Type 0) (old new : History) (before now : WriterState)
+    (was inboxes : List Inbox) : Type 0 where
+  pub entries : List Entry
+  pub merges : Merges was inboxes entries
+  pub failed : Entry
+  pub of_these : failed.worker < length was
+  pub first : (inbox : Inbox) → slice_get inboxes failed.worker ≡ Some inbox
+      → StandsFirst failed.operation (kept inbox)
+  pub fails : Fails tells old new before now (operations_in entries) failed.operation

@@ -1,0 +1,233 @@
+//! The log writer's end of a worker's ring, with what was taken out of it.
+
+ghost use Rattle.std.specs.Prelude.{◌≡◌, ◌<◌, ◌≤◌, ◌+◌, ◌++◌, [], ◌↔◌, true, false, IsTrue, IsFalse, length, drop, IfOk, OnOk, OnErr, vec_capacity};
+ghost use Rattle.pm_types.specs.declared.limits.TheConstants.{BATCH_LINES_MAX as most_lines, OUTBOX as longest};
+ghost use Rattle.rtrb.specs.Ring.{SameConsumer};
+ghost use Rattle.pm_disk.specs.States.{HasCause, IsUsable};
+ghost use Rattle.pm_segments.specs.Ends.{EndsThere};
+ghost use Rattle.pm_logger.specs.declared.limits.TheConstants.{FORCE_AFTER as force_after, KEPT_MAX as kept_max};
+ghost use Rattle.pm_logger.specs.Fronts.{IsStop, KeepsLimits, AppendsFront, FailsAtFront};
+ghost use Rattle.pm_logger.specs.Operations.{IsBad};
+ghost use Rattle.pm_logger.specs.declared.block.TheConstants.{BLOCK_BYTES_MAX as most_in_block};
+ghost use Rattle.std.specs.Prelude.{Ok};
+ghost use Rattle.pm_logger.specs.declared.front.Stop.TheVariants as stop;
+
+use crate::block::Block;
+use crate::front::{Stop, append_front};
+use crate::limits::KEPT_MAX;
+use crate::log_end::LogEnd;
+use pm_disk::{Failed, LogFile};
+use pm_segments::Log;
+use pm_types::RING_SLOTS;
+use rtrb::{Consumer, RingBuffer};
+use std::alloc::{AllocError, Global};
+
+/// The log writer's end of a worker's ring. What was taken out of it and isn't appended is kept here.
+#[derive(Drop)]
+pub(crate) struct Inbox {
+    pub(crate) consumer: Consumer<Block>,
+    kept: Vec<u8>,
+    // Whether what is kept is no operation, so that no more is taken.
+    is_stopped: bool,
+    ghost room: { kept_max ≤ vec_capacity kept },
+    ghost bad: { is_stopped ≡ true → IsBad kept.items },
+}
+
+impl Inbox {
+    ghost use Rattle.pm_logger.specs.Rings.{IsFresh};
+    ghost use Rattle.pm_logger.specs.LogEnds.{pushed, SameEnd};
+    ghost use Rattle.pm_logger.specs.Inboxes.{IsEndOf, Looks, seen, kept, waiting, TakesBlock, AppendsTaken, FailsTaken, AppendsGiven, FailsGiven, IsHalted};
+
+    /// A new ring, as its two ends.
+    pub(crate) fn open(alloc: Global) -> Result<(Inbox, LogEnd), AllocError>
+        ensures { IfOk result (λ both. IsFresh both.1 both.0) }
+    {
+        let kept = Vec::with_capacity(alloc, KEPT_MAX)?;
+        let (producer, consumer) = RingBuffer::new(alloc, RING_SLOTS)?;
+        let inbox = Inbox {
+            consumer,
+            kept,
+            is_stopped: false,
+        };
+        Ok((inbox, LogEnd { producer }))
+    }
+
+    /// Appends the whole operations that are kept.
+    pub(crate) fn append_kept<L: LogFile>(
+        &mut self,
+        log: &mut Log,
+        dev: &mut L,
+        lines: &mut Vec<u32>,
+        since: &mut u32,
+    ) -> Result<Stop, Failed>
+        requires usable { IsUsable (L.state dev.old) }
+        requires room { most_lines ≤ vec_capacity lines.old }
+        requires since { since.old < force_after }
+        requires end { L.tells → EndsThere log.old (L.history dev.old).world }
+        ensures appended { OnOk result (AppendsFront L.tells (L.history dev.old) (L.history dev.new)
+            (record { log = log.old; lines = lines.old.items; since = since.old })
+            (record { log = log.new; lines = lines.new.items; since = since.new }) (kept self.old) (kept self.new)) }
+        ensures failed { OnErr result (FailsAtFront L.tells (L.history dev.old) (L.history dev.new)
+            (record { log = log.old; lines = lines.old.items; since = since.old })
+            (record { log = log.new; lines = lines.new.items; since = since.new }) (kept self.old) (kept self.new)) }
+        ensures stop { IfOk result (IsStop (kept self.new) (length lines.new.items)) }
+        ensures ring { self.new.consumer ≡ self.old.consumer }
+        ensures limits { KeepsLimits lines.old lines.new since.new }
+        ensures cause { HasCause (L.state dev.old) (L.state dev.new) result }
+    {
+        if self.is_stopped {
+            return Ok(Stop::Bad);
+        }
+        let mut at = 0;
+        let appended = append_front(log, dev, lines, since, &self.kept, &mut at);
+        drop_front(&mut self.kept, at);
+        self.is_stopped = is_bad(&appended);
+        appended
+    }
+
+    // Takes the next block out of the ring.
+    fn take_next(&mut self)
+        requires waiting { 0 < length (waiting self.old) }
+        requires begun { length (kept self.old) < longest }
+        ensures { TakesBlock self.old self.new }
+    {
+        let block = self.consumer.pop_known();
+        keep(&mut self.kept, block.bytes());
+    }
+
+    /// Takes a block that is known to be in the ring, once all whole operations that are kept were appended,
+    /// and answers whether it did.
+    pub(crate) fn take_block<L: LogFile>(
+        &mut self,
+        log: &mut Log,
+        dev: &mut L,
+        lines: &mut Vec<u32>,
+        since: &mut u32,
+    ) -> Result<bool, Failed>
+        requires usable { IsUsable (L.state dev.old) }
+        requires room { most_lines ≤ vec_capacity lines.old }
+        requires since { since.old < force_after }
+        requires waiting { 0 < length (waiting self.old) }
+        requires end { L.tells → EndsThere log.old (L.history dev.old).world }
+        ensures appended { OnOk result (AppendsTaken L.tells (L.history dev.old) (L.history dev.new)
+            (record { log = log.old; lines = lines.old.items; since = since.old })
+            (record { log = log.new; lines = lines.new.items; since = since.new }) self.old self.new) }
+        ensures failed { OnErr result (FailsTaken L.tells (L.history dev.old) (L.history dev.new)
+            (record { log = log.old; lines = lines.old.items; since = since.old })
+            (record { log = log.new; lines = lines.new.items; since = since.new }) self.old self.new) }
+        ensures ring { SameConsumer self.old.consumer self.new.consumer }
+        ensures seen { seen self.new ≡ seen self.old }
+        ensures took { IfOk result (λ took. took ≡ true
+            → length (waiting self.new) + 1 ≡ length (waiting self.old)) }
+        ensures halted { IfOk result (λ took. took ≡ false → IsHalted self.new (length lines.new.items)) }
+        ensures limits { KeepsLimits lines.old lines.new since.new }
+        ensures cause { HasCause (L.state dev.old) (L.state dev.new) result }
+    {
+        match self.append_kept(log, dev, lines, since)? {
+            Stop::Begun => {
+                self.take_next();
+                Ok(true)
+            }
+            Stop::Bad => Ok(false),
+            Stop::Full => Ok(false),
+        }
+    }
+
+    /// Keeps bytes that were given beside the ring, once all whole operations that are kept were appended,
+    /// and answers whether it did.
+    pub(crate) fn take_piece<L: LogFile>(
+        &mut self,
+        log: &mut Log,
+        dev: &mut L,
+        lines: &mut Vec<u32>,
+        since: &mut u32,
+        piece: &[u8],
+    ) -> Result<bool, Failed>
+        requires usable { IsUsable (L.state dev.old) }
+        requires room { most_lines ≤ vec_capacity lines.old }
+        requires since { since.old < force_after }
+        requires short { length piece.now ≤ most_in_block }
+        requires end { L.tells → EndsThere log.old (L.history dev.old).world }
+        ensures took { IfOk result (λ took. took ≡ true
+            → AppendsGiven L.tells (L.history dev.old) (L.history dev.new)
+            (record { log = log.old; lines = lines.old.items; since = since.old })
+            (record { log = log.new; lines = lines.new.items; since = since.new }) self.old self.new piece.now) }
+        ensures halted { IfOk result (λ took. took ≡ false
+            → IsHalted self.new (length lines.new.items) × AppendsGiven L.tells (L.history dev.old) (L.history dev.new)
+            (record { log = log.old; lines = lines.old.items; since = since.old })
+            (record { log = log.new; lines = lines.new.items; since = since.new }) self.old self.new []) }
+        ensures failed { OnErr result (FailsGiven L.tells (L.history dev.old) (L.history dev.new)
+            (record { log = log.old; lines = lines.old.items; since = since.old })
+            (record { log = log.new; lines = lines.new.items; since = since.new }) self.old self.new []) }
+        ensures limits { KeepsLimits lines.old lines.new since.new }
+        ensures cause { HasCause (L.state dev.old) (L.state dev.new) result }
+    {
+        match self.append_kept(log, dev, lines, since)? {
+            Stop::Begun => {
+                keep(&mut self.kept, piece);
+                Ok(true)
+            }
+            Stop::Bad => Ok(false),
+            Stop::Full => Ok(false),
+        }
+    }
+
+    /// Looks what the worker has pushed.
+    pub(crate) fn look(&mut self)
+        ensures { Looks self.old self.new }
+    {
+        self.consumer.slots();
+    }
+
+    /// Looks what the worker has pushed, with the worker's end at hand: nothing that was pushed escapes it.
+    pub(crate) fn look_beside(&mut self, end: &mut LogEnd)
+        requires pair { IsEndOf end.old self.old }
+        ensures looks { Looks self.old self.new }
+        ensures all { seen self.new ≡ pushed end.new }
+        ensures end { SameEnd end.old end.new × (pushed end.new ≡ pushed end.old) }
+        ensures pair { IsEndOf end.new self.new }
+    {
+        self.consumer.slots_beside(&mut end.producer);
+    }
+
+    /// Whether a block is known to be in the ring.
+    pub(crate) fn is_waited_for(&self) -> bool
+        ensures { IsTrue result ↔ (0 < length (waiting self.now)) }
+    {
+        self.consumer.cached_slots() > 0
+    }
+}
+
+// Whether what is left is no operation.
+fn is_bad(appended: &Result<Stop, Failed>) -> bool
+    ensures { IsTrue result → appended.now ≡ Ok stop.Bad }
+{
+    matches!(appended, Ok(Stop::Bad))
+}
+
+// Drops so many bytes at the front.
+fn drop_front(kept: &mut Vec<u8>, at: usize)
+    requires within { at ≤ length kept.old.items }
+    ensures left { kept.new.items ≡ drop at kept.old.items }
+    ensures room { vec_capacity kept.new ≡ vec_capacity kept.old }
+{
+    // A long operation comes in many blocks, of which only the last one lets anything go.
+    if at == 0 {
+        return;
+    }
+    let left = kept.len() - at;
+    kept.copy_within(at.., 0);
+    kept.truncate(left);
+}
+
+// Puts bytes after those that are kept, for which there is room.
+fn keep(kept: &mut Vec<u8>, bytes: &[u8])
+    requires room { length kept.old.items + length bytes.now ≤ vec_capacity kept.old }
+    ensures kept { kept.new.items ≡ kept.old.items ++ bytes.now }
+    ensures room { vec_capacity kept.old ≤ vec_capacity kept.new }
+{
+    match kept.extend_from_slice(bytes) {
+        Ok(()) => {}
+        Err(_) => unreachable!(),
+    }
+}

@@ -1,0 +1,24 @@
+//! The log writer beside the workers: each worker hands its operations to it over a ring, and it appends them
+//! to the log.
+#![tactic(auto)]
+
+mod append;
+mod block;
+mod drain;
+mod front;
+mod inbox;
+mod limits;
+mod log_end;
+mod logger;
+mod operation;
+mod rest;
+mod rings;
+mod turn;
+
+pub use block::{BLOCK_BYTES_MAX, Block};
+pub use limits::{FORCE_AFTER, TURNS_MAX};
+pub use log_end::LogEnd;
+pub use logger::Logger;
+
+#[cfg(test)]
+mod tests;
