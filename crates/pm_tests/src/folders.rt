@@ -20,7 +20,7 @@ fn status_of<H: Host>(rt: &impl AllocGlobal, host: &mut H, folder: &str) -> Resu
 
 /// Runs a script over a folder. Answers the status.
 fn run_in(rt: &HostRuntime, folder: &str, script: &'static [u8]) -> Result<u8, Fail> {
-    let mut host = recorded_host(rt.clone()?, script);
+    let mut host = recorded_host(rt, script)?;
     status_of(rt, &mut host, folder)
 }
 

@@ -21,7 +21,7 @@ const SEGMENT: &str = "lasts/wal-0000000000000001.seg";
 /// A script, which is answered twice.
 const SCRIPT: &[u8] = b"put 0 a 1\nget 0 a\nremove 0 a\nput 1 b 2\n";
 
-/// The status with which the script is answered over a host.
+/// The status with which a script is answered over a host.
 fn status_of<H: Host>(rt: &impl AllocGlobal, host: &mut H) -> Result<u8, Fail>
     requires { (H.state host.old).access.is_lent ≡ false }
 {
@@ -29,9 +29,9 @@ fn status_of<H: Host>(rt: &impl AllocGlobal, host: &mut H) -> Result<u8, Fail>
     Ok(report.status)
 }
 
-/// Answers the script over the folder. Answers the status.
-fn run_recorded(rt: &HostRuntime) -> Result<u8, Fail> {
-    let mut host = recorded_host(rt.clone()?, SCRIPT);
+/// Answers a script over the folder. Answers the status.
+fn run_recorded(rt: &HostRuntime, script: &'static [u8]) -> Result<u8, Fail> {
+    let mut host = recorded_host(rt, script)?;
     status_of(rt, &mut host)
 }
 
@@ -47,9 +47,9 @@ fn look_at_forces(rt: &(impl Abort + AllocGlobal + Files), runs: usize) -> Resul
 
 #[test]
 fn what_a_run_prints_lasts(rt: HostRuntime) -> Result<(), Fail> {
-    assert_eq!(rt; run_recorded(&rt)?, 0);
+    assert_eq!(rt; run_recorded(&rt, SCRIPT)?, 0);
     look_at_forces(&rt, 1)?;
-    assert_eq!(rt; run_recorded(&rt)?, 0);
+    assert_eq!(rt; run_recorded(&rt, SCRIPT)?, 0);
     look_at_forces(&rt, 2)?;
     fs::remove_dir_all(&rt, FOLDER)?;
     fs::remove_file(&rt, TRACE)?;

@@ -425,17 +425,21 @@ fn remove_files(rt: &(impl AllocGlobal + Files)) -> Result<(), Fail> {
 const INPUT: &[u8] = b"get 0 a\nput";
 
 /// Makes all the calls on the host in memory, and on one over files.
-fn call_both(rt: &HostRuntime, memory: &mut MemHost) -> Result<Option<String>, Fail>
+fn call_both(
+    rt: &HostRuntime,
+    memory: &mut MemHost,
+    input: &'static [u8],
+) -> Result<Option<String>, Fail>
     requires { memory.old.is_lent ≡ false }
 {
-    let mut files = recorded_host(rt.clone()?, INPUT);
+    let mut files = recorded_host(rt, input)?;
     bind_and_call(rt, memory, &mut files)
 }
 
 #[test]
 fn files_and_memory_answer_the_same(rt: HostRuntime) -> Result<(), Fail> {
     let mut memory = in_memory(&rt)?;
-    assert_eq!(rt; call_both(&rt, &mut memory)?, None);
+    assert_eq!(rt; call_both(&rt, &mut memory, INPUT)?, None);
     look_at_the_end(&rt, &memory)?;
     look_at_forces(&rt)?;
     remove_files(&rt)

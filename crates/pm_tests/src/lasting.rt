@@ -135,7 +135,7 @@ fn bind_and_call<H: Host>(
 
 /// Makes the calls on a new host over the folder.
 fn call_anew(rt: &HostRuntime, calls: &[(Call, [usize; 3])]) -> Result<Option<usize>, Fail> {
-    let mut host = recorded_host(rt.clone()?, b"");
+    let mut host = recorded_host(rt, b"")?;
     bind_and_call(rt, &mut host, calls)
 }
 
@@ -154,29 +154,24 @@ fn is_refused<H: Host>(host: &mut H) -> bool
     host.bind(FOLDER).is_err()
 }
 
-/// Binds a host to the folder, and then another one. Answers what the other leaves in the trace that is refused it.
-fn bind_both<H: Host>(
-    rt: &(impl AllocGlobal + Files),
-    first: &mut H,
-    second: &mut H,
-) -> Result<String, Fail>
-    requires first { (H.state first.old).access.is_lent ≡ false }
-    requires second { (H.state second.old).access.is_lent ≡ false }
+/// Binds a host to the folder, and looks at what another one leaves in the trace that is refused it.
+fn refuse_after<H: Host>(rt: &HostRuntime, first: &mut H) -> Result<String, Fail>
+    requires { (H.state first.old).access.is_lent ≡ false }
 {
     bind(first)?;
     fs::remove_file(rt, TRACE)?;
-    if is_refused(second) {
+    let mut second = recorded_host(rt, b"")?;
+    if is_refused(&mut second) {
         Ok(fs::read_to_string(rt, TRACE)?)
     } else {
         Ok(String::from_str(rt.alloc(), "bound twice")?)
     }
 }
 
-/// Binds two hosts to the folder, one after the other. Answers what the second one leaves in the trace.
+/// What a host leaves in the trace that is refused a folder which another one has.
 fn refuse_another(rt: &HostRuntime) -> Result<String, Fail> {
-    let mut first = recorded_host(rt.clone()?, b"");
-    let mut second = recorded_host(rt.clone()?, b"");
-    bind_both(rt, &mut first, &mut second)
+    let mut first = recorded_host(rt, b"")?;
+    refuse_after(rt, &mut first)
 }
 
 #[test]

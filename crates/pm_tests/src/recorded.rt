@@ -1,7 +1,7 @@
 //! Real files that write a trace: which were opened, changed and synced, and which names were made and removed.
 //! Beside them a console of their own.
 
-ghost use Rattle.std.specs.Prelude.{◌≡◌, false};
+ghost use Rattle.std.specs.Prelude.{◌≡◌, false, IfOk};
 
 use pm_disk_fs::{FsHost, Lockable};
 use std::alloc::{AllocError, Allocator};
@@ -10,6 +10,7 @@ use std::fs::{Metadata, OpenFile, OpenOptions};
 use std::io::{self, BufRead, ErrorKind, Lines, Read, Seek, SeekFrom, Write};
 use std::os::unix::fs::FileExt;
 use std::rt::Files;
+use std::test::Fail;
 
 /// The file that has the trace: a line for each event, with its path.
 pub const TRACE: &str = "trace";
@@ -235,8 +236,15 @@ impl<R: Files + AllocGlobal + Clone + Drop> Files for Recorded<R> {
 }
 
 /// A host over files that write the trace, beside a console with this input.
-pub fn recorded_host(rt: HostRuntime, input: &'static [u8]) -> FsHost<Recorded<HostRuntime>>
-    ensures { result.is_lent ≡ false }
+pub fn recorded_host(
+    rt: &HostRuntime,
+    input: &'static [u8],
+) -> Result<FsHost<Recorded<HostRuntime>>, Fail>
+    ensures { IfOk result (λ host. host.is_lent ≡ false) }
 {
-    FsHost::new(Recorded { rt, input })
+    let files = Recorded {
+        rt: rt.clone()?,
+        input,
+    };
+    Ok(FsHost::new(files))
 }
