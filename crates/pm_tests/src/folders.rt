@@ -2,9 +2,10 @@
 
 ghost use Rattle.std.specs.Prelude.{◌≡◌, false};
 
-use crate::recorded::{SAID, TRACE, recorded_host};
+use crate::consoles::{FileConsole, SAID};
 use crate::runs::call_with;
 use pm_disk::Host;
+use pm_disk_fs::FsHost;
 use std::fs;
 use std::process::Abort;
 use std::rt::Files;
@@ -20,7 +21,10 @@ fn status_of<H: Host>(rt: &impl AllocGlobal, host: &mut H, folder: &str) -> Resu
 
 /// Runs a script over a folder. Answers the status.
 fn run_in(rt: &HostRuntime, folder: &str, script: &'static [u8]) -> Result<u8, Fail> {
-    let mut host = recorded_host(rt, script)?;
+    let mut host = FsHost::new(FileConsole {
+        rt: rt.clone()?,
+        input: script,
+    });
     status_of(rt, &mut host, folder)
 }
 
@@ -45,6 +49,5 @@ fn each_run_is_over_the_folder_that_its_words_name(rt: HostRuntime) -> Result<()
     assert_eq!(rt; said.as_str(), "ok\nok\nnone\nvalue 1\nnone\n");
     fs::remove_dir_all(&rt, "left")?;
     fs::remove_dir_all(&rt, "right")?;
-    fs::remove_file(&rt, TRACE)?;
     Ok(fs::remove_file(&rt, SAID)?)
 }

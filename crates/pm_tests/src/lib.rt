@@ -11,22 +11,18 @@ mod checkpoints;
 #[cfg(test)]
 mod configurations;
 #[cfg(test)]
+mod consoles;
+#[cfg(test)]
 mod crashes;
 #[cfg(test)]
 mod folders;
 #[cfg(test)]
-mod forces;
-#[cfg(test)]
 mod hosts;
-#[cfg(test)]
-mod lasting;
 pub mod lock_clients;
 #[cfg(test)]
 mod logs;
 #[cfg(test)]
 mod markers;
-#[cfg(test)]
-mod noted;
 pub mod pages;
 #[cfg(test)]
 mod pairs;
@@ -34,8 +30,6 @@ mod pairs;
 mod parts;
 #[cfg(test)]
 mod pieces;
-#[cfg(test)]
-mod recorded;
 #[cfg(test)]
 mod refusals;
 pub mod rounds;
@@ -49,5 +43,3 @@ mod stores;
 mod threads;
 #[cfg(test)]
 mod torn;
-#[cfg(test)]
-mod traces;
