@@ -2,6 +2,7 @@
 
 ghost use Rattle.pm_disk.specs.States.{IsUsable};
 
+use crate::noted::Forced;
 use crate::parts::answer_round;
 use pm_disk::{Failed, Host, LogFile, MarkFile};
 use pm_types::PageId;
@@ -61,6 +62,16 @@ impl Call {
             Call::AppendLog(..) => true,
             Call::Round(round) => !round.forces,
             _ => false,
+        }
+    }
+
+    /// The file that is to be forced, if one is. What the parts of a host force isn't told.
+    pub fn forced_file(&self) -> Option<Forced> {
+        match self {
+            Call::ForceLog(seg) => Some(Forced::Segment(*seg)),
+            Call::ForcePages(part) => Some(Forced::Pages(*part)),
+            Call::ForceMark(file) => Some(Forced::Marks(*file)),
+            _ => None,
         }
     }
 }

@@ -5,9 +5,11 @@ ghost use Rattle.pm_disk.specs.States.{IsUsable};
 ghost use Rattle.pm_disk_mem.specs.Hosts.{state_of};
 
 use crate::calls::{Call, Round, answer};
-use crate::consoles::{FileConsole, SAID};
+use crate::consoles::SAID;
+use crate::noted::note_force;
+use crate::recorded::{TRACE, recorded_host};
+use crate::traces::count_forces;
 use pm_disk::{Failed, Host, MarkFile};
-use pm_disk_fs::FsHost;
 use pm_disk_mem::{MemDisk, MemHost, Pick};
 use std::alloc::{AllocError, Global};
 use std::fs;
@@ -261,6 +263,13 @@ fn differing_after(
     differing(rt, memory, Pick::Kept)
 }
 
+/// Notes which file a call has forced, if one: the call was answered as wanted.
+fn note_call(rt: &(impl AllocGlobal + Files), call: &Call) {
+    if let Some(file) = call.forced_file() {
+        note_force(rt, FOLDER, file);
+    }
+}
+
 /// Makes a call on both, and looks at each answer and at the files after it. Answers what isn't as wanted.
 fn step<F: Host>(
     rt: &(impl AllocGlobal + Files),
@@ -277,6 +286,7 @@ fn step<F: Host>(
     if let Some(answers) = unlike_answers(rt.alloc(), memory, files, call, wanted)? {
         return Ok(Some(answers));
     }
+    note_call(rt, call);
     match differing_after(rt, memory, call)? {
         Some(name) => Ok(Some(String::from_str(rt.alloc(), name)?)),
         None => Ok(None),
@@ -382,9 +392,33 @@ fn look_at_the_end(rt: &(impl Abort + AllocGlobal + Files), memory: &MemHost) ->
     Ok(())
 }
 
-/// Removes the folder, and what was said.
+/// Looks at the trace: each force that was answered `Ok` had made its file lasting, and the names. Each
+/// file that is changed was forced.
+fn look_at_forces(rt: &(impl Abort + AllocGlobal + Files)) -> Result<(), Fail> {
+    let trace = fs::read_to_string(rt, TRACE)?;
+    for name in NAMES {
+        look_at_file_forces(rt, &trace, name)?;
+    }
+    Ok(())
+}
+
+/// The same of one file.
+fn look_at_file_forces(
+    rt: &(impl Abort + AllocGlobal),
+    trace: &str,
+    name: &str,
+) -> Result<(), Fail> {
+    let path = path_of(rt.alloc(), name)?;
+    let forces = count_forces(trace, FOLDER, &path);
+    assert!(rt; forces.is_some(), "{name}");
+    assert_eq!(rt; forces == Some(0), name == "config.json", "{name}");
+    Ok(())
+}
+
+/// Removes the folder, what was said, and the trace.
 fn remove_files(rt: &(impl AllocGlobal + Files)) -> Result<(), Fail> {
     fs::remove_dir_all(rt, FOLDER)?;
+    fs::remove_file(rt, TRACE)?;
     Ok(fs::remove_file(rt, SAID)?)
 }
 
@@ -399,10 +433,7 @@ fn call_both(
 ) -> Result<Option<String>, Fail>
     requires { memory.old.is_lent ≡ false }
 {
-    let mut files = FsHost::new(FileConsole {
-        rt: rt.clone()?,
-        input,
-    });
+    let mut files = recorded_host(rt, input)?;
     bind_and_call(rt, memory, &mut files)
 }
 
@@ -411,5 +442,6 @@ fn files_and_memory_answer_the_same(rt: HostRuntime) -> Result<(), Fail> {
     let mut memory = in_memory(&rt)?;
     assert_eq!(rt; call_both(&rt, &mut memory, INPUT)?, None);
     look_at_the_end(&rt, &memory)?;
+    look_at_forces(&rt)?;
     remove_files(&rt)
 }

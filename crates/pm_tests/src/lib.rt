@@ -17,12 +17,18 @@ mod crashes;
 #[cfg(test)]
 mod folders;
 #[cfg(test)]
+mod forces;
+#[cfg(test)]
 mod hosts;
+#[cfg(test)]
+mod lasting;
 pub mod lock_clients;
 #[cfg(test)]
 mod logs;
 #[cfg(test)]
 mod markers;
+#[cfg(test)]
+mod noted;
 pub mod pages;
 #[cfg(test)]
 mod pairs;
@@ -30,6 +36,8 @@ mod pairs;
 mod parts;
 #[cfg(test)]
 mod pieces;
+#[cfg(test)]
+mod recorded;
 #[cfg(test)]
 mod refusals;
 pub mod rounds;
@@ -43,3 +51,5 @@ mod stores;
 mod threads;
 #[cfg(test)]
 mod torn;
+#[cfg(test)]
+mod traces;
