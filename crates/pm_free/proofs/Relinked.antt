@@ -191,7 +191,7 @@ module _ (old new : Partition) (at bucket prev next : ℕ) (count : page_count n
       ]
 
 -- Page `at`, which stood in no chain, was put before the first page of a chain.
-module _ (old new : Partition) (at bucket head : ℕ) (count : page_count new ≡ page_count old) (below : at < page_count old) (some : at ≢ 0) (head_is : number_in old (Bucket bucket) ≡ head)
+module _ (old new : Partition) (at bucket head : ℕ) (count : page_count new ≡ page_count old) (below : at < page_count old) (not_meta : at ≢ 0) (head_is : number_in old (Bucket bucket) ≡ head)
     (first : number_in new (Bucket bucket) ≡ at) (heads : (b : ℕ) → b < BUCKETS → b ≢ bucket → number_in new (Bucket b) ≡ number_in old (Bucket b)) (here : (b : ℕ) → chain_next new b at ≡ head)
     (nexts : (b j : ℕ) → j ≢ 0 → j ≢ at → chain_next new b j ≡ chain_next old b j) (start : chain_before new at ≡ 0) (back : head ≢ 0 → head ≢ at → chain_before new head ≡ at)
     (befores : (j : ℕ) → j ≢ at → j ≢ head → chain_before new j ≡ chain_before old j) where
@@ -228,12 +228,12 @@ module _ (old new : Partition) (at bucket head : ℕ) (count : page_count new �
           let xs = bucket_chain old bucket in
           let one : one_if (bucket == bucket) ≡ 1 = simp (eq-eqb bucket bucket refl) refl in
           record {
-            run = run_with (chain_next old bucket) (chain_before old) (chain_next new bucket) (chain_before new) at some first (here bucket ∙ sym head_is) (λ j nz ne. nexts bucket j nz ne) start
+            run = run_with (chain_next old bucket) (chain_before old) (chain_next new bucket) (chain_before new) at not_meta first (here bucket ∙ sym head_is) (λ j nz ne. nexts bucket j nz ne) start
                 (λ nz ne. ap (λ n. chain_before new n) head_is ∙ back (λ e. nz (head_is ∙ e)) (λ e. ne (head_is ∙ e))) (λ j ne nh. befores j ne (λ e. nh (e ∙ sym head_is)))
                 xs w.run (away bucket is_bucket) (run_once old bucket (λ i. home i == bucket) xs w);
             list = subst (λ n. IsListOf n (λ i. with_home home at bucket i == bucket) (at ∷ xs)) (sym count)
                 (list_with (page_count old) bucket at bucket home xs (at ∷ xs) w.list below (omega (arith, times_here at xs, away bucket is_bucket, one)) (λ j ne. times_other j at xs (λ e. ne (sym e))));
-            none = times_other 0 at xs some ∙ w.none;
+            none = times_other 0 at xs not_meta ∙ w.none;
           }
 
       other_run : (b : ℕ) → b < BUCKETS → b ≢ bucket → IsRunOf new b (λ i. with_home home at bucket i == b) (bucket_chain old b)

@@ -44,9 +44,9 @@ may_take_looked T a b m looks may = record { told = may.told; limit = may.limit;
 
 -- a chain's first page stands on it
 first_stands : (a : Partition) → 1 ≤ page_count a → 1 ≤ number_in a Reuse → 1 ≤ times (number_in a Reuse) (reuse_chain a)
-first_stands a some first =
+first_stands a counted first =
     let f : ℕ → ℕ = λ j. reuse_next_of (page_at a j) in
-    let size : page_count a ≡ suc (page_count a - 1) = omega (arith, some) in
+    let size : page_count a ≡ suc (page_count a - 1) = omega (arith, counted) in
     let on : reuse_chain a ≡ number_in a Reuse ∷ walk (λ j. reuse_next_of (page_at a j)) (page_count a - 1) (reuse_next_of (page_at a (number_in a Reuse))) =
     (λ k. walk (λ j. reuse_next_of (page_at a j)) (size k) (number_in a Reuse)) ∙ walk_on (λ j. reuse_next_of (page_at a j)) (page_count a - 1) (number_in a Reuse) (λ e. omega (arith, e, first)) in
     omega (arith, ap (λ t. times (number_in a Reuse) t) on, times_here (number_in a Reuse) (walk (λ j. reuse_next_of (page_at a j)) (page_count a - 1) (reuse_next_of (page_at a (number_in a Reuse)))))
