@@ -13,7 +13,8 @@
 --
 -- An item's word is in a leaf the link of the key's row, in an inner page the name of the child with the keys from the
 -- item's key on and below the next item's.
-use Rattle.std.specs.Prelude.{◌≡◌, ℕ, ◌+◌, ◌-◌, ◌*◌, ◌/◌, ◌^◌, ◌<◌, ◌≤◌, ◌⊎◌, ◌==◌, Bool, true, false, List, [], length, map, take, drop, ◌∷◌, ◌++◌, slice_index, slice_index_or}
+use Rattle.std.specs.Prelude.{◌≡◌, ℕ, ◌+◌, ◌-◌, ◌*◌, ◌/◌, ◌^◌, ◌<◌, ◌≤◌, ◌⊎◌, ◌==◌, Bool, true, false}
+use Rattle.std.specs.Prelude.{List, [], length, map, take, drop, ◌∷◌, ◌++◌, slice_index, slice_index_or}
 use Rattle.std.specs.List.{range_with_len}
 use Rattle.std.specs.Ordering.{nat_cmp}
 use Rattle.std.specs.declared.cmp.Ordering.TheVariants.{Less}
@@ -23,7 +24,8 @@ use Rattle.pm_types.specs.declared.limits.TheConstants.{KEY_MAX}
 use Rattle.pm_types.specs.declared.page_id.PageId.{PageId}
 use Rattle.pm_types.specs.Fields.{bytes_at, u16_at, u64_at, AreZero}
 use Rattle.pm_types.specs.declared.head.TheConstants.{KIND_AT}
-use Rattle.pm_btpage.specs.declared.layout.TheConstants.{LEAF_KIND, INNER_KIND, COUNT_AT, LINK_AT, LINK_END, ITEMS_AT, ITEM_LEN, WORD_IN_ITEM}
+use Rattle.pm_btpage.specs.declared.layout.TheConstants.{LEAF_KIND, INNER_KIND, COUNT_AT, LINK_AT}
+use Rattle.pm_btpage.specs.declared.layout.TheConstants.{LINK_END, ITEMS_AT, ITEM_LEN, WORD_IN_ITEM}
 
 -- a key with its word
 pub record Item : Type 0 where

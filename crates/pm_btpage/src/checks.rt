@@ -2,7 +2,8 @@
 
 ghost use Rattle.std.specs.Prelude.{◌≡◌, ℕ, ◌+◌, ◌*◌, ◌<◌, ◌≤◌, ◌↔◌, IsTrue, length};
 ghost use Rattle.pm_types.specs.PageSizes.{IsPageSize};
-ghost use Rattle.pm_btpage.specs.IndexPages.{index_of, items_of, word_in, count_of, offset_of, HasHead, HasItems, IsBelow, IsItem, IsRising, IsIndexPage};
+ghost use Rattle.pm_btpage.specs.IndexPages.{index_of, items_of, word_in, count_of, offset_of, HasHead};
+ghost use Rattle.pm_btpage.specs.IndexPages.{HasItems, IsBelow, IsItem, IsRising, IsIndexPage};
 ghost use Rattle.pm_btpage.specs.Stored.{IsPageOf, IsWord, NamesPagesOf, IsStoredIndex};
 
 use crate::head::{capacity, count, first, is_leaf};

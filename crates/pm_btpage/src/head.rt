@@ -5,7 +5,8 @@ ghost use Rattle.pm_types.specs.PageSizes.{IsPageSize};
 ghost use Rattle.pm_types.specs.Pages.{IsNoted};
 ghost use Rattle.pm_types.specs.Spans.{span_of};
 ghost use Rattle.pm_types.specs.Fields.{Writes};
-ghost use Rattle.pm_btpage.specs.IndexPages.{index_of, items_of, count_of, empty_leaf, empty_inner, with_link, capacity_of, IsIndexPage};
+ghost use Rattle.pm_btpage.specs.IndexPages.{index_of, items_of, count_of, empty_leaf, empty_inner};
+ghost use Rattle.pm_btpage.specs.IndexPages.{with_link, capacity_of, IsIndexPage};
 
 use crate::layout::{COUNT_AT, INNER_KIND, ITEM_LEN, ITEMS_AT, LEAF_KIND, LINK_AT};
 use pm_types::fields::{get_u16, get_u64, put_u64, set_u16, set_u64};

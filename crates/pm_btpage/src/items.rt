@@ -5,7 +5,9 @@ ghost use Rattle.pm_types.specs.Pages.{SameOutside, IsNoted};
 ghost use Rattle.pm_types.specs.Spans.{IsInSpan, span_of};
 ghost use Rattle.pm_types.specs.Fields.{bytes_at, Writes};
 ghost use Rattle.pm_types.specs.Keys.{HasKeyLength};
-ghost use Rattle.pm_btpage.specs.IndexPages.{index_of, items_of, item_at, offset_of, key_in, word_in, with_items, with_item, with_word, capacity_of, IsBetween, IsItem, IsIndexPage};
+ghost use Rattle.pm_btpage.specs.IndexPages.{index_of, items_of, item_at, offset_of, key_in, word_in};
+ghost use Rattle.pm_btpage.specs.IndexPages.{with_items, with_item, with_word, capacity_of, IsBetween};
+ghost use Rattle.pm_btpage.specs.IndexPages.{IsItem, IsIndexPage};
 
 use crate::head::{count, set_count};
 use crate::layout::{ITEM_LEN, ITEMS_AT, WORD_IN_ITEM};

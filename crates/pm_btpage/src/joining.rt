@@ -2,7 +2,8 @@
 
 ghost use Rattle.std.specs.Prelude.{◌≡◌, ℕ, ◌+◌, ◌-◌, ◌<◌, ◌≤◌, ◌++◌, [], length, drop};
 ghost use Rattle.pm_types.specs.Pages.{IsNoted};
-ghost use Rattle.pm_btpage.specs.IndexPages.{index_of, items_of, with_items, capacity_of, AllBelow, IsIndexPage};
+ghost use Rattle.pm_btpage.specs.IndexPages.{index_of, items_of, with_items, capacity_of, AllBelow};
+ghost use Rattle.pm_btpage.specs.IndexPages.{IsIndexPage};
 
 use crate::head::{count, set_count};
 use crate::removal::cut;

@@ -1,18 +1,31 @@
 -- What a configuration's text says. A test that refuses it gives the refusal its name, and the first test counts.
-use Rattle.std.specs.Prelude.{ℕ, ◌*◌, List, Bool, true, ◌&&◌, nat_le, if◌then◌else◌, Option, Some, None, is_some, option_and_then, Result, Ok, Err}
+use Rattle.std.specs.Prelude.{ℕ, ◌*◌, List, Bool, true, ◌&&◌, nat_le, if◌then◌else◌, Option, Some, None}
+use Rattle.std.specs.Prelude.{is_some, option_and_then, Result, Ok, Err}
 use Rattle.std.specs.List.{list_all}
 use Rattle.serde_json.specs.Data.{Data}
 use Rattle.serde_json.specs.Find.{as_number, as_u64, as_str}
 use Rattle.pm_types.specs.declared.fault.Field.{Field}
-use Rattle.pm_types.specs.declared.fault.Field.TheVariants.{Text, Unknown, PageSize, Partitions, MaxRows, SegmentBytes, Workers, Frames, BufferPages, CheckpointBytes, DirtyPercent, Policy}
-use Rattle.pm_types.specs.declared.limits.TheConstants.{LAST_VERSION, PARTITIONS_MAX, ROWS_MAX, SEGMENT_BYTES_MIN, SEGMENT_BYTES_MAX}
+use Rattle.pm_types.specs.declared.fault.Field.TheVariants.{Text, Unknown, PageSize, Partitions}
+use Rattle.pm_types.specs.declared.fault.Field.TheVariants.{MaxRows, SegmentBytes, Workers, Frames}
+use Rattle.pm_types.specs.declared.fault.Field.TheVariants.{BufferPages, CheckpointBytes, DirtyPercent}
+use Rattle.pm_types.specs.declared.fault.Field.TheVariants.{Policy}
+use Rattle.pm_types.specs.declared.limits.TheConstants.{LAST_VERSION, PARTITIONS_MAX, ROWS_MAX}
+use Rattle.pm_types.specs.declared.limits.TheConstants.{SEGMENT_BYTES_MIN, SEGMENT_BYTES_MAX}
 use Rattle.pm_types.specs.declared.shape.Shape.{Shape}
 use Rattle.pm_types.specs.PageSizes.{is_page_size}
 use Rattle.pm_config.specs.declared.config.Config.{Config}
 use Rattle.pm_config.specs.declared.config.Kind.{Kind}
 use Rattle.pm_config.specs.declared.fault.ConfigFault.{ConfigFault}
 use Rattle.pm_config.specs.declared.fault.ConfigFault.TheVariants.{Bad}
-use Rattle.pm_config.specs.declared.limits.TheConstants.{PAGE_SIZE_DEFAULT, PARTITIONS_DEFAULT, MAX_ROWS_DEFAULT, SEGMENT_BYTES_DEFAULT, WORKERS_MAX, WORKERS_DEFAULT, FRAMES_PER_WORKER, FRAMES_MAX, FRAMES_DEFAULT, BUFFER_PAGES_PER_WORKER, BUFFER_PAGES_MAX, BUFFER_PAGES_DEFAULT, CHECKPOINT_BYTES_MIN, CHECKPOINT_BYTES_MAX, CHECKPOINT_BYTES_DEFAULT, DIRTY_PERCENT_MAX, DIRTY_PERCENT_DEFAULT, POLICY_DEFAULT}
+use Rattle.pm_config.specs.declared.limits.TheConstants.{PAGE_SIZE_DEFAULT, PARTITIONS_DEFAULT}
+use Rattle.pm_config.specs.declared.limits.TheConstants.{MAX_ROWS_DEFAULT, SEGMENT_BYTES_DEFAULT}
+use Rattle.pm_config.specs.declared.limits.TheConstants.{WORKERS_MAX, WORKERS_DEFAULT}
+use Rattle.pm_config.specs.declared.limits.TheConstants.{FRAMES_PER_WORKER, FRAMES_MAX, FRAMES_DEFAULT}
+use Rattle.pm_config.specs.declared.limits.TheConstants.{BUFFER_PAGES_PER_WORKER, BUFFER_PAGES_MAX}
+use Rattle.pm_config.specs.declared.limits.TheConstants.{BUFFER_PAGES_DEFAULT, CHECKPOINT_BYTES_MIN}
+use Rattle.pm_config.specs.declared.limits.TheConstants.{CHECKPOINT_BYTES_MAX, CHECKPOINT_BYTES_DEFAULT}
+use Rattle.pm_config.specs.declared.limits.TheConstants.{DIRTY_PERCENT_MAX, DIRTY_PERCENT_DEFAULT}
+use Rattle.pm_config.specs.declared.limits.TheConstants.{POLICY_DEFAULT}
 use Rattle.pm_config.specs.Names.{name_of, field_of, kind_of}
 use Rattle.pm_config.specs.Objects.{Member, object_of, last_of}
 

@@ -2,7 +2,10 @@
 use Rattle.std.specs.Prelude.{◌≤◌, ◌*◌}
 use Rattle.pm_types.specs.Shapes.{IsShape}
 use Rattle.pm_config.specs.declared.config.Config.{Config}
-use Rattle.pm_config.specs.declared.limits.TheConstants.{WORKERS_MAX, FRAMES_PER_WORKER, FRAMES_MAX, BUFFER_PAGES_PER_WORKER, BUFFER_PAGES_MAX, CHECKPOINT_BYTES_MIN, CHECKPOINT_BYTES_MAX, DIRTY_PERCENT_MAX}
+use Rattle.pm_config.specs.declared.limits.TheConstants.{WORKERS_MAX, FRAMES_PER_WORKER, FRAMES_MAX}
+use Rattle.pm_config.specs.declared.limits.TheConstants.{BUFFER_PAGES_PER_WORKER, BUFFER_PAGES_MAX}
+use Rattle.pm_config.specs.declared.limits.TheConstants.{CHECKPOINT_BYTES_MIN, CHECKPOINT_BYTES_MAX}
+use Rattle.pm_config.specs.declared.limits.TheConstants.{DIRTY_PERCENT_MAX}
 
 -- each number of the configuration is within its limits
 pub record IsConfig (config : Config) : Type 0 where

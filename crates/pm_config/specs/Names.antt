@@ -2,7 +2,10 @@
 use Rattle.std.specs.Prelude.{ℕ, List, Option, Some, None, codes, if◌then◌else◌}
 use Rattle.std.specs.Str.{bytes_eq}
 use Rattle.pm_types.specs.declared.fault.Field.{Field}
-use Rattle.pm_types.specs.declared.fault.Field.TheVariants.{Text, Unknown, PageSize, Partitions, MaxRows, SegmentBytes, Workers, Frames, BufferPages, CheckpointBytes, DirtyPercent, Policy}
+use Rattle.pm_types.specs.declared.fault.Field.TheVariants.{Text, Unknown, PageSize, Partitions}
+use Rattle.pm_types.specs.declared.fault.Field.TheVariants.{MaxRows, SegmentBytes, Workers, Frames}
+use Rattle.pm_types.specs.declared.fault.Field.TheVariants.{BufferPages, CheckpointBytes, DirtyPercent}
+use Rattle.pm_types.specs.declared.fault.Field.TheVariants.{Policy}
 use Rattle.pm_config.specs.declared.config.Kind.{Kind}
 use Rattle.pm_config.specs.declared.config.Kind.TheVariants.{Random, Segmented, Clock}
 

@@ -1,5 +1,6 @@
 -- A text's value as it is stored: an object has each name once. Private functions have it in their clauses.
-use Rattle.std.specs.Prelude.{ℕ, List, length, Bool, true, ◌&&◌, ◌==◌, nat_lt, if◌then◌else◌, Option, Some, None, is_some, Result, Err}
+use Rattle.std.specs.Prelude.{ℕ, List, length, Bool, true, ◌&&◌, ◌==◌, nat_lt, if◌then◌else◌, Option}
+use Rattle.std.specs.Prelude.{Some, None, is_some, Result, Err}
 use Rattle.std.specs.Str.{is_utf8}
 use Rattle.serde_json.specs.Data.{Data, object, Members, no_members, member}
 use Rattle.serde_json.specs.Read.{read}

@@ -1,5 +1,6 @@
 -- Calls as steps of the disk machine.
-use Rattle.std.specs.Prelude.{◌≡◌, ◌≤◌, ◌+◌, ℕ, zero, suc, List, [], ◌∷◌, ◌++◌, length, take, if◌then◌else◌, Some, None, IsSome, Result, OnOk, true}
+use Rattle.std.specs.Prelude.{◌≡◌, ◌≤◌, ◌+◌, ℕ, zero, suc, List, [], ◌∷◌, ◌++◌, length, take}
+use Rattle.std.specs.Prelude.{if◌then◌else◌, Some, None, IsSome, Result, OnOk, true}
 use Rattle.pm_types.specs.declared.limits.TheConstants.{PARTITIONS_MAX}
 use Rattle.pm_types.specs.declared.page_id.PageId.{PageId}
 use Rattle.pm_types.specs.declared.shape.Mark.{Mark}
@@ -10,7 +11,8 @@ use Rattle.pm_disk.specs.Moments.{History, AllMoments}
 use Rattle.pm_marks.specs.Slots.{IsMark}
 use Rattle.pm_marks.specs.InForce.{Started}
 use Rattle.pm_core.specs.BasePages.{Partitions, page_in_file}
-use Rattle.pm_core.specs.Machine.{DiskStep, WriteStart, ForceStart, ForcePages, WriteEnd, ForceEnd, OthersStay, CanStart, worlds}
+use Rattle.pm_core.specs.Machine.{DiskStep, WriteStart, ForceStart, ForcePages, WriteEnd, ForceEnd}
+use Rattle.pm_core.specs.Machine.{OthersStay, CanStart, worlds}
 use Rattle.pm_core.specs.PageSets.{has_index, has_part}
 use Rattle.pm_core.specs.States.{State}
 use Rattle.pm_core.specs.Stands.{Stands}

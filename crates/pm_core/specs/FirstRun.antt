@@ -10,7 +10,8 @@ use Rattle.pm_records.specs.Records.{Record, Snapshot, CpBegin, Restart, Seal, k
 use Rattle.pm_records.specs.Logs.{place}
 use Rattle.pm_records.specs.LogSteps.{CutTail, Append, Force, NextSegment, DropSegment, ForceSegment}
 use Rattle.pm_core.specs.BasePages.{Partitions, no_pages, with_page}
-use Rattle.pm_core.specs.Machine.{DiskStep, OnLog, WriteStart, ForceStart, WritePage, ForcePages, WriteEnd, ForceEnd, Say}
+use Rattle.pm_core.specs.Machine.{DiskStep, OnLog, WriteStart, ForceStart, WritePage, ForcePages}
+use Rattle.pm_core.specs.Machine.{WriteEnd, ForceEnd, Say}
 
 -- the first page of the first partition, where it has no other one: its name, its kind, and 1 for its page count
 abbrev pub first_page : ℕ → List ℕ

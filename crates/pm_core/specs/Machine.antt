@@ -8,18 +8,22 @@
 --   WriteEnd      an end marker is written to its slot
 --   ForceEnd      the file of end markers is forced
 --   Say           bytes are said
-use Rattle.std.specs.Prelude.{◌≡◌, ◌≢◌, ◌⊎◌, ◌<◌, ◌≤◌, ◌+◌, ◌^◌, ℕ, max, List, [], ◌∷◌, ◌++◌, length, Option, Some, None, IsSome, true, false}
+use Rattle.std.specs.Prelude.{◌≡◌, ◌≢◌, ◌⊎◌, ◌<◌, ◌≤◌, ◌+◌, ◌^◌, ℕ, max, List, [], ◌∷◌, ◌++◌, length}
+use Rattle.std.specs.Prelude.{Option, Some, None, IsSome, true, false}
 use Rattle.pm_types.specs.declared.page_id.PageId.{PageId}
 use Rattle.pm_types.specs.declared.shape.Mark.{Mark}
 use Rattle.pm_types.specs.Ids.{part_of_id, index_of_id}
 use Rattle.pm_frame.specs.Frames.{Frame, is_frame}
 use Rattle.pm_disk.specs.Files.{File, bytes_of, changed, missing, gapped, content}
-use Rattle.pm_disk.specs.Worlds.{World, page_at, pages_in, pages_changed, pages_forced, starts_forced, ends_forced, with_said}
+use Rattle.pm_disk.specs.Worlds.{World, page_at, pages_in, pages_changed, pages_forced, starts_forced}
+use Rattle.pm_disk.specs.Worlds.{ends_forced, with_said}
 use Rattle.pm_disk.specs.declared.mark.MarkFile.TheVariants as mark_file
 use Rattle.pm_model.specs.Eval.{Pairs}
 use Rattle.pm_records.specs.LogFiles.{Uncut, AfterSeal, Cutting, Ready, HasLasting}
-use Rattle.pm_records.specs.Logs.{place, all_frames, record_in, is_seal, is_last, after_frames, place_after, HasNoSeal}
-use Rattle.pm_records.specs.LogSteps.{Step, CutTail, Append, Force, NextSegment, DropSegment, ForceSegment, next_begin, step_world, tail_forced}
+use Rattle.pm_records.specs.Logs.{place, all_frames, record_in, is_seal, is_last, after_frames}
+use Rattle.pm_records.specs.Logs.{place_after, HasNoSeal}
+use Rattle.pm_records.specs.LogSteps.{Step, CutTail, Append, Force, NextSegment, DropSegment}
+use Rattle.pm_records.specs.LogSteps.{ForceSegment, next_begin, step_world, tail_forced}
 use Rattle.pm_records.specs.Records.{Restart}
 use Rattle.pm_marks.specs.Slots.{IsMark, slot_of, mark_at}
 use Rattle.pm_marks.specs.InForce.{Checkpoint, Started, Ended, number_in}

@@ -1,6 +1,7 @@
 //! The pages of a checkpoint, in memory that is taken before it begins.
 
-ghost use Rattle.std.specs.Prelude.{◌≡◌, ◌<◌, ◌≤◌, ◌↔◌, IsTrue, IfOk, IsSome, length, false, true, Some, None, [], MatchOption};
+ghost use Rattle.std.specs.Prelude.{◌≡◌, ◌<◌, ◌≤◌, ◌↔◌, IsTrue, IfOk, IsSome, length, false, true};
+ghost use Rattle.std.specs.Prelude.{Some, None, [], MatchOption};
 ghost use Rattle.pm_core.specs.PageSets.{no_page, with_one, has_page, has_part, without_page, left_after};
 
 use pm_types::PageId;

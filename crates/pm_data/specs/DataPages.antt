@@ -14,12 +14,15 @@
 --       36     4  the slot of item 1, and so on
 --
 -- Rows fill the page from `low` to its end. Between the slots and `low` the bytes are free.
-use Rattle.std.specs.Prelude.{◌≡◌, ◌≢◌, ℕ, zero, suc, ◌+◌, ◌-◌, ◌*◌, ◌<◌, ◌≤◌, ◌⊎◌, ◌&&◌, ◌==◌, Bool, true, false, if◌then◌else◌, nat_lt, Option, None, Some, List, [], ◌∷◌, ◌++◌, length, map, take, drop, slice_index, is_none}
+use Rattle.std.specs.Prelude.{◌≡◌, ◌≢◌, ℕ, zero, suc, ◌+◌, ◌-◌, ◌*◌, ◌<◌, ◌≤◌, ◌⊎◌, ◌&&◌, ◌==◌, Bool}
+use Rattle.std.specs.Prelude.{true, false, if◌then◌else◌, nat_lt, Option, None, Some, List, [], ◌∷◌}
+use Rattle.std.specs.Prelude.{◌++◌, length, map, take, drop, slice_index, is_none}
 use Rattle.std.specs.List.{range_with_len, slice_index_or, position_or_len, suffix_len, sum_by}
 use Rattle.pm_types.specs.PageSizes.{IsPageSize}
 use Rattle.pm_types.specs.declared.page_id.PageId.{PageId}
 use Rattle.pm_types.specs.declared.head.TheConstants.{KIND_AT}
-use Rattle.pm_data.specs.declared.layout.TheConstants.{DATA_KIND, COUNT_AT, PREV_AT, NEXT_AT, LOW_AT, SLOTS_AT, SLOT_LEN, SLOTS_MAX}
+use Rattle.pm_data.specs.declared.layout.TheConstants.{DATA_KIND, COUNT_AT, PREV_AT, NEXT_AT, LOW_AT}
+use Rattle.pm_data.specs.declared.layout.TheConstants.{SLOTS_AT, SLOT_LEN, SLOTS_MAX}
 use Rattle.pm_data.specs.declared.slots.Slot.{Slot}
 use Rattle.pm_types.specs.Fields.{bytes_at, u16_at, u32_at, u64_at}
 use Rattle.pm_data.specs.Rows.{IsRow}

@@ -5,7 +5,8 @@ ghost use Rattle.std.specs.List.{range_with_len};
 ghost use Rattle.std.specs.List.Sorted.{IsPermutation, IsNonDecreasingBy};
 ghost use Rattle.pm_data.specs.Following.{AreConsecutive};
 ghost use Rattle.pm_types.specs.PageSizes.{IsPageSize};
-ghost use Rattle.pm_data.specs.DataPages.{low_of, slot_at, row_bytes, IsSound, AllApart, HasHead, HasRows, IsStoredPage};
+ghost use Rattle.pm_data.specs.DataPages.{low_of, slot_at, row_bytes, IsSound, AllApart, HasHead};
+ghost use Rattle.pm_data.specs.DataPages.{HasRows, IsStoredPage};
 
 use crate::layout::{COUNT_AT, DATA_KIND, LOW_AT, SLOT_LEN, SLOTS_AT, SLOTS_MAX};
 use crate::rows::is_row;

@@ -1,8 +1,10 @@
 //! What a data page says of its items, and how much room it has.
 
-ghost use Rattle.std.specs.Prelude.{◌≡◌, ℕ, ◌+◌, ◌≤◌, ◌↔◌, Some, None, IsTrue, MatchOption, IfSome, nat_lt, length};
+ghost use Rattle.std.specs.Prelude.{◌≡◌, ℕ, ◌+◌, ◌≤◌, ◌↔◌, Some, None, IsTrue, MatchOption, IfSome};
+ghost use Rattle.std.specs.Prelude.{nat_lt, length};
 ghost use Rattle.pm_data.specs.Rows.{IsRow};
-ghost use Rattle.pm_data.specs.DataPages.{rows_of, row_at, free_item, room_of, room_beside, HasRoomFor, IsDataPage};
+ghost use Rattle.pm_data.specs.DataPages.{rows_of, row_at, free_item, room_of, room_beside, HasRoomFor};
+ghost use Rattle.pm_data.specs.DataPages.{IsDataPage};
 
 use crate::layout::{COUNT_AT, LOW_AT, SLOT_LEN, SLOTS_AT, SLOTS_MAX};
 use crate::slots::get_slot;

@@ -5,7 +5,8 @@ ghost use Rattle.pm_types.specs.Spans.{span_of};
 ghost use Rattle.pm_types.specs.Pages.{IsNoted};
 ghost use Rattle.pm_types.specs.Fields.{Writes};
 ghost use Rattle.pm_data.specs.Rows.{IsRow};
-ghost use Rattle.pm_data.specs.DataPages.{count_of, low_of, rows_of, free_item, HasRoomFor, IsDataPage, AddsRow};
+ghost use Rattle.pm_data.specs.DataPages.{count_of, low_of, rows_of, free_item, HasRoomFor, IsDataPage};
+ghost use Rattle.pm_data.specs.DataPages.{AddsRow};
 
 use crate::items::free_item;
 use crate::layout::{COUNT_AT, LOW_AT, SLOT_LEN, SLOTS_AT, SLOTS_MAX};

@@ -1,5 +1,6 @@
 -- One file: what a read finds, and what was changed since it was last forced.
-use Rattle.std.specs.Prelude.{◌≡◌, ◌≤◌, ◌↔◌, ◌+◌, ◌-◌, ℕ, min, List, [], ◌∷◌, ◌++◌, length, take, drop, replicate, Option, Some, None, Bool, false, IsTrue}
+use Rattle.std.specs.Prelude.{◌≡◌, ◌≤◌, ◌↔◌, ◌+◌, ◌-◌, ℕ, min, List, [], ◌∷◌, ◌++◌, length, take, drop}
+use Rattle.std.specs.Prelude.{replicate, Option, Some, None, Bool, false, IsTrue}
 
 -- One change of a file.
 pub data Change : Type 0 where

@@ -2,7 +2,8 @@
 --
 -- A forced byte that no change since has written or cut is as it was. Each byte that a change has
 -- written since, and all that lies past the forced end, may be anything. Files are independent.
-use Rattle.std.specs.Prelude.{◌≡◌, ◌<◌, ◌≤◌, ◌+◌, ℕ, List, [], ◌∷◌, length, Option, Some, None, IsSome, IsNone, slice_get}
+use Rattle.std.specs.Prelude.{◌≡◌, ◌<◌, ◌≤◌, ◌+◌, ℕ, List, [], ◌∷◌, length, Option, Some, None, IsSome}
+use Rattle.std.specs.Prelude.{IsNone, slice_get}
 use Rattle.pm_disk.specs.Files.{Change, Write, Cut, Drop, File, bytes_of, changed, at_change}
 use Rattle.pm_disk.specs.Worlds.{World}
 

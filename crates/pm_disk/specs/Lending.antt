@@ -3,7 +3,8 @@
 -- Each part reports its own world and its own moments, from the one at which it was lent. Of the log part only
 -- the segments count, of the writer only the partitions' files. Nothing is said of which moment of the one goes
 -- with which of the other: while the parts are lent, the disk may be each pair.
-use Rattle.std.specs.Prelude.{◌≡◌, ◌<◌, ◌≤◌, ◌+◌, ◌⊎◌, ◌==◌, ℕ, List, [], ◌∷◌, Bool, true, false, not, All, Result, OnOk, OnErr}
+use Rattle.std.specs.Prelude.{◌≡◌, ◌<◌, ◌≤◌, ◌+◌, ◌⊎◌, ◌==◌, ℕ, List, [], ◌∷◌, Bool, true, false, not}
+use Rattle.std.specs.Prelude.{All, Result, OnOk, OnErr}
 use Rattle.std.specs.List.{list_any}
 use Rattle.pm_types.specs.declared.page_id.PageId.{PageId}
 use Rattle.pm_disk.specs.Worlds.{World, joined}

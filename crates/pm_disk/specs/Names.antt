@@ -6,7 +6,8 @@
 --   cp.end                    the end markers of checkpoints
 --   wal-NNNNNNNNNNNNNNNN.seg  a segment of the log: its number as 16 lower-case hexadecimal digits
 --   part-NNN.pages            a partition's pages: its number, below 64, as three decimal digits
-use Rattle.std.specs.Prelude.{◌≡◌, ◌<◌, ◌≤◌, ◌+◌, ◌/◌, ◌%◌, ◌^◌, ℕ, List, [], ◌∷◌, ◌++◌, zero, suc, codes, nat_lt, if◌then◌else◌}
+use Rattle.std.specs.Prelude.{◌≡◌, ◌<◌, ◌≤◌, ◌+◌, ◌/◌, ◌%◌, ◌^◌, ℕ, List, [], ◌∷◌, ◌++◌, zero, suc}
+use Rattle.std.specs.Prelude.{codes, nat_lt, if◌then◌else◌}
 use Rattle.pm_disk.specs.declared.mark.MarkFile.TheVariants as mark
 use Rattle.pm_disk.specs.declared.names.StoreFile.{StoreFile}
 use Rattle.pm_disk.specs.declared.names.StoreFile.TheVariants.{Config, Marks, Segment, Pages}

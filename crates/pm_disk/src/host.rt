@@ -1,11 +1,13 @@
 //! Disk and console together.
 
-ghost use Rattle.std.specs.Prelude.{◌≡◌, ◌<◌, ◌≤◌, ◌↔◌, [], ◌∷◌, true, false, length, map, take, vec_len, Some, IfOk, IsErr, All};
+ghost use Rattle.std.specs.Prelude.{◌≡◌, ◌<◌, ◌≤◌, ◌↔◌, [], ◌∷◌, true, false, length, map, take};
+ghost use Rattle.std.specs.Prelude.{vec_len, Some, IfOk, IsErr, All};
 ghost use Rattle.std.specs.Result.{result_unwrap_or};
 ghost use Rattle.pm_disk.specs.Lending.{PartsLent, PartsBegin, Lends, TakesBack, Joins};
 ghost use Rattle.pm_disk.specs.States.{HasCause, IsUsable, MayUseAllPages, Binds};
 ghost use Rattle.pm_disk.specs.Files.{Drop, ReadsFrom, ReadsWhole};
-ghost use Rattle.pm_disk.specs.Worlds.{log_changed, marks_in, marks_changed, marks_forced, slot_at, slot_change, with_taken};
+ghost use Rattle.pm_disk.specs.Worlds.{log_changed, marks_in, marks_changed, marks_forced, slot_at};
+ghost use Rattle.pm_disk.specs.Worlds.{slot_change, with_taken};
 ghost use Rattle.pm_disk.specs.Moments.{Does, Says};
 
 use crate::failed::Failed;

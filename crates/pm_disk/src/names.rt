@@ -3,7 +3,8 @@
 ghost use Rattle.std.specs.Prelude.{◌≡◌, ◌<◌, ℕ, MatchOption};
 ghost use Rattle.pm_types.specs.declared.limits.TheConstants.{PARTITIONS_MAX};
 ghost use Rattle.pm_disk.specs.declared.names.StoreFile.{StoreFile};
-ghost use Rattle.pm_disk.specs.Names.{hex_digit, segment_name, IsSegmentName, partition_name, IsPartitionName, IsNameOf};
+ghost use Rattle.pm_disk.specs.Names.{hex_digit, segment_name, IsSegmentName, partition_name};
+ghost use Rattle.pm_disk.specs.Names.{IsPartitionName, IsNameOf};
 
 use crate::mark::MarkFile;
 use pm_types::PARTITIONS_MAX;

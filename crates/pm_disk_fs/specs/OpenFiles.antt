@@ -1,5 +1,6 @@
 -- The files that are open since they were changed.
-use Rattle.std.specs.Prelude.{◌≡◌, ◌≢◌, ◌<◌, ◌∷◌, ◌++◌, Bool, true, false, List, length, filter, ◌==◌, if◌then◌else◌, remove, Contains}
+use Rattle.std.specs.Prelude.{◌≡◌, ◌≢◌, ◌<◌, ◌∷◌, ◌++◌, Bool, true, false, List, length, filter, ◌==◌}
+use Rattle.std.specs.Prelude.{if◌then◌else◌, remove, Contains}
 use Rattle.pm_disk.specs.declared.names.StoreFile.{StoreFile}
 use Rattle.pm_disk.specs.declared.names.StoreFile.TheVariants.{Config, Marks, Segment, Pages}
 use Rattle.pm_disk_fs.specs.declared.opened.Opened.{Opened}

@@ -1,6 +1,7 @@
 //! The store's folder, and its files by name.
 
-ghost use Rattle.std.specs.Prelude.{◌≡◌, ◌<◌, ◌≤◌, ◌+◌, false, length, take, replicate, None, Some, IsNone, IsSome, IfOk, OnOk, OnErr, option_map};
+ghost use Rattle.std.specs.Prelude.{◌≡◌, ◌<◌, ◌≤◌, ◌+◌, false, length, take, replicate, None, Some};
+ghost use Rattle.std.specs.Prelude.{IsNone, IsSome, IfOk, OnOk, OnErr, option_map};
 ghost use Rattle.std.specs.String.{string_bytes};
 ghost use Rattle.std.specs.Io.KnownBytes.{Consumes, IsAtEnd, ReadConsumes};
 

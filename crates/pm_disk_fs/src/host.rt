@@ -1,6 +1,8 @@
 //! The host over the process's files and standard streams.
 
-ghost use Rattle.std.specs.Prelude.{◌≡◌, ◌≤◌, ◌↔◌, [], ◌∷◌, true, false, length, map, vec_len, refl, Ok, None, Some, IsTrue, IsErr, IsNone, IsSome, IfOk, OnOk, OnErr, All};
+ghost use Rattle.std.specs.Prelude.{◌≡◌, ◌≤◌, ◌↔◌, [], ◌∷◌, true, false, length, map, vec_len, refl};
+ghost use Rattle.std.specs.Prelude.{Ok, None, Some, IsTrue, IsErr, IsNone, IsSome, IfOk, OnOk, OnErr};
+ghost use Rattle.std.specs.Prelude.{All};
 ghost use Rattle.std.specs.Option.{option_copied};
 ghost use Rattle.pm_types.specs.declared.limits.TheConstants.{PAGE_SIZE_MAX};
 ghost use Rattle.pm_disk.specs.States.{HasCause, Binds};

@@ -1,6 +1,7 @@
 //! The files that are open since they were changed.
 
-ghost use Rattle.std.specs.Prelude.{◌≡◌, ◌<◌, ◌≤◌, ◌++◌, ◌∷◌, [], length, MatchOption, IfSome, OnSome, IfOk, OnOk, OnErr, slice_get, vec_len, vec_capacity};
+ghost use Rattle.std.specs.Prelude.{◌≡◌, ◌<◌, ◌≤◌, ◌++◌, ◌∷◌, [], length, MatchOption, IfSome, OnSome};
+ghost use Rattle.std.specs.Prelude.{IfOk, OnOk, OnErr, slice_get, vec_len, vec_capacity};
 ghost use Rattle.pm_disk_fs.specs.OpenFiles.{AreSorted};
 
 use crate::failure::Failure;

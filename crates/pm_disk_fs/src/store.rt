@@ -1,6 +1,7 @@
 //! The changes of the store's files.
 
-ghost use Rattle.std.specs.Prelude.{◌≡◌, ◌+◌, ◌<◌, [], false, length, vec_len, vec_capacity, IsTrue, IsErr, IfOk, OnOk, OnErr};
+ghost use Rattle.std.specs.Prelude.{◌≡◌, ◌+◌, ◌<◌, [], false, length, vec_len, vec_capacity, IsTrue};
+ghost use Rattle.std.specs.Prelude.{IsErr, IfOk, OnOk, OnErr};
 ghost use Rattle.pm_disk_fs.specs.OpenFiles.{AreSorted, OthersStayOpen};
 ghost use Rattle.pm_disk_fs.specs.Positions.{IsChangedLast, IsWritten};
 ghost use Rattle.pm_disk_fs.specs.Writes.{ChangesFile, FlushesBuffer};

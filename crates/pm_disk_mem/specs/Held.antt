@@ -1,7 +1,8 @@
 -- All files of a disk in memory that calls change.
 use Rattle.std.specs.Prelude.{◌≡◌, ℕ}
 use Rattle.pm_disk.specs.Files.{File, Change}
-use Rattle.pm_disk.specs.Worlds.{World, mark_file, log_changed, log_forced, pages_changed, pages_forced, marks_changed, marks_forced}
+use Rattle.pm_disk.specs.Worlds.{World, mark_file, log_changed, log_forced, pages_changed, pages_forced}
+use Rattle.pm_disk.specs.Worlds.{marks_changed, marks_forced}
 use Rattle.pm_disk.specs.declared.mark.MarkFile.TheVariants as mark
 use Rattle.pm_disk.specs.Images.{Leaves}
 use Rattle.pm_disk_mem.specs.Tracks.{Track, new_track}

@@ -1,5 +1,6 @@
 -- What each pick leaves of a file.
-use Rattle.std.specs.Prelude.{◌≡◌, ◌+◌, ◌-◌, ℕ, zero, suc, List, [], ◌∷◌, ◌++◌, length, take, replicate, map, Option, Some}
+use Rattle.std.specs.Prelude.{◌≡◌, ◌+◌, ◌-◌, ℕ, zero, suc, List, [], ◌∷◌, ◌++◌, length, take, replicate}
+use Rattle.std.specs.Prelude.{map, Option, Some}
 use Rattle.pm_disk.specs.Files.{Change, Write, Cut, Drop, File, bytes_of, after, changed, content}
 use Rattle.pm_disk_mem.specs.Changes.{change_of}
 use Rattle.pm_disk.specs.Worlds.{World}

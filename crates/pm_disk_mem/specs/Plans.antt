@@ -1,5 +1,6 @@
 -- Which calls fail, and how failures are counted.
-use Rattle.std.specs.Prelude.{◌≡◌, ◌<◌, ◌≤◌, ◌+◌, ◌-◌, ◌^◌, ℕ, min, max, List, Option, Some, None, Bool, true, false, ◌||◌, nat_le, ◌==◌, Result, OnOk, OnErr, IsErr, is_err}
+use Rattle.std.specs.Prelude.{◌≡◌, ◌<◌, ◌≤◌, ◌+◌, ◌-◌, ◌^◌, ℕ, min, max, List, Option, Some, None, Bool}
+use Rattle.std.specs.Prelude.{true, false, ◌||◌, nat_le, ◌==◌, Result, OnOk, OnErr, IsErr, is_err}
 use Rattle.std.specs.List.{list_any}
 use Rattle.pm_disk_mem.specs.declared.failures.Failures.{Failures}
 

@@ -1,6 +1,7 @@
 //! What a file holds, as bytes or as none where it is absent.
 
-ghost use Rattle.std.specs.Prelude.{◌≡◌, ◌≤◌, ◌+◌, ◌-◌, ◌++◌, length, map, take, drop, replicate, min, vec_len, IfOk, OnOk, OnErr, option_map};
+ghost use Rattle.std.specs.Prelude.{◌≡◌, ◌≤◌, ◌+◌, ◌-◌, ◌++◌, length, map, take, drop, replicate, min};
+ghost use Rattle.std.specs.Prelude.{vec_len, IfOk, OnOk, OnErr, option_map};
 ghost use Rattle.pm_disk.specs.Files.{bytes_of, changed, Write, Cut, ReadsFrom, ReadsWhole};
 ghost use Rattle.pm_disk_mem.specs.Changes.{bytes_in, change_of};
 

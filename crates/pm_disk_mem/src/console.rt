@@ -1,6 +1,7 @@
 //! The console in memory.
 
-ghost use Rattle.std.specs.Prelude.{◌≡◌, ◌≤◌, ◌+◌, ◌++◌, [], length, take, drop, vec_len, OnOk, OnErr, IfOk, min};
+ghost use Rattle.std.specs.Prelude.{◌≡◌, ◌≤◌, ◌+◌, ◌++◌, [], length, take, drop, vec_len, OnOk, OnErr};
+ghost use Rattle.std.specs.Prelude.{IfOk, min};
 
 use crate::bytes::{copy_front, from_offset};
 use std::alloc::{AllocError, Global};

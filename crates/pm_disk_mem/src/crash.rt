@@ -3,7 +3,8 @@
 ghost use Rattle.std.specs.Prelude.{◌≡◌, ◌-◌, map, IfOk, OnOk};
 ghost use Rattle.pm_disk.specs.Files.{Cut, after};
 ghost use Rattle.pm_disk_mem.specs.Changes.{bytes_in, change_of};
-ghost use Rattle.pm_disk_mem.specs.Picks.{filled_by, filled, written_by, written, laid_by, laid, left_by, pick_after, file_of};
+ghost use Rattle.pm_disk_mem.specs.Picks.{filled_by, filled, written_by, written, laid_by, laid};
+ghost use Rattle.pm_disk_mem.specs.Picks.{left_by, pick_after, file_of};
 
 use crate::bytes::{apply_change, copied, write};
 use crate::change::FileChange;

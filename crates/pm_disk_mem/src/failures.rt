@@ -1,7 +1,8 @@
 //! Which calls fail.
 
 ghost use Rattle.std.specs.Prelude.{◌≡◌, ◌≤◌, ◌+◌, ◌-◌, ◌^◌, min, is_err, Ok, IfOk, IsErr};
-ghost use Rattle.pm_disk_mem.specs.Plans.{is_due, is_stopped, HasPlan, KeepsPlan, IsFaultCount, CountsOn, IsJoined};
+ghost use Rattle.pm_disk_mem.specs.Plans.{is_due, is_stopped, HasPlan, KeepsPlan, IsFaultCount};
+ghost use Rattle.pm_disk_mem.specs.Plans.{CountsOn, IsJoined};
 
 use pm_disk::Failed;
 use std::alloc::{AllocError, Global};

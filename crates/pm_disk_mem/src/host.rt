@@ -45,7 +45,8 @@ pub struct MemHost {
 }
 
 impl MemHost {
-    ghost use Rattle.pm_disk_mem.specs.Hosts.{world_of, history_of, calls_of, faults_of, folder_of, IsPlanned, KeepsAccess};
+    ghost use Rattle.pm_disk_mem.specs.Hosts.{world_of, history_of, calls_of, faults_of, folder_of};
+    ghost use Rattle.pm_disk_mem.specs.Hosts.{IsPlanned, KeepsAccess};
 
     /// A host over this disk, with a copy of the script as its input and of the bytes of the configuration.
     /// Where these are none, it has the configuration of the disk.

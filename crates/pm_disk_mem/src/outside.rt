@@ -1,11 +1,13 @@
 //! The calls on the console, the configuration and the markers, in memory.
 
-ghost use Rattle.std.specs.Prelude.{◌≡◌, ◌<◌, ◌≤◌, [], ◌∷◌, true, length, map, take, vec_len, refl, Some, IfOk, OnErr, IsErr, All};
+ghost use Rattle.std.specs.Prelude.{◌≡◌, ◌<◌, ◌≤◌, [], ◌∷◌, true, length, map, take, vec_len, refl};
+ghost use Rattle.std.specs.Prelude.{Some, IfOk, OnErr, IsErr, All};
 ghost use Rattle.std.specs.Result.{result_unwrap_or};
 ghost use Rattle.pm_disk.specs.Lending.{PartsLent, PartsBegin, Lends, TakesBack, Joins};
 ghost use Rattle.pm_disk.specs.States.{Binds, HasCause};
 ghost use Rattle.pm_disk.specs.Files.{Drop, ReadsFrom, ReadsWhole};
-ghost use Rattle.pm_disk.specs.Worlds.{log_changed, marks_in, marks_changed, marks_forced, slot_at, slot_change, with_taken};
+ghost use Rattle.pm_disk.specs.Worlds.{log_changed, marks_in, marks_changed, marks_forced, slot_at};
+ghost use Rattle.pm_disk.specs.Worlds.{slot_change, with_taken};
 ghost use Rattle.pm_disk.specs.Moments.{Does, Says};
 ghost use Rattle.pm_disk_mem.specs.Plans.{KeepsPlan};
 
@@ -21,8 +23,10 @@ use pm_types::PageId;
 use std::alloc::AllocError;
 
 impl Host for MemHost {
-    ghost use Rattle.pm_disk_mem.specs.Hosts.{world_of, history_of, state_of, calls_of, IsCounted, FailsAsPlanned};
-    ghost use Rattle.pm_disk_mem.specs.Lent.{history_of_part, state_of_part, history_of_reader, state_of_reader};
+    ghost use Rattle.pm_disk_mem.specs.Hosts.{world_of, history_of, state_of, calls_of, IsCounted};
+    ghost use Rattle.pm_disk_mem.specs.Hosts.{FailsAsPlanned};
+    ghost use Rattle.pm_disk_mem.specs.Lent.{history_of_part, state_of_part, history_of_reader};
+    ghost use Rattle.pm_disk_mem.specs.Lent.{state_of_reader};
 
     type Reader = MemReader;
 

@@ -1,6 +1,7 @@
 //! The parts of a host in memory, made and put back.
 
-ghost use Rattle.std.specs.Prelude.{◌≡◌, ◌≤◌, ◌<◌, [], ◌∷◌, ◌++◌, true, false, map, vec_len, vec_capacity, option_map, IfOk, All};
+ghost use Rattle.std.specs.Prelude.{◌≡◌, ◌≤◌, ◌<◌, [], ◌∷◌, ◌++◌, true, false, map, vec_len};
+ghost use Rattle.std.specs.Prelude.{vec_capacity, option_map, IfOk, All};
 ghost use Rattle.std.specs.String.{string_bytes};
 ghost use Rattle.std.specs.Arc.{arc_value};
 ghost use Rattle.pm_types.specs.Counts.{HasRisen};

@@ -1,5 +1,6 @@
 -- What a batch of lines does.
-use Rattle.std.specs.Prelude.{◌≡◌, ◌≤◌, ◌+◌, ℕ, List, [], ◌∷◌, ◌++◌, length, take, Bool, if◌then◌else◌, Result, OnOk, IsErrOf, IfErr}
+use Rattle.std.specs.Prelude.{◌≡◌, ◌≤◌, ◌+◌, ℕ, List, [], ◌∷◌, ◌++◌, length, take, Bool, if◌then◌else◌}
+use Rattle.std.specs.Prelude.{Result, OnOk, IsErrOf, IfErr}
 use Rattle.pm_types.specs.declared.fault.StoreFault.{StoreFault}
 use Rattle.pm_types.specs.declared.fault.StoreFault.TheVariants.{Failed, Memory, BadPage, BadRecord}
 use Rattle.pm_types.specs.declared.fault.OpenFault.{OpenFault}

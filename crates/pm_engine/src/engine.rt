@@ -1,6 +1,7 @@
 //! The engine, and how it runs lines.
 
-ghost use Rattle.std.specs.Prelude.{◌≡◌, ◌≤◌, ◌<◌, ◌+◌, ◌^◌, ℕ, List, [], ◌∷◌, ◌++◌, length, true, IfOk, IfErr, OnOk, OnErr, vec_capacity};
+ghost use Rattle.std.specs.Prelude.{◌≡◌, ◌≤◌, ◌<◌, ◌+◌, ◌^◌, ℕ, List, [], ◌∷◌, ◌++◌, length, true};
+ghost use Rattle.std.specs.Prelude.{IfOk, IfErr, OnOk, OnErr, vec_capacity};
 ghost use Rattle.std.specs.List.{All};
 ghost use Rattle.pm_types.specs.declared.shape.Shape.{Shape};
 ghost use Rattle.pm_types.specs.Shapes.{IsShape};
@@ -17,7 +18,8 @@ ghost use Rattle.pm_model.specs.Batches.{HasCache};
 ghost use Rattle.pm_model.specs.Eval.{Pairs, reply_to, after, is_accepted};
 ghost use Rattle.pm_model.specs.Partitions.{ArePartitions};
 ghost use Rattle.pm_engine.specs.Batches.{HasPlainFault, RunsLines, HasReplied, noted};
-ghost use Rattle.pm_engine.specs.Engines.{HasDone, HasDoneWithin, IsAtRest, IsAtRestWithin, HasSegments, LastIsForced, SameAbove};
+ghost use Rattle.pm_engine.specs.Engines.{HasDone, HasDoneWithin, IsAtRest, IsAtRestWithin};
+ghost use Rattle.pm_engine.specs.Engines.{HasSegments, LastIsForced, SameAbove};
 ghost use Rattle.pm_engine.specs.Crashes.{CrashHoldsPrefix};
 ghost use Rattle.pm_engine.specs.Records.{record_of_line, IsPayloadOf, logical_frame};
 

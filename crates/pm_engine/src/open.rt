@@ -19,7 +19,9 @@ ghost use Rattle.pm_segments.specs.Scans.{IsAhead};
 ghost use Rattle.pm_engine.specs.Batches.{HasOpenFault, HasStoreFault};
 ghost use Rattle.pm_core.specs.LogAlone.{image_of, Holds, last_segment};
 ghost use Rattle.pm_engine.specs.Crashes.{CrashHoldsPrefix};
-ghost use Rattle.pm_engine.specs.Openings.{ReplaysNext, IsFurther, ReadsAll, IsSame, IsBadStore, LogHoldsNothing, CanNotOpen, OpensWith, OpensAtRest, OpensWithin};
+ghost use Rattle.pm_engine.specs.Openings.{ReplaysNext, IsFurther, ReadsAll, IsSame, IsBadStore};
+ghost use Rattle.pm_engine.specs.Openings.{LogHoldsNothing, CanNotOpen, OpensWith, OpensAtRest};
+ghost use Rattle.pm_engine.specs.Openings.{OpensWithin};
 ghost use Rattle.pm_engine.specs.StoredShapes.{ComparesShape, shape_fault};
 
 use crate::engine::Engine;

@@ -10,13 +10,16 @@
 --
 -- A frame ends at an offset of at most 67,108,843, and one of kind 6, a SEAL, of at most 67,108,864. Since a frame names its
 -- own place, bytes of another place or of an older log are no frame here.
-use Rattle.std.specs.Prelude.{ℕ, ◌+◌, ◌^◌, ◌<◌, ◌≤◌, Bool, ◌&&◌, nat_eq, nat_lt, nat_le, ◌==◌, if◌then◌else◌, List, ◌∷◌, ◌++◌, length, slice_index, slice_range, Option, Some, None}
+use Rattle.std.specs.Prelude.{ℕ, ◌+◌, ◌^◌, ◌<◌, ◌≤◌, Bool, ◌&&◌, nat_eq, nat_lt, nat_le, ◌==◌}
+use Rattle.std.specs.Prelude.{if◌then◌else◌, List, ◌∷◌, ◌++◌, length, slice_index, slice_range, Option}
+use Rattle.std.specs.Prelude.{Some, None}
 use Rattle.std.specs.List.{starts_with}
 use Rattle.std.specs.Int.{w32, w64, to_le_bytes, from_le_bytes}
 use Rattle.pm_types.specs.declared.place.Place.{Place}
 use Rattle.pm_frame.specs.Crc.{crc_of}
 use Rattle.pm_frame.specs.declared.kinds.TheConstants.{LOGICAL, SEAL}
-use Rattle.pm_frame.specs.declared.limits.TheConstants.{HEAD_LEN, FRAME_EXTRA, PAYLOAD_MAX, FRAME_END_MAX, SEGMENT_END_MAX}
+use Rattle.pm_frame.specs.declared.limits.TheConstants.{HEAD_LEN, FRAME_EXTRA, PAYLOAD_MAX}
+use Rattle.pm_frame.specs.declared.limits.TheConstants.{FRAME_END_MAX, SEGMENT_END_MAX}
 
 -- a frame without its place
 pub record Frame : Type 0 where

@@ -2,7 +2,8 @@
 use Rattle.std.specs.Prelude.{◌≡◌, ℕ, ◌<◌, ◌≤◌, List, length, Some, IsSome}
 use Rattle.pm_types.specs.declared.page_id.PageId.{PageId}
 use Rattle.pm_data.specs.Rows.{IsRow}
-use Rattle.pm_data.specs.DataPages.{DataPage, data_of, with_rows, with_row, without_row, with_links, rows_of, row_at, free_item, HasRoomFor, IsDataPage, empty_page}
+use Rattle.pm_data.specs.DataPages.{DataPage, data_of, with_rows, with_row, without_row, with_links}
+use Rattle.pm_data.specs.DataPages.{rows_of, row_at, free_item, HasRoomFor, IsDataPage, empty_page}
 use Rattle.pm_meta.specs.declared.slots.MetaSlot.TheVariants.{Pages}
 use Rattle.pm_pages.specs.Paged.{Paged, IsInHand}
 use Rattle.pm_pages.specs.Edits.{IsNumberIn}

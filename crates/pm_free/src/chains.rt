@@ -9,7 +9,8 @@ ghost use Rattle.pm_free.specs.declared.edits.Edit.TheVariants.{Before, After, L
 ghost use Rattle.pm_free.specs.DataEdits.{IsDataAt, CanEdit};
 ghost use Rattle.pm_free.specs.Seats.{IsSeatIn};
 ghost use Rattle.pm_free.specs.Chained.{MovesPage, SettlesPage};
-ghost use Rattle.pm_free.specs.Changes.{ChangesData, EditsPartition, SetsHead, SetsBefore, SetsAfter, IsDataOrNone};
+ghost use Rattle.pm_free.specs.Changes.{ChangesData, EditsPartition, SetsHead, SetsBefore, SetsAfter};
+ghost use Rattle.pm_free.specs.Changes.{IsDataOrNone};
 ghost use Rattle.pm_free.specs.Causes.{Names, HasChainCause};
 
 use crate::edits::{Edit, make_edit};

@@ -1,6 +1,7 @@
 //! What a data page says of its chain.
 
-ghost use Rattle.std.specs.Prelude.{◌≡◌, ◌≢◌, ℕ, ◌+◌, ◌<◌, ◌≤◌, List, Some, IfOk, IfSome, IfNone, IsTrue, length};
+ghost use Rattle.std.specs.Prelude.{◌≡◌, ◌≢◌, ℕ, ◌+◌, ◌<◌, ◌≤◌, List, Some, IfOk, IfSome, IfNone};
+ghost use Rattle.std.specs.Prelude.{IsTrue, length};
 ghost use Rattle.pm_data.specs.DataPages.{IsDataPage};
 ghost use Rattle.pm_data.specs.declared.layout.TheConstants.{DATA_KIND};
 ghost use Rattle.pm_meta.specs.declared.layout.TheConstants.{BUCKETS};

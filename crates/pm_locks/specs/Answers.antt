@@ -3,7 +3,8 @@ use Rattle.std.specs.Prelude.{◌≡◌, ◌≢◌, ℕ, ◌+◌, ◌⊎◌, Lis
 use Rattle.pm_types.specs.declared.flag.Flag.{Flag}
 use Rattle.pm_types.specs.declared.flag.Flag.TheVariants as flag
 use Rattle.pm_region.specs.Lease.{Leased}
-use Rattle.pm_locks.specs.Words.{LockWord, AT_HOME, FLUSHER, IsReachedFrom, CanBeStolen, IsWanted, held_by, stolen_as}
+use Rattle.pm_locks.specs.Words.{LockWord, AT_HOME, FLUSHER, IsReachedFrom, CanBeStolen, IsWanted}
+use Rattle.pm_locks.specs.Words.{held_by, stolen_as}
 use Rattle.pm_locks.specs.declared.view.View.{View}
 use Rattle.pm_locks.specs.declared.view.Entry.{Entry}
 use Rattle.pm_locks.specs.declared.view.Out.{Out}

@@ -1,6 +1,7 @@
 -- The rule of the page locks. It holds between any two steps, of the words, of the slots at home and
 -- of what every seat knows, whatever the threads do. Its seven parts are numbered below.
-use Rattle.std.specs.Prelude.{◌≡◌, ℕ, ◌<◌, ◌≤◌, ◌⊎◌, Bool, true, false, List, length, map, if◌then◌else◌, Option, Some, None, slice_index, slice_index_or}
+use Rattle.std.specs.Prelude.{◌≡◌, ℕ, ◌<◌, ◌≤◌, ◌⊎◌, Bool, true, false, List, length, map}
+use Rattle.std.specs.Prelude.{if◌then◌else◌, Option, Some, None, slice_index, slice_index_or}
 use mathlib.Core.Option.{some, none}
 use mathlib.Core.Option as maybe
 use lib.ListN.{get_elem?}

@@ -19,7 +19,8 @@
 //!        '-' steal: Empty       '------ own_put with other bytes -------'
 //! ```
 
-ghost use Rattle.std.specs.Prelude.{◌≡◌, ◌<◌, ◌≤◌, ℕ, [], List, IfOk, IfErr, Some, map, length, slice_get, vec_len, vec_capacity};
+ghost use Rattle.std.specs.Prelude.{◌≡◌, ◌<◌, ◌≤◌, ℕ, [], List, IfOk, IfErr, Some, map, length};
+ghost use Rattle.std.specs.Prelude.{slice_get, vec_len, vec_capacity};
 ghost use Rattle.std.specs.Slots.{slots_items, slots_len, IsFull};
 ghost use Rattle.pm_region.specs.Lease.{Leased};
 ghost use Rattle.pm_locks.specs.Opening.{AreFirst};

@@ -5,7 +5,8 @@ ghost use Rattle.pm_locks.specs.Sight.{IsSeatOf, IsFrameOf, KnowsAll};
 ghost use Rattle.pm_locks.specs.Steps.{put_back};
 ghost use Rattle.pm_locks.specs.Views.{known_at};
 ghost use Rattle.pm_locks.specs.Words.{put_as};
-ghost use Rattle.pm_locks.specs.Answers.{OwnTakeAnswer, HoldsLastPut, IsExactTake, IsOwnOut, IsSameLease, MayPut, out_of};
+ghost use Rattle.pm_locks.specs.Answers.{OwnTakeAnswer, HoldsLastPut, IsExactTake, IsOwnOut};
+ghost use Rattle.pm_locks.specs.Answers.{IsSameLease, MayPut, out_of};
 
 use crate::locks::Locks;
 use crate::plays::Put;

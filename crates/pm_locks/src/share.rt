@@ -4,7 +4,8 @@ ghost use Rattle.std.specs.Prelude.{◌≡◌, ℕ, ◌<◌, ◌≤◌, [], Some
 ghost use Rattle.pm_locks.specs.Sight.{Sight, IsSeatOf, KnowsAll};
 ghost use Rattle.pm_locks.specs.Views.{IsWhole, IsStill, entry_at, due_at, flusher_alone};
 ghost use Rattle.pm_locks.specs.Shares.{what_stays, what_goes, joined, AreAdjacent, HasBoth, IsShare};
-ghost use Rattle.pm_locks.specs.Rounds.{HaveAll, ArePartsOf, AreWorkers, HasGathered, HasReread, IsEmpty, IsFlushers, IsWorkers};
+ghost use Rattle.pm_locks.specs.Rounds.{HaveAll, ArePartsOf, AreWorkers, HasGathered, HasReread};
+ghost use Rattle.pm_locks.specs.Rounds.{IsEmpty, IsFlushers, IsWorkers};
 
 use crate::locks::Locks;
 use crate::plays::{Handing, Taking};

@@ -6,7 +6,8 @@ use Rattle.pm_disk.specs.Moments.{History}
 use Rattle.pm_segments.specs.Ends.{LogEnd}
 use Rattle.pm_logger.specs.LogCalls.{MakesCalls, BreaksOff, operations_calls, since_after}
 use Rattle.pm_logger.specs.declared.limits.TheConstants.{FORCE_AFTER}
-use Rattle.pm_logger.specs.Operations.{Operation, IsOperation, AreOperations, operation_bytes, operations_bytes, IsWhole, BeginsWithNone, IsBad}
+use Rattle.pm_logger.specs.Operations.{Operation, IsOperation, AreOperations, operation_bytes}
+use Rattle.pm_logger.specs.Operations.{operations_bytes, IsWhole, BeginsWithNone, IsBad}
 use Rattle.pm_logger.specs.declared.front.Stop.{Stop}
 use Rattle.pm_logger.specs.declared.front.Stop.TheVariants as stop
 use Rattle.pm_logger.specs.declared.operation.Front.{Front}

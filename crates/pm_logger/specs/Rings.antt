@@ -5,7 +5,8 @@ use Rattle.pm_types.specs.declared.limits.TheConstants.{RING_SLOTS}
 use Rattle.pm_disk.specs.Moments.{History}
 use Rattle.pm_logger.specs.Blocks.{joined}
 use Rattle.pm_logger.specs.Fronts.{WriterState}
-use Rattle.pm_logger.specs.Inboxes.{kept, taken, waiting, seen, IsEndOf, IsHalted, IsDrained, AppendsGiven, FailsGiven}
+use Rattle.pm_logger.specs.Inboxes.{kept, taken, waiting, seen, IsEndOf, IsHalted, IsDrained}
+use Rattle.pm_logger.specs.Inboxes.{AppendsGiven, FailsGiven}
 use Rattle.pm_logger.specs.LogEnds.{pushed, free_slots, SameEnd}
 use Rattle.pm_logger.specs.Operations.{Operation, AreOperations, operations_bytes, BeginsWithNone, IsBeginning}
 use Rattle.pm_logger.specs.declared.inbox.Inbox.{Inbox}

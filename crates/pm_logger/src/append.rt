@@ -1,12 +1,15 @@
 //! Records and operations, appended to the log.
 
-ghost use Rattle.std.specs.Prelude.{◌≡◌, ◌<◌, ◌≤◌, ◌+◌, ℕ, List, [], ◌∷◌, false, ◌||◌, ◌==◌, length, IsSome, OnOk, OnErr, vec_capacity};
+ghost use Rattle.std.specs.Prelude.{◌≡◌, ◌<◌, ◌≤◌, ◌+◌, ℕ, List, [], ◌∷◌, false, ◌||◌, ◌==◌, length};
+ghost use Rattle.std.specs.Prelude.{IsSome, OnOk, OnErr, vec_capacity};
 ghost use Rattle.pm_frame.specs.declared.kinds.TheConstants.{LOGICAL as logical_kind};
 ghost use Rattle.pm_frame.specs.Frames.{Frame};
 ghost use Rattle.pm_disk.specs.States.{HasCause, IsUsable};
 ghost use Rattle.pm_segments.specs.Ends.{EndsThere};
-ghost use Rattle.pm_logger.specs.LogCalls.{AppendFrame, MakesCalls, BreaksOff, noted, named_line, record_calls, force_calls, next_since, operation_calls};
-ghost use Rattle.pm_logger.specs.Operations.{Operation, frame_of, MayBeLogged, SpellRecords, AreRecords, SpellOperation, IsWhole};
+ghost use Rattle.pm_logger.specs.LogCalls.{AppendFrame, MakesCalls, BreaksOff, noted, named_line};
+ghost use Rattle.pm_logger.specs.LogCalls.{record_calls, force_calls, next_since, operation_calls};
+ghost use Rattle.pm_logger.specs.Operations.{Operation, frame_of, MayBeLogged, SpellRecords};
+ghost use Rattle.pm_logger.specs.Operations.{AreRecords, SpellOperation, IsWhole};
 
 use crate::limits::FORCE_AFTER;
 use crate::operation::{OPERATION_HEAD_LEN, first_record, operation_head_of};

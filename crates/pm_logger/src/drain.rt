@@ -7,7 +7,8 @@ ghost use Rattle.pm_disk.specs.States.{HasCause, IsUsable};
 ghost use Rattle.pm_segments.specs.Ends.{EndsThere};
 ghost use Rattle.pm_logger.specs.declared.limits.TheConstants.{FORCE_AFTER as force_after};
 ghost use Rattle.pm_logger.specs.Fronts.{KeepsLimits};
-ghost use Rattle.pm_logger.specs.Inboxes.{kept, seen, AppendsTaken, FailsTaken, AppendsGiven, FailsGiven, IsHalted, IsDrained};
+ghost use Rattle.pm_logger.specs.Inboxes.{kept, seen, AppendsTaken, FailsTaken, AppendsGiven};
+ghost use Rattle.pm_logger.specs.Inboxes.{FailsGiven, IsHalted, IsDrained};
 ghost use Rattle.pm_logger.specs.Operations.{BeginsWithNone};
 
 use crate::block::next_cut;

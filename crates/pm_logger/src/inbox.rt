@@ -1,11 +1,13 @@
 //! The log writer's end of a worker's ring, with what was taken out of it.
 
-ghost use Rattle.std.specs.Prelude.{◌≡◌, ◌<◌, ◌≤◌, ◌+◌, ◌++◌, [], ◌↔◌, true, false, IsTrue, IsFalse, length, drop, IfOk, OnOk, OnErr, vec_capacity};
+ghost use Rattle.std.specs.Prelude.{◌≡◌, ◌<◌, ◌≤◌, ◌+◌, ◌++◌, [], ◌↔◌, true, false, IsTrue, IsFalse};
+ghost use Rattle.std.specs.Prelude.{length, drop, IfOk, OnOk, OnErr, vec_capacity};
 ghost use Rattle.pm_types.specs.declared.limits.TheConstants.{BATCH_LINES_MAX as most_lines, OUTBOX as longest};
 ghost use Rattle.rtrb.specs.Ring.{SameConsumer};
 ghost use Rattle.pm_disk.specs.States.{HasCause, IsUsable};
 ghost use Rattle.pm_segments.specs.Ends.{EndsThere};
-ghost use Rattle.pm_logger.specs.declared.limits.TheConstants.{FORCE_AFTER as force_after, KEPT_MAX as kept_max};
+ghost use Rattle.pm_logger.specs.declared.limits.TheConstants.{FORCE_AFTER as force_after};
+ghost use Rattle.pm_logger.specs.declared.limits.TheConstants.{KEPT_MAX as kept_max};
 ghost use Rattle.pm_logger.specs.Fronts.{IsStop, KeepsLimits, AppendsFront, FailsAtFront};
 ghost use Rattle.pm_logger.specs.Operations.{IsBad};
 ghost use Rattle.pm_logger.specs.declared.block.TheConstants.{BLOCK_BYTES_MAX as most_in_block};
@@ -36,7 +38,9 @@ pub(crate) struct Inbox {
 impl Inbox {
     ghost use Rattle.pm_logger.specs.Rings.{IsFresh};
     ghost use Rattle.pm_logger.specs.LogEnds.{pushed, SameEnd};
-    ghost use Rattle.pm_logger.specs.Inboxes.{IsEndOf, Looks, seen, kept, waiting, TakesBlock, AppendsTaken, FailsTaken, AppendsGiven, FailsGiven, IsHalted};
+    ghost use Rattle.pm_logger.specs.Inboxes.{IsEndOf, Looks, seen, kept, waiting, TakesBlock};
+    ghost use Rattle.pm_logger.specs.Inboxes.{AppendsTaken, FailsTaken, AppendsGiven, FailsGiven};
+    ghost use Rattle.pm_logger.specs.Inboxes.{IsHalted};
 
     /// A new ring, as its two ends.
     pub(crate) fn open(alloc: Global) -> Result<(Inbox, LogEnd), AllocError>

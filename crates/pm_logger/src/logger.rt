@@ -35,7 +35,8 @@ impl Logger {
     ghost use Rattle.pm_segments.specs.Ends.{EndsThere};
     ghost use Rattle.pm_logger.specs.Loggers.{inboxes, noted_lines, since_forced, writer_state};
     ghost use Rattle.pm_logger.specs.Merges.{AppendsMerge, FailsInMerge};
-    ghost use Rattle.pm_logger.specs.Rings.{IsFresh, EachPair, AreLinked, KeepsEnds, AreEmptied, KeepBeginnings, KeepsNothing, GivesTo, FailsToGive};
+    ghost use Rattle.pm_logger.specs.Rings.{IsFresh, EachPair, AreLinked, KeepsEnds, AreEmptied};
+    ghost use Rattle.pm_logger.specs.Rings.{KeepBeginnings, KeepsNothing, GivesTo, FailsToGive};
 
     /// A log writer for so many workers, and each worker's end of its ring.
     pub fn new(alloc: Global, workers: u32) -> Result<(Logger, Vec<LogEnd>), AllocError>

@@ -1,6 +1,7 @@
 //! What follows of a slot's format.
 
-ghost use Rattle.std.specs.Prelude.{◌≡◌, ◌≢◌, ◌⊎◌, ◌≤◌, ◌<◌, ◌+◌, ℕ, List, Option, Some, None, length, replicate};
+ghost use Rattle.std.specs.Prelude.{◌≡◌, ◌≢◌, ◌⊎◌, ◌≤◌, ◌<◌, ◌+◌, ℕ, List, Option, Some, None, length};
+ghost use Rattle.std.specs.Prelude.{replicate};
 ghost use Rattle.pm_types.specs.declared.shape.Mark.{Mark};
 ghost use Rattle.pm_disk.specs.Files.{bytes_of, changed};
 ghost use Rattle.pm_disk.specs.Worlds.{slot_at};

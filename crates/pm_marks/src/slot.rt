@@ -1,7 +1,8 @@
 //! A slot of a marker file: its bytes, and the mark that they say.
 
 ghost use Rattle.std.specs.Prelude.{◌≡◌, ◌+◌, ◌≤◌, ◌↔◌, ◌==◌, ◌&&◌, IsTrue, length};
-ghost use Rattle.pm_marks.specs.Slots.{IsMark, IsMarkPlace, place_bytes, marked_bytes, slot_bytes, named_place, named_shape, named_mark, mark_in};
+ghost use Rattle.pm_marks.specs.Slots.{IsMark, IsMarkPlace, place_bytes, marked_bytes, slot_bytes};
+ghost use Rattle.pm_marks.specs.Slots.{named_place, named_shape, named_mark, mark_in};
 
 use pm_disk::SLOT_LEN;
 use pm_frame::{FRAME_END_MAX, sum};

@@ -1,5 +1,6 @@
 -- The replies to lines, and the map that they leave, in a store of some shape.
-use Rattle.std.specs.Prelude.{ℕ, ◌+◌, List, [], ◌∷◌, refl, Option, None, Some, Bool, true, false, not, ◌&&◌, nat_le, ◌==◌, if◌then◌else◌, count_by, filter}
+use Rattle.std.specs.Prelude.{ℕ, ◌+◌, List, [], ◌∷◌, refl, Option, None, Some, Bool, true, false, not}
+use Rattle.std.specs.Prelude.{◌&&◌, nat_le, ◌==◌, if◌then◌else◌, count_by, filter}
 use Rattle.std.specs.Prelude as list
 use Rattle.std.specs.declared.cmp.Ordering.{Ordering}
 use Rattle.std.specs.Ordering.{nat_cmp, ordering_then}

@@ -1,5 +1,6 @@
 -- In which order the accepted lines of a script may be logged, where each partition's lines are served by themselves.
-use Rattle.std.specs.Prelude.{◌≡◌, ℕ, ◌+◌, ◌-◌, ◌<◌, ◌==◌, nat_lt, List, [], ◌∷◌, ◌++◌, filter, take, Bool, true, false, unwrap_or, slice_get, if◌then◌else◌}
+use Rattle.std.specs.Prelude.{◌≡◌, ℕ, ◌+◌, ◌-◌, ◌<◌, ◌==◌, nat_lt, List, [], ◌∷◌, ◌++◌, filter, take}
+use Rattle.std.specs.Prelude.{Bool, true, false, unwrap_or, slice_get, if◌then◌else◌}
 use Rattle.std.specs.List.{All, AllPairs, Contains}
 use Rattle.std.specs.FinMap as map
 use Rattle.pm_types.specs.declared.shape.Shape.{Shape}

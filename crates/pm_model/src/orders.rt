@@ -1,13 +1,16 @@
 //! In which order the accepted lines of a script may be logged, where each partition's lines are served by themselves. The
 //! functions do nothing: each states a law.
 
-ghost use Rattle.std.specs.Prelude.{◌≡◌, ℕ, ◌+◌, ◌<◌, ◌≤◌, ◌==◌, nat_lt, not, List, [], ◌∷◌, ◌++◌, filter, length, take, true, false};
+ghost use Rattle.std.specs.Prelude.{◌≡◌, ℕ, ◌+◌, ◌<◌, ◌≤◌, ◌==◌, nat_lt, not, List, [], ◌∷◌, ◌++◌};
+ghost use Rattle.std.specs.Prelude.{filter, length, take, true, false};
 ghost use Rattle.std.specs.List.{All, AllPairs, Contains};
 ghost use Rattle.pm_types.specs.declared.limits.TheConstants.{BATCH_LINES_MAX};
 ghost use Rattle.pm_types.specs.declared.shape.Shape.{Shape};
 ghost use Rattle.pm_model.specs.declared.line.Line.{Line};
 ghost use Rattle.pm_model.specs.Eval.{Pairs, reply_to, after, is_accepted, replies_to, after_all, accepted};
-ghost use Rattle.pm_model.specs.Orders.{line_at, after_numbers, part_of_line, numbers_of, IsPrefix, is_barrier, IsOrderOf, HasAccepted, HasTried, AreAccepted, part_rows, below, lines_of, replies_in};
+ghost use Rattle.pm_model.specs.Orders.{line_at, after_numbers, part_of_line, numbers_of, IsPrefix};
+ghost use Rattle.pm_model.specs.Orders.{is_barrier, IsOrderOf, HasAccepted, HasTried, AreAccepted};
+ghost use Rattle.pm_model.specs.Orders.{part_rows, below, lines_of, replies_in};
 
 /// Script order is an order as far as it goes, and has tried so many lines.
 pub fn script_order_is_an_order()

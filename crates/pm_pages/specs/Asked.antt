@@ -1,5 +1,7 @@
 -- The pages that were asked for since `ready`.
-use Rattle.std.specs.Prelude.{◌≡◌, ◌≢◌, ℕ, ◌+◌, Bool, true, false, List, [], ◌∷◌, Option, None, Some, IsSome, IsSomeAnd, IsTrue, if◌then◌else◌, ◌==◌, length, find, unwrap_or, suc}
+use Rattle.std.specs.Prelude.{◌≡◌, ◌≢◌, ℕ, ◌+◌, Bool, true, false, List, [], ◌∷◌, Option, None, Some}
+use Rattle.std.specs.Prelude.{IsSome, IsSomeAnd, IsTrue, if◌then◌else◌, ◌==◌, length, find, unwrap_or}
+use Rattle.std.specs.Prelude.{suc}
 use Rattle.pm_types.specs.Spans.{Coverage}
 use Rattle.pm_pages.specs.declared.asked.Asked.{Asked}
 use Rattle.pm_pages.specs.Paged.{JoinsPatch, IsWhole}

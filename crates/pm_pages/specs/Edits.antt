@@ -7,7 +7,8 @@ use Rattle.pm_types.specs.Counts.{HasRisen}
 use Rattle.pm_meta.specs.declared.slots.MetaSlot.{MetaSlot}
 use Rattle.pm_meta.specs.MetaPages.{field_of}
 use Rattle.pm_pages.specs.Rows.{bytes_of}
-use Rattle.pm_pages.specs.Paged.{Paged, IsTold, IsThere, LendsNone, SamePartition, CoversByte, IsInHand, WritesPage}
+use Rattle.pm_pages.specs.Paged.{Paged, IsTold, IsThere, LendsNone, SamePartition, CoversByte, IsInHand}
+use Rattle.pm_pages.specs.Paged.{WritesPage}
 use Rattle.pm_types.specs.Spans.{Coverage}
 use Rattle.pm_types.specs.Pages.{IsNoted}
 

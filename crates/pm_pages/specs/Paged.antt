@@ -1,7 +1,9 @@
 -- What a contract sees of the pages of a partition that are asked for one at a time, and what each call changes.
 --
 -- `T` holds where the store reports the content of pages that weren't read, as one in memory does.
-use Rattle.std.specs.Prelude.{◌≡◌, ◌≢◌, ℕ, ◌+◌, ◌-◌, ◌<◌, ◌≤◌, ◌⊎◌, ◌==◌, if◌then◌else◌, Bool, List, Option, Some, None, IsSome, IsSomeAnd, IfSome, IsTrue, Result, IsErrOf, length, replicate}
+use Rattle.std.specs.Prelude.{◌≡◌, ◌≢◌, ℕ, ◌+◌, ◌-◌, ◌<◌, ◌≤◌, ◌⊎◌, ◌==◌, if◌then◌else◌, Bool, List}
+use Rattle.std.specs.Prelude.{Option, Some, None, IsSome, IsSomeAnd, IfSome, IsTrue, Result, IsErrOf}
+use Rattle.std.specs.Prelude.{length, replicate}
 use Rattle.pm_types.specs.declared.limits.TheConstants.{OP_PAGES}
 use Rattle.pm_types.specs.declared.page_id.PageId.{PageId}
 use Rattle.pm_types.specs.declared.fault.PageFault.{PageFault}

@@ -1,5 +1,6 @@
 -- The pages of a partition, and its rows.
-use Rattle.std.specs.Prelude.{ℕ, ◌+◌, List, [], ◌∷◌, Option, None, Some, if◌then◌else◌, ◌==◌, nat_lt, slice_index}
+use Rattle.std.specs.Prelude.{ℕ, ◌+◌, List, [], ◌∷◌, Option, None, Some, if◌then◌else◌, ◌==◌, nat_lt}
+use Rattle.std.specs.Prelude.{slice_index}
 use Rattle.std.specs.List.{flat_map, range_with_len}
 use Rattle.pm_types.specs.declared.page_id.PageId.{PageId}
 use Rattle.pm_types.specs.declared.page_id.Link.{Link}

@@ -1,6 +1,7 @@
 -- The tree of a cache: inner pages above leaves, whose items are the cache's rows by rising key.
 use Rattle.pm_types.specs.declared.limits.TheConstants.{CACHES}
-use Rattle.std.specs.Prelude.{◌≡◌, ◌≢◌, ℕ, zero, suc, ◌+◌, ◌/◌, ◌<◌, ◌≤◌, List, [], ◌∷◌, if◌then◌else◌, ◌==◌, map, length, All, Any}
+use Rattle.std.specs.Prelude.{◌≡◌, ◌≢◌, ℕ, zero, suc, ◌+◌, ◌/◌, ◌<◌, ◌≤◌, List, [], ◌∷◌, if◌then◌else◌}
+use Rattle.std.specs.Prelude.{◌==◌, map, length, All, Any}
 use Rattle.std.specs.List.{flat_map, slice_index_or}
 use Rattle.pm_types.specs.Ids.{index_of_id}
 use Rattle.pm_btpage.specs.declared.layout.TheConstants.{LEAF_KIND, INNER_KIND}

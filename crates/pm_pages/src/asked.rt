@@ -1,12 +1,14 @@
 //! The pages that were asked for since `ready`, with their patches.
 
-ghost use Rattle.std.specs.Prelude.{◌≡◌, ℕ, ◌+◌, ◌<◌, ◌≤◌, ◌⊎◌, ◌++◌, [], ◌∷◌, true, Option, Some, IsSome, IsSomeAnd, IfSome, length};
+ghost use Rattle.std.specs.Prelude.{◌≡◌, ℕ, ◌+◌, ◌<◌, ◌≤◌, ◌⊎◌, ◌++◌, [], ◌∷◌, true, Option, Some};
+ghost use Rattle.std.specs.Prelude.{IsSome, IsSomeAnd, IfSome, length};
 ghost use Rattle.std.specs.Option.{option_copied};
 ghost use Rattle.std.specs.Vec.{vec_capacity};
 ghost use Rattle.pm_types.specs.PageSizes.{IsPageSize};
 ghost use Rattle.pm_types.specs.Spans.{Covers};
 ghost use Rattle.pm_pages.specs.Paged.{JoinsPatch};
-ghost use Rattle.pm_pages.specs.Asked.{to_read, entry_of, position_of, entry_or_new, HaveSize, RegistersPage, MakesEntry, NotesEntry};
+ghost use Rattle.pm_pages.specs.Asked.{to_read, entry_of, position_of, entry_or_new, HaveSize};
+ghost use Rattle.pm_pages.specs.Asked.{RegistersPage, MakesEntry, NotesEntry};
 
 use pm_types::Patch;
 

@@ -2,8 +2,10 @@
 
 ghost use Rattle.std.specs.Prelude.{◌≡◌, ℕ, Some, None, IfOk, IfSome, IfNone, OnOk, IsTrue, List};
 ghost use Rattle.pm_meta.specs.MetaPages.{field_of, IsSlot, IsMetaPage};
-ghost use Rattle.pm_pages.specs.Paged.{IsTold, HasRoomFor, AllReadable, IsLent, IsFirstAbsent, WritesPage, HasPageCause};
-ghost use Rattle.pm_pages.specs.Edits.{LooksAtPages, EditsPages, RewritesPage, HasMeta, IsNumberIn, HasDiskCause};
+ghost use Rattle.pm_pages.specs.Paged.{IsTold, HasRoomFor, AllReadable, IsLent, IsFirstAbsent};
+ghost use Rattle.pm_pages.specs.Paged.{WritesPage, HasPageCause};
+ghost use Rattle.pm_pages.specs.Edits.{LooksAtPages, EditsPages, RewritesPage, HasMeta, IsNumberIn};
+ghost use Rattle.pm_pages.specs.Edits.{HasDiskCause};
 ghost use Rattle.pm_pages.specs.SparePages.{SetsNumber, MetaBecomes};
 ghost use Rattle.pm_types.specs.Pages.{IsNoted};
 

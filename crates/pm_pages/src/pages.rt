@@ -4,7 +4,10 @@ ghost use Rattle.std.specs.Prelude.{◌≡◌, ℕ, ◌≤◌, List, Some, IsTru
 ghost use Rattle.std.specs.Borrow.{sem, Lends, Array, u8};
 ghost use Rattle.std.specs.Io.BufRead.{Rests};
 ghost use Rattle.pm_types.specs.PageSizes.{IsPageSize};
-ghost use Rattle.pm_pages.specs.Paged.{Paged, IsTold, IsThere, HasRoomFor, NoneLent, AsksPage, AsksInVain, LendsNone, IsPageIn, IsFirstAbsent, IsInHand, IsLent, WritesPage, MakesPage, NotesPatch, GivesUpPages, HasPageCause, HasGapCause};
+ghost use Rattle.pm_pages.specs.Paged.{Paged, IsTold, IsThere, HasRoomFor, NoneLent, AsksPage};
+ghost use Rattle.pm_pages.specs.Paged.{AsksInVain, LendsNone, IsPageIn, IsFirstAbsent, IsInHand};
+ghost use Rattle.pm_pages.specs.Paged.{IsLent, WritesPage, MakesPage, NotesPatch, GivesUpPages};
+ghost use Rattle.pm_pages.specs.Paged.{HasPageCause, HasGapCause};
 
 use pm_types::{PageFault, Patch};
 

@@ -1,6 +1,7 @@
 //! The pages of a partition as a list in memory.
 
-ghost use Rattle.std.specs.Prelude.{◌≡◌, ℕ, ◌+◌, ◌<◌, ◌≤◌, ◌++◌, [], ◌∷◌, None, Some, IfOk, OnOk, OnErr, MatchOption, All, length, replicate};
+ghost use Rattle.std.specs.Prelude.{◌≡◌, ℕ, ◌+◌, ◌<◌, ◌≤◌, ◌++◌, [], ◌∷◌, None, Some, IfOk, OnOk};
+ghost use Rattle.std.specs.Prelude.{OnErr, MatchOption, All, length, replicate};
 ghost use Rattle.std.specs.Vec.{vec_capacity};
 ghost use Rattle.std.specs.Borrow.{sem, Lends, Array, u8};
 ghost use Rattle.pm_types.specs.PageSizes.{IsPageSize};
@@ -8,7 +9,8 @@ ghost use Rattle.pm_types.specs.declared.limits.TheConstants.{OP_PAGES};
 ghost use Rattle.pm_types.specs.contracts.page.Page.{the_row as page_row};
 ghost use Rattle.pm_pages.specs.PageLists.{pages_in};
 ghost use Rattle.pm_pages.specs.PlainRooms.{AreZeros, IsOfSize};
-ghost use Rattle.pm_pages.specs.Plain.{shown, refilled, plain_seen, plain_count, ArePlain, ArePlainReady, MakesReady};
+ghost use Rattle.pm_pages.specs.Plain.{shown, refilled, plain_seen, plain_count, ArePlain};
+ghost use Rattle.pm_pages.specs.Plain.{ArePlainReady, MakesReady};
 
 use crate::asked::{Asked, ask, entry, lend, make, note};
 use crate::pages::Pages;

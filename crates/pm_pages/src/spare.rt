@@ -1,6 +1,8 @@
 //! Pages that are taken for a new use, and pages that are given back.
 
-ghost use Rattle.std.specs.Prelude.{◌≡◌, ◌≢◌, ℕ, ◌+◌, ◌-◌, ◌^◌, ◌<◌, ◌≤◌, ◌⊎◌, Some, None, IfOk, IfSome, IfNone, OnOk, OnErr, IsErrOf, IsTrue, List, length, replicate};
+ghost use Rattle.std.specs.Prelude.{◌≡◌, ◌≢◌, ℕ, ◌+◌, ◌-◌, ◌^◌, ◌<◌, ◌≤◌, ◌⊎◌, Some, None, IfOk};
+ghost use Rattle.std.specs.Prelude.{IfSome, IfNone, OnOk, OnErr, IsErrOf, IsTrue, List, length};
+ghost use Rattle.std.specs.Prelude.{replicate};
 ghost use Rattle.pm_types.specs.Ids.{page_id};
 ghost use Rattle.pm_types.specs.declared.page_id.PageId.{PageId};
 ghost use Rattle.pm_types.specs.declared.fault.PageFault.TheVariants.{BadPage};
@@ -9,7 +11,8 @@ ghost use Rattle.pm_meta.specs.declared.slots.MetaSlot.TheVariants.{Reuse, Pages
 ghost use Rattle.pm_meta.specs.declared.layout.TheConstants.{REUSE_KIND};
 ghost use Rattle.pm_pages.specs.Rows.{kind_of};
 ghost use Rattle.pm_pages.specs.PageLists.{IsReadable};
-ghost use Rattle.pm_pages.specs.Paged.{IsTold, HasRoomFor, AllReadable, IsLent, IsInHand, MakesPage, WritesPage, HasPageCause, HasGapCause};
+ghost use Rattle.pm_pages.specs.Paged.{IsTold, HasRoomFor, AllReadable, IsLent, IsInHand, MakesPage};
+ghost use Rattle.pm_pages.specs.Paged.{WritesPage, HasPageCause, HasGapCause};
 ghost use Rattle.pm_pages.specs.Edits.{LooksAtPages, HasMeta, IsNumberIn};
 ghost use Rattle.pm_pages.specs.SparePages.{TakesPage, GivesPage, IsReuseIn, IsOfOtherUse, HasTakeCause};
 

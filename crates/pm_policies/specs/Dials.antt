@@ -1,5 +1,6 @@
 -- The kind Clock: a ring of frames with a mark each, and a hand that goes round.
-use Rattle.std.specs.Prelude.{◌≡◌, ◌≢◌, ℕ, ◌+◌, ◌%◌, ◌^◌, ◌<◌, ◌≤◌, List, length, Bool, true, false, slice_index_or}
+use Rattle.std.specs.Prelude.{◌≡◌, ◌≢◌, ℕ, ◌+◌, ◌%◌, ◌^◌, ◌<◌, ◌≤◌, List, length, Bool, true, false}
+use Rattle.std.specs.Prelude.{slice_index_or}
 
 -- each frame's mark, and the frame at which the hand stands
 pub record Dial : Type 0 where

@@ -1,6 +1,7 @@
 -- A tournament: a tree in which each inner node is the lesser of the two below it. Node i stands above nodes 2i and 2i + 1,
 -- node 1 is the root, and the nodes from the number of leaves on are the leaves.
-use Rattle.std.specs.Prelude.{◌≡◌, ℕ, ◌+◌, ◌*◌, ◌<◌, ◌≤◌, ◌==◌, ◌&&◌, ◌||◌, Bool, List, length, Option, Some, None, nat_lt, slice_index_or, if◌then◌else◌}
+use Rattle.std.specs.Prelude.{◌≡◌, ℕ, ◌+◌, ◌*◌, ◌<◌, ◌≤◌, ◌==◌, ◌&&◌, ◌||◌, Bool, List, length, Option}
+use Rattle.std.specs.Prelude.{Some, None, nat_lt, slice_index_or, if◌then◌else◌}
 use Rattle.pm_policies.specs.declared.tournament.Contender.{Contender}
 use Rattle.pm_policies.specs.Stamps.{IsNoLater}
 

@@ -1,6 +1,7 @@
 //! The kind Clock: a ring of frames with a mark each, and a hand that goes round.
 
-ghost use Rattle.std.specs.Prelude.{◌≡◌, ◌+◌, ◌%◌, ◌^◌, ◌<◌, ◌≤◌, [], length, replicate, slice_set, true, false, OnOk, OnErr};
+ghost use Rattle.std.specs.Prelude.{◌≡◌, ◌+◌, ◌%◌, ◌^◌, ◌<◌, ◌≤◌, [], length, replicate, slice_set};
+ghost use Rattle.std.specs.Prelude.{true, false, OnOk, OnErr};
 ghost use Rattle.std.specs.Bool.{OnTrue, OnFalse};
 ghost use Rattle.pm_policies.specs.Dials.{is_marked, Sweeps};
 

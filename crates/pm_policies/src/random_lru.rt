@@ -1,6 +1,7 @@
 //! The kind RandomLru: some frames are drawn, and the one used longest ago is picked.
 
-ghost use Rattle.std.specs.Prelude.{◌≡◌, ◌+◌, ◌%◌, ◌^◌, ◌<◌, ◌≤◌, ◌⊎◌, [], length, replicate, slice_index, slice_set, OnOk, OnErr};
+ghost use Rattle.std.specs.Prelude.{◌≡◌, ◌+◌, ◌%◌, ◌^◌, ◌<◌, ◌≤◌, ◌⊎◌, [], length, replicate};
+ghost use Rattle.std.specs.Prelude.{slice_index, slice_set, OnOk, OnErr};
 ghost use Rattle.pm_policies.specs.Draws.{first_state, state_after_draw, state_after, stamped, IsOldestDrawn};
 ghost use Rattle.pm_policies.specs.Stamps.{IsNoLater};
 

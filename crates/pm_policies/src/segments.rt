@@ -1,8 +1,10 @@
 //! Frames of which some are protected, and the oldest of each side.
 
-ghost use Rattle.std.specs.Prelude.{◌≡◌, ◌+◌, ◌/◌, ◌^◌, ◌<◌, ◌≤◌, [], length, replicate, slice_set, true, false, if◌then◌else◌, IfOk};
+ghost use Rattle.std.specs.Prelude.{◌≡◌, ◌+◌, ◌/◌, ◌^◌, ◌<◌, ◌≤◌, [], length, replicate, slice_set};
+ghost use Rattle.std.specs.Prelude.{true, false, if◌then◌else◌, IfOk};
 ghost use Rattle.std.specs.Bool.{OnTrue, OnFalse};
-ghost use Rattle.pm_policies.specs.Segments.{fresh, standing_at, count_protected, contender_of, IsOldest, Demotes, Protects, IsSegments};
+ghost use Rattle.pm_policies.specs.Segments.{fresh, standing_at, count_protected, contender_of};
+ghost use Rattle.pm_policies.specs.Segments.{IsOldest, Demotes, Protects, IsSegments};
 
 use crate::tournament::{Contender, Node, enter, first, of_all, without_contenders};
 use pm_types::FrameNo;

@@ -1,8 +1,10 @@
 //! A tournament of frames by their stamps: who comes first is known at once, and a change of one of them
 //! plays as many games again as the tree has levels.
 
-ghost use Rattle.std.specs.Prelude.{◌≡◌, ◌≢◌, ℕ, ◌+◌, ◌*◌, ◌^◌, ◌<◌, ◌≤◌, length, replicate, slice_set, Some, None, IfOk};
-ghost use Rattle.pm_policies.specs.Tournaments.{node_at, leaf_at, winner, is_before as is_before_of, IsTournament};
+ghost use Rattle.std.specs.Prelude.{◌≡◌, ◌≢◌, ℕ, ◌+◌, ◌*◌, ◌^◌, ◌<◌, ◌≤◌, length, replicate, slice_set};
+ghost use Rattle.std.specs.Prelude.{Some, None, IfOk};
+ghost use Rattle.pm_policies.specs.Tournaments.{node_at, leaf_at, winner, is_before as is_before_of};
+ghost use Rattle.pm_policies.specs.Tournaments.{IsTournament};
 
 use pm_types::FrameNo;
 use std::alloc::{AllocError, Global};

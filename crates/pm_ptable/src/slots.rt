@@ -4,9 +4,11 @@
 //! An entry stands at its page's home or after it, and no slot between the two is empty. The row
 //! goes on after the last home, so that no search has to begin anew at the front.
 
-ghost use Rattle.std.specs.Prelude.{◌≡◌, ◌<◌, ◌≤◌, ◌^◌, ◌+◌, ◌⊎◌, length, not, option_map, IsTrue, Some, None, if◌then◌else◌};
+ghost use Rattle.std.specs.Prelude.{◌≡◌, ◌<◌, ◌≤◌, ◌^◌, ◌+◌, ◌⊎◌, length, not, option_map, IsTrue};
+ghost use Rattle.std.specs.Prelude.{Some, None, if◌then◌else◌};
 ghost use Rattle.std.specs.FinMap as map;
-ghost use Rattle.pm_ptable.specs.Slots.{home_of, slot_at, filled, map_of, IsProbeEnd, IsSlotFor, IsRow, IsSettled, IsSettledBut, IsSingle};
+ghost use Rattle.pm_ptable.specs.Slots.{home_of, slot_at, filled, map_of, IsProbeEnd, IsSlotFor, IsRow};
+ghost use Rattle.pm_ptable.specs.Slots.{IsSettled, IsSettledBut, IsSingle};
 
 use pm_types::{FrameNo, PageId, Tag};
 

@@ -7,7 +7,8 @@ use Rattle.pm_frame.specs.Frames.{Frame, frame_len}
 use Rattle.pm_disk.specs.Files.{File, bytes_of, content, at_change}
 use Rattle.pm_disk.specs.Images.{Lasting}
 use Rattle.pm_disk.specs.Worlds.{World}
-use Rattle.pm_records.specs.Logs.{Grammar, all_frames, place, is_seal, is_last, is_over, after_frames, frames_len, without_seals, HasFrames, SegmentHasFrames, IsLogFrom}
+use Rattle.pm_records.specs.Logs.{Grammar, all_frames, place, is_seal, is_last, is_over, after_frames}
+use Rattle.pm_records.specs.Logs.{frames_len, without_seals, HasFrames, SegmentHasFrames, IsLogFrom}
 
 -- what the segments' files hold now
 abbrev pub contents : (ℕ → File) → ℕ → List ℕ

@@ -3,7 +3,8 @@
 -- Segments are numbered from 1, and a number has 64 bits. A frame lies in one segment. After a SEAL the log goes on at the begin
 -- of the next segment; a SEAL in segment 2^64 - 1 ends the log just after itself. Else the log ends at the first place at which
 -- no frame stands.
-use Rattle.std.specs.Prelude.{◌≡◌, ◌<◌, ◌+◌, ◌-◌, ◌^◌, ℕ, List, [], ◌∷◌, drop, Option, Some, None, if◌then◌else◌, ◌==◌, ◌&&◌, ◌||◌, not, Bool, true, false}
+use Rattle.std.specs.Prelude.{◌≡◌, ◌<◌, ◌+◌, ◌-◌, ◌^◌, ℕ, List, [], ◌∷◌, drop, Option, Some, None}
+use Rattle.std.specs.Prelude.{if◌then◌else◌, ◌==◌, ◌&&◌, ◌||◌, not, Bool, true, false}
 use Rattle.pm_types.specs.declared.place.Place.{Place}
 use Rattle.pm_frame.specs.declared.kinds.TheConstants.{SEAL}
 use Rattle.pm_frame.specs.Frames.{Frame, frame_len, frame_bytes, frame_at, is_frame}

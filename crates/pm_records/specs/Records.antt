@@ -21,7 +21,9 @@
 --   6 SEAL        nothing
 --
 -- Nothing follows the last field.
-use Rattle.std.specs.Prelude.{◌≡◌, ℕ, ◌+◌, ◌<◌, ◌⊎◌, Bool, true, ◌&&◌, ◌||◌, nat_eq, nat_lt, nat_le, ◌==◌, if◌then◌else◌, List, [], ◌∷◌, ◌++◌, length, drop, slice_index, slice_range, Option, Some, None}
+use Rattle.std.specs.Prelude.{◌≡◌, ℕ, ◌+◌, ◌<◌, ◌⊎◌, Bool, true, ◌&&◌, ◌||◌, nat_eq, nat_lt, nat_le}
+use Rattle.std.specs.Prelude.{◌==◌, if◌then◌else◌, List, [], ◌∷◌, ◌++◌, length, drop, slice_index}
+use Rattle.std.specs.Prelude.{slice_range, Option, Some, None}
 use Rattle.std.specs.Cmp.Lexicographic.{pointwise}
 use Rattle.std.specs.Int.{w32, w64, to_le_bytes, from_le_bytes}
 use Rattle.pm_types.specs.declared.limits.TheConstants.{CACHES, KEY_MAX, VALUE_MAX}
@@ -31,7 +33,8 @@ use Rattle.pm_types.specs.declared.shape.Shape.{Shape}
 use Rattle.pm_types.specs.Keys.{HasKeyLength, HasValueLength}
 use Rattle.pm_frame.specs.declared.kinds.TheConstants.{LOGICAL, SNAPSHOT, DELTA, CP_BEGIN, RESTART, SEAL}
 use Rattle.pm_records.specs.declared.limits.TheConstants.{PUT, REMOVE, LOGICAL_HEAD_LEN, PAGE_NAME_LEN}
-use Rattle.pm_records.specs.PageRecords.{IsSnapshot, IsPageDelta, IsCpBegin, is_snapshot, is_page_delta, is_cp_begin}
+use Rattle.pm_records.specs.PageRecords.{IsSnapshot, IsPageDelta, IsCpBegin, is_snapshot, is_page_delta}
+use Rattle.pm_records.specs.PageRecords.{is_cp_begin}
 use Rattle.pm_types.specs.Shapes.{IsShape, is_shape}
 use Rattle.pm_records.specs.Shapes.{shape_bytes, named_shape}
 

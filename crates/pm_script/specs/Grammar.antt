@@ -14,7 +14,8 @@
 --
 -- K stands for 1 to KEY_MAX bytes, V for at most VALUE_MAX. A line of more than LINE_MAX bytes is long, whatever else it
 -- has. Every other line is bad.
-use Rattle.std.specs.Prelude.{◌≡◌, ℕ, ◌+◌, ◌-◌, List, [], ◌∷◌, ◌==◌, if◌then◌else◌, Bool, ◌&&◌, not, nat_lt, nat_le, length, drop, Option, None, Some, codes, map}
+use Rattle.std.specs.Prelude.{◌≡◌, ℕ, ◌+◌, ◌-◌, List, [], ◌∷◌, ◌==◌, if◌then◌else◌, Bool, ◌&&◌, not}
+use Rattle.std.specs.Prelude.{nat_lt, nat_le, length, drop, Option, None, Some, codes, map}
 use Rattle.std.specs.List.{slice_split, list_all, starts_with}
 use Rattle.std.specs.Bool.{nat_eq}
 use Rattle.std.specs.Result.{result_ok}

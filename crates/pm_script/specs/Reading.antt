@@ -1,5 +1,6 @@
 -- What is left of a script that is read in pieces, and what reading its next line does.
-use Rattle.std.specs.Prelude.{◌≡◌, ◌⊎◌, ℕ, ◌+◌, ◌≤◌, ◌<◌, List, [], ◌∷◌, ◌++◌, take, drop, length, Bool, true, false, not, ◌||◌, Option, Some, None}
+use Rattle.std.specs.Prelude.{◌≡◌, ◌⊎◌, ℕ, ◌+◌, ◌≤◌, ◌<◌, List, [], ◌∷◌, ◌++◌, take, drop, length, Bool}
+use Rattle.std.specs.Prelude.{true, false, not, ◌||◌, Option, Some, None}
 use Rattle.pm_types.specs.declared.limits.TheConstants.{SCRIPT_BYTES_MAX, LINES_MAX, LINE_MAX}
 use Rattle.pm_disk.specs.Worlds.{World, with_taken}
 use Rattle.pm_script.specs.declared.lines.TheConstants.{BUFFER}

@@ -17,7 +17,8 @@ use Rattle.std.specs.Prelude.{◌≡◌, ℕ, ◌<◌, List, ◌++◌, length, c
 use Rattle.std.specs.List.{flat_map, All}
 use Rattle.hex.specs.Hex.{encode_lower, IsBytes}
 use Rattle.pm_model.specs.declared.reply.Reply.{Reply}
-use Rattle.pm_model.specs.declared.reply.Reply.TheVariants.{Done, Found, Absent, Was, Pairs, Full, BadLine, LongLine}
+use Rattle.pm_model.specs.declared.reply.Reply.TheVariants.{Done, Found, Absent, Was, Pairs, Full}
+use Rattle.pm_model.specs.declared.reply.Reply.TheVariants.{BadLine, LongLine}
 use Rattle.pm_script.specs.Grammar.{is_plain, field_of}
 
 -- the text of a key or a value

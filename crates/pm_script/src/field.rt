@@ -5,7 +5,8 @@ ghost use Rattle.std.specs.List.{list_all};
 ghost use Rattle.std.specs.Option.{option_map};
 ghost use Rattle.std.specs.Result.{result_ok};
 ghost use Rattle.hex.specs.Hex.{decode_of};
-ghost use Rattle.pm_script.specs.Grammar.{bounded, cache_of, is_graphic, is_in_digits, is_plain, key_of, value_of};
+ghost use Rattle.pm_script.specs.Grammar.{bounded, cache_of, is_graphic, is_in_digits, is_plain};
+ghost use Rattle.pm_script.specs.Grammar.{key_of, value_of};
 
 use pm_types::{CACHES, KEY_MAX, Key, VALUE_MAX, Value};
 use std::alloc::{AllocError, Global};

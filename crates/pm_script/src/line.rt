@@ -2,7 +2,8 @@
 
 ghost use Rattle.std.specs.Prelude.{◌≡◌, ◌<◌, ◌∷◌, IfOk, IfSome};
 ghost use Rattle.pm_model.specs.Batches.{HasCache};
-ghost use Rattle.pm_script.specs.Grammar.{checkpoint_of, scan_of, get_or_remove_of, put_of, key_of, value_of, words_of, line_of_words, line_of};
+ghost use Rattle.pm_script.specs.Grammar.{checkpoint_of, scan_of, get_or_remove_of, put_of, key_of};
+ghost use Rattle.pm_script.specs.Grammar.{value_of, words_of, line_of_words, line_of};
 
 use crate::field::{cache_number, read_key, read_value};
 use crate::word::first_word;

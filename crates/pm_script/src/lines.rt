@@ -5,7 +5,9 @@ ghost use Rattle.std.specs.Borrow.{sem};
 ghost use Rattle.std.specs.Io.BufRead.{Rests};
 ghost use Rattle.pm_disk.specs.States.{HasCause, IsUsable};
 ghost use Rattle.pm_disk.specs.Moments.{AllMoments};
-ghost use Rattle.pm_script.specs.Reading.{OnlyTakes, rest_of, has_next, KnowsEnd, TakesPart, FillsPending, GivesItem, CountsItem, CountsKind, FindsKind, KeepsLine, IsKind, IsEndedWith, IsEndedWithout};
+ghost use Rattle.pm_script.specs.Reading.{OnlyTakes, rest_of, has_next, KnowsEnd, TakesPart};
+ghost use Rattle.pm_script.specs.Reading.{FillsPending, GivesItem, CountsItem, CountsKind, FindsKind};
+ghost use Rattle.pm_script.specs.Reading.{KeepsLine, IsKind, IsEndedWith, IsEndedWithout};
 
 use crate::buffer::{has_newline, keep_front, newline_position, read_after};
 use crate::item::Item;

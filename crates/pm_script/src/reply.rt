@@ -3,7 +3,8 @@
 ghost use Rattle.std.specs.Prelude.{◌≡◌, ◌≤◌, ◌++◌, length, OnOk, OnErr};
 ghost use Rattle.std.specs.List.{flat_map};
 ghost use Rattle.hex.specs.Hex.{encode_lower};
-ghost use Rattle.pm_script.specs.Texts.{text_of, pair_text, end_text, field_text, IsOnto, EachHasText, FieldsReadBack, TextsDiffer};
+ghost use Rattle.pm_script.specs.Texts.{text_of, pair_text, end_text, field_text, IsOnto, EachHasText};
+ghost use Rattle.pm_script.specs.Texts.{FieldsReadBack, TextsDiffer};
 
 use crate::field::is_plain;
 use itoa::Buffer;

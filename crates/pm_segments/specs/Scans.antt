@@ -1,5 +1,6 @@
 -- What contracts see of a log that is read.
-use Rattle.std.specs.Prelude.{◌≡◌, ◌+◌, ◌≤◌, ◌⊎◌, ℕ, List, [], length, take, drop, Bool, true, false, IsTrue, Option, Some, None, if◌then◌else◌}
+use Rattle.std.specs.Prelude.{◌≡◌, ◌+◌, ◌≤◌, ◌⊎◌, ℕ, List, [], length, take, drop, Bool, true, false}
+use Rattle.std.specs.Prelude.{IsTrue, Option, Some, None, if◌then◌else◌}
 use Rattle.pm_types.specs.declared.place.Place.{Place}
 use Rattle.pm_frame.specs.declared.limits.TheConstants.{SEGMENT_END_MAX, FRAME_MAX}
 use Rattle.pm_frame.specs.Frames.{Frame, frame_len, frame_at}

@@ -1,16 +1,21 @@
 //! The log's writer.
 
-ghost use Rattle.std.specs.Prelude.{◌≡◌, ◌⊎◌, ◌≤◌, ◌<◌, ◌+◌, ◌↔◌, ℕ, [], length, true, IsTrue, IfOk, OnOk, OnErr};
+ghost use Rattle.std.specs.Prelude.{◌≡◌, ◌⊎◌, ◌≤◌, ◌<◌, ◌+◌, ◌↔◌, ℕ, [], length, true, IsTrue, IfOk};
+ghost use Rattle.std.specs.Prelude.{OnOk, OnErr};
 ghost use Rattle.pm_disk.specs.States.{HasCause, IsUsable};
-ghost use Rattle.pm_frame.specs.declared.limits.TheConstants.{PAYLOAD_MAX as longest, SEGMENT_END_MAX as last_end};
+ghost use Rattle.pm_frame.specs.declared.limits.TheConstants.{PAYLOAD_MAX as longest};
+ghost use Rattle.pm_frame.specs.declared.limits.TheConstants.{SEGMENT_END_MAX as last_end};
 ghost use Rattle.pm_frame.specs.declared.kinds.TheConstants.{LOGICAL, SEAL};
 ghost use Rattle.pm_frame.specs.Frames.{IsFrame, frame_len};
-ghost use Rattle.pm_types.specs.declared.limits.TheConstants.{SEGMENT_BYTES_MIN as least_size, SEGMENT_BYTES_MAX as most_size};
+ghost use Rattle.pm_types.specs.declared.limits.TheConstants.{SEGMENT_BYTES_MIN as least_size};
+ghost use Rattle.pm_types.specs.declared.limits.TheConstants.{SEGMENT_BYTES_MAX as most_size};
 ghost use Rattle.pm_disk.specs.Files.{bytes_of};
 ghost use Rattle.pm_disk.specs.Worlds.{segment_in, log_forced};
 ghost use Rattle.pm_disk.specs.Moments.{Does};
 ghost use Rattle.pm_records.specs.LogSteps.{written, cut_steps, DoesSteps, next_segment, next_begin};
-ghost use Rattle.pm_segments.specs.Appends.{seal_len, seal_steps, enter_steps, begin_steps, roll_steps, rolled, room_steps, roomy, append_steps, grown, steps_of, tried_log, failed_append, Reaches};
+ghost use Rattle.pm_segments.specs.Appends.{seal_len, seal_steps, enter_steps, begin_steps, roll_steps};
+ghost use Rattle.pm_segments.specs.Appends.{rolled, room_steps, roomy, append_steps, grown, steps_of};
+ghost use Rattle.pm_segments.specs.Appends.{tried_log, failed_append, Reaches};
 ghost use Rattle.pm_segments.specs.Ends.{fresh_log, HasRoom, EndsThere, moved};
 
 use pm_disk::{Failed, LogFile};

@@ -1,16 +1,19 @@
 //! The log's reader.
 
-ghost use Rattle.std.specs.Prelude.{◌≡◌, ◌≤◌, ◌<◌, ◌+◌, ◌-◌, length, take, drop, [], true, false, None, IfOk, OnOk};
+ghost use Rattle.std.specs.Prelude.{◌≡◌, ◌≤◌, ◌<◌, ◌+◌, ◌-◌, length, take, drop, [], true, false, None};
+ghost use Rattle.std.specs.Prelude.{IfOk, OnOk};
 ghost use Rattle.std.specs.Borrow.{sem};
 ghost use Rattle.std.specs.Io.BufRead.{Rests};
 ghost use Rattle.pm_disk.specs.States.{HasCause, IsUsable};
 ghost use Rattle.pm_disk.specs.Moments.{Does};
-ghost use Rattle.pm_frame.specs.declared.limits.TheConstants.{SEGMENT_END_MAX as last_end, FRAME_MAX as longest};
+ghost use Rattle.pm_frame.specs.declared.limits.TheConstants.{SEGMENT_END_MAX as last_end};
+ghost use Rattle.pm_frame.specs.declared.limits.TheConstants.{FRAME_MAX as longest};
 ghost use Rattle.pm_frame.specs.Views.{frame_in};
 ghost use Rattle.pm_frame.specs.Frames.{frame_at};
 ghost use Rattle.pm_disk.specs.Files.{ReadsFrom};
 ghost use Rattle.pm_disk.specs.Worlds.{segment_in};
-ghost use Rattle.pm_segments.specs.Scans.{IsAhead, SeesFrame, StaysAt, StepsTo, StepsOver, bytes_after, frame_ahead, past_seal, Advances, GivesNext};
+ghost use Rattle.pm_segments.specs.Scans.{IsAhead, SeesFrame, StaysAt, StepsTo, StepsOver, bytes_after};
+ghost use Rattle.pm_segments.specs.Scans.{frame_ahead, past_seal, Advances, GivesNext};
 
 use pm_disk::{Failed, LogReader};
 use pm_frame::{FRAME_EXTRA, FRAME_MAX, FrameView, HEAD_LEN, SEAL, read_frame};

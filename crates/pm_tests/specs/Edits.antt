@@ -4,7 +4,8 @@ use Rattle.pm_types.specs.declared.page_id.PageId.{PageId}
 use Rattle.pm_types.specs.declared.fault.PageFault.{PageFault}
 use Rattle.pm_types.specs.declared.fault.PageFault.TheVariants.{Failed, BadPage}
 use Rattle.pm_types.specs.Counts.{HasRisen}
-use Rattle.pm_pages.specs.Paged.{Paged, IsTold, PassesIn, CoversByte, TakesRoom, SamePartition, IsLent, IsBadPage}
+use Rattle.pm_pages.specs.Paged.{Paged, IsTold, PassesIn, CoversByte, TakesRoom, SamePartition, IsLent}
+use Rattle.pm_pages.specs.Paged.{IsBadPage}
 
 -- one byte of page i was set, and its patch covers that byte; every other page is as it was
 pub record SetsByte (T : Type 0) (old new : Paged) (i at byte : ℕ) : Type 0 where

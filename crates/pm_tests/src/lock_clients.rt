@@ -2,7 +2,8 @@
 //! a frame which it left Dirty, a flusher beside it, and a caller for all numbers that makes each
 //! Done frame Clean.
 
-ghost use Rattle.std.specs.Prelude.{◌≡◌, ◌≢◌, ℕ, ◌<◌, ◌≤◌, true, false, List, length, if◌then◌else◌, slice_set, vec_capacity, slice_get, Some};
+ghost use Rattle.std.specs.Prelude.{◌≡◌, ◌≢◌, ℕ, ◌<◌, ◌≤◌, true, false, List, length, if◌then◌else◌};
+ghost use Rattle.std.specs.Prelude.{slice_set, vec_capacity, slice_get, Some};
 ghost use Rattle.pm_types.specs.declared.flag.Flag.TheVariants as flag;
 ghost use Rattle.pm_locks.specs.Words.{put_as};
 ghost use Rattle.pm_locks.specs.Rule.{HasImage, HasTakenImage};

@@ -1,5 +1,6 @@
 -- What a run promises.
-use Rattle.std.specs.Prelude.{◌<◌, ◌≡◌, ◌⊎◌, None, Some, ℕ, ◌+◌, ◌≤◌, ◌^◌, List, [], ◌∷◌, ◌++◌, take, drop, length, codes, decimal}
+use Rattle.std.specs.Prelude.{◌<◌, ◌≡◌, ◌⊎◌, None, Some, ℕ, ◌+◌, ◌≤◌, ◌^◌, List, [], ◌∷◌, ◌++◌, take}
+use Rattle.std.specs.Prelude.{drop, length, codes, decimal}
 use Rattle.pm_types.specs.declared.limits.TheConstants.{BATCH_LINES_MAX}
 use Rattle.pm_types.specs.declared.fault.Field.{Field}
 use Rattle.pm_types.specs.declared.place.Place.{Place}
@@ -19,7 +20,8 @@ use Rattle.pm_core.specs.LogAlone.{image_of, LogHolds, Holds, last_segment}
 use Rattle.pm_engine.specs.Openings.{IsBadRecord, LogHoldsNothing}
 use Rattle.pm_top.specs.Configurations.{config_fault, fault_config, wanted_in}
 use Rattle.pm_top.specs.declared.status.Status.{Status}
-use Rattle.pm_top.specs.declared.status.Status.TheVariants.{Done, Usage, Misconfigured, Failed, Memory, Damaged, Long}
+use Rattle.pm_top.specs.declared.status.Status.TheVariants.{Done, Usage, Misconfigured, Failed, Memory}
+use Rattle.pm_top.specs.declared.status.Status.TheVariants.{Damaged, Long}
 use Rattle.pm_top.specs.Crashes.{CrashHoldsAcknowledged}
 use Rattle.pm_top.specs.Limits.{IsWithinLimits, PassesLimit, AreWithin}
 use Rattle.pm_top.specs.Served.{script_of}

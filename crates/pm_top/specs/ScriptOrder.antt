@@ -1,5 +1,6 @@
 -- What holds of a run whose accepted lines are logged in the script's order, as one worker logs them.
-use Rattle.std.specs.Prelude.{◌≡◌, ℕ, ◌+◌, ◌-◌, ◌≤◌, List, [], ◌∷◌, take, drop, length, codes, slice_get, unwrap_or}
+use Rattle.std.specs.Prelude.{◌≡◌, ℕ, ◌+◌, ◌-◌, ◌≤◌, List, [], ◌∷◌, take, drop, length, codes}
+use Rattle.std.specs.Prelude.{slice_get, unwrap_or}
 use Rattle.pm_types.specs.declared.limits.TheConstants.{BATCH_LINES_MAX}
 use Rattle.pm_types.specs.declared.shape.Shape.{Shape}
 use Rattle.pm_disk.specs.Images.{Image, LeavesAll}
@@ -11,7 +12,8 @@ use Rattle.pm_core.specs.LogAlone.{Holds, HasTrueFrames}
 use Rattle.pm_top.specs.declared.run.Stop.{Stop}
 use Rattle.pm_top.specs.declared.run.Stop.TheVariants as stop
 use Rattle.pm_top.specs.declared.status.Status.{Status}
-use Rattle.pm_top.specs.declared.status.Status.TheVariants.{Done, Usage, Misconfigured, Failed, Memory, Damaged, Long}
+use Rattle.pm_top.specs.declared.status.Status.TheVariants.{Done, Usage, Misconfigured, Failed, Memory}
+use Rattle.pm_top.specs.declared.status.Status.TheVariants.{Damaged, Long}
 use Rattle.pm_model.specs.Orders as orders
 use Rattle.std.specs.List.{All, Contains}
 use Rattle.pm_top.specs.Crashes.{acknowledged, begun}

@@ -1,7 +1,8 @@
 -- The numbers of statuses.
 use Rattle.std.specs.Prelude.{ℕ, ◌==◌, if◌then◌else◌}
 use Rattle.pm_top.specs.declared.status.Status.{Status}
-use Rattle.pm_top.specs.declared.status.Status.TheVariants.{Done, Usage, Misconfigured, Failed, Memory, Damaged, Long}
+use Rattle.pm_top.specs.declared.status.Status.TheVariants.{Done, Usage, Misconfigured, Failed, Memory}
+use Rattle.pm_top.specs.declared.status.Status.TheVariants.{Damaged, Long}
 
 -- the number of a status
 abbrev pub code_of : Status → ℕ

@@ -1,5 +1,6 @@
 -- The words of a command line.
-use Rattle.std.specs.Prelude.{ℕ, ◌∷◌, [], List, Bool, ◌&&◌, false, not, nat_lt, length, codes, slice_get, unwrap_or}
+use Rattle.std.specs.Prelude.{ℕ, ◌∷◌, [], List, Bool, ◌&&◌, false, not, nat_lt, length, codes}
+use Rattle.std.specs.Prelude.{slice_get, unwrap_or}
 use Rattle.std.specs.List.{starts_with}
 use Rattle.std.specs.Bool.{nat_eq}
 use Rattle.std.specs.Str.{bytes_eq}

@@ -1,9 +1,11 @@
 //! A run over a script, a batch at a time.
 
 ghost use Rattle.pm_disk.specs.States.{HasCause, IsUsable};
-ghost use Rattle.std.specs.Prelude.{◌≡◌, ◌≤◌, ◌<◌, ◌+◌, ◌^◌, ℕ, List, [], ◌++◌, length, IfOk, OnOk, OnErr, IsErrOf};
+ghost use Rattle.std.specs.Prelude.{◌≡◌, ◌≤◌, ◌<◌, ◌+◌, ◌^◌, ℕ, List, [], ◌++◌, length, IfOk, OnOk};
+ghost use Rattle.std.specs.Prelude.{OnErr, IsErrOf};
 ghost use Rattle.std.specs.List.{All};
-ghost use Rattle.pm_types.specs.declared.limits.TheConstants.{LINES_MAX as most_lines, BATCH_LINES_MAX as most_batch};
+ghost use Rattle.pm_types.specs.declared.limits.TheConstants.{LINES_MAX as most_lines};
+ghost use Rattle.pm_types.specs.declared.limits.TheConstants.{BATCH_LINES_MAX as most_batch};
 ghost use Rattle.pm_types.specs.declared.shape.Shape.{Shape};
 ghost use Rattle.pm_disk.specs.Moments.{AllMoments, Says};
 ghost use Rattle.pm_disk.specs.Worlds.{World};
@@ -17,7 +19,9 @@ ghost use Rattle.pm_engine.specs.Batches.{HasPlainFault};
 ghost use Rattle.pm_engine.specs.Engines.{IsAtRest, HasSegments, LastIsForced};
 ghost use Rattle.pm_top.specs.ScriptOrder.{CrashHoldsAcknowledged};
 ghost use Rattle.pm_top.specs.ScriptOrder.{HasFailed, HasNoMemory, StopIs};
-ghost use Rattle.pm_top.specs.Runs.{CanRun, KeepsFiles, Progress, SameConsole, OnlyAnswers, KeepsRun, CountsBatch, IsOpenAfter, LinesAreAnswered, FaultIs, IsAtRestSince, BatchIsAnswered, LeavesRun};
+ghost use Rattle.pm_top.specs.Runs.{CanRun, KeepsFiles, Progress, SameConsole, OnlyAnswers, KeepsRun};
+ghost use Rattle.pm_top.specs.Runs.{CountsBatch, IsOpenAfter, LinesAreAnswered, FaultIs, IsAtRestSince};
+ghost use Rattle.pm_top.specs.Runs.{BatchIsAnswered, LeavesRun};
 ghost use Rattle.pm_top.specs.Served.{script_of};
 
 use crate::batch::{Continuation, next_batch};

@@ -1,8 +1,10 @@
 -- A page of a tree divided into two.
-use Rattle.std.specs.Prelude.{◌≡◌, ◌≢◌, ℕ, ◌+◌, ◌<◌, ◌≤◌, ◌⊎◌, Bool, true, false, List, [], ◌∷◌, length, take, drop, Option, None, Some, IsTrue}
+use Rattle.std.specs.Prelude.{◌≡◌, ◌≢◌, ℕ, ◌+◌, ◌<◌, ◌≤◌, ◌⊎◌, Bool, true, false, List, [], ◌∷◌, length}
+use Rattle.std.specs.Prelude.{take, drop, Option, None, Some, IsTrue}
 use Rattle.pm_types.specs.Ids.{page_id}
 use Rattle.pm_types.specs.declared.page_id.PageId.{PageId}
-use Rattle.pm_btpage.specs.IndexPages.{IndexPage, items_of, index_of, with_items, with_link, empty_leaf, capacity_of, IsIndexPage}
+use Rattle.pm_btpage.specs.IndexPages.{IndexPage, items_of, index_of, with_items, with_link, empty_leaf}
+use Rattle.pm_btpage.specs.IndexPages.{capacity_of, IsIndexPage}
 use Rattle.pm_meta.specs.declared.slots.MetaSlot.{MetaSlot}
 use Rattle.pm_meta.specs.declared.slots.MetaSlot.TheVariants.{Reuse, Pages}
 use Rattle.pm_meta.specs.MetaPages.{IsSlot}

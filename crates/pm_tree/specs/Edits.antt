@@ -2,7 +2,9 @@
 use Rattle.std.specs.Prelude.{◌≡◌, ℕ, ◌<◌, ◌≤◌, true, List, [], length, take, drop, Option, None, Some}
 use Rattle.pm_types.specs.Keys.{HasKeyLength}
 use Rattle.pm_types.specs.declared.page_id.PageId.{PageId}
-use Rattle.pm_btpage.specs.IndexPages.{IndexPage, items_of, index_of, with_items, with_item, with_word, with_link, empty_leaf, empty_inner, capacity_of, IsBetween, IsIndexPage}
+use Rattle.pm_btpage.specs.IndexPages.{IndexPage, items_of, index_of, with_items, with_item, with_word}
+use Rattle.pm_btpage.specs.IndexPages.{with_link, empty_leaf, empty_inner, capacity_of, IsBetween}
+use Rattle.pm_btpage.specs.IndexPages.{IsIndexPage}
 use Rattle.pm_pages.specs.Paged.{Paged, IsInHand}
 use Rattle.pm_tree.specs.declared.edits.Edit.{Edit}
 use Rattle.pm_tree.specs.declared.edits.Edit.TheVariants.{Word, Insert, Next, Cut, Tail}

@@ -2,7 +2,8 @@
 use Rattle.std.specs.Prelude.{◌≡◌, ◌≢◌, ℕ, ◌+◌, ◌<◌, ◌≤◌, ◌⊎◌, false, List, [], ◌∷◌, ◌++◌, length, None}
 use Rattle.pm_types.specs.Ids.{page_id}
 use Rattle.pm_btpage.specs.declared.layout.TheConstants.{INNER_KIND}
-use Rattle.pm_btpage.specs.IndexPages.{Item, IndexPage, items_of, with_items, with_item, capacity_of, IsBetween, IsIndexPage}
+use Rattle.pm_btpage.specs.IndexPages.{Item, IndexPage, items_of, with_items, with_item, capacity_of}
+use Rattle.pm_btpage.specs.IndexPages.{IsBetween, IsIndexPage}
 use Rattle.pm_meta.specs.declared.slots.MetaSlot.TheVariants.{Pages}
 use Rattle.pm_pages.specs.Rows.{page_count, kind_of}
 use Rattle.pm_pages.specs.Trees.{index_in}

@@ -9,7 +9,8 @@ use Rattle.pm_tree.specs.Maps.{get_in, put_in}
 use Rattle.pm_tree.specs.Spare.{MovesSpare}
 use Rattle.pm_tree.specs.declared.put.Put.{Put}
 use Rattle.pm_tree.specs.declared.put.Put.TheVariants.{Kept, Split}
-use Rattle.pm_tree.specs.Nodes.{Node, nodes_in, Entry, items_under, leaves_under, nodes_under, AreBounded, Each, IsTreeIn, first_or, AreLinkedTo}
+use Rattle.pm_tree.specs.Nodes.{Node, nodes_in, Entry, items_under, leaves_under, nodes_under}
+use Rattle.pm_tree.specs.Nodes.{AreBounded, Each, IsTreeIn, first_or, AreLinkedTo}
 
 -- what stands below each entry, joined
 abbrev pub flat : {A : Type 0} → (ℕ → List A) → List Entry → List A

@@ -1,5 +1,6 @@
 -- The pages that can be taken anew, and what a change took from them and gave back to them.
-use Rattle.std.specs.Prelude.{◌≡◌, ℕ, ◌+◌, ◌<◌, ◌≤◌, nat_le, nat_lt, Bool, ◌&&◌, List, length, if◌then◌else◌, All}
+use Rattle.std.specs.Prelude.{◌≡◌, ℕ, ◌+◌, ◌<◌, ◌≤◌, nat_le, nat_lt, Bool, ◌&&◌, List, length}
+use Rattle.std.specs.Prelude.{if◌then◌else◌, All}
 use Rattle.pm_pages.specs.Rows.{Partition, page_count}
 use Rattle.pm_pages.specs.Chains.{times, reuse_chain, HasReuseChain}
 

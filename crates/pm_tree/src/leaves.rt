@@ -1,6 +1,7 @@
 //! Puts into a leaf.
 
-ghost use Rattle.std.specs.Prelude.{◌≡◌, ◌≢◌, ℕ, ◌+◌, ◌-◌, ◌/◌, ◌<◌, ◌≤◌, List, Some, None, IfOk, OnOk, true, [], length};
+ghost use Rattle.std.specs.Prelude.{◌≡◌, ◌≢◌, ℕ, ◌+◌, ◌-◌, ◌/◌, ◌<◌, ◌≤◌, List, Some, None, IfOk, OnOk};
+ghost use Rattle.std.specs.Prelude.{true, [], length};
 ghost use Rattle.pm_types.specs.Keys.{HasKeyLength};
 ghost use Rattle.pm_btpage.specs.IndexPages.{items_of, index_of, key_in, word_in, capacity_of, IsIndexPage};
 ghost use Rattle.pm_pages.specs.Paged.{AllReadable, IsInHand};

@@ -1,6 +1,7 @@
 //! Puts.
 
-ghost use Rattle.std.specs.Prelude.{◌≡◌, ◌≢◌, ℕ, ◌+◌, ◌-◌, ◌*◌, ◌<◌, ◌≤◌, List, Some, None, IfOk, OnOk, IsTrue, length};
+ghost use Rattle.std.specs.Prelude.{◌≡◌, ◌≢◌, ℕ, ◌+◌, ◌-◌, ◌*◌, ◌<◌, ◌≤◌, List, Some, None, IfOk, OnOk};
+ghost use Rattle.std.specs.Prelude.{IsTrue, length};
 ghost use Rattle.pm_types.specs.Keys.{HasKeyLength};
 ghost use Rattle.pm_meta.specs.declared.slots.MetaSlot.TheVariants.{Pages};
 ghost use Rattle.pm_btpage.specs.IndexPages.{items_of, capacity_of};

@@ -1,6 +1,7 @@
 //! Puts into the index of a cache, and its roots.
 
-ghost use Rattle.std.specs.Prelude.{◌≡◌, ◌≢◌, ℕ, ◌+◌, ◌-◌, ◌*◌, ◌<◌, ◌≤◌, List, Option, Some, None, IfOk, OnOk, IsTrue, length};
+ghost use Rattle.std.specs.Prelude.{◌≡◌, ◌≢◌, ℕ, ◌+◌, ◌-◌, ◌*◌, ◌<◌, ◌≤◌, List, Option, Some, None};
+ghost use Rattle.std.specs.Prelude.{IfOk, OnOk, IsTrue, length};
 ghost use Rattle.std.specs.Option.{option_map};
 ghost use Rattle.pm_types.specs.declared.limits.TheConstants.{CACHES};
 ghost use Rattle.pm_types.specs.Keys.{HasKeyLength};
@@ -14,7 +15,8 @@ ghost use Rattle.pm_types.specs.declared.page_id.Link.{Link};
 ghost use Rattle.pm_tree.specs.Indexes.{IsIndex, link_in};
 ghost use Rattle.pm_tree.specs.Sound.{PassesAll, NoBadPage, MayTake};
 ghost use Rattle.pm_tree.specs.SoundPuts.{HasSparePages, MayPutBelow};
-ghost use Rattle.pm_tree.specs.Roots.{MakesRoot, MakesTop, PutsIndex, PutsRootPages, HasGrowCause, HasTreePutCause};
+ghost use Rattle.pm_tree.specs.Roots.{MakesRoot, MakesTop, PutsIndex, PutsRootPages, HasGrowCause};
+ghost use Rattle.pm_tree.specs.Roots.{HasTreePutCause};
 
 use crate::edits::{Edit, make_edit, write_blank};
 use crate::get::link_of;

@@ -1,5 +1,6 @@
 -- Two pages below an inner page, of which one had too few items, over the pages of a partition.
-use Rattle.std.specs.Prelude.{◌≡◌, ℕ, ◌/◌, ◌<◌, ◌⊎◌, ◌↔◌, Bool, false, List, Some, IsTrue, Result, IsErrOf, length}
+use Rattle.std.specs.Prelude.{◌≡◌, ℕ, ◌/◌, ◌<◌, ◌⊎◌, ◌↔◌, Bool, false, List, Some, IsTrue, Result}
+use Rattle.std.specs.Prelude.{IsErrOf, length}
 use Rattle.pm_types.specs.declared.page_id.PageId.{PageId}
 use Rattle.pm_types.specs.declared.fault.PageFault.{PageFault}
 use Rattle.pm_types.specs.declared.fault.PageFault.TheVariants.{Failed, BadPage}

@@ -1,7 +1,9 @@
 -- Two pages that stand side by side below an inner page, and what is made of them where one has too few items.
 use Rattle.std.specs.Prelude.{◌≡◌, ℕ, ◌+◌, ◌/◌, ◌<◌, ◌≤◌, ◌⊎◌, Bool, true, false, List, ◌∷◌, ◌++◌, length}
 use Rattle.pm_btpage.specs.declared.layout.TheConstants.{LEAF_KIND, INNER_KIND}
-use Rattle.pm_btpage.specs.IndexPages.{Item, IndexPage, items_of, index_of, key_in, word_in, with_items, with_item, without_item, capacity_of, AllBelow, IsBelow, IsIndexPage}
+use Rattle.pm_btpage.specs.IndexPages.{Item, IndexPage, items_of, index_of, key_in, word_in, with_items}
+use Rattle.pm_btpage.specs.IndexPages.{with_item, without_item, capacity_of, AllBelow, IsBelow}
+use Rattle.pm_btpage.specs.IndexPages.{IsIndexPage}
 use Rattle.pm_pages.specs.Rows.{kind_of}
 use Rattle.pm_tree_del.specs.declared.mends.Mend.{Mend}
 use Rattle.pm_tree_del.specs.declared.mends.Mend.TheVariants.{Merged, Shared, Wrong}

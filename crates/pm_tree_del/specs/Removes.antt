@@ -3,7 +3,8 @@ use Rattle.std.specs.Prelude.{◌≡◌, ◌≢◌, ℕ, ◌+◌, ◌-◌, ◌<�
 use Rattle.pm_pages.specs.Chains.{times}
 use Rattle.pm_pages.specs.Rows.{Partition}
 use Rattle.pm_tree.specs.Maps.{get_in}
-use Rattle.pm_tree.specs.Nodes.{Node, nodes_in, items_under, leaves_under, nodes_under, IsTreeIn, first_or, AreLinkedTo}
+use Rattle.pm_tree.specs.Nodes.{Node, nodes_in, items_under, leaves_under, nodes_under, IsTreeIn}
+use Rattle.pm_tree.specs.Nodes.{first_or, AreLinkedTo}
 use Rattle.pm_tree.specs.Puts.{IsSpare}
 use Rattle.pm_tree_del.specs.declared.remove.Removal.{Removal}
 use Rattle.pm_tree_del.specs.declared.remove.Removal.TheVariants.{Absent, Kept, Small}

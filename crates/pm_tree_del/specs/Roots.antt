@@ -1,5 +1,6 @@
 -- Removals from the index of a cache, and its roots.
-use Rattle.std.specs.Prelude.{◌≡◌, ◌≢◌, ℕ, ◌+◌, ◌<◌, ◌≤◌, ◌⊎◌, List, [], Option, Some, IsTrue, Result, IsErrOf, length}
+use Rattle.std.specs.Prelude.{◌≡◌, ◌≢◌, ℕ, ◌+◌, ◌<◌, ◌≤◌, ◌⊎◌, List, [], Option, Some, IsTrue, Result}
+use Rattle.std.specs.Prelude.{IsErrOf, length}
 use Rattle.pm_types.specs.declared.page_id.Link.{Link}
 use Rattle.pm_types.specs.Ids.{page_id}
 use Rattle.pm_types.specs.PageSizes.{IsPageSize}

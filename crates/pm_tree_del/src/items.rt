@@ -1,8 +1,10 @@
 //! Items taken out of a leaf.
 
-ghost use Rattle.std.specs.Prelude.{◌≡◌, ◌≢◌, ℕ, ◌+◌, ◌/◌, ◌<◌, ◌≤◌, ◌↔◌, List, Some, OnOk, IfOk, IsTrue, length};
+ghost use Rattle.std.specs.Prelude.{◌≡◌, ◌≢◌, ℕ, ◌+◌, ◌/◌, ◌<◌, ◌≤◌, ◌↔◌, List, Some, OnOk, IfOk};
+ghost use Rattle.std.specs.Prelude.{IsTrue, length};
 ghost use Rattle.pm_types.specs.Pages.{IsNoted};
-ghost use Rattle.pm_btpage.specs.IndexPages.{items_of, index_of, with_items, without_item, capacity_of, IsIndexPage};
+ghost use Rattle.pm_btpage.specs.IndexPages.{items_of, index_of, with_items, without_item, capacity_of};
+ghost use Rattle.pm_btpage.specs.IndexPages.{IsIndexPage};
 ghost use Rattle.pm_pages.specs.Paged.{AllReadable, IsLent};
 ghost use Rattle.pm_pages.specs.Edits.{EditsPages, RewritesPage, HasDiskCause};
 ghost use Rattle.pm_tree_del.specs.Items.{HasItemAt, TakesOut, TakesOutAt};

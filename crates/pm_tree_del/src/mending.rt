@@ -11,7 +11,8 @@ ghost use Rattle.pm_tree.specs.Sound.{IsSound};
 ghost use Rattle.pm_tree_del.specs.Sound.{StandSo, CanBeMended};
 ghost use Rattle.pm_tree_del.specs.Pairs.{IsPairOf, MayMend, CanMend};
 ghost use Rattle.pm_tree_del.specs.Copies.{TakesBytes};
-ghost use Rattle.pm_tree_del.specs.Mending.{IsFamily, MergesPages, SharesPages, MendsCopies, MendsPair, MendsChild, HasMendCause};
+ghost use Rattle.pm_tree_del.specs.Mending.{IsFamily, MergesPages, SharesPages, MendsCopies, MendsPair};
+ghost use Rattle.pm_tree_del.specs.Mending.{MendsChild, HasMendCause};
 
 use crate::copies::{copy_page, write_page};
 use crate::items::has_few;

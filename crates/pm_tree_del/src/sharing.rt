@@ -1,9 +1,12 @@
 //! Items that go from one page to the one beside it.
 
-ghost use Rattle.std.specs.Prelude.{◌≡◌, ◌≢◌, ℕ, ◌+◌, ◌-◌, ◌<◌, ◌≤◌, true, false, List, [], ◌∷◌, ◌++◌, drop, take, length};
+ghost use Rattle.std.specs.Prelude.{◌≡◌, ◌≢◌, ℕ, ◌+◌, ◌-◌, ◌<◌, ◌≤◌, true, false, List, [], ◌∷◌, ◌++◌};
+ghost use Rattle.std.specs.Prelude.{drop, take, length};
 ghost use Rattle.pm_types.specs.Keys.{HasKeyLength};
 ghost use Rattle.pm_types.specs.Pages.{IsNoted};
-ghost use Rattle.pm_btpage.specs.IndexPages.{items_of, index_of, key_in, word_in, with_items, with_link, without_item, capacity_of, AllBelow, IsBelow, IsIndexPage};
+ghost use Rattle.pm_btpage.specs.IndexPages.{items_of, index_of, key_in, word_in, with_items};
+ghost use Rattle.pm_btpage.specs.IndexPages.{with_link, without_item, capacity_of, AllBelow, IsBelow};
+ghost use Rattle.pm_btpage.specs.IndexPages.{IsIndexPage};
 ghost use Rattle.pm_tree_del.specs.Neighbours.{joined, joined_items, with_key, AreApart, HasPlaceFor};
 
 use pm_btpage::{

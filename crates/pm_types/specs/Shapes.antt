@@ -1,6 +1,7 @@
 -- The shapes that a store may have.
 use Rattle.std.specs.Prelude.{◌≤◌, Bool, ◌&&◌, nat_le}
-use Rattle.pm_types.specs.declared.limits.TheConstants.{LAST_VERSION, PARTITIONS_MAX, ROWS_MAX, SEGMENT_BYTES_MIN, SEGMENT_BYTES_MAX}
+use Rattle.pm_types.specs.declared.limits.TheConstants.{LAST_VERSION, PARTITIONS_MAX, ROWS_MAX}
+use Rattle.pm_types.specs.declared.limits.TheConstants.{SEGMENT_BYTES_MIN, SEGMENT_BYTES_MAX}
 use Rattle.pm_types.specs.declared.shape.Shape.{Shape}
 use Rattle.pm_types.specs.PageSizes.{IsPageSize, is_page_size}
 

@@ -1,5 +1,6 @@
 -- Ranges of a page's bytes, and what a patch covers.
-use Rattle.std.specs.Prelude.{◌≡◌, ℕ, ◌+◌, ◌-◌, ◌*◌, ◌<◌, ◌≤◌, ◌⊎◌, ◌↔◌, Bool, false, List, [], ◌∷◌, length, take, IsTrue}
+use Rattle.std.specs.Prelude.{◌≡◌, ℕ, ◌+◌, ◌-◌, ◌*◌, ◌<◌, ◌≤◌, ◌⊎◌, ◌↔◌, Bool, false, List, [], ◌∷◌}
+use Rattle.std.specs.Prelude.{length, take, IsTrue}
 use Rattle.std.specs.List.{sum_by}
 use Rattle.pm_types.specs.PageSizes.{IsPageSize}
 use Rattle.pm_types.specs.declared.limits.TheConstants.{PATCH_SPANS_MAX}

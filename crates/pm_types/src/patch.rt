@@ -2,7 +2,8 @@
 
 ghost use Rattle.std.specs.Prelude.{◌≡◌, ℕ, ◌+◌, ◌<◌, ◌≤◌, ◌↔◌, Some, false, IsTrue, length, slice_get, take};
 ghost use Rattle.pm_types.specs.PageSizes.{IsPageSize};
-ghost use Rattle.pm_types.specs.Spans.{IsInSpan, span_of, IsInSpans, RiseFrom, AreMany, no_coverage, Covers, AlsoCovers, IsPatch};
+ghost use Rattle.pm_types.specs.Spans.{IsInSpan, span_of, IsInSpans, RiseFrom, AreMany, no_coverage};
+ghost use Rattle.pm_types.specs.Spans.{Covers, AlsoCovers, IsPatch};
 
 use crate::limits::PATCH_SPANS_MAX;
 use crate::spans::{Span, add_span, add_spans, byte_count};

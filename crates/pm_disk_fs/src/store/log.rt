@@ -1,7 +1,8 @@
 //! The segments of the log. Writes to one of them that follow each other are buffered, and handed to the
 //! system as one before any other call on the log.
 
-ghost use Rattle.std.specs.Prelude.{◌≡◌, ◌<◌, ◌≤◌, ◌+◌, ◌⊎◌, [], false, length, IsTrue, IsErr, OnOk, OnErr, IfOk};
+ghost use Rattle.std.specs.Prelude.{◌≡◌, ◌<◌, ◌≤◌, ◌+◌, ◌⊎◌, [], false, length, IsTrue, IsErr, OnOk};
+ghost use Rattle.std.specs.Prelude.{OnErr, IfOk};
 ghost use Rattle.pm_disk_fs.specs.WriteBuffer.{FitsAfter, IsAlone, IsAppended};
 ghost use Rattle.pm_disk_fs.specs.Positions.{IsWrittenInOrder, IsStretchWritten, IsWritten};
 ghost use Rattle.pm_disk_fs.specs.Writes.{ChangesLog, FlushesBuffer, PoisonsOnFailure};

@@ -5,7 +5,8 @@ ghost use Rattle.std.specs.List.{slice_index_or};
 ghost use Rattle.pm_meta.specs.declared.layout.TheConstants.{BUCKETS};
 ghost use Rattle.pm_pages.specs.PageLists.{pages_in, MayRead, IsReadable, AreReadable};
 ghost use Rattle.pm_pages.specs.Rows.{page_at, page_count};
-ghost use Rattle.pm_pages.specs.Chains.{next_of, before_of, reuse_next_of, bucket_chain, reuse_chain, is_in_bucket, NamesBefore, HasChain, HasReuseChain};
+ghost use Rattle.pm_pages.specs.Chains.{next_of, before_of, reuse_next_of, bucket_chain, reuse_chain};
+ghost use Rattle.pm_pages.specs.Chains.{is_in_bucket, NamesBefore, HasChain, HasReuseChain};
 
 use crate::well_formed::exact::is_exactly;
 use crate::well_formed::listed::{is_of, number, page, page_count};

@@ -1,6 +1,7 @@
 //! Whether a tree lists the rows of a cache.
 
-ghost use Rattle.std.specs.Prelude.{◌≡◌, ℕ, ◌<◌, ◌↔◌, ◌++◌, List, IsTrue, IfOk, OnOk, All, Any, length, slice_index, ◌+◌};
+ghost use Rattle.std.specs.Prelude.{◌≡◌, ℕ, ◌<◌, ◌↔◌, ◌++◌, List, IsTrue, IfOk, OnOk, All, Any, length};
+ghost use Rattle.std.specs.Prelude.{slice_index, ◌+◌};
 ghost use Rattle.pm_btpage.specs.declared.layout.TheConstants.{LEAF_KIND};
 ghost use Rattle.pm_btpage.specs.IndexPages.{items_of, index_of, IsBelow, IsIndexPage, IsRising};
 ghost use Rattle.pm_pages.specs.declared.row.Row.{Row};

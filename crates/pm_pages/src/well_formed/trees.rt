@@ -4,7 +4,8 @@ ghost use Rattle.std.specs.Prelude.{◌≡◌, ℕ, ◌+◌, ◌-◌, ◌<◌, �
 ghost use Rattle.pm_btpage.specs.declared.layout.TheConstants.{LEAF_KIND, INNER_KIND};
 ghost use Rattle.pm_btpage.specs.IndexPages.{items_of, index_of, IsIndexPage};
 ghost use Rattle.pm_pages.specs.PageLists.{pages_in, MayRead, AreReadable};
-ghost use Rattle.pm_pages.specs.Trees.{child_of, items_below, IsNode, IsKeyWithin, IsWithin, IsTree, IsSomeTree};
+ghost use Rattle.pm_pages.specs.Trees.{child_of, items_below, IsNode, IsKeyWithin, IsWithin, IsTree};
+ghost use Rattle.pm_pages.specs.Trees.{IsSomeTree};
 
 use crate::well_formed::listed::{is_of, page};
 use pm_btpage::{INNER_KIND, LEAF_KIND, capacity, count, first, is_below, key_at, word_at};

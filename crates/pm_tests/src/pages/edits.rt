@@ -1,10 +1,12 @@
 //! Callers over any pages: a byte is set on a page, and on two.
 
-ghost use Rattle.std.specs.Prelude.{◌≡◌, ◌≢◌, ℕ, ◌+◌, ◌<◌, ◌≤◌, ◌⊎◌, Some, IsTrue, OnErr, OnOk, IsErrOf, List, length, slice_set};
+ghost use Rattle.std.specs.Prelude.{◌≡◌, ◌≢◌, ℕ, ◌+◌, ◌<◌, ◌≤◌, ◌⊎◌, Some, IsTrue, OnErr, OnOk};
+ghost use Rattle.std.specs.Prelude.{IsErrOf, List, length, slice_set};
 ghost use Rattle.pm_types.specs.Counts.{HasRisen};
 ghost use Rattle.pm_types.specs.PageSizes.{IsPageSize};
 ghost use Rattle.pm_types.specs.Spans.{Coverage, Covers};
-ghost use Rattle.pm_pages.specs.Paged.{Paged, IsTold, IsThere, HasRoomFor, AsksPage, IsLent, WritesPage, NotesPatch, HasPageCause};
+ghost use Rattle.pm_pages.specs.Paged.{Paged, IsTold, IsThere, HasRoomFor, AsksPage, IsLent};
+ghost use Rattle.pm_pages.specs.Paged.{WritesPage, NotesPatch, HasPageCause};
 ghost use Rattle.pm_tests.specs.Edits.{SetsByte, SetsTwoBytes, HasTwoCauses};
 
 use pm_pages::Pages;

@@ -1,6 +1,7 @@
 //! A caller over any pages that is safe whatever their bytes are.
 
-ghost use Rattle.std.specs.Prelude.{◌≡◌, ◌≢◌, ℕ, ◌+◌, ◌<◌, ◌≤◌, Some, IsTrue, IfOk, IfSome, OnErr, OnOk, length};
+ghost use Rattle.std.specs.Prelude.{◌≡◌, ◌≢◌, ℕ, ◌+◌, ◌<◌, ◌≤◌, Some, IsTrue, IfOk, IfSome, OnErr};
+ghost use Rattle.std.specs.Prelude.{OnOk, length};
 ghost use Rattle.pm_types.specs.PageSizes.{IsPageSize};
 ghost use Rattle.pm_types.specs.declared.limits.TheConstants.{CACHES};
 ghost use Rattle.pm_pages.specs.PageLists.{IsReadable};
