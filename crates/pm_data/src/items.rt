@@ -1,7 +1,7 @@
 //! What a data page says of its items, and how much room it has.
 
 ghost use Rattle.std.specs.Prelude.{◌≡◌, ℕ, ◌+◌, ◌≤◌, ◌↔◌, Some, None, IsTrue, MatchOption, IfSome};
-ghost use Rattle.std.specs.Prelude.{nat_lt, length};
+ghost use Rattle.std.specs.Prelude.{nat_lt, length, []};
 ghost use Rattle.pm_data.specs.Rows.{IsRow};
 ghost use Rattle.pm_data.specs.DataPages.{rows_of, row_at, free_item, room_of, room_beside, HasRoomFor};
 ghost use Rattle.pm_data.specs.DataPages.{IsDataPage};
@@ -61,6 +61,14 @@ pub fn room(page: &[u8]) -> u16
         return 0;
     }
     get_u16(page, LOW_AT) - SLOTS_AT - SLOT_LEN * get_u16(page, COUNT_AT)
+}
+
+/// Whether the page has no rows.
+pub fn is_empty(page: &[u8]) -> bool
+    requires { IsDataPage page.now }
+    ensures { IsTrue result ↔ (rows_of page.now ≡ []) }
+{
+    get_u16(page, COUNT_AT) == 0
 }
 
 /// Whether a row of this length fits, in bytes.

@@ -15,7 +15,7 @@ mod tests;
 
 pub use checks::check;
 pub use head::{fresh, links, set_links};
-pub use items::{fits, room, row};
+pub use items::{fits, is_empty, room, row};
 pub use layout::{DATA_KIND, ROW_HEAD_LEN, SLOTS_MAX};
 pub use placing::insert;
 pub use removal::remove;

@@ -9,7 +9,4 @@ pub mod Relinked
 pub mod RowLists
 pub mod Runs
 pub mod Settled
-pub mod SpareMoves
-pub mod SpareSteps
 pub mod Views
-pub mod Walks

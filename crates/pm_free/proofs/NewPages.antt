@@ -21,17 +21,17 @@ use Rattle.pm_pages.proofs.PageReads.{page_at-below}
 use Rattle.pm_pages.proofs.RowsFrom.{rows_on-data}
 use Rattle.pm_free.specs.DataEdits.{IsDataAt}
 use Rattle.pm_free.specs.Chained.{home_of, homes_in, with_home, AreChained, KeepsRows, MovesPage}
-use Rattle.pm_free.specs.Spare.{MovesSpare}
+use Rattle.pm_pages.specs.SpareChains.{MovesSpare}
 use Rattle.pm_free.specs.Placed.{HasOneMore, HasChains, HasNoneBelow, KeepsRoots, IsUnused, PlacesRow, DropsPage, IsFilledIn}
 use Rattle.pm_free.proofs.RowLists.{rows_more, rows_end}
 use Rattle.pm_free.proofs.Runs.{run_same}
-use Rattle.pm_free.proofs.Walks.{times_other}
+use Rattle.pm_pages.proofs.ChainWalks.{times_other}
 use Rattle.pm_free.proofs.Relinked.{one_if, run_of, chain_of, home_there}
 use Rattle.pm_free.proofs.Views.{chain_next, chain_before, next_here, keeps_same, keeps_then, other_home, meta_keeps, meta_rows, same_page, no_reuse}
 use Rattle.pm_free.proofs.Changed.{below_count}
 use Rattle.pm_free.proofs.Settled.{chained_as, home_here, home_other}
-use Rattle.pm_free.proofs.SpareMoves.{moves_none, moves_on}
-use Rattle.pm_free.proofs.SpareSteps.{number_by, moves_take, moves_give_other, zeros_kind}
+use Rattle.pm_pages.proofs.SpareMoves.{moves_none, moves_on}
+use Rattle.pm_pages.proofs.SpareSteps.{number_by, moves_take, moves_give_other, zeros_kind}
 use Rattle.pm_free.proofs.PlacedRows.{chains_in, chains_out, only_one, other_than, moves_on_then}
 
 -- chains stay where only a page changed that is in none, and pages were added that are in none

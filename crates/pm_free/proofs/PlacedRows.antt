@@ -25,13 +25,13 @@ use Rattle.pm_free.specs.DataEdits.{edited}
 use Rattle.pm_free.specs.Buckets.{HasEnough}
 use Rattle.pm_free.specs.Chained.{home_of, homes_in, with_home, AreChained, SettlesPage}
 use Rattle.pm_free.specs.Changes.{EditsPartition}
-use Rattle.pm_free.specs.Spare.{MovesSpare}
+use Rattle.pm_pages.specs.SpareChains.{MovesSpare}
 use Rattle.pm_free.specs.Placed.{HasOneMore, HasChains, HasNoneBelow, PlacesRow, TakesRow, DropsPage}
-use Rattle.pm_free.proofs.Walks.{times_here, times_other}
+use Rattle.pm_pages.proofs.ChainWalks.{times_here, times_other}
 use Rattle.pm_free.proofs.RowLists.{items_more, rows_more}
 use Rattle.pm_free.proofs.Views.{views_edit, was_page, now_page, was_next, was_before}
 use Rattle.pm_free.proofs.Settled.{chained_as, home_here, home_other}
-use Rattle.pm_free.proofs.SpareMoves.{moves_none, moves_then}
+use Rattle.pm_pages.proofs.SpareMoves.{moves_none, moves_then}
 
 -- a page is in a bucket if the bucket is its home
 in_home : (bucket : ℕ) (page : List ℕ) → bucket < BUCKETS → is_in_bucket bucket page ≡ (home_of page == bucket)

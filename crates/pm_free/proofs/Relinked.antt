@@ -7,7 +7,7 @@ use Rattle.pm_meta.specs.declared.slots.MetaSlot.TheVariants.{Bucket}
 use Rattle.pm_pages.specs.Rows.{Partition, page_at, page_count, number_in}
 use Rattle.pm_pages.specs.Chains.{times, IsExactly, NamesBefore, next_of, bucket_chain}
 use Rattle.pm_free.specs.Chained.{with_home, IsChainOf, AreChained}
-use Rattle.pm_free.proofs.Walks.{times_here, times_other, stands, all_stand, few, walk_some}
+use Rattle.pm_pages.proofs.ChainWalks.{times_here, times_other, stands, all_stand, few, walk_some}
 use Rattle.pm_free.proofs.Runs.{Run, run_same, before_stands, next_stands, without, times_without_here, times_without_other, run_without, run_with, walk_run, names_run, run_walk}
 use Rattle.pm_free.proofs.Views.{chain_next, chain_before, next_here}
 

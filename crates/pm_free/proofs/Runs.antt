@@ -4,7 +4,7 @@ use Rattle.std.proofs.Common.{◌≡◌, ◌≢◌, ℕ, zero, suc, ◌+◌, ◌
 use Rattle.std.specs.Prelude.{if◌then◌else◌}
 use Rattle.std.proofs.lemmas.Bool.{cases_eq, eq-eqb, ne_eqb}
 use Rattle.pm_pages.specs.Chains.{times, walk, NamesBefore}
-use Rattle.pm_free.proofs.Walks.{times_here, times_other, more, walk_none, walk_on}
+use Rattle.pm_pages.proofs.ChainWalks.{times_here, times_other, more, walk_none, walk_on}
 
 -- from p on
 abbrev pub Run : (ℕ → ℕ) → (ℕ → ℕ) → ℕ → List ℕ → Type 0

@@ -5,4 +5,3 @@ pub mod Changes
 pub mod DataEdits
 pub mod Placed
 pub mod Seats
-pub mod Spare

@@ -17,7 +17,7 @@ use Rattle.pm_pages.specs.Edits.{EditsPages, HasMeta}
 use Rattle.pm_free.specs.Buckets.{HasEnough}
 use Rattle.pm_free.specs.DataEdits.{IsDataIn, IsDataAt}
 use Rattle.pm_free.specs.Chained.{AreChained, KeepsRows, with_home}
-use Rattle.pm_free.specs.Spare.{MovesSpare}
+use Rattle.pm_pages.specs.SpareChains.{MovesSpare}
 
 -- one list has one row more than another, and else the same rows in the same order
 pub record HasOneMore (less all : List Row) (row : Row) : Type 0 where

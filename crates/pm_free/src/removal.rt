@@ -13,12 +13,8 @@ ghost use Rattle.pm_free.specs.Causes.{HasChainCause};
 use crate::chains::{settle, unlink};
 use crate::edits::{Edit, make_edit};
 use crate::seats::seat_at;
-use pm_data::room;
 use pm_pages::{Pages, give_page};
 use pm_types::{Link, PageFault};
-
-// What a data page has before its slots, in bytes.
-const HEAD_BYTES: usize = 32;
 
 /// Takes a row out, whose page is at hand. The page then stands in the chain for its room, or, where that
 /// was its last row, is given back.
@@ -96,14 +92,6 @@ fn is_empty<P: Pages>(pages: &mut P, at: u32) -> Result<bool, PageFault>
 {
     match pages.view(at)? {
         None => Ok(false),
-        Some(page) => Ok(is_empty_on(page)),
+        Some(page) => Ok(pm_data::is_empty(page)),
     }
-}
-
-// A page without rows has the most room.
-fn is_empty_on(page: &[u8]) -> bool
-    requires { IsDataPage page.now }
-    ensures { IsTrue result ↔ (rows_of page.now ≡ []) }
-{
-    room(page) as usize + HEAD_BYTES == page.len()
 }

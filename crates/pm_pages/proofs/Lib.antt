@@ -1,5 +1,6 @@
 pub mod AskedPages
 pub mod BelowTrees
+pub mod ChainWalks
 pub mod DeltaLaw
 pub mod EditedPages
 pub mod Exactly
@@ -9,6 +10,8 @@ pub mod PlainSteps
 pub mod ReadablePages
 pub mod RowsFrom
 pub mod SamePages
+pub mod SpareMoves
+pub mod SpareSteps
 pub mod TakenPages
 pub mod TreeLists
 pub mod Walks

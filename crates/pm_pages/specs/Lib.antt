@@ -11,6 +11,7 @@ pub mod Plain
 pub mod PlainLaws
 pub mod PlainRooms
 pub mod Rows
+pub mod SpareChains
 pub mod SparePages
 pub mod TreeItems
 pub mod Trees

@@ -21,14 +21,15 @@ use Rattle.pm_tree.specs.Places.{IsPlaceIn}
 use Rattle.pm_tree.specs.declared.places.Place.TheVariants.{Below}
 use Rattle.pm_tree.specs.Divisions.{KeepsNumbers}
 use Rattle.pm_tree.specs.Grown.{child_item}
-use Rattle.pm_tree.specs.Spare.{MovesSpare}
+use Rattle.pm_pages.specs.SpareChains.{MovesSpare}
 use Rattle.pm_tree.proofs.KeyOrder.{below_then}
-use Rattle.pm_tree.proofs.SpareMoves.{moves_then, moves_on}
-use Rattle.pm_tree.proofs.SpareSteps.{node_kind, moves_page}
+use Rattle.pm_pages.proofs.SpareMoves.{moves_then, moves_on}
+use Rattle.pm_pages.proofs.SpareSteps.{moves_page}
+use Rattle.pm_tree.proofs.NodeKinds.{node_kind}
 use Rattle.pm_tree.proofs.MapLists.{keys_joined, keys_weaker}
 use Rattle.pm_tree.proofs.Decoded.{kid, kid_is}
 use Rattle.pm_tree.proofs.Seams.{Seam, seam, get_seam, flat_joined, each_right}
-use Rattle.pm_tree.proofs.Frames.{times-append, times_here}
+use Rattle.pm_pages.proofs.ChainWalks.{times-append, times_here}
 use Rattle.pm_tree.proofs.RowPuts.{RowPut, row_put, bounds_apart}
 use Rattle.pm_tree.proofs.NodePuts.{inner_puts, inner_divided}
 use Rattle.pm_tree.proofs.Told.{node_away, page_is, link_is, items_are, half_is, is_inner, below_count, counts_rise}

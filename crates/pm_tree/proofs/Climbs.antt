@@ -29,7 +29,7 @@ use Rattle.pm_tree.specs.declared.places.Place.TheVariants.{Full, Below, Other}
 use Rattle.pm_tree.specs.Divisions.{KeepsNumbers, PutsPages, IsFullLeaf}
 use Rattle.pm_tree.specs.Grown.{IsParent, IsParentAt, child_item, Grows, Forks, TakesChild}
 use Rattle.pm_tree.specs.PutCauses.{IsPutFaultAfter, HasPutCause, Lifts}
-use Rattle.pm_tree.specs.Spare.{MovesSpare}
+use Rattle.pm_pages.specs.SpareChains.{MovesSpare}
 use Rattle.pm_tree.proofs.SpareRoom.{can_take_less, can_take_looked}
 use Rattle.pm_tree.proofs.LeafChanges.{held_node, changes_one}
 use Rattle.pm_tree.proofs.Divided.{numbers_looked, numbers_then, added_looked}

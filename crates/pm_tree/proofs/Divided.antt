@@ -21,10 +21,11 @@ use Rattle.pm_tree.specs.Edits.{blank, edited, IsNode, TakesEdit, EditsNodeAt}
 use Rattle.pm_tree.specs.declared.edits.Edit.{Edit}
 use Rattle.pm_tree.specs.declared.edits.Edit.TheVariants.{Tail, Cut}
 use Rattle.pm_tree.specs.Divisions.{KeepsNumbers, is_leaf_blank, CanDivide, Divides}
-use Rattle.pm_tree.specs.Spare.{MovesSpare}
+use Rattle.pm_pages.specs.SpareChains.{MovesSpare}
 use Rattle.pm_tree.proofs.NodeEdits.{node_stays}
-use Rattle.pm_tree.proofs.SpareMoves.{moves_on}
-use Rattle.pm_tree.proofs.SpareSteps.{node_kind, zeros_at, moves_page, moves_take}
+use Rattle.pm_pages.proofs.SpareMoves.{moves_on}
+use Rattle.pm_pages.proofs.SpareSteps.{zeros_at, moves_page, moves_take}
+use Rattle.pm_tree.proofs.NodeKinds.{node_kind}
 
 -- the number that a meta page has
 pub number_is : (p : Paged) (slot : MetaSlot) (n : ℕ) (was : List ℕ) → IsNumberIn p slot n → p.pages 0 ≡ Some was → n ≡ field_of was slot

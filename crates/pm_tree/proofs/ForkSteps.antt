@@ -24,9 +24,10 @@ use Rattle.pm_tree.specs.Edits.{IsNode, TakesEdit, EditsNodeAt}
 use Rattle.pm_tree.specs.declared.edits.Edit.TheVariants.{Insert}
 use Rattle.pm_tree.specs.Divisions.{KeepsNumbers, CanDivide, Divides}
 use Rattle.pm_tree.specs.Grown.{IsParentAt, child_item, Grows, Forks}
-use Rattle.pm_tree.specs.Spare.{MovesSpare}
-use Rattle.pm_tree.proofs.SpareMoves.{moves_on}
-use Rattle.pm_tree.proofs.SpareSteps.{node_kind, moves_page}
+use Rattle.pm_pages.specs.SpareChains.{MovesSpare}
+use Rattle.pm_pages.proofs.SpareMoves.{moves_on}
+use Rattle.pm_pages.proofs.SpareSteps.{moves_page}
+use Rattle.pm_tree.proofs.NodeKinds.{node_kind}
 use Rattle.pm_tree.proofs.NodeEdits.{node_stays}
 use Rattle.pm_tree.proofs.Divided.{node_edited, meta_stays, numbers_stay, numbers_then, number_back, count_of}
 use Rattle.pm_tree.proofs.LeafChanges.{capacity_bounds, between_take, between_drop}

@@ -3,18 +3,9 @@ use Rattle.std.proofs.Common.{◌≡◌, ◌≢◌, ℕ, zero, suc, ◌+◌, ◌
 use Rattle.std.specs.Prelude.{Option, None}
 use Rattle.std.proofs.lemmas.Bool.{cases_eq, cases_lt, eq-eqb, ne_eqb}
 use Rattle.pm_pages.specs.Chains.{times}
+use Rattle.pm_pages.proofs.ChainWalks.{times-append, times_here, times_other}
 use Rattle.pm_tree.specs.Nodes.{Node, Entry, entries, items_under, leaves_under, nodes_under, IsFrom, IsUpTo, end_before, AreBounded, Each, IsTreeIn, first_or, AreLinkedTo, Keys}
 use Rattle.pm_tree.specs.Puts.{flat, IsSpare}
-
-pub times-append : (j : ℕ) (xs ys : List ℕ) → times j (xs ++ ys) ≡ times j xs + times j ys
-times-append j [] ys = omega arith
-times-append j (x ∷ xs) ys = omega (arith, times-append j xs ys)
-
-pub times_here : (j : ℕ) (xs : List ℕ) → times j (j ∷ xs) ≡ 1 + times j xs
-times_here j xs = simp (eq-eqb j j refl) refl
-
-pub times_other : (j i : ℕ) (xs : List ℕ) → i ≢ j → times j (i ∷ xs) ≡ times j xs
-times_other j i xs ne = simp (ne_eqb i j ne) (omega arith)
 
 -- the page of a tree stands among its pages
 pub root_stands : (N : ℕ → Node) (levels at : ℕ) → 1 ≤ times at (nodes_under N levels at)

@@ -23,7 +23,7 @@ use Rattle.pm_pages.proofs.EditedPages.{some_bytes}
 use Rattle.pm_tree.proofs.Decoded.{tree_to, nodes_same}
 use Rattle.pm_tree.proofs.Frames.{used}
 use Rattle.pm_tree.proofs.Told.{page_is}
-use Rattle.pm_tree.proofs.SpareSteps.{number_by}
+use Rattle.pm_pages.proofs.SpareSteps.{number_by}
 use Rattle.pm_tree.proofs.Descents.{pages_told}
 use Rattle.pm_tree.proofs.SoundLooks.{meta_passes}
 use Rattle.pm_tree.proofs.SoundPages.{sound_all, sound_reads, used_within}

@@ -28,11 +28,12 @@ use Rattle.pm_tree.specs.Indexes.{IsTreeAt, IsIndex, as_link, link_in}
 use Rattle.pm_tree.specs.Divisions.{KeepsNumbers, PutsPages}
 use Rattle.pm_tree.specs.Roots.{KeepsButRoot, MakesRoot, MakesTop, PutsIndex, PutsRootPages, HasGrowCause, HasTreePutCause}
 use Rattle.pm_tree.specs.PutCauses.{HasPutCause}
-use Rattle.pm_tree.specs.Spare.{MovesSpare}
+use Rattle.pm_pages.specs.SpareChains.{MovesSpare}
 use Rattle.pm_tree.proofs.Climbs.{changes_looked, fault_after}
-use Rattle.pm_tree.proofs.SpareMoves.{moves_then}
+use Rattle.pm_pages.proofs.SpareMoves.{moves_then}
 use Rattle.pm_tree.proofs.Decoded.{leaves_same, nodes_same, items_same, tree_to, tree_from}
-use Rattle.pm_tree.proofs.Frames.{times-append, times_here, used}
+use Rattle.pm_pages.proofs.ChainWalks.{times-append, times_here}
+use Rattle.pm_tree.proofs.Frames.{used}
 use Rattle.pm_tree.specs.Sound.{CanTake}
 use Rattle.pm_tree.proofs.SpareRoom.{can_take_less, can_take_after, can_take_looked}
 use Rattle.pm_tree.proofs.LeafChanges.{held_node}

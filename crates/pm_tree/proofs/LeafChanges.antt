@@ -25,10 +25,11 @@ use Rattle.pm_tree.specs.Places.{IsPlaceIn}
 use Rattle.pm_tree.specs.declared.places.Place.TheVariants.{Held, Gap}
 use Rattle.pm_tree.specs.Divisions.{KeepsNumbers, PartsLeaf, PutsPages, CanDivide, IsFullLeaf}
 use Rattle.pm_tree.proofs.MapLists.{get_found, get_between, put_found, put_between}
-use Rattle.pm_tree.specs.Spare.{MovesSpare}
+use Rattle.pm_pages.specs.SpareChains.{MovesSpare}
 use Rattle.pm_tree.proofs.NodeEdits.{node_stays}
-use Rattle.pm_tree.proofs.SpareMoves.{moves_on}
-use Rattle.pm_tree.proofs.SpareSteps.{node_kind, moves_page}
+use Rattle.pm_pages.proofs.SpareMoves.{moves_on}
+use Rattle.pm_pages.proofs.SpareSteps.{moves_page}
+use Rattle.pm_tree.proofs.NodeKinds.{node_kind}
 use Rattle.pm_tree.proofs.Divided.{node_edited, meta_stays, numbers_stay, numbers_then, numbers_looked, number_back, count_of, added_looked}
 use Rattle.pm_tree.proofs.Told.{below_count, counts_rise}
 use Rattle.pm_tree.proofs.LeafSteps.{puts_pages, leaf_kept, leaf_parted, Halves, left_half, right_half}

@@ -9,7 +9,8 @@ use Rattle.pm_pages.specs.Chains.{times}
 use Rattle.pm_tree.specs.Maps.{put_in}
 use Rattle.pm_tree.specs.Nodes.{Node, Entry, entries, items_under, leaves_under, nodes_under, IsFrom, IsUpTo, AreBounded, Each, IsTreeIn, AreLinkedTo, Keys}
 use Rattle.pm_tree.specs.Puts.{flat, row, IsSpare, PutsTree}
-use Rattle.pm_tree.proofs.Frames.{times-append, times_here, times_other, flat_items_stay, flat_leaves_stay, flat_nodes_stay, bounds_stay, trees_stay, links_stay, flat_leaves_few, flat_trees_used}
+use Rattle.pm_pages.proofs.ChainWalks.{times-append, times_here, times_other}
+use Rattle.pm_tree.proofs.Frames.{flat_items_stay, flat_leaves_stay, flat_nodes_stay, bounds_stay, trees_stay, links_stay, flat_leaves_few, flat_trees_used}
 use Rattle.pm_tree.proofs.NodePuts.{keys_any, length_put}
 
 pub times_few : (i j : ℕ) → times j (i ∷ []) ≤ 1

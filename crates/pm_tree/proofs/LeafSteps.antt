@@ -17,12 +17,13 @@ use Rattle.pm_tree.specs.Nodes.{nodes_in, nodes_under, IsFrom, IsUpTo, IsTreeIn,
 use Rattle.pm_tree.specs.Puts.{IsSpare, PutsAs, PutsFor}
 use Rattle.pm_tree.specs.Edits.{IsNode}
 use Rattle.pm_tree.specs.Divisions.{KeepsNumbers, PutsPages}
-use Rattle.pm_tree.specs.Spare.{MovesSpare}
+use Rattle.pm_pages.specs.SpareChains.{MovesSpare}
 use Rattle.pm_tree.proofs.SpareRoom.{can_take_after}
 use Rattle.pm_tree.proofs.KeyOrder.{below_then, not_below_itself}
-use Rattle.pm_tree.proofs.SpareSteps.{node_kind, moves_page}
+use Rattle.pm_pages.proofs.SpareSteps.{moves_page}
+use Rattle.pm_tree.proofs.NodeKinds.{node_kind}
 use Rattle.pm_tree.proofs.MapLists.{keys_by_index}
-use Rattle.pm_tree.proofs.Frames.{times_here}
+use Rattle.pm_pages.proofs.ChainWalks.{times_here}
 use Rattle.pm_tree.proofs.LeafPuts.{leaf_puts, leaf_divided}
 use Rattle.pm_tree.proofs.Told.{node_away, below_count, link_is, items_are, is_leaf}
 

@@ -18,8 +18,9 @@ use Rattle.pm_tree.specs.declared.edits.Edit.TheVariants.{Insert}
 use Rattle.pm_tree.specs.Divisions.{KeepsNumbers}
 use Rattle.pm_tree.specs.Roots.{KeepsButRoot, MakesRoot}
 use Rattle.pm_tree.proofs.NodeEdits.{node_stays}
-use Rattle.pm_tree.proofs.SpareMoves.{moves_on}
-use Rattle.pm_tree.proofs.SpareSteps.{node_kind, zeros_at, moves_page, moves_number, moves_take}
+use Rattle.pm_pages.proofs.SpareMoves.{moves_on}
+use Rattle.pm_pages.proofs.SpareSteps.{zeros_at, moves_page, moves_number, moves_take}
+use Rattle.pm_tree.proofs.NodeKinds.{node_kind}
 use Rattle.pm_tree.proofs.Divided.{number_is, number_now, node_edited, meta_stays, numbers_taken, numbers_then, numbers_stay, number_back, below_taken, spare_taken, blank_items, count_of, added_taken}
 use Rattle.pm_tree.proofs.LeafChanges.{capacity_bounds}
 

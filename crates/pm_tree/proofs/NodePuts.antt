@@ -14,7 +14,8 @@ use Rattle.pm_tree.specs.Maps.{by_order, put_in}
 use Rattle.pm_tree.specs.Nodes.{Node, Entry, entries, items_under, leaves_under, nodes_under, IsFrom, IsUpTo, AreBounded, Each, IsPlain, IsTreeIn, first_or, AreLinkedTo, Keys}
 use Rattle.pm_tree.specs.Puts.{flat, row, IsSpare, PutsTree}
 use Rattle.pm_tree.proofs.Seams.{flat_joined, each_left, each_right}
-use Rattle.pm_tree.proofs.Frames.{times-append, times_here, times_other, flat_items_stay, flat_leaves_stay, flat_nodes_stay, bounds_stay, trees_stay, links_stay, flat_leaves_few, flat_trees_used}
+use Rattle.pm_pages.proofs.ChainWalks.{times-append, times_here, times_other}
+use Rattle.pm_tree.proofs.Frames.{flat_items_stay, flat_leaves_stay, flat_nodes_stay, bounds_stay, trees_stay, links_stay, flat_leaves_few, flat_trees_used}
 use Rattle.pm_tree.proofs.RowPuts.{RowPut, bounds_apart}
 
 pub keys_any : (P : List ℕ → Type 0) (xs : List Item) → ((k : List ℕ) → P k) → Keys P xs

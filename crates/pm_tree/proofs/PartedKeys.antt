@@ -24,7 +24,8 @@ use Rattle.pm_tree.specs.Sound.{IsSound, HasTree}
 use Rattle.pm_tree.proofs.KeyOrder.{below_then, key_cases}
 use Rattle.pm_tree.proofs.MapLists.{keys_left, keys_right, keys_at, keys_put}
 use Rattle.pm_tree.proofs.Decoded.{lower, upper, kid, kid_is, lower_first, lower_is, upper_is, upper_none, at_index}
-use Rattle.pm_tree.proofs.Frames.{times-append, times_here, used}
+use Rattle.pm_pages.proofs.ChainWalks.{times-append, times_here}
+use Rattle.pm_tree.proofs.Frames.{used}
 use Rattle.pm_tree.proofs.Told.{below_count, page_is}
 use Rattle.pm_tree.proofs.LeafChanges.{capacity_bounds}
 use Rattle.pm_tree.proofs.Ascents.{child_tree, child_once, child_apart}

@@ -8,7 +8,8 @@ use Rattle.pm_tree.specs.Nodes.{Node, Entry, entry, items_under, leaves_under, n
 use Rattle.pm_tree.specs.Puts.{flat, PutsTree}
 use Rattle.pm_tree.proofs.MapLists.{keys_left, keys_right, keys_put}
 use Rattle.pm_tree.proofs.Seams.{Seam, put_seam, flat_joined, each_left, each_right, each_joined}
-use Rattle.pm_tree.proofs.Frames.{times-append, flat_items_stay, flat_leaves_stay, flat_nodes_stay, bounds_stay, trees_stay, links_stay, flat_leaves_few, flat_trees_used, first_joined, linked_apart, linked_joined}
+use Rattle.pm_pages.proofs.ChainWalks.{times-append}
+use Rattle.pm_tree.proofs.Frames.{flat_items_stay, flat_leaves_stay, flat_nodes_stay, bounds_stay, trees_stay, links_stay, flat_leaves_few, flat_trees_used, first_joined, linked_apart, linked_joined}
 
 end_joined : (xs ys : List Entry) (end : Option (List ℕ)) → end_before (xs ++ ys) end ≡ end_before xs (end_before ys end)
 end_joined [] ys end = refl

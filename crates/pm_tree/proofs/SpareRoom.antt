@@ -14,11 +14,10 @@ use Rattle.pm_pages.proofs.EditedPages.{edits_looked}
 use Rattle.pm_meta.specs.MetaPages.{field_of}
 use Rattle.pm_meta.specs.declared.slots.MetaSlot.TheVariants.{Reuse, Pages}
 use Rattle.pm_tree.specs.Sound.{NoBadPage, CanTake, MayTake}
-use Rattle.pm_tree.specs.Spare.{MovesSpare}
-use Rattle.pm_tree.proofs.SpareSteps.{number_by, moves_look}
+use Rattle.pm_pages.specs.SpareChains.{MovesSpare}
+use Rattle.pm_pages.proofs.SpareSteps.{number_by, moves_look}
 use Rattle.pm_tree.proofs.SoundPages.{sound_grown, sound_not_bad, sound_no_gap_upto}
-use Rattle.pm_tree.proofs.ReuseWalks.{stands, walk_none, walk_on}
-use Rattle.pm_tree.proofs.Frames.{times_here}
+use Rattle.pm_pages.proofs.ChainWalks.{stands, walk_none, walk_on, times_here}
 use Rattle.pm_pages.proofs.PageReads.{page_at-below}
 use Rattle.pm_tree.proofs.Descents.{pages_told}
 

@@ -8,7 +8,7 @@ use Rattle.pm_tree.specs.Nodes.{Node, Entry, entry, entries, nodes_in, items_und
 use Rattle.pm_tree.specs.Puts.{flat}
 use Rattle.pm_tree.specs.Heights.{TallHasItems}
 use Rattle.pm_tree.proofs.Decoded.{tree_to, nodes_same, items_same}
-use Rattle.pm_tree.proofs.Frames.{times-append, times_here}
+use Rattle.pm_pages.proofs.ChainWalks.{times-append, times_here}
 use Rattle.pm_tree.proofs.LeafChanges.{capacity_bounds}
 
 -- a number, so many times

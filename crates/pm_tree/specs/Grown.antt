@@ -16,7 +16,7 @@ use Rattle.pm_tree.specs.declared.put.Put.{Put}
 use Rattle.pm_tree.specs.declared.put.Put.TheVariants.{Kept, Split}
 use Rattle.pm_tree.specs.Nodes.{nodes_in}
 use Rattle.pm_tree.specs.Puts.{IsSpare, half_of}
-use Rattle.pm_tree.specs.Spare.{MovesSpare}
+use Rattle.pm_pages.specs.SpareChains.{MovesSpare}
 use Rattle.pm_tree.specs.Edits.{IsNode}
 use Rattle.pm_tree.specs.Divisions.{KeepsNumbers}
 

@@ -11,5 +11,4 @@ pub mod Puts
 pub mod Roots
 pub mod Sound
 pub mod SoundPuts
-pub mod Spare
 pub mod Steps

@@ -6,7 +6,7 @@ use Rattle.pm_btpage.specs.IndexPages.{capacity_of}
 use Rattle.pm_pages.specs.Chains.{times}
 use Rattle.pm_pages.specs.Rows.{Partition}
 use Rattle.pm_tree.specs.Maps.{get_in, put_in}
-use Rattle.pm_tree.specs.Spare.{MovesSpare}
+use Rattle.pm_pages.specs.SpareChains.{MovesSpare}
 use Rattle.pm_tree.specs.declared.put.Put.{Put}
 use Rattle.pm_tree.specs.declared.put.Put.TheVariants.{Kept, Split}
 use Rattle.pm_tree.specs.Nodes.{Node, nodes_in, Entry, items_under, leaves_under, nodes_under}

@@ -23,7 +23,7 @@ use Rattle.pm_tree.specs.Maps.{put_in}
 use Rattle.pm_tree.specs.Nodes.{nodes_in}
 use Rattle.pm_tree.specs.Indexes.{IsIndex, link_in}
 use Rattle.pm_tree.specs.Puts.{IsSpare}
-use Rattle.pm_tree.specs.Spare.{MovesSpare}
+use Rattle.pm_pages.specs.SpareChains.{MovesSpare}
 use Rattle.pm_tree.specs.Sound.{CanTake}
 use Rattle.pm_tree.specs.Edits.{blank, IsNode}
 use Rattle.pm_tree.specs.PutCauses.{IsPutFaultAfter}

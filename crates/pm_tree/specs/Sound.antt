@@ -10,7 +10,7 @@ use Rattle.pm_pages.specs.Paged.{Paged, PassesIn}
 use Rattle.pm_pages.specs.WellFormed.{AllPass}
 use Rattle.pm_tree.specs.Nodes.{nodes_in, nodes_under, IsTreeIn}
 use Rattle.pm_tree.specs.Puts.{half_of}
-use Rattle.pm_tree.specs.Spare.{HasSpare}
+use Rattle.pm_pages.specs.SpareChains.{HasSpare}
 
 -- the pages pass as those of a partition of a store of some shape, which has this page size and as many rows at
 -- most

@@ -10,7 +10,7 @@ use Rattle.pm_pages.specs.Paged.{Paged}
 use Rattle.pm_tree.specs.declared.put.Part.{Part}
 use Rattle.pm_tree.specs.Grown.{IsParent}
 use Rattle.pm_tree.specs.Indexes.{AnswersFrom, IsIndex}
-use Rattle.pm_tree.specs.Spare.{HasSpare}
+use Rattle.pm_pages.specs.SpareChains.{HasSpare}
 use Rattle.pm_tree.specs.declared.heights.TheConstants.{TALL_ROWS}
 use Rattle.pm_tree.specs.Sound.{PassesAll, CanTake, MayTake, HasTree}
 

@@ -6,9 +6,9 @@ use Rattle.pm_meta.specs.declared.layout.TheConstants.{REUSE_KIND}
 use Rattle.pm_meta.specs.declared.slots.MetaSlot.TheVariants.{Reuse}
 use Rattle.pm_pages.specs.Rows.{Partition, bytes_of, page_at, number_in, page_count, kind_of}
 use Rattle.pm_pages.specs.Chains.{times, reuse_next_of, reuse_chain}
-use Rattle.pm_tree.specs.Spare.{HasSpare, MovesSpare}
-use Rattle.pm_tree.proofs.ReuseWalks.{stands}
-use Rattle.pm_tree.proofs.SpareMoves.{moves_then, moves_none, moves_given, same_chain, chain_now}
+use Rattle.pm_pages.specs.SpareChains.{HasSpare, MovesSpare}
+use Rattle.pm_pages.proofs.ChainWalks.{stands}
+use Rattle.pm_pages.proofs.SpareMoves.{moves_then, moves_none, moves_given, same_chain, chain_now}
 use Rattle.pm_tree_del.specs.Given.{GivesBack}
 
 pub gives_then : (a b c : Partition) (given given' : List ℕ) → GivesBack a b given → GivesBack b c given' → GivesBack a c (given' ++ given)

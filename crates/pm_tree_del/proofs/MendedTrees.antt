@@ -19,7 +19,8 @@ use Rattle.pm_pages.proofs.PageReads.{page_at-below}
 use Rattle.pm_tree.specs.Nodes.{Node, node_of, nodes_in, Entry, entry, first_entry, entries, items_under, nodes_under, IsFrom, IsUpTo, end_before, AreBounded, Each, IsTreeIn, Keys}
 use Rattle.pm_tree.specs.Puts.{flat, IsSpare, half_of}
 use Rattle.pm_tree.proofs.Decoded.{kid_is}
-use Rattle.pm_tree.proofs.Frames.{times-append, times_here, root_stands, used}
+use Rattle.pm_pages.proofs.ChainWalks.{times-append, times_here}
+use Rattle.pm_tree.proofs.Frames.{root_stands, used}
 use Rattle.pm_tree.proofs.Seams.{flat_joined}
 use Rattle.pm_tree.proofs.RowPuts.{bounds_apart}
 use Rattle.pm_tree.proofs.MapLists.{keys_at, keys_left, keys_right}

@@ -7,7 +7,7 @@ use Rattle.pm_btpage.specs.IndexPages.{Item, key_in, IsBelow}
 use Rattle.pm_pages.specs.Chains.{times}
 use Rattle.pm_pages.specs.Trees.{index_in}
 use Rattle.pm_tree.specs.Nodes.{Node, Entry, entry, entries, items_under, nodes_under, IsFrom, IsUpTo, AreBounded, IsTreeIn, Keys}
-use Rattle.pm_tree.proofs.Frames.{times_here}
+use Rattle.pm_pages.proofs.ChainWalks.{times_here}
 use Rattle.pm_tree_del.proofs.PairTrees.{two, one, PairSwap, leaves_merged, leaves_shared, inner_merged, inner_shared, row_times}
 
 -- what the left page says once it has the items of both: of leaves, and of inner pages

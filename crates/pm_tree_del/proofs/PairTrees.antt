@@ -12,7 +12,8 @@ use Rattle.pm_tree.proofs.KeyOrder.{below_then, key_cases}
 use Rattle.pm_tree.proofs.MapLists.{keys_joined, keys_left, keys_right, keys_weaker}
 use Rattle.pm_tree.proofs.Seams.{flat_joined, each_left, each_right, each_joined}
 use Rattle.pm_tree.proofs.RowPuts.{bounds_apart, bounds_joined, bounds_end}
-use Rattle.pm_tree.proofs.Frames.{times-append, flat_items_stay, flat_leaves_stay, flat_nodes_stay, bounds_stay, trees_stay, links_stay, flat_leaves_few}
+use Rattle.pm_pages.proofs.ChainWalks.{times-append}
+use Rattle.pm_tree.proofs.Frames.{flat_items_stay, flat_leaves_stay, flat_nodes_stay, bounds_stay, trees_stay, links_stay, flat_leaves_few}
 use Rattle.pm_tree.proofs.NodePuts.{keys_any}
 use Rattle.pm_tree.proofs.Ascents.{upto_all, from_all}
 use Rattle.pm_tree_del.proofs.RowSwaps.{RowSwap}

@@ -8,7 +8,8 @@ use Rattle.pm_pages.specs.Chains.{times}
 use Rattle.pm_tree.specs.Nodes.{Node, Entry, entry, entries, items_under, leaves_under, nodes_under, IsFrom, IsUpTo, end_before, AreBounded, Each, IsPlain, IsTreeIn, first_or, AreLinkedTo, Keys}
 use Rattle.pm_tree.specs.Puts.{flat, IsSpare}
 use Rattle.pm_tree.proofs.Seams.{flat_joined, each_left, each_right, each_joined}
-use Rattle.pm_tree.proofs.Frames.{times-append, times_here, flat_items_stay, trees_stay, flat_trees_used}
+use Rattle.pm_pages.proofs.ChainWalks.{times-append, times_here}
+use Rattle.pm_tree.proofs.Frames.{flat_items_stay, trees_stay, flat_trees_used}
 use Rattle.pm_tree_del.specs.Maps.{remove_in}
 use Rattle.pm_tree_del.specs.Removes.{RemovesTree}
 use Rattle.pm_tree_del.proofs.RemovedItems.{keys_removed}

@@ -23,7 +23,8 @@ use Rattle.pm_tree.specs.Nodes.{Node, node_of, nodes_in, Entry, entry, entries, 
 use Rattle.pm_tree.specs.Puts.{flat, half_of}
 use Rattle.pm_tree.specs.Indexes.{IsTreeAt, IsIndex, as_link, link_in}
 use Rattle.pm_tree.proofs.Decoded.{leaves_same, nodes_same, items_same, tree_to, tree_from}
-use Rattle.pm_tree.proofs.Frames.{times-append, times_here, root_stands, used, tree_stays, items_stay, leaves_stay, nodes_stay, links_stay, leaves_few}
+use Rattle.pm_pages.proofs.ChainWalks.{times-append, times_here}
+use Rattle.pm_tree.proofs.Frames.{root_stands, used, tree_stays, items_stay, leaves_stay, nodes_stay, links_stay, leaves_few}
 use Rattle.pm_tree.proofs.IndexPuts.{linked_to, linked_from, number_there}
 use Rattle.pm_tree.proofs.Told.{node_away_count, page_is}
 use Rattle.pm_tree.proofs.Descents.{number_told}

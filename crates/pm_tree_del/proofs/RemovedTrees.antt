@@ -19,7 +19,8 @@ use Rattle.pm_tree.specs.Edits.{IsNode}
 use Rattle.pm_tree.specs.Places.{IsPlaceIn}
 use Rattle.pm_tree.specs.declared.places.Place.TheVariants.{Held, Below}
 use Rattle.pm_tree.proofs.Decoded.{kid, kid_is}
-use Rattle.pm_tree.proofs.Frames.{times-append, times_here, root_stands}
+use Rattle.pm_pages.proofs.ChainWalks.{times-append, times_here}
+use Rattle.pm_tree.proofs.Frames.{root_stands}
 use Rattle.pm_tree.proofs.MapLists.{get_found}
 use Rattle.pm_tree.proofs.Seams.{flat_joined, each_right}
 use Rattle.pm_tree.proofs.Told.{below_count, meta_spare, node_away_count, page_is, half_is, leaf_kind}

@@ -6,7 +6,8 @@ use Rattle.pm_tree.specs.Nodes.{Node, Entry, items_under, leaves_under, nodes_un
 use Rattle.pm_tree.specs.Puts.{flat}
 use Rattle.pm_tree.proofs.Seams.{flat_joined}
 use Rattle.pm_tree.proofs.RowPuts.{bounds_apart, bounds_joined}
-use Rattle.pm_tree.proofs.Frames.{times-append, flat_leaves_stay, flat_nodes_stay, bounds_stay, links_stay, flat_leaves_few, first_joined, linked_apart, linked_joined}
+use Rattle.pm_pages.proofs.ChainWalks.{times-append}
+use Rattle.pm_tree.proofs.Frames.{flat_leaves_stay, flat_nodes_stay, bounds_stay, links_stay, flat_leaves_few, first_joined, linked_apart, linked_joined}
 
 -- The entries E' of the pages M in place of the entries E of the pages N, up to a key. The pages `given` are in the
 -- row no more.

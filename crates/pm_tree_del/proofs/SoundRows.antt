@@ -9,7 +9,7 @@ use Rattle.pm_tree.specs.Nodes.{Node, Entry, entry, entries, items_under, nodes_
 use Rattle.pm_tree.specs.Puts.{flat}
 use Rattle.pm_tree.proofs.KeyOrder.{below_then, below_upto, key_cases}
 use Rattle.pm_tree.proofs.MapLists.{keys_left, keys_right, keys_at}
-use Rattle.pm_tree.proofs.Frames.{times-append, times_here}
+use Rattle.pm_pages.proofs.ChainWalks.{times-append, times_here}
 use Rattle.pm_tree_del.proofs.Stands.{IsAbove}
 
 -- above a key that is from one on

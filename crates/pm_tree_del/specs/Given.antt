@@ -8,7 +8,7 @@ use Rattle.pm_pages.specs.Chains.{reuse_chain}
 use Rattle.pm_pages.specs.Paged.{Paged}
 use Rattle.pm_pages.specs.Edits.{HasMeta}
 use Rattle.pm_pages.specs.SparePages.{SetsNumber, MetaBecomes}
-use Rattle.pm_tree.specs.Spare.{HasSpare, MovesSpare}
+use Rattle.pm_pages.specs.SpareChains.{HasSpare, MovesSpare}
 
 -- these pages were given back, the first of them last; the page count is as it was
 pub record GivesBack (old new : Partition) (given : List ℕ) : Type 0 where

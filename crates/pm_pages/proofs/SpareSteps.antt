@@ -3,7 +3,6 @@ use Rattle.std.proofs.Common.{◌≡◌, ◌≢◌, ℕ, ◌<◌, ◌≤◌, ◌
 use Rattle.std.specs.Prelude.{if◌then◌else◌, nat_lt, Some}
 use Rattle.std.proofs.lemmas.Bool.{cases_eq, cases_lt, le-ltb, ne_eqb, eq-eqb}
 use Rattle.std.proofs.lemmas.List.{get_or-replicate, get_or_past, length-replicate}
-use Rattle.pm_btpage.specs.IndexPages.{IndexPage, IsIndexPage}
 use Rattle.pm_meta.specs.declared.layout.TheConstants.{REUSE_KIND}
 use Rattle.pm_meta.specs.declared.slots.MetaSlot.{MetaSlot}
 use Rattle.pm_meta.specs.declared.slots.MetaSlot.TheVariants.{Reuse, Pages}
@@ -14,32 +13,26 @@ use Rattle.pm_pages.specs.Paged.{Paged}
 use Rattle.pm_pages.specs.Edits.{LooksAtPages, EditsPages}
 use Rattle.pm_pages.specs.SparePages.{SetsNumber, MetaBecomes, TakesPage, GivesPage}
 use Rattle.pm_pages.proofs.PageReads.{page_at-below}
-use Rattle.pm_tree.specs.Edits.{IsNode}
-use Rattle.pm_tree.specs.Spare.{MovesSpare}
-use Rattle.pm_tree.proofs.SpareMoves.{moves_none, moves_next, moves_taken, moves_given}
+use Rattle.pm_pages.specs.SpareChains.{HasSpare, MovesSpare}
+use Rattle.pm_pages.proofs.ChainWalks.{stands}
+use Rattle.pm_pages.proofs.SpareMoves.{moves_none, moves_next, moves_taken, moves_given}
 
 -- a page that didn't change, in partitions of as many pages
-same_at : (a b : Partition) (j : ℕ) → page_count b ≡ page_count a → b j ≡ a j → page_at b j ≡ page_at a j
+pub same_at : (a b : Partition) (j : ℕ) → page_count b ≡ page_count a → b j ≡ a j → page_at b j ≡ page_at a j
 same_at a b j count same = λ k. if nat_lt j (count k) then bytes_of (same k) else []
 
 -- of a page what is so for its bytes and where it isn't there
-read_as : (P : List ℕ → Type 0) (a : Partition) (j : ℕ) (page : List ℕ) → a j ≡ Some page → P page → P [] → P (page_at a j)
+pub read_as : (P : List ℕ → Type 0) (a : Partition) (j : ℕ) (page : List ℕ) → a j ≡ Some page → P page → P [] → P (page_at a j)
 read_as P a j page is here none = elim (cases_lt j (page_count a)) [
   | inl lt ↦ subst P (sym (page_at-below a j lt ∙ ap bytes_of is)) here
   | inr le ↦ subst P (sym (λ k. if le-ltb j (page_count a) le k then bytes_of (a j) else [])) none
 ]
 
-no_kind : kind_of [] ≢ REUSE_KIND
+pub no_kind : kind_of [] ≢ REUSE_KIND
 no_kind e = omega (arith, e)
 
-index_kind : (page : List ℕ) → IsIndexPage page → kind_of page ≢ REUSE_KIND
-index_kind page index e = elim index.head.kind [ inl k ↦ omega (arith, e, k) | inr k ↦ omega (arith, e, k) ]
-
--- a page of a tree is no reuse page, and neither is one of zeros
-pub node_kind : (p : Paged) (i : ℕ) (says : IndexPage) → IsNode p i says → kind_of (page_at p.pages i) ≢ REUSE_KIND
-node_kind p i says node = read_as (λ page. kind_of page ≢ REUSE_KIND) p.pages i node.page node.in_hand.page (index_kind node.page node.well_made) no_kind
-
-zeros_kind : (n : ℕ) → kind_of (replicate n 0) ≡ 0
+-- a page of zeros has no kind
+pub zeros_kind : (n : ℕ) → kind_of (replicate n 0) ≡ 0
 zeros_kind n = elim (cases_lt 8 n) [
   | inl lt ↦ get_or-replicate n 8 0 0 lt
   | inr le ↦ get_or_past (replicate n 0) 8 0 (omega (arith, le, length-replicate {A = ℕ} n 0))
@@ -142,3 +135,21 @@ moves_give T a b i t some below away gives =
     let kind : kind_of gives.page ≡ REUSE_KIND = gives.stored.well_made.kind in
     moves_given a.pages b.pages i (field_of was Reuse) some below away reuse_a count (reuse_b ∙ change.1.here) (ap kind_of page ∙ kind) (ap reuse_next_of page ∙ reuse_next gives.page kind ∙ change.0)
     (λ j not_zero ne. same_at a.pages b.pages j count (gives.edits.others j (inl t) (λ h. elim h [ inl e ↦ not_zero e | inr e ↦ ne e ])))
+
+-- a page that is no reuse page isn't on the chain
+pub not_spare : (pages : Partition) (i : ℕ) → kind_of (page_at pages i) ≢ REUSE_KIND → HasSpare pages → times i (reuse_chain pages) ≡ 0
+not_spare pages i other h = elim (cases_lt 0 (times i (reuse_chain pages))) [
+  | inl lt ↦ absurd (other (stands (λ j. kind_of (page_at pages j) ≡ REUSE_KIND) (reuse_chain pages) h.kind i (omega (arith, lt))))
+  | inr z ↦ omega (arith, z)
+]
+
+-- a page of another use was given back
+pub moves_give_other : (T : Type 0) (a b : Paged) (i : ℕ) → T → 1 ≤ i → i < page_count a.pages → kind_of (page_at a.pages i) ≢ REUSE_KIND → GivesPage T a b i → MovesSpare a.pages b.pages [] (i ∷ [])
+moves_give_other T a b i t some below other gives =
+    let count : page_count b.pages ≡ page_count a.pages = number_by b.pages Pages gives.numbers.now gives.numbers.after ∙ gives.numbers.change.1.others Pages tt (λ e. cc e) ∙ sym (number_by a.pages Pages gives.numbers.was gives.numbers.before) in
+    record {
+      count = omega (arith, count);
+      sound = λ h. (moves_give T a b i t some below (not_spare a.pages i other h) gives).sound h;
+      moved = λ h j. (moves_give T a b i t some below (not_spare a.pages i other h) gives).moved h j;
+      room = λ h. (moves_give T a b i t some below (not_spare a.pages i other h) gives).room h;
+    }

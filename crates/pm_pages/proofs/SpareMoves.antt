@@ -7,9 +7,9 @@ use Rattle.pm_meta.specs.declared.layout.TheConstants.{REUSE_KIND}
 use Rattle.pm_meta.specs.declared.slots.MetaSlot.TheVariants.{Reuse}
 use Rattle.pm_pages.specs.Rows.{Partition, page_at, number_in, page_count, kind_of}
 use Rattle.pm_pages.specs.Chains.{times, walk, reuse_next_of, reuse_chain}
-use Rattle.pm_tree.specs.Spare.{HasSpare, is_added, MovesSpare}
-use Rattle.pm_tree.proofs.Frames.{times-append, times_here, times_other}
-use Rattle.pm_tree.proofs.ReuseWalks.{stands, all_stand, few, walk_none, walk_on, walk_some, walk_ended, walk_shorter, walk_same}
+use Rattle.pm_pages.specs.SpareChains.{HasSpare, is_added, MovesSpare}
+use Rattle.pm_pages.proofs.ChainWalks.{times-append, times_here, times_other}
+use Rattle.pm_pages.proofs.ChainWalks.{stands, all_stand, few, walk_none, walk_on, walk_some, walk_ended, walk_shorter, walk_same}
 
 -- how often a page counts that was added
 abbrev added : ℕ → ℕ → ℕ → ℕ
