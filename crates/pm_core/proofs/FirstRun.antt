@@ -36,7 +36,8 @@ use Rattle.pm_marks.proofs.SlotMarks.{mark_at-short}
 use Rattle.pm_marks.proofs.SlotWrites.{other_stays}
 use Rattle.pm_core.specs.BasePages.{Partitions, no_pages, with_page, page_in_file, since_restart, whole, rebuilt_from, rebuilt_of, pages_of, laid_over, counted, RebuiltAre}
 use Rattle.pm_core.specs.LogAlone.{image_of}
-use Rattle.pm_core.specs.Held.{in_force, entry_of, pairs_in}
+use Rattle.pm_pages.specs.RowMaps.{entry_of}
+use Rattle.pm_core.specs.Held.{in_force, pairs_in}
 use Rattle.pm_core.specs.Sound.{LogIsAlone, Sound}
 use Rattle.pm_core.specs.FirstRun.{first_page, first_id, first_rebuilt, restart_frame, page_frame, begin_frame, seal_frame, first_mark, log_begun, log_goes_on, checkpoint_made, log_dropped, first_run}
 use Rattle.pm_core.specs.Machine.{DiskStep, OnLog, WriteStart, ForceStart, WritePage, ForcePages, OthersStay, CanAppend, CanStart, CanWritePage, CanEnd, CanAll, map_or, log_state, next_state, next_world, states, worlds}

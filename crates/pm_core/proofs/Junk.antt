@@ -16,7 +16,8 @@ use Rattle.pm_records.proofs.Runs.{option_cases}
 use Rattle.pm_marks.specs.InForce.{Checkpoint}
 use Rattle.pm_core.specs.BasePages.{Partitions, base_of, counted}
 use Rattle.pm_core.specs.PageLaws.{Grows}
-use Rattle.pm_core.specs.Held.{HoldsWith, entry_of, pairs_in}
+use Rattle.pm_pages.specs.RowMaps.{entry_of}
+use Rattle.pm_core.specs.Held.{HoldsWith, pairs_in}
 
 either : (a b : Bool) → (a || b) ≡ true → (a ≡ true) ⊎ (b ≡ true)
 either true b is = inl refl

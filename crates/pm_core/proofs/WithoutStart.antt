@@ -12,7 +12,8 @@ use Rattle.pm_pages.specs.Rows.{Partition, rows_of, page_count}
 use Rattle.pm_pages.specs.WellFormed.{IsWellFormed, EachOnce, placed_pages}
 use Rattle.pm_core.specs.Replays.{all_replayed}
 use Rattle.pm_core.specs.LogAlone.{Holds}
-use Rattle.pm_core.specs.Held.{in_force, entry_of, pairs_in}
+use Rattle.pm_pages.specs.RowMaps.{entry_of}
+use Rattle.pm_core.specs.Held.{in_force, pairs_in}
 use Rattle.pm_core.specs.Sound.{LogIsAlone, SoundWith, SoundImage}
 use Rattle.pm_marks.specs.Slots.{mark_at}
 use Rattle.pm_marks.specs.InForce.{NoStart, higher, checkpoint_of}

@@ -7,11 +7,11 @@ use Rattle.pm_frame.specs.Frames.{Frame}
 use Rattle.pm_disk.specs.Files.{bytes_of}
 use Rattle.pm_disk.specs.Images.{Image}
 use Rattle.pm_model.specs.declared.cache_key.CacheKey.{CacheKey}
-use Rattle.pm_model.specs.Eval.{Pairs, cache_key, cache_key_cmp}
+use Rattle.pm_model.specs.Eval.{Pairs, cache_key_cmp}
 use Rattle.pm_records.specs.FirstRecords.{begins_well, log_shape}
 use Rattle.pm_records.specs.Logs.{all_frames, IsLogFrom}
-use Rattle.pm_pages.specs.declared.row.Row.{Row}
 use Rattle.pm_pages.specs.Rows.{rows_of}
+use Rattle.pm_pages.specs.RowMaps.{entry_of}
 use Rattle.pm_pages.specs.WellFormed.{IsWellFormed}
 use Rattle.pm_marks.specs.InForce.{Checkpoint, NoStart, Started, Ended, checkpoint_in, replay_of}
 use Rattle.pm_core.specs.Replays.{all_replayed}
@@ -21,10 +21,6 @@ use Rattle.pm_core.specs.LogAlone.{log_in}
 -- the checkpoint in force
 abbrev pub in_force : Image → Checkpoint
 in_force image = checkpoint_in (bytes_of image.starts) (bytes_of image.ends)
-
--- a row as an entry of the map
-abbrev pub entry_of : Row → CacheKey × List ℕ
-entry_of row = (cache_key row.cache row.key, row.value)
 
 -- the entries of the partitions' rows
 abbrev pub entries_in : ℕ → Partitions → List (CacheKey × List ℕ)

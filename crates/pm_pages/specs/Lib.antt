@@ -10,6 +10,7 @@ pub mod Passes
 pub mod Plain
 pub mod PlainLaws
 pub mod PlainRooms
+pub mod RowMaps
 pub mod Rows
 pub mod SpareChains
 pub mod SparePages
