@@ -6,6 +6,7 @@ pub mod EditedPages
 pub mod Exactly
 pub mod GrownPartitions
 pub mod PageReads
+pub mod PassingPages
 pub mod PlainSteps
 pub mod ReadablePages
 pub mod RowsFrom
