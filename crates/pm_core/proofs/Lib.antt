@@ -8,12 +8,15 @@ pub mod Joins
 pub mod Junk
 pub mod LeftPages
 pub mod LogCalls
+pub mod LogCrash
+pub mod LogOnly
+pub mod LogStands
 pub mod LogSteps
 pub mod Making
 pub mod MarkSteps
 pub mod NoFiles
-pub mod One
 pub mod Once
+pub mod One
 pub mod OnePage
 pub mod PageSteps
 pub mod Ranges

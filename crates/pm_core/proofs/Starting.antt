@@ -86,7 +86,7 @@ shape_starts wanted shape NoStart fs is = tt
 shape_starts wanted shape (Started mark) fs is = sym is
 shape_starts wanted shape (Ended mark) fs is = sym is
 
-restart_of : (wanted shape : Shape) (found : Option Record) → is_restart found ≡ true → shape ≡ shape_in wanted found → found ≡ Some (Restart shape)
+pub restart_of : (wanted shape : Shape) (found : Option Record) → is_restart found ≡ true → shape ≡ shape_in wanted found → found ≡ Some (Restart shape)
 restart_of wanted shape None is told = absurd cc
 restart_of wanted shape (Some (Logical op cache key value)) is told = absurd cc
 restart_of wanted shape (Some (Snapshot page bytes)) is told = absurd cc

@@ -24,7 +24,8 @@ use Rattle.pm_engine.specs.Crashes.{CrashHoldsPrefix}
 use Rattle.pm_engine.specs.Records.{line_frames, logged}
 use Rattle.pm_engine.specs.Engines.{SameAbove}
 use Rattle.pm_engine.proofs.Above.{above_less, above_then}
-use Rattle.pm_engine.proofs.DoneLines.{done_keeps, keeps_more_lines, rest_grows}
+use Rattle.pm_engine.proofs.DoneLines.{done_keeps, rest_grows}
+use Rattle.pm_engine.proofs.LeftLines.{keeps_more_lines}
 use Rattle.pm_engine.proofs.Results.{ok_holds}
 use Rattle.pm_engine.proofs.Trying.{above_still, log_still}
 

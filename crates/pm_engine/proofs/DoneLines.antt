@@ -1,11 +1,13 @@
 -- Lines that are done: what a crash leaves while a line is appended and while the log is forced.
-use Rattle.std.proofs.Common.{◌≡◌, ◌⊎◌, inl, inr, ℕ, ◌<◌, ◌≤◌, List, [], ◌∷◌, ◌++◌, length, take, Option, Some, None, refl, sym, ◌∙◌, ap, subst, arith, Bool, true, false, append_assoc, append-nil, length-append}
+use Rattle.std.proofs.Common.{◌≡◌, inl, inr, ℕ, ◌<◌, ◌≤◌, List, [], ◌∷◌, ◌++◌, length, take, Option, Some, None, refl, sym}
+use Rattle.std.proofs.Common.{◌∙◌, ap, subst, arith, Bool, true, false, append_assoc, append-nil, length-append}
 use Rattle.std.specs.Prelude.{if◌then◌else◌}
 use Rattle.std.specs.FinMap.{empty}
 use Rattle.std.proofs.lemmas.List.{take_all, take-append-le}
 use Rattle.std.proofs.Math.Seq.{take-length}
 use Rattle.pm_types.specs.declared.place.Place.{Place}
 use Rattle.pm_types.specs.declared.shape.Shape.{Shape}
+use Rattle.pm_types.specs.Shapes.{IsShape}
 use Rattle.pm_frame.specs.declared.kinds.TheConstants.{LOGICAL}
 use Rattle.pm_frame.specs.declared.limits.TheConstants.{PAYLOAD_MAX}
 use Rattle.pm_frame.specs.Frames.{Frame}
@@ -15,7 +17,6 @@ use Rattle.pm_records.specs.declared.limits.TheConstants.{PUT, REMOVE}
 use Rattle.pm_records.specs.Records.{Record, Logical, Seal, IsRecord, kind_of, record_of, payload_of}
 use Rattle.pm_records.proofs.Growing.{grows_none}
 use Rattle.pm_records.proofs.RecordOf.{record_of-payload, payload_of-short}
-use Rattle.pm_disk.specs.Images.{Image}
 use Rattle.pm_disk.specs.Worlds.{World, log_forced}
 use Rattle.pm_model.specs.declared.line.Cmd.TheVariants.{Put, Get, Remove, Scan, Checkpoint}
 use Rattle.pm_model.specs.declared.line.Line.{Line}
@@ -23,20 +24,24 @@ use Rattle.pm_model.specs.declared.line.Line.TheVariants.{Good, Bad, Long}
 use Rattle.pm_model.specs.Eval.{Pairs, is_accepted, after, after_all}
 use Rattle.pm_model.proofs.Runs.{after_all-append, after-not_accepted}
 use Rattle.pm_records.specs.LogFiles.{contents, LogGrowsBy, Written, IsWritten, IsRecordFrame, IsQuietBut}
-use Rattle.pm_records.specs.LogSteps.{end_after, Force, world_after, DoesPrefix, next_written, written_after, frames_in}
-use Rattle.pm_records.specs.Logs.{all_frames, IsLogFrom, IsLogWithNothingAbove, without_seals, record_in, place, seal_frame}
+use Rattle.pm_records.specs.LogSteps.{Step, end_after, Force, world_after, DoesPrefix, next_written, written_after, frames_in}
+use Rattle.pm_records.specs.Logs.{all_frames, IsLogFrom, without_seals, record_in, place, seal_frame}
 use Rattle.pm_records.proofs.QuietLog.{forced_quiet}
-use Rattle.pm_records.proofs.Writing.{frames_after, lasting_after}
+use Rattle.pm_records.proofs.Tracing.{prefix_none, prefix_all}
+use Rattle.pm_records.proofs.Writing.{CanAll, frames_after, lasting_after}
 use Rattle.pm_segments.specs.Appends.{room_steps, append_steps, steps_of, grown}
 use Rattle.pm_segments.proofs.AppendLaw.{append_written}
-use Rattle.pm_segments.proofs.OpenLog.{open_image, room_frames, append_frames, grown_end, grown_seg, append_open, append_image, force_written, force_open}
+use Rattle.pm_segments.proofs.OpenLog.{room_frames, append_frames, grown_end, grown_seg, append_open, force_written, force_open}
 use Rattle.pm_segments.proofs.Quiet.{append_quiet}
 use Rattle.pm_core.proofs.Replaying.{replayed-append}
 use Rattle.pm_engine.specs.Records.{record_of_line, IsPayloadOf, logical_frame, frames_of_record, line_frames}
-use Rattle.pm_core.specs.LogAlone.{IsHeld, Holds, log_in}
+use Rattle.pm_core.specs.LogAlone.{IsHeld}
 use Rattle.pm_core.specs.Replays.{replayed, then_replayed}
 use Rattle.pm_engine.specs.Crashes.{CrashHoldsPrefix}
 use Rattle.pm_engine.specs.Engines.{Running, frames_of, HeldAfterPrefix, HasDone, HasDoneWithin, IsAtRest, HasSegments}
+use Rattle.pm_core.proofs.LogCrash.{LeavesFrames, crash_leaves}
+use Rattle.pm_core.proofs.LogStands.{WrittenHolds, held_shape}
+use Rattle.pm_engine.proofs.LeftLines.{some_more, before_push, lines_left, can_try}
 
 -- ---- what frames hold
 
@@ -85,56 +90,47 @@ logs_line shape (Good Checkpoint) pairs payload is made = absurd cc
 logs_line shape Bad pairs payload is made = absurd cc
 logs_line shape Long pairs payload is made = absurd cc
 
--- ---- first parts of the log
-
-le_or : (n m : ℕ) → (n ≤ m) ⊎ (m < n)
-le_or n m = grind arith
-
--- more lines
-some_more : (wanted shape : Shape) (start : Pairs) (done more : List Line) (frames : List Frame) → HeldAfterPrefix wanted shape start done frames → HeldAfterPrefix wanted shape start (done ++ more) frames
-some_more wanted shape start done more frames h = (
-  h.0,
-  omega (arith, h.1, length-append done more),
-  subst (λ ls. IsHeld wanted frames shape (after_all shape ls start)) (sym (take-append-le h.0 done more h.1)) h.2,
-)
-
--- all lines
-some_all : (wanted shape : Shape) (start : Pairs) (done : List Line) (frames : List Frame) → IsHeld wanted frames shape (after_all shape done start) → HeldAfterPrefix wanted shape start done frames
-some_all wanted shape start done frames held =
-    (length done, omega arith, subst (λ ls. IsHeld wanted frames shape (after_all shape ls start)) (sym (take-length done)) held)
-
--- one frame more
-pub before_push : (wanted shape : Shape) (start : Pairs) (done more : List Line) (low : ℕ) (frames : List Frame) (f : Frame) → ((n : ℕ) → low ≤ n → HeldAfterPrefix wanted shape start done (take n frames))
-    → IsHeld wanted (frames ++ f ∷ []) shape (after_all shape (done ++ more) start) → (n : ℕ) → low ≤ n → HeldAfterPrefix wanted shape start (done ++ more) (take n (frames ++ f ∷ []))
-before_push wanted shape start done more low frames f before held n le = elim (le_or n (length frames)) [
-  | inl within ↦ subst (HeldAfterPrefix wanted shape start (done ++ more)) (sym (take-append-le n frames (f ∷ []) within)) (some_more wanted shape start done more (take n frames) (before n le))
-  | inr past ↦ subst (HeldAfterPrefix wanted shape start (done ++ more)) (sym (take_all n (frames ++ f ∷ []) (omega (arith, past, length-append frames (f ∷ [])))))
-      (some_all wanted shape start (done ++ more) (frames ++ f ∷ []) held)
-]
-
--- frames that are the whole log of an image, and hold a map
-pub holds_by : (wanted : Shape) (image : Image) (shape : Shape) (pairs : Pairs) (frames : List Frame) → IsLogWithNothingAbove all_frames (log_in image) (place 1 0) frames → IsHeld wanted frames shape pairs
-    → Holds wanted image shape pairs
-holds_by wanted image shape pairs frames log held = record { log = record { frames = frames; log = log.log; held = held }; nothing_above = log.nothing_above }
-
 -- ---- the engine at rest
 
--- what it keeps
-pub done_keeps : (wanted : Shape) (start : Pairs) (done : List Line) (engine : Running) (world : World) → HasDone wanted start done engine world → CrashHoldsPrefix wanted engine.shape start done world
-done_keeps wanted start done engine world goes image leaves honest =
-    let s = goes.written in
-    let left = open_image world 1 (place 1 0) engine.log.end s goes.log image.log leaves.log honest in
-    let h = goes.before left.0 left.1 in
-    (h.0, h.1, holds_by wanted image engine.shape (after_all engine.shape (take h.0 done) start) (take left.0 (frames_of s)) left.2 h.2)
+module _ (wanted : Shape) (start : Pairs) (done : List Line) (engine : Running) (world : World)
+    (goes : HasDone wanted start done engine world) where
+  -- its shape is one that a store may have
+  pub done_shape : IsShape engine.shape
+  done_shape = held_shape wanted (frames_of goes.written) engine.shape engine.map goes.some goes.held
 
--- more lines keep what fewer keep
-pub keeps_more_lines : (wanted shape : Shape) (start : Pairs) (done more : List Line) (world : World) → CrashHoldsPrefix wanted shape start done world → CrashHoldsPrefix wanted shape start (done ++ more) world
-keeps_more_lines wanted shape start done more world keeps image leaves honest =
-    let h = keeps image leaves honest in (
-      h.0,
-      omega (arith, h.1, length-append done more),
-      subst (λ ls. Holds wanted image shape (after_all shape ls start)) (sym (take-append-le h.0 done more h.1)) h.2,
-    )
+  -- its lasting frames hold a map
+  pub done_lasting : (first : Pairs) × IsHeld wanted goes.written.lasting engine.shape first
+  done_lasting =
+      let s = goes.written in
+      let h = goes.before (length s.lasting) (omega arith) in
+      let same = take-append-le (length s.lasting) s.lasting s.pending (omega arith) ∙ take-length s.lasting in
+      let first : Pairs = after_all engine.shape (take h.0 done) start in
+      (first, subst (λ fs. IsHeld wanted fs engine.shape first) same h.2)
+
+  -- while steps are made that append nothing a crash leaves the map after a prefix of its lines
+  still_keeps : (steps : List Step) → CanAll 0 steps engine.log.end goes.written → frames_in steps ≡ []
+      → (now : World) → DoesPrefix steps engine.log.end world now → CrashHoldsPrefix wanted engine.shape start done now
+  still_keeps steps can none now some image leaves honest =
+      let s = goes.written in
+      let same : frames_of s ++ frames_in steps ≡ frames_of s = ap (λ fs. frames_of s ++ fs) none ∙ append-nil (frames_of s) in
+      let holds : WrittenHolds wanted engine.shape s (frames_in steps) done_lasting.0 engine.map = record {
+        lasting = done_lasting.1;
+        all = subst (λ fs. IsHeld wanted fs engine.shape engine.map) (sym same) goes.held;
+      } in
+      let left = crash_leaves wanted engine.shape done_shape world engine.log.end s goes.log steps can
+      done_lasting.0 engine.map holds now some image leaves honest in
+      lines_left wanted engine.shape start done (frames_of s) (length s.lasting) image goes.before
+      (subst (λ fs. LeavesFrames wanted engine.shape fs (length s.lasting) image) same left)
+
+  -- while none is made
+  pub done_keeps : CrashHoldsPrefix wanted engine.shape start done world
+  done_keeps = still_keeps [] tt refl world (prefix_none [] engine.log.end world)
+
+  -- once the log is forced
+  pub forced_keeps : CrashHoldsPrefix wanted engine.shape start done (log_forced engine.log.end.seg world)
+  forced_keeps =
+      still_keeps (Force ∷ []) (inl goes.is_open.ready, tt) refl (log_forced engine.log.end.seg world)
+      (prefix_all (Force ∷ []) engine.log.end world)
 
 -- the same with an engine of the same fields
 same_engine : (engine : Running) (shape : Shape) (pairs : Pairs) (now : Running) → now.shape ≡ shape → now.map ≡ pairs → now.log ≡ engine.log → record { shape = shape; map = pairs; log = engine.log; order = now.order } ≡ now
@@ -231,12 +227,25 @@ module _ (wanted : Shape) (start : Pairs) (done : List Line) (engine : Running) 
   before_try true n le = before_whole n le
   before_try false n le = subst (λ ls. HeldAfterPrefix wanted shape start ls (take n (frames ++ first))) (sym (append-nil done)) (before_record.1 n le)
 
+  -- the frames that it has then hold a map
+  try_holds : (tried : Bool) → (now : Pairs) × IsHeld wanted (frames ++ frames_in (steps_of tried engine.log f)) shape now
+  try_holds true =
+      let now : Pairs = after shape line engine.map in
+      (now, subst (λ fs. IsHeld wanted fs shape now) regrouped held_record)
+  try_holds false = (engine.map, before_record.0)
+
   -- while it is appended
   pub append_keeps : (tried : Bool) (now : World) → DoesPrefix (steps_of tried engine.log f) engine.log.end old now → CrashHoldsPrefix wanted shape start (done ++ tried_line tried line) now
   append_keeps tried now some image leaves honest =
-      let left = append_image engine.log f is_record s goes.is_open tried old now 1 (place 1 0) goes.log some image.log leaves.log honest in
-      let h = before_try tried left.0 left.1 in
-      (h.0, h.1, holds_by wanted image shape (after_all shape (take h.0 (done ++ tried_line tried line)) start) (take left.0 (frames ++ frames_in (steps_of tried engine.log f))) left.2 h.2)
+      let steps = steps_of tried engine.log f in
+      let lasting = done_lasting wanted start done engine old goes in
+      let all = try_holds tried in
+      let holds : WrittenHolds wanted shape s (frames_in steps) lasting.0 all.0 = record { lasting = lasting.1; all = all.1 } in
+      let can = can_try tried 0 engine.log f s is_record goes.is_open in
+      let left = crash_leaves wanted shape (done_shape wanted start done engine old goes) old engine.log.end s goes.log steps can
+      lasting.0 all.0 holds now some image leaves honest in
+      lines_left wanted shape start (done ++ tried_line tried line) (frames ++ frames_in steps) (length s.lasting) image
+      (before_try tried) left
 
   -- once it is
   pub append_done : (now : Running) → now.shape ≡ shape → now.map ≡ after shape line engine.map → now.log ≡ grown engine.log f → (world : World) → world ≡ world_after (append_steps engine.log f) engine.log.end old
@@ -309,16 +318,6 @@ module _ (wanted : Shape) (start : Pairs) (done : List Line) (engine : Running) 
 
   pub force_quiet : (n : ℕ) → (forced.log n).since ≡ []
   force_quiet n = forced_quiet engine.log.end.seg old goes.quiet n
-
-  -- and a crash leaves the map of all lines
-  pub forced_keeps : CrashHoldsPrefix wanted engine.shape start done forced
-  forced_keeps image leaves honest =
-      let h = done_keeps wanted engine.map [] engine forced force_at_rest image leaves honest in
-      let none : after_all engine.shape (take h.0 []) engine.map ≡ engine.map = ap (λ ls. after_all engine.shape ls engine.map) (take_all h.0 [] (omega arith)) in (
-        length done,
-        omega arith,
-        subst (Holds wanted image engine.shape) (none ∙ goes.map ∙ ap (λ ls. after_all engine.shape ls start) (sym (take-length done))) h.2,
-      )
 
   -- the log has the frames that it had
   pub force_grows : LogGrowsBy old forced []

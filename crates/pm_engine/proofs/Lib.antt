@@ -3,6 +3,7 @@ pub mod Applying
 pub mod Batching
 pub mod DoneLines
 pub mod Forcing
+pub mod LeftLines
 pub mod Opening
 pub mod OpeningMoments
 pub mod ReadShapes

@@ -11,7 +11,7 @@ use Rattle.pm_frame.specs.declared.kinds.TheConstants.{RESTART}
 use Rattle.pm_frame.specs.declared.limits.TheConstants.{FRAME_END_MAX, SEGMENT_END_MAX}
 use Rattle.pm_frame.specs.Frames.{Frame, end_max}
 use Rattle.pm_frame.proofs.FrameAt.{frame_at-some}
-use Rattle.pm_records.proofs.HeldLog.{held_log}
+use Rattle.pm_records.proofs.HeldLog.{held_log, quiet_held}
 use Rattle.pm_records.proofs.FrameGrammar.{frame_laws}
 use Rattle.pm_records.proofs.Tracing.{world_after-append}
 use Rattle.pm_records.specs.Records.{Restart, payload_of}
@@ -19,28 +19,32 @@ use Rattle.pm_types.specs.Shapes.{IsShape}
 use Rattle.pm_records.proofs.RecordOf.{record_of-payload, payload_of-short}
 use Rattle.pm_disk.specs.Files.{File, Cut, bytes_of, with_change, all_forced}
 use Rattle.pm_disk.specs.Worlds.{World, log_forced, segment_in}
-use Rattle.pm_disk.specs.Images.{NothingPending}
+use Rattle.pm_disk.specs.Images.{NothingPending, LeavesAll}
 use Rattle.pm_disk.proofs.Families.{file_there}
+use Rattle.pm_disk.proofs.Files.{quiet_content, quiet_left}
 use Rattle.pm_records.specs.FirstRecords.{restart_frame, is_restart, shape_in}
-use Rattle.pm_records.specs.LogFiles.{LogGrowsBy, Ready, contents, Written, IsWritten, IsRecordFrame, IsQuietBut}
+use Rattle.pm_records.specs.LogFiles.{LogGrowsBy, Ready, Uncut, contents, Written, IsWritten, IsRecordFrame, IsQuietBut}
 use Rattle.pm_records.specs.LogSteps.{end_after, cut_steps, cut_at, world_after, DoesPrefix, written_after, frames_in}
 use Rattle.pm_records.specs.Logs.{IsLogFrom, without_seals, ends_log, next_place, is_over, record_in, place, all_frames, HasFrames, after_frames, is_seal, is_last, seal_frame, IsLogWithNothingAbove}
-use Rattle.pm_records.proofs.OpeningLaw.{run_within, opened, opening_image}
+use Rattle.pm_records.proofs.OpeningLaw.{run_within, opened}
 use Rattle.pm_records.proofs.Runs.{rises_from, few_go_on, one_log, neither, bool_cases, next-plain, next-seal}
 use Rattle.pm_records.proofs.Writing.{frames_after, lasting_after}
 use Rattle.pm_segments.specs.Appends.{room_steps, roll_steps, append_steps, steps_of, grown}
 use Rattle.pm_segments.specs.Ends.{LogEnd, EndsThere, fresh_log, has_room, LogIsOpen}
 use Rattle.pm_segments.proofs.AppendLaw.{append_written}
-use Rattle.pm_segments.proofs.OpenLog.{room_frames, append_frames, grown_end, grown_seg, append_open, append_image}
+use Rattle.pm_segments.proofs.OpenLog.{room_frames, append_frames, grown_end, grown_seg, append_open}
 use Rattle.pm_segments.proofs.Quiet.{append_quiet}
-use Rattle.pm_model.specs.Eval.{Pairs, after_all}
-use Rattle.pm_core.specs.LogAlone.{image_of, IsHeld, LogHolds, Holds, last_segment}
+use Rattle.pm_model.specs.Eval.{Pairs}
+use Rattle.pm_core.specs.LogAlone.{image_of, log_in, IsHeld, LogHolds, Holds, last_segment}
 use Rattle.pm_core.specs.Replays.{replayed, all_replayed}
 use Rattle.pm_engine.specs.Crashes.{CrashHoldsPrefix}
 use Rattle.pm_engine.specs.Engines.{Running, frames_of, HeldAfterPrefix, IsAtRest}
 use Rattle.pm_engine.specs.Openings.{HasMap, ReadsAll, OpensWith, OpensAtRest}
 use Rattle.pm_engine.specs.declared.replay.Replay.{Replay}
-use Rattle.pm_engine.proofs.DoneLines.{held_push, held_seal, before_push, holds_by}
+use Rattle.pm_core.proofs.LogCrash.{LeavesFrames, crash_leaves}
+use Rattle.pm_core.proofs.LogStands.{WrittenHolds}
+use Rattle.pm_engine.proofs.DoneLines.{held_push, held_seal}
+use Rattle.pm_engine.proofs.LeftLines.{before_push, lines_left, can_try}
 
 zero_or : (n : ℕ) → (n ≡ 0) ⊎ (0 < n)
 zero_or n = grind arith
@@ -124,6 +128,24 @@ module _ (wanted : Shape) (old : World) (shape : Shape) (pairs : Pairs) (holds :
   pub reads_held : (at : Place) (found : Replay) → ReadsAll wanted old at found → (found.shape ≡ shape) × (found.map ≡ pairs)
   reads_held at found all = holds_one wanted old found.shape shape found.map pairs (reads_hold wanted old at found all) holds.log
 
+  -- With nothing pending a crash leaves each segment as it is, whatever shape was wanted, be it one that no store may have.
+  pub sound_keeps : last_segment holds < 2 ^ 62 → NothingPending old → (now : World) → now ≡ old
+      → CrashHoldsPrefix wanted shape pairs [] now
+  sound_keeps numbered quiet now is image leaves honest =
+      let there : LeavesAll old image = subst (λ w. LeavesAll w image) is leaves in
+      let same : contents old.log ≡ log_in image = λ i seg. (
+      ap bytes_of (quiet_content (old.log seg) (quiet.log seg))
+      ∙ sym (quiet_left (old.log seg) (image.log seg) (quiet.log seg) (there.log seg))) i in
+      let its : IsLogFrom all_frames (log_in image) (place 1 0) frames =
+      subst (λ c. IsLogFrom all_frames c (place 1 0) frames) same holds.log.log in (
+        0,
+        omega arith,
+        record {
+          log = record { frames = frames; log = its; held = holds.log.held };
+          nothing_above = λ seg lt. ap (λ (c : ℕ → List ℕ). c seg) (sym same) ∙ holds.nothing_above seg lt;
+        },
+      )
+
   module _ (numbered : last_segment holds < 2 ^ 62) (quiet : NothingPending old) where
     pub reads_end : (at : Place) (found : Replay) → ReadsAll wanted old at found → at ≡ end
     reads_end at found all = all.ends ∙ ap (after_frames (place 1 0)) (reads_same at found all)
@@ -134,19 +156,38 @@ module _ (wanted : Shape) (old : World) (shape : Shape) (pairs : Pairs) (holds :
     goes_on : is_over (place 1 0) frames ≡ false
     goes_on = few_go_on (place 1 0) frames (omega (arith, numbered))
 
+    -- the log as it was read
+    abbrev uncut : Written
+    uncut = record { at = end; lasting = holds.log.frames; pending = []; tail = Uncut }
+
+    found_written : IsWritten old 1 (place 1 0) end uncut
+    found_written = record {
+      log = quiet_held all_frames frame_laws old.log 1 (place 1 0) end frames (λ seg le. quiet.log seg) (omega arith)
+          with_nothing_above goes_on refl (run_within (contents old.log) (place 1 0) frames long holds.log.log.run);
+      ends = (refl, refl);
+    }
+
+    -- before anything is appended
+    base : (n : ℕ) → length frames ≤ n → HeldAfterPrefix wanted shape pairs [] (take n frames)
+    base n le = (0, omega arith, subst (λ fs. IsHeld wanted fs shape pairs) (sym (take_all n frames le)) holds.log.held)
+
     -- while the tail is cut
-    pub cutting_keeps : (now : World) → DoesPrefix cut_steps end old now → CrashHoldsPrefix wanted shape pairs [] now
-    cutting_keeps now cuts image leaves honest = (
-      0,
-      omega arith,
-      holds_by wanted image shape pairs frames
-          (opening_image old 1 (place 1 0) frames (λ seg le. quiet.log seg) (omega arith) with_nothing_above goes_on long now cuts image.log leaves.log honest)
-          holds.log.held,
-    )
+    pub cutting_keeps : IsShape shape → (now : World) → DoesPrefix cut_steps end old now
+        → CrashHoldsPrefix wanted shape pairs [] now
+    cutting_keeps sound now cuts image leaves honest =
+        let nothing : (frames ++ []) ++ [] ≡ frames = append-nil (frames ++ []) ∙ append-nil frames in
+        let held : WrittenHolds wanted shape uncut [] pairs pairs = record {
+          lasting = holds.log.held;
+          all = subst (λ fs. IsHeld wanted fs shape pairs) (sym nothing) holds.log.held;
+        } in
+        let left = crash_leaves wanted shape sound old end uncut found_written cut_steps (refl, (inr refl, tt))
+        pairs pairs held now cuts image leaves honest in
+        lines_left wanted shape pairs [] frames (length frames) image base
+        (subst (λ fs. LeavesFrames wanted shape fs (length frames) image) nothing left)
 
     -- before it is
-    pub sound_keeps : (now : World) → now ≡ old → CrashHoldsPrefix wanted shape pairs [] now
-    sound_keeps now is = cutting_keeps now (0, omega arith, is)
+    pub found_keeps : IsShape shape → (now : World) → now ≡ old → CrashHoldsPrefix wanted shape pairs [] now
+    found_keeps sound now is = cutting_keeps sound now (0, omega arith, is)
 
     -- once it is cut and forced
     abbrev cut : World
@@ -193,10 +234,6 @@ module _ (wanted : Shape) (old : World) (shape : Shape) (pairs : Pairs) (holds :
       abbrev first : List Frame
       first = frames_in (room_steps log (length (payload_of (Restart shape))))
 
-      -- before anything is appended
-      base : (n : ℕ) → length frames ≤ n → HeldAfterPrefix wanted shape pairs [] (take n frames)
-      base n le = (0, omega arith, subst (λ fs. IsHeld wanted fs shape pairs) (sym (take_all n frames le)) holds.log.held)
-
       none_more : HoldsStill []
       none_more = subst (λ fs. IsHeld wanted fs shape pairs × ((n : ℕ) → length frames ≤ n → HeldAfterPrefix wanted shape pairs [] (take n fs))) (sym (append-nil frames)) (holds.log.held, base)
 
@@ -242,13 +279,24 @@ module _ (wanted : Shape) (old : World) (shape : Shape) (pairs : Pairs) (holds :
       nothing_pending : frames ++ [] ≡ frames
       nothing_pending = append-nil frames
 
+      -- the frames that it has then hold the map
+      held_try : (tried : Bool) → IsHeld wanted (frames ++ frames_in (steps_of tried log f)) shape pairs
+      held_try true = subst (λ fs. IsHeld wanted fs shape pairs) regrouped held_whole
+      held_try false = before_restart.0
+
       -- while the RESTART is appended
       pub restart_keeps : (tried : Bool) (now : World) → DoesPrefix (steps_of tried log f) end cut now → CrashHoldsPrefix wanted shape pairs [] now
       restart_keeps tried now some image leaves honest =
-          let left = append_image log f is_record s is_open tried cut now 1 (place 1 0) written some image.log leaves.log honest in
-          let log_is = subst (λ fs. IsLogWithNothingAbove all_frames (λ seg. bytes_of (image.log seg)) (place 1 0) (take left.0 (fs ++ frames_in (steps_of tried log f)))) nothing_pending left.2 in
-          let h = before_try tried left.0 left.1 in
-          (h.0, h.1, holds_by wanted image shape (after_all shape (take h.0 []) pairs) (take left.0 (frames ++ frames_in (steps_of tried log f))) log_is h.2)
+          let steps = steps_of tried log f in
+          let same = ap (λ fs. fs ++ frames_in steps) nothing_pending in
+          let held : WrittenHolds wanted shape s (frames_in steps) pairs pairs = record {
+            lasting = holds.log.held;
+            all = subst (λ fs. IsHeld wanted fs shape pairs) (sym same) (held_try tried);
+          } in
+          let left = crash_leaves wanted shape sound cut end s written steps (can_try tried 0 log f s is_record is_open)
+          pairs pairs held now some image leaves honest in
+          lines_left wanted shape pairs [] (frames ++ frames_in steps) (length frames) image (before_try tried)
+          (subst (λ fs. LeavesFrames wanted shape fs (length frames) image) same left)
 
       -- once it is
       pub restart_at_rest : (order : List ℕ) (world : World) → world ≡ world_after (append_steps log f) end cut
@@ -325,8 +373,10 @@ module _ (wanted : Shape) (old : World) (shape : Shape) (pairs : Pairs) (holds :
   shapes = (reads_held wanted old shape pairs holds at found all).0
 
   -- the tail is cut
-  pub cut_all : (now : World) → DoesPrefix cut_steps at mid now → CrashHoldsPrefix wanted shape pairs [] now
-  cut_all now cuts = cutting_keeps wanted old shape pairs holds numbered quiet now (subst (λ p. DoesPrefix cut_steps p old now) there (subst (λ w. DoesPrefix cut_steps at w now) same cuts))
+  pub cut_all : IsShape shape → (now : World) → DoesPrefix cut_steps at mid now → CrashHoldsPrefix wanted shape pairs [] now
+  cut_all sound now cuts =
+      cutting_keeps wanted old shape pairs holds numbered quiet sound now
+      (subst (λ p. DoesPrefix cut_steps p old now) there (subst (λ w. DoesPrefix cut_steps at w now) same cuts))
 
   module _ (sound : IsShape found.shape) (log : LogEnd) (is_log : log ≡ fresh_log 1 at found.shape.segment_bytes) (payload : List ℕ) (is_payload : payload ≡ payload_of (Restart found.shape))
       (cut_world : World) (is_cut : cut_world ≡ log_forced at.seg (cut_at at mid)) where

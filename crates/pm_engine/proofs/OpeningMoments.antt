@@ -26,15 +26,21 @@ use Rattle.pm_engine.specs.StoredShapes.{shape_fault}
 use Rattle.pm_engine.specs.declared.replay.Replay.{Replay}
 use Rattle.pm_engine.proofs.Above.{above_same, append_within, cut_within, prefix_above}
 use Rattle.pm_engine.proofs.Batching.{above_after}
-use Rattle.pm_engine.proofs.Opening.{cut_all, read_end, reads_hold, some_all, sound_keeps}
+use Rattle.pm_model.specs.Eval.{Pairs}
+use Rattle.pm_core.proofs.LogStands.{wanted_shape}
+use Rattle.pm_engine.proofs.Opening.{cut_all, read_end, reads_hold, some_all, found_keeps}
 
-module _ (wanted : Shape) (old mid : History) (same : AllMoments old mid (IsSame old.world)) where
+module _ (wanted : Shape) (wanted_is : IsShape wanted) (old mid : History) (same : AllMoments old mid (IsSame old.world)) where
+  -- a shape that the store holds is one that a store may have
+  shape_held : (shape : Shape) (pairs : Pairs) → Holds wanted (image_of old.world) shape pairs → IsShape shape
+  shape_held shape pairs holds = wanted_shape wanted holds.log.frames shape pairs wanted_is holds.log.held
+
   -- nothing has happened yet
   pub unchanged : (refused : Type 0) → OpensWithin wanted refused old mid
   unchanged refused = record {
     crash = λ shape pairs holds numbered quiet.
         weaker old mid (IsSame old.world) (CrashHoldsPrefix wanted shape pairs [])
-        (λ w is. sound_keeps wanted old.world shape pairs holds numbered quiet w is) same;
+        (λ w is. found_keeps wanted old.world shape pairs holds numbered quiet (shape_held shape pairs holds) w is) same;
     log_only = weaker old mid (IsSame old.world) (ChangesLog old.world)
         (λ w is. subst (ChangesLog old.world) (sym is) (log_same old.world)) same;
     above = λ frames log. (
@@ -62,7 +68,8 @@ module _ (wanted : Shape) (old mid : History) (same : AllMoments old mid (IsSame
           let P : World → Type 0 = CrashHoldsPrefix wanted shape pairs [] in
           joined old mid cut P (first.crash shape pairs holds numbered quiet)
           (weaker mid cut (DoesPrefix cut_steps end mid.world) P
-          (λ w some. cut_all wanted old.world shape pairs holds numbered quiet end found reads mid.world is_same w some) cuts));
+          (λ w some. cut_all wanted old.world shape pairs holds numbered quiet end found reads mid.world is_same
+          (shape_held shape pairs holds) w some) cuts));
       log_only =
           (let L : World → Type 0 = ChangesLog old.world in
           joined old mid cut L first.log_only

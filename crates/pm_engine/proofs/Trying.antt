@@ -21,7 +21,8 @@ use Rattle.pm_segments.specs.Appends.{grown}
 use Rattle.pm_segments.specs.Ends.{LogEnd}
 use Rattle.pm_engine.specs.Engines.{SameAbove}
 use Rattle.pm_engine.proofs.Above.{above_less, above_same, append_within, grown_rises, prefix_above}
-use Rattle.pm_engine.proofs.DoneLines.{LogsLine, tried_line, done_keeps, keeps_more_lines, append_keeps, append_grows, rest_grows}
+use Rattle.pm_engine.proofs.DoneLines.{LogsLine, tried_line, done_keeps, append_keeps, append_grows, rest_grows}
+use Rattle.pm_engine.proofs.LeftLines.{keeps_more_lines}
 use Rattle.pm_engine.proofs.Results.{on_ok_both, ok_anyway}
 
 pub not_true : (b : Bool) → not b ≡ true → b ≡ false

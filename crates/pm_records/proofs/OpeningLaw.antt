@@ -1,18 +1,15 @@
--- A log with nothing pending is made ready for more by cutting its tail: a crash meanwhile leaves all its frames.
-use Rattle.std.proofs.Common.{◌≡◌, inl, inr, ℕ, ◌≤◌, List, [], ◌∷◌, ◌++◌, length, take, Option, refl, sym, ◌∙◌, ap, subst, arith, false, append-nil}
-use Rattle.std.proofs.lemmas.List.{take_all}
+-- A log with nothing pending is made ready for more by cutting its tail.
+use Rattle.std.proofs.Common.{◌≡◌, inl, inr, ℕ, ◌≤◌, List, [], ◌∷◌, length, refl, sym, subst, arith, false, append-nil}
 use Rattle.pm_types.specs.declared.place.Place.{Place}
 use Rattle.pm_frame.specs.Frames.{Frame}
-use Rattle.pm_disk.specs.Files.{bytes_of}
 use Rattle.pm_disk.specs.Worlds.{World}
-use Rattle.pm_disk.specs.Images.{Leaves, IsTrueOf}
 use Rattle.pm_records.specs.LogFiles.{contents, Uncut, Ready, Written, IsWritten}
-use Rattle.pm_records.specs.LogSteps.{cut_steps, world_after, DoesPrefix}
+use Rattle.pm_records.specs.LogSteps.{cut_steps, world_after}
 use Rattle.pm_records.specs.Logs.{all_frames, next_place, enters_next, is_over, after_frames, HasFrames, IsLogWithNothingAbove}
 use Rattle.pm_records.proofs.FrameGrammar.{frame_laws}
 use Rattle.pm_records.proofs.HeldLog.{quiet_held}
 use Rattle.pm_records.proofs.Runs.{bool_cases, next-enters, next-stays}
-use Rattle.pm_records.proofs.Writing.{CanAll, steps_keep, crash_law}
+use Rattle.pm_records.proofs.Writing.{CanAll, steps_keep}
 
 -- a run ends within the file of its last segment
 pub run_within : (c : ℕ → List ℕ) (p : Place) (fs : List Frame) → p.off ≤ length (c p.seg) → HasFrames all_frames c p fs → (after_frames p fs).off ≤ length (c (after_frames p fs).seg)
@@ -41,11 +38,3 @@ module _ (world : World) (low : ℕ) (from : Place) (fs : List Frame) (quiet : (
   -- once the tail is cut and forced, the log is ready for more
   pub opened : IsWritten (world_after cut_steps end world) low from end (record { at = end; lasting = fs; pending = []; tail = Ready })
   opened = subst (λ l. IsWritten (world_after cut_steps end world) low from end (record { at = end; lasting = l; pending = []; tail = Ready })) (append-nil fs) (steps_keep low cut_steps world from end uncut found can)
-
-  -- at each moment until then a crash leaves all frames
-  pub opening_image : (now : World) → DoesPrefix cut_steps end world now → (left : ℕ → Option (List ℕ)) → ((seg : ℕ) → Leaves (now.log seg) (left seg)) → ((seg : ℕ) → IsTrueOf (all_frames.frame_at seg) (now.log seg) (left seg))
-      → IsLogWithNothingAbove all_frames (λ seg. bytes_of (left seg)) from fs
-  opening_image now some left leaves honest =
-      let image = crash_law cut_steps world now low from end uncut found can some left leaves honest in
-      let all : take image.0 ((fs ++ []) ++ []) ≡ fs = ap (take image.0) (append-nil (fs ++ []) ∙ append-nil fs) ∙ take_all image.0 fs image.1 in
-      subst (λ l. IsLogWithNothingAbove all_frames (λ seg. bytes_of (left seg)) from l) all image.2

@@ -1,26 +1,16 @@
-use Rattle.std.proofs.Common.{rules, ◌≡◌, ◌+◌, ◌≤◌, arith, length, refl, [], sym, ap, subst, true}
+use Rattle.std.proofs.Common.{rules, ◌≡◌, ◌≤◌, length, refl, [], sym, ap, subst, true}
 use Rattle.std.specs.Prelude.{IsErrOf}
 use Rattle.pm_types.specs.declared.fault.StoreFault.TheVariants.{BadRecord}
 use Rattle.pm_frame.specs.declared.kinds.TheConstants.{RESTART}
 use Rattle.pm_frame.specs.Frames.{Frame}
 use Rattle.pm_disk.specs.Worlds.{World, segment_in}
 use Rattle.pm_disk.specs.Files.{bytes_of}
-use Rattle.pm_disk.specs.Moments.{AllMoments}
-use Rattle.pm_disk.proofs.Chain.{weaker, joined, at_last}
-use Rattle.pm_records.specs.LogFiles.{ChangesLog}
-use Rattle.pm_records.specs.LogSteps.{cut_steps, DoesPrefix, world_after}
-use Rattle.pm_records.proofs.QuietLog.{log_same, log_then, prefix_changes}
+use Rattle.pm_disk.proofs.Chain.{at_last}
+use Rattle.pm_records.specs.LogSteps.{world_after}
 use Rattle.pm_segments.specs.Appends.{steps_of}
 use Rattle.pm_core.specs.LogAlone.{last_segment}
-use Rattle.pm_engine.specs.Crashes.{CrashHoldsPrefix}
 use Rattle.pm_engine.specs.Openings.{IsSame, LogHoldsNothing, ReadsAll, IsBadStore, OpensWith, OpensAtRest}
-use Rattle.pm_types.specs.declared.place.Place.{Place}
-use Rattle.pm_records.specs.Logs.{after_frames, place}
-use Rattle.pm_segments.specs.Ends.{LogEnd}
-use Rattle.pm_engine.specs.Engines.{SameAbove}
-use Rattle.pm_engine.proofs.Above.{above_same, append_within, cut_within, prefix_above}
-use Rattle.pm_engine.proofs.Batching.{above_after}
-use Rattle.pm_engine.proofs.Opening.{read_end, end_within, reads_hold, sound_keeps, cut_all, some_all, opened_at_rest, opens_with}
+use Rattle.pm_engine.proofs.Opening.{end_within, opened_at_rest, opens_with}
 use Rattle.pm_engine.proofs.OpeningMoments.{unchanged, once_cut, once_begun}
 use Rattle.pm_engine.proofs.engine.Engine.open_log.Goals as goal
 
@@ -72,7 +62,7 @@ returns-in_err-end-clause-meanwhile g c t =
     let at = g.H.Device.history in
     let old = at c.args.host.now in
     let mid = at c.read_log.new.host in
-    unchanged c.args.wanted old mid (c.read_log.ensures.same t) (LogHoldsNothing c.args.wanted old.world)
+    unchanged c.args.wanted c.requires.wanted old mid (c.read_log.ensures.same t) (LogHoldsNothing c.args.wanted old.world)
 
 pub returns-in_err-log-clause-meanwhile : goal.returns-in_err-log-clause-meanwhile
 returns-in_err-log-clause-meanwhile g c t =
@@ -80,7 +70,7 @@ returns-in_err-log-clause-meanwhile g c t =
     let old = at c.args.host.now in
     let mid = at c.read_log.new.host in
     let reads = subst (λ s. ReadsAll s old.world c.in_ok-end.end c.read_log.new.replay) c.new-replay.ensures.shape (c.in_ok-end.ensures.reads t) in
-    once_cut c.args.wanted old mid (c.read_log.ensures.same t) (g.H.Device.sound c.read_log.new.host t)
+    once_cut c.args.wanted c.requires.wanted old mid (c.read_log.ensures.same t) (g.H.Device.sound c.read_log.new.host t)
     c.in_ok-end.end c.read_log.new.replay reads (at c.cut_tail.new.dev) (c.cut_tail.ensures.steps t).moments
 
 pub returns-in_err-append-clause-meanwhile : goal.returns-in_err-append-clause-meanwhile
@@ -89,7 +79,7 @@ returns-in_err-append-clause-meanwhile g c t =
     let old = at c.args.host.now in
     let mid = at c.read_log.new.host in
     let reads = subst (λ s. ReadsAll s old.world c.in_ok-end.end c.read_log.new.replay) c.new-replay.ensures.shape (c.in_ok-end.ensures.reads t) in
-    once_begun c.args.wanted old mid (c.read_log.ensures.same t) (g.H.Device.sound c.read_log.new.host t)
+    once_begun c.args.wanted c.requires.wanted old mid (c.read_log.ensures.same t) (g.H.Device.sound c.read_log.new.host t)
     c.in_ok-end.end c.read_log.new.replay reads (at c.cut_tail.new.dev) (c.cut_tail.ensures.steps t).moments
     (g.H.Device.sound c.cut_tail.new.dev t) c.in_ok-end.ensures.shape c.in_ok-log.log c.in_ok-log.ensures.log
     c.restart_payload.result c.restart_payload.ensures.payload (c.in_ok-log.ensures.steps t).all
@@ -101,7 +91,7 @@ returns-clause-meanwhile g c t =
     let old = at c.args.host.now in
     let mid = at c.read_log.new.host in
     let reads = subst (λ s. ReadsAll s old.world c.in_ok-end.end c.read_log.new.replay) c.new-replay.ensures.shape (c.in_ok-end.ensures.reads t) in
-    once_begun c.args.wanted old mid (c.read_log.ensures.same t) (g.H.Device.sound c.read_log.new.host t)
+    once_begun c.args.wanted c.requires.wanted old mid (c.read_log.ensures.same t) (g.H.Device.sound c.read_log.new.host t)
     c.in_ok-end.end c.read_log.new.replay reads (at c.cut_tail.new.dev) (c.cut_tail.ensures.steps t).moments
     (g.H.Device.sound c.cut_tail.new.dev t) c.in_ok-end.ensures.shape c.in_ok-log.log c.in_ok-log.ensures.log
     c.restart_payload.result c.restart_payload.ensures.payload (c.in_ok-log.ensures.steps t).all

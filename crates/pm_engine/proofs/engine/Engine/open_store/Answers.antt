@@ -1,22 +1,11 @@
-use Rattle.std.proofs.Common.{◌+◌, rules, ◌≡◌, inl, inr, [], Some, None, sym, ◌∙◌, subst}
+use Rattle.std.proofs.Common.{rules, ◌≡◌, subst}
 use Rattle.std.specs.Prelude.{◌^◌, ◌<◌, IsErrOf}
 use Rattle.pm_types.specs.declared.fault.OpenFault.TheVariants.{Store}
 use Rattle.pm_types.specs.declared.fault.StoreFault.TheVariants.{BadRecord}
 use Rattle.pm_disk.specs.Images.{NothingPending}
-use Rattle.pm_disk.specs.Moments.{AllMoments}
-use Rattle.pm_disk.specs.Worlds.{World}
-use Rattle.pm_disk.proofs.Chain.{weaker, joined, at_last}
-use Rattle.pm_records.specs.LogFiles.{ChangesLog}
-use Rattle.pm_records.proofs.QuietLog.{log_same}
+use Rattle.pm_disk.proofs.Chain.{at_last}
 use Rattle.pm_core.specs.LogAlone.{image_of, Holds, last_segment}
-use Rattle.pm_engine.specs.Crashes.{CrashHoldsPrefix}
 use Rattle.pm_engine.specs.Openings.{CanNotOpen, IsBadStore, IsSame, OpensAtRest, OpensWith}
-use Rattle.pm_engine.specs.StoredShapes.{shape_fault}
-use Rattle.pm_records.specs.LogFiles.{contents}
-use Rattle.pm_records.specs.Logs.{IsLogFrom, after_frames, all_frames, place}
-use Rattle.pm_engine.specs.Engines.{SameAbove}
-use Rattle.pm_engine.proofs.Above.{above_same}
-use Rattle.pm_engine.proofs.Opening.{sound_keeps}
 use Rattle.pm_engine.proofs.OpeningMoments.{unchanged, then_opens}
 use Rattle.pm_engine.proofs.engine.Engine.open_store.Goals as goal
 
@@ -59,18 +48,18 @@ pub returns-in_err-compare_shape-clause-meanwhile : goal.returns-in_err-compare_
 returns-in_err-compare_shape-clause-meanwhile g c t =
     let at = g.H.Device.history in
     let old = at c.args.host.now in
-    unchanged c.args.wanted old (at c.compare_shape.new.host) (c.compare_shape.ensures.same t) (CanNotOpen c.args.wanted old.world)
+    unchanged c.args.wanted c.requires.wanted old (at c.compare_shape.new.host) (c.compare_shape.ensures.same t) (CanNotOpen c.args.wanted old.world)
 
 pub returns-in_err-open_log-clause-meanwhile : goal.returns-in_err-open_log-clause-meanwhile
 returns-in_err-open_log-clause-meanwhile g c t =
     let at = g.H.Device.history in
-    then_opens c.args.wanted (at c.args.host.now) (at c.compare_shape.new.host) (c.compare_shape.ensures.same t)
+    then_opens c.args.wanted c.requires.wanted (at c.args.host.now) (at c.compare_shape.new.host) (c.compare_shape.ensures.same t)
     (at c.open_log.new.host) (g.H.Device.sound c.compare_shape.new.host t) (c.in_ok-compare_shape.ensures.alike t)
     (c.open_log.ensures.meanwhile t)
 
 pub returns-clause-meanwhile : goal.returns-clause-meanwhile
 returns-clause-meanwhile g c t =
     let at = g.H.Device.history in
-    then_opens c.args.wanted (at c.args.host.now) (at c.compare_shape.new.host) (c.compare_shape.ensures.same t)
+    then_opens c.args.wanted c.requires.wanted (at c.args.host.now) (at c.compare_shape.new.host) (c.compare_shape.ensures.same t)
     (at c.open_log.new.host) (g.H.Device.sound c.compare_shape.new.host t) (c.in_ok-compare_shape.ensures.alike t)
     (c.open_log.ensures.meanwhile t)
