@@ -1,11 +1,12 @@
 -- How operations are appended, one after the other.
-use Rattle.std.proofs.Common.{◌≡◌, ℕ, List, [], ◌∷◌, ◌++◌, take, drop, refl, sym, ap, ◌∙◌, subst, append-nil, take-append-drop}
+use Rattle.std.proofs.Common.{◌≡◌, ℕ, Bool, true, false, List, [], ◌∷◌, ◌++◌, take, drop, refl, sym, ap, ◌∙◌, subst, append-nil, take-append-drop}
 use Rattle.std.proofs.lemmas.List.{append_assoc}
-use Rattle.pm_disk.specs.Moments.{History, IsHistory}
+use Rattle.pm_disk.specs.Moments.{IsHistory}
 use Rattle.pm_segments.specs.Ends.{EndsThere}
-use Rattle.pm_logger.specs.Fronts.{WriterState, Appends, Fails, AppendsFront, FailsAtFront}
+use Rattle.pm_logger.specs.Fronts.{AppendsAll, Appends, AppendsFront}
 use Rattle.pm_logger.specs.LogCalls.{MakesCalls, BreaksOff, operation_calls, operations_calls, next_since, since_after}
 use Rattle.pm_logger.specs.Operations.{Operation, AreOperations, SpellOperation, operation_bytes, operations_bytes}
+use Rattle.pm_logger.specs.Writers.{Writer}
 use Rattle.pm_logger.proofs.Chains.{makes_none, makes_then, breaks_then}
 
 pub operations_calls-append : (since : ℕ) (xs ys : List Operation) → operations_calls since (xs ++ ys) ≡ operations_calls since xs ++ operations_calls (since_after since xs) ys
@@ -26,97 +27,84 @@ operations-append (x ∷ xs) ys a b = (a.0, operations-append xs ys a.1 b)
 
 -- ---- operations
 
-pub appends_none : (tells : Type 0) (old : History) (writer_state : WriterState) → (tells → IsHistory old) → (tells → EndsThere writer_state.log old.world) → Appends tells old old writer_state writer_state []
-appends_none tells old writer_state sound ends = record { since_is = refl; makes = makes_none tells old writer_state.log writer_state.lines sound ends }
+pub appends_none : {tells : Type 0} (now : Writer) → (tells → IsHistory now.history) → (tells → EndsThere now.log now.history.world) → AppendsAll tells now now []
+appends_none now sound ends = record { since_is = refl; makes = makes_none now sound ends }
 
-module _ (tells : Type 0) (old mid new : History) (before between now : WriterState) (xs : List Operation) (first : Appends tells old mid before between xs) where
-  pub appends_then : (ys : List Operation) → Appends tells mid new between now ys → Appends tells old new before now (xs ++ ys)
-  appends_then ys second =
-      let calls : operations_calls before.since xs ++ operations_calls between.since ys ≡ operations_calls before.since (xs ++ ys) =
-      ap (λ n. operations_calls before.since xs ++ operations_calls n ys) first.since_is ∙ sym (operations_calls-append before.since xs ys) in
-      record {
-        since_is = second.since_is ∙ ap (λ n. since_after n ys) first.since_is ∙ sym (since_after-append before.since xs ys);
-        makes = subst (λ cs. MakesCalls tells old new cs before.log now.log before.lines now.lines) calls
-            (makes_then tells old mid new (operations_calls before.since xs) (operations_calls between.since ys) before.log between.log now.log before.lines between.lines now.lines first.makes second.makes);
-      }
+calls_then : {tells : Type 0} {before between : Writer} {xs : List Operation} → AppendsAll tells before between xs → (ys : List Operation) → operations_calls before.since xs ++ operations_calls between.since ys ≡ operations_calls before.since (xs ++ ys)
+calls_then {before} {xs} first ys = ap (λ n. operations_calls before.since xs ++ operations_calls n ys) first.since_is ∙ sym (operations_calls-append before.since xs ys)
 
-  pub fails_then : (ys : List Operation) (failed : Operation) → Fails tells mid new between now ys failed → Fails tells old new before now (xs ++ ys) failed
-  fails_then ys failed second =
-      let calls : operations_calls before.since xs ++ operations_calls between.since (ys ++ failed ∷ []) ≡ operations_calls before.since ((xs ++ ys) ++ failed ∷ []) =
-      ap (λ n. operations_calls before.since xs ++ operations_calls n (ys ++ failed ∷ [])) first.since_is ∙ sym (operations_calls-append before.since xs (ys ++ failed ∷ []))
-      ∙ ap (operations_calls before.since) (sym (append_assoc xs ys (failed ∷ []))) in
-      record {
-        failed_is = second.failed_is;
-        breaks = subst (λ cs. BreaksOff tells old new cs before.log now.log before.lines now.lines) calls
-            (breaks_then tells old mid new (operations_calls before.since xs) (operations_calls between.since (ys ++ failed ∷ [])) before.log between.log now.log before.lines between.lines now.lines first.makes second.breaks);
-      }
+-- more operations were appended after these, and then one may have failed
+pub appends_then : {tells : Type 0} {before between : Writer} (now : Writer) {xs : List Operation} (ys : List Operation) (done : Bool) {Q R : Operation → Type 0} → AppendsAll tells before between xs → ((failed : Operation) → Q failed → R failed)
+    → Appends tells between now done ys Q → Appends tells before now done (xs ++ ys) R
+appends_then {tells} {before} now {xs} ys true first next second = record {
+  since_is = second.since_is ∙ ap (λ n. since_after n ys) first.since_is ∙ sym (since_after-append before.since xs ys);
+  makes = subst (MakesCalls tells before now) (calls_then first ys) (makes_then first.makes second.makes);
+}
+appends_then {tells} {before} now {xs} ys false first next second = (
+  second.0,
+  next second.0 second.1,
+  record {
+    failed_is = second.2.failed_is;
+    breaks = subst (BreaksOff tells before now) (calls_then first (ys ++ second.0 ∷ []) ∙ ap (operations_calls before.since) (sym (append_assoc xs ys (second.0 ∷ [])))) (breaks_then first.makes second.2.breaks);
+  },
+)
+
+-- what holds of the next operation may be said otherwise
+pub appends_as : (tells : Type 0) (before now : Writer) (os : List Operation) (done : Bool) {Q R : Operation → Type 0} → ((failed : Operation) → Q failed → R failed) → Appends tells before now done os Q → Appends tells before now done os R
+appends_as tells before now os true next appends = appends
+appends_as tells before now os false next appends = (appends.0, next appends.0 appends.1, appends.2)
 
 -- ---- operations at the front of bytes
 
-pub front_none : (tells : Type 0) (old : History) (writer_state : WriterState) (bytes : List ℕ) → (tells → IsHistory old) → (tells → EndsThere writer_state.log old.world) → AppendsFront tells old old writer_state writer_state bytes bytes
-front_none tells old writer_state bytes sound ends = record { appended = []; operations_are = tt; bytes_are = refl; appends = appends_none tells old writer_state sound ends }
+pub front_none : {tells : Type 0} (now : Writer) (bytes : List ℕ) → (tells → IsHistory now.history) → (tells → EndsThere now.log now.history.world) → AppendsFront tells now now true bytes bytes
+front_none now bytes sound ends = record { appended = []; operations_are = tt; bytes_are = refl; appends = appends_none now sound ends }
 
 -- the bytes of operations before, and of operations after
 pub bytes_then : (xs ys : List Operation) (bytes left more left' : List ℕ) → bytes ≡ operations_bytes xs ++ left → left ++ more ≡ operations_bytes ys ++ left' → bytes ++ more ≡ operations_bytes (xs ++ ys) ++ left'
 bytes_then xs ys bytes left more left' e f =
     ap (λ b. b ++ more) e ∙ append_assoc (operations_bytes xs) left more ∙ ap (λ b. operations_bytes xs ++ b) f ∙ sym (append_assoc (operations_bytes xs) (operations_bytes ys) left') ∙ ap (λ b. b ++ left') (sym (operations_bytes-append xs ys))
 
-module _ (tells : Type 0) (old mid new : History) (before between now : WriterState) (bytes left : List ℕ) (first : AppendsFront tells old mid before between bytes left) where
+module _ {tells : Type 0} {before between now : Writer} {bytes left : List ℕ} (first : AppendsFront tells before between true bytes left) where
   -- more bytes came, and operations at the front of what was left with them were appended
-  pub front_then : (more left' : List ℕ) → AppendsFront tells mid new between now (left ++ more) left' → AppendsFront tells old new before now (bytes ++ more) left'
-  front_then more left' second = record {
+  pub front_then : {done : Bool} (more : List ℕ) {left' : List ℕ} → AppendsFront tells between now done (left ++ more) left' → AppendsFront tells before now done (bytes ++ more) left'
+  front_then {done} more {left'} second = record {
     appended = first.appended ++ second.appended;
     operations_are = operations-append first.appended second.appended first.operations_are second.operations_are;
     bytes_are = bytes_then first.appended second.appended bytes left more left' first.bytes_are second.bytes_are;
-    appends = appends_then tells old mid new before between now first.appended first.appends second.appended second.appends;
-  }
-
-  pub front_fails : (more left' : List ℕ) → FailsAtFront tells mid new between now (left ++ more) left' → FailsAtFront tells old new before now (bytes ++ more) left'
-  front_fails more left' second = record {
-    appended = first.appended ++ second.appended;
-    operations_are = operations-append first.appended second.appended first.operations_are second.operations_are;
-    bytes_are = bytes_then first.appended second.appended bytes left more left' first.bytes_are second.bytes_are;
-    failed = second.failed;
-    rest = second.rest;
-    front = second.front;
-    fails = fails_then tells old mid new before between now first.appended first.appends second.appended second.failed second.fails;
+    appends = appends_then now second.appended done first.appends (λ o stands. stands) second.appends;
   }
 
   -- the same where none came
-  pub front_next : (left' : List ℕ) → AppendsFront tells mid new between now left left' → AppendsFront tells old new before now bytes left'
-  front_next left' second =
-      subst (λ b. AppendsFront tells old new before now b left') (append-nil bytes)
-      (front_then [] left' (subst (λ b. AppendsFront tells mid new between now b left') (sym (append-nil left)) second))
-
-  pub front_fails_next : (left' : List ℕ) → FailsAtFront tells mid new between now left left' → FailsAtFront tells old new before now bytes left'
-  front_fails_next left' second =
-      subst (λ b. FailsAtFront tells old new before now b left') (append-nil bytes)
-      (front_fails [] left' (subst (λ b. FailsAtFront tells mid new between now b left') (sym (append-nil left)) second))
+  pub front_next : {done : Bool} {left' : List ℕ} → AppendsFront tells between now done left left' → AppendsFront tells before now done bytes left'
+  front_next {done} {left'} second =
+      subst (λ b. AppendsFront tells before now done b left') (append-nil bytes)
+      (front_then [] (subst (λ b. AppendsFront tells between now done b left') (sym (append-nil left)) second))
 
 -- the operation at the front
-pub front_one : (tells : Type 0) (old new : History) (before now : WriterState) (bytes : List ℕ) (len : ℕ) (o : Operation) → SpellOperation (take len bytes) o → now.since ≡ next_since before.since
-    → MakesCalls tells old new (operation_calls before.since o) before.log now.log before.lines now.lines → AppendsFront tells old new before now bytes (drop len bytes)
-front_one tells old new before now bytes len o is since makes = record {
+pub front_one : {tells : Type 0} {before now : Writer} (bytes : List ℕ) (len : ℕ) (o : Operation) → SpellOperation (take len bytes) o → now.since ≡ next_since before.since
+    → MakesCalls tells before now (operation_calls before.since o) → AppendsFront tells before now true bytes (drop len bytes)
+front_one {tells} {before} {now} bytes len o is since makes = record {
   appended = o ∷ [];
   operations_are = (is.0, tt);
   bytes_are = sym (take-append-drop len bytes) ∙ ap (λ b. b ++ drop len bytes) (is.1 ∙ sym (append-nil (operation_bytes o)));
   appends = record {
     since_is = since;
-    makes = subst (λ cs. MakesCalls tells old new cs before.log now.log before.lines now.lines) (sym (append-nil (operation_calls before.since o))) makes;
+    makes = subst (MakesCalls tells before now) (sym (append-nil (operation_calls before.since o))) makes;
   };
 }
 
-pub front_failed : (tells : Type 0) (old new : History) (before now : WriterState) (bytes : List ℕ) (len : ℕ) (o : Operation) → SpellOperation (take len bytes) o
-    → BreaksOff tells old new (operation_calls before.since o) before.log now.log before.lines now.lines → FailsAtFront tells old new before now bytes bytes
-front_failed tells old new before now bytes len o is breaks = record {
+pub front_failed : {tells : Type 0} {before now : Writer} (bytes : List ℕ) (len : ℕ) (o : Operation) → SpellOperation (take len bytes) o
+    → BreaksOff tells before now (operation_calls before.since o) → AppendsFront tells before now false bytes bytes
+front_failed {tells} {before} {now} bytes len o is breaks = record {
   appended = [];
   operations_are = tt;
   bytes_are = refl;
-  failed = o;
-  rest = drop len bytes;
-  front = sym (take-append-drop len bytes) ∙ ap (λ b. b ++ drop len bytes) is.1;
-  fails = record {
-    failed_is = is.0;
-    breaks = subst (λ cs. BreaksOff tells old new cs before.log now.log before.lines now.lines) (sym (append-nil (operation_calls before.since o))) breaks;
-  };
+  appends = (
+    o,
+    (drop len bytes, sym (take-append-drop len bytes) ∙ ap (λ b. b ++ drop len bytes) is.1),
+    record {
+      failed_is = is.0;
+      breaks = subst (BreaksOff tells before now) (sym (append-nil (operation_calls before.since o))) breaks;
+    },
+  );
 }

@@ -1,25 +1,25 @@
 -- How the rings are emptied, one after the other.
-use Rattle.std.proofs.Common.{◌≡◌, inl, inr, ℕ, ◌+◌, ◌<◌, ◌≤◌, ◌≢◌, List, length, refl, sym, ap, ◌∙◌, subst, arith, Some, set, get_or, Result, Ok, Err}
+use Rattle.std.proofs.Common.{◌≡◌, inl, inr, ℕ, ◌+◌, ◌<◌, ◌≤◌, ◌≢◌, List, length, refl, sym, ap, ◌∙◌, subst, arith, Some, set, get_or, Bool, Result, Ok, Err}
 use Rattle.std.specs.List.{slice_get}
-use Rattle.std.specs.Prelude.{OnOk, OnErr}
+use Rattle.std.specs.Prelude.{OnOk, IsTrue, is_ok}
 use Rattle.std.proofs.lemmas.Bool.{cases_lt}
 use Rattle.std.proofs.lemmas.List.{length-set}
 use Rattle.std.proofs.lemmas.Option.{slice_get-get_or, slice_get_within}
 use Rattle.rtrb.specs.Ring.{SameConsumer}
 use Rattle.pm_logger.specs.Inboxes.{IsEndOf, IsHalted, IsDrained}
-use Rattle.pm_disk.specs.Moments.{History}
-use Rattle.pm_logger.specs.Fronts.{WriterState}
-use Rattle.pm_logger.specs.Merges.{Entry, Merges, AppendsMerge, FailsInMerge}
+use Rattle.pm_logger.specs.Merges.{Entry, Merges, AppendsMerge}
 use Rattle.pm_logger.specs.LogEnds.{pushed, SameEnd}
-use Rattle.pm_logger.specs.Rings.{AreLinked, KeepsEnds, IsEmptied, AreEmptied, GivesTo, FailsToGive}
+use Rattle.pm_logger.specs.Rings.{AreLinked, KeepsEnds, IsEmptied, AreEmptied, GivesTo}
+use Rattle.pm_logger.specs.Writers.{Writer}
 use Rattle.pm_logger.specs.declared.inbox.Inbox.{Inbox}
 use Rattle.pm_logger.specs.declared.log_end.LogEnd.{LogEnd}
 use Rattle.pm_logger.proofs.Merging.{get_set, some_same}
 use Rattle.pm_logger.proofs.Taking.{same_consumer}
 
-pub ok_pair : {T E : Type 0} (result : Result T E) (P Q : Type 0) → OnOk result P → OnOk result Q → OnOk result (P × Q)
-ok_pair (Ok x) P Q p q = (p, q)
-ok_pair (Err e) P Q p q = tt
+-- a call ended well
+pub on_ok_true : {T E : Type 0} {P : Type 0} (result : Result T E) → OnOk result P → IsTrue (is_ok result) → P
+on_ok_true (Ok x) p e = p
+on_ok_true (Err x) p e = absurd cc
 
 same_end_then : (a b c : LogEnd) → SameEnd a b → SameEnd b c → SameEnd a c
 same_end_then a b c p q = ((q.0.0 ∙ p.0.0, q.0.1 ∙ p.0.1, q.0.2 ∙ p.0.2, q.0.3 ∙ p.0.3), q.1 ∙ p.1)
@@ -107,10 +107,8 @@ linked_merges ends was inboxes entries merges linked = record {
       pair_stays e (get_or was w i) i (linked.each w e (get_or was w i) at_e there) (merges.each w (get_or was w i) i there at_i).takes.ring;
 }
 
-pub linked_merge : (tells : Type 0) (old new : History) (before now : WriterState) (was inboxes : List Inbox) {T E : Type 0} (result : Result T E) → OnOk result (AppendsMerge tells old new before now was inboxes)
-    → OnErr result (FailsInMerge tells old new before now was inboxes) → (ends : List LogEnd) → AreLinked ends was → AreLinked ends inboxes
-linked_merge tells old new before now was inboxes (Ok x) ok err ends linked = linked_merges ends was inboxes ok.entries ok.merges linked
-linked_merge tells old new before now was inboxes (Err e) ok err ends linked = linked_merges ends was inboxes err.entries err.merges linked
+pub linked_merge : {tells : Type 0} {before now : Writer} {done : Bool} {was inboxes : List Inbox} → AppendsMerge tells before now done was inboxes → (ends : List LogEnd) → AreLinked ends was → AreLinked ends inboxes
+linked_merge {was} {inboxes} merge ends linked = linked_merges ends was inboxes merge.entries merge.merges linked
 
 linked_one : (ends : List LogEnd) (was inboxes : List Inbox) (worker : ℕ) (from inbox : Inbox) → slice_get was worker ≡ Some from → inboxes ≡ set was worker inbox → inbox.consumer ≡ from.consumer → AreLinked ends was → AreLinked ends inboxes
 linked_one ends was inboxes worker from inbox there is same linked = record {
@@ -121,7 +119,5 @@ linked_one ends was inboxes worker from inbox there is same linked = record {
   ];
 }
 
-pub linked_given : (tells : Type 0) (old new : History) (before now : WriterState) (was inboxes : List Inbox) (worker : ℕ) (bytes : List ℕ) {T E : Type 0} (result : Result T E) → OnOk result (GivesTo tells old new before now was inboxes worker bytes)
-    → OnErr result (FailsToGive tells old new before now was inboxes worker bytes) → (ends : List LogEnd) → AreLinked ends was → AreLinked ends inboxes
-linked_given tells old new before now was inboxes worker bytes (Ok x) ok err ends linked = linked_one ends was inboxes worker ok.from ok.inbox ok.there ok.others_stay ok.given.ring linked
-linked_given tells old new before now was inboxes worker bytes (Err e) ok err ends linked = linked_one ends was inboxes worker err.from err.inbox err.there err.others_stay err.given.ring linked
+pub linked_given : {tells : Type 0} {before now : Writer} {done : Bool} {was inboxes : List Inbox} {worker : ℕ} {bytes : List ℕ} → GivesTo tells before now done was inboxes worker bytes → (ends : List LogEnd) → AreLinked ends was → AreLinked ends inboxes
+linked_given {was} {inboxes} {worker} gives ends linked = linked_one ends was inboxes worker gives.from gives.inbox gives.there gives.others_stay gives.given.ring linked

@@ -2,6 +2,7 @@ mod Chains
 mod Emptying
 mod Forcing
 mod Joining
+mod LaterStates
 mod Merging
 mod Appending
 mod Opening

@@ -5,16 +5,17 @@ use Rattle.std.specs.List.{slice_get}
 use Rattle.std.proofs.lemmas.Bool.Decides.{nat_tests}
 use Rattle.std.proofs.lemmas.List.{length-set}
 use Rattle.std.proofs.lemmas.Option.{slice_get-get_or, slice_get_within}
-use Rattle.pm_disk.specs.Moments.{History, IsHistory}
+use Rattle.pm_disk.specs.Moments.{IsHistory}
 use Rattle.pm_segments.specs.Ends.{EndsThere}
 use Rattle.pm_logger.specs.Blocks.{joined}
-use Rattle.pm_logger.specs.Fronts.{WriterState, Appends, Fails}
-use Rattle.pm_logger.specs.Inboxes.{kept, taken, AppendsTaken, FailsTaken}
+use Rattle.pm_logger.specs.Fronts.{AppendsAll, Appends, StandsFirst}
+use Rattle.pm_logger.specs.Inboxes.{kept, taken, AppendsTaken}
 use Rattle.pm_logger.specs.LogCalls.{lines_in, operations_calls}
-use Rattle.pm_logger.specs.Merges.{Entry, operations_in, of_worker, AreOfWorkers, HandsOver, Merges, AppendsMerge, FailsInMerge}
+use Rattle.pm_logger.specs.Merges.{Entry, operations_in, of_worker, AreOfWorkers, HandsOver, Merges, AppendsMerge, IsNextKept}
 use Rattle.pm_logger.specs.Operations.{Operation}
+use Rattle.pm_logger.specs.Writers.{Writer}
 use Rattle.pm_logger.specs.declared.inbox.Inbox.{Inbox}
-use Rattle.pm_logger.proofs.Appending.{appends_none, appends_then, fails_then, operations-append, bytes_then}
+use Rattle.pm_logger.proofs.Appending.{appends_none, appends_then, appends_as, operations-append, bytes_then}
 use Rattle.pm_logger.proofs.Taking.{takes_none, takes_then, joined_after}
 
 -- operations of one worker
@@ -125,53 +126,38 @@ merges_then a b c xs ys p q = record {
 
 -- ---- with the log
 
-pub merge_none : (tells : Type 0) (old : History) (writer_state : WriterState) (inboxes : List Inbox) → (tells → IsHistory old) → (tells → EndsThere writer_state.log old.world) → AppendsMerge tells old old writer_state writer_state inboxes inboxes
-merge_none tells old writer_state inboxes sound ends = record { entries = []; merges = merges_none inboxes; appends = appends_none tells old writer_state sound ends }
+pub merge_none : {tells : Type 0} (now : Writer) (inboxes : List Inbox) → (tells → IsHistory now.history) → (tells → EndsThere now.log now.history.world) → AppendsMerge tells now now true inboxes inboxes
+merge_none now inboxes sound ends = record { entries = []; merges = merges_none inboxes; appends = appends_none now sound ends }
 
-pub merge_one : (tells : Type 0) (old new : History) (before now : WriterState) (inboxes : List Inbox) (worker : ℕ) (was inbox : Inbox) → slice_get inboxes worker ≡ Some was → AppendsTaken tells old new before now was inbox
-    → AppendsMerge tells old new before now inboxes (set inboxes worker inbox)
-merge_one tells old new before now inboxes worker was inbox at taken = record {
-  entries = tagged worker taken.front.appended;
-  merges = merges_one inboxes worker was inbox taken.front.appended at (record { came = taken.came; takes = taken.takes; operations_are = taken.front.operations_are; bytes_are = taken.front.bytes_are });
-  appends = subst (λ os. Appends tells old new before now os) (sym (tagged_are worker taken.front.appended)) taken.front.appends;
+pub merge_one : {tells : Type 0} {before now : Writer} {done : Bool} (inboxes : List Inbox) (worker : ℕ) {was inbox : Inbox} → slice_get inboxes worker ≡ Some was → AppendsTaken tells before now done was inbox
+    → AppendsMerge tells before now done inboxes (set inboxes worker inbox)
+merge_one {tells} {before} {now} {done} inboxes worker {was} {inbox} at taken =
+    let os = taken.front.appended in
+    record {
+      entries = tagged worker os;
+      merges = merges_one inboxes worker was inbox os at (record { came = taken.came; takes = taken.takes; operations_are = taken.front.operations_are; bytes_are = taken.front.bytes_are });
+      appends = subst (λ os. Appends tells before now done os (IsNextKept (set inboxes worker inbox))) (sym (tagged_are worker os)) (appends_as tells before now os done next taken.front.appends);
+    }
+  where
+    next : (failed : Operation) → StandsFirst failed (kept inbox) → IsNextKept (set inboxes worker inbox) failed
+    next failed stands = (
+      worker,
+      (let lt = slice_get_within inboxes worker was at in omega (arith, lt, length-set inboxes worker inbox)),
+      λ other e. elim (get_set inboxes worker worker inbox other e) [
+        | inl h ↦ (stands.0, ap kept h.1 ∙ stands.1)
+        | inr h ↦ absurd (h.0 refl)
+      ],
+    )
+
+pub merge_then : {tells : Type 0} {before between now : Writer} {done : Bool} {a b c : List Inbox} → AppendsMerge tells before between true a b → AppendsMerge tells between now done b c → AppendsMerge tells before now done a c
+merge_then {tells} {before} {between} {now} {done} {a} {b} {c} first second = record {
+  entries = first.entries ++ second.entries;
+  merges = merges_then a b c first.entries second.entries first.merges second.merges;
+  appends = subst (λ os. Appends tells before now done os (IsNextKept c)) (sym (operations_in-append first.entries second.entries)) (appends_then now (operations_in second.entries) done first.appends (λ o next. next) second.appends);
 }
-
-pub merge_failed : (tells : Type 0) (old new : History) (before now : WriterState) (inboxes : List Inbox) (worker : ℕ) (was inbox : Inbox) → slice_get inboxes worker ≡ Some was → FailsTaken tells old new before now was inbox
-    → FailsInMerge tells old new before now inboxes (set inboxes worker inbox)
-merge_failed tells old new before now inboxes worker was inbox at taken = record {
-  entries = tagged worker taken.front.appended;
-  merges = merges_one inboxes worker was inbox taken.front.appended at (record { came = taken.came; takes = taken.takes; operations_are = taken.front.operations_are; bytes_are = taken.front.bytes_are });
-  failed = record { worker = worker; operation = taken.front.failed };
-  of_these = slice_get_within inboxes worker was at;
-  first = λ other e. elim (get_set inboxes worker worker inbox other e) [
-    | inl h ↦ (taken.front.rest, ap kept h.1 ∙ taken.front.front)
-    | inr h ↦ absurd (h.0 refl)
-  ];
-  fails = subst (λ os. Fails tells old new before now os taken.front.failed) (sym (tagged_are worker taken.front.appended)) taken.front.fails;
-}
-
-module _ (tells : Type 0) (old mid new : History) (before between now : WriterState) (a b c : List Inbox) (first : AppendsMerge tells old mid before between a b) where
-  pub merge_then : AppendsMerge tells mid new between now b c → AppendsMerge tells old new before now a c
-  merge_then second = record {
-    entries = first.entries ++ second.entries;
-    merges = merges_then a b c first.entries second.entries first.merges second.merges;
-    appends = subst (λ os. Appends tells old new before now os) (sym (operations_in-append first.entries second.entries))
-        (appends_then tells old mid new before between now (operations_in first.entries) first.appends (operations_in second.entries) second.appends);
-  }
-
-  pub fails_merge_then : FailsInMerge tells mid new between now b c → FailsInMerge tells old new before now a c
-  fails_merge_then second = record {
-    entries = first.entries ++ second.entries;
-    merges = merges_then a b c first.entries second.entries first.merges second.merges;
-    failed = second.failed;
-    of_these = let m = first.merges.many in omega (arith, second.of_these, m);
-    first = second.first;
-    fails = subst (λ os. Fails tells old new before now os second.failed.operation) (sym (operations_in-append first.entries second.entries))
-        (fails_then tells old mid new before between now (operations_in first.entries) first.appends (operations_in second.entries) second.failed.operation second.fails);
-  }
 
 -- what was noted before is noted still
-pub noted_more : (tells : Type 0) (old new : History) (before now : WriterState) (os : List Operation) → Appends tells old new before now os → length before.lines ≤ length now.lines
-noted_more tells old new before now os appends =
+pub noted_more : {tells : Type 0} {before now : Writer} {os : List Operation} → AppendsAll tells before now os → length before.lines ≤ length now.lines
+noted_more {tells} {before} {now} {os} appends =
     let lines = lines_in (operations_calls before.since os) in
     omega (arith, ap length appends.makes.lines_are, length-append before.lines lines)

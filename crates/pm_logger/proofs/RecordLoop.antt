@@ -1,13 +1,14 @@
 -- How an operation's records are appended, one after the other.
-use Rattle.std.proofs.Common.{◌≡◌, ℕ, zero, suc, ◌+◌, ◌≤◌, List, [], ◌∷◌, ◌++◌, length, take, refl, sym, ap, ◌∙◌, subst, arith, length-append, Bool, true, false, Option, Some, None, append-nil}
-use Rattle.std.specs.Prelude.{◌||◌, ◌==◌, if◌then◌else◌, ◌&&◌}
+use Rattle.std.proofs.Common.{◌≡◌, ℕ, List, [], ◌∷◌, ◌++◌, length, refl, sym, ap, ◌∙◌, subst, arith, length-append, Bool, true, false, Some, None, append-nil}
+use Rattle.std.specs.Prelude.{◌||◌, ◌==◌, ◌<◌, if◌then◌else◌, ◌&&◌, IsSome}
 use Rattle.std.proofs.lemmas.List.{append_assoc}
 use Rattle.pm_frame.specs.declared.kinds.TheConstants.{LOGICAL}
 use Rattle.pm_frame.specs.Frames.{Frame}
-use Rattle.pm_disk.specs.Moments.{History, IsHistory}
-use Rattle.pm_segments.specs.Ends.{LogEnd, EndsThere}
-use Rattle.pm_logger.specs.LogCalls.{LogCall, AppendFrame, lines_in, named_line, record_calls, MakesCalls, BreaksOff}
+use Rattle.pm_disk.specs.Moments.{IsHistory}
+use Rattle.pm_segments.specs.Ends.{EndsThere}
+use Rattle.pm_logger.specs.LogCalls.{AppendFrame, lines_in, named_line, record_calls, MakesCalls, BreaksOff}
 use Rattle.pm_logger.specs.Operations.{record_bytes, records_bytes, IsLogged, AreLogged, SpellRecords, AreRecords, BeginsWithNoRecord}
+use Rattle.pm_logger.specs.Writers.{Writer}
 use Rattle.pm_logger.proofs.Chains.{makes_none, makes_then, breaks_then, breaks_before}
 use Rattle.pm_logger.proofs.OperationBytes.{same_records}
 use Rattle.pm_logger.proofs.RecordBytes.{one_record, record_longer}
@@ -34,28 +35,26 @@ named_after-push is_named [] y = refl
 named_after-push is_named (x ∷ xs) y = named_after-push (is_named || x.kind == LOGICAL) xs y
 
 -- of the records so many were appended, and these are left
-pub record RecordsSoFar (tells : Type 0) (old mid : History) (line : ℕ) (bytes rest : List ℕ) (is_named : Bool) (log now : LogEnd) (lines noted : List ℕ) : Type 0 where
+pub record RecordsSoFar (tells : Type 0) (before now : Writer) (line : ℕ) (bytes rest : List ℕ) (is_named : Bool) : Type 0 where
   pub done : List Frame
   pub left : List Frame
   pub done_are : AreLogged done
   pub left_is : SpellRecords rest left
   pub whole : bytes ≡ records_bytes done ++ rest
   pub named : is_named ≡ named_after false done
-  pub makes : MakesCalls tells old mid (record_calls line false done) log now lines noted
-  pub most : length noted ≤ length lines + 1
-  pub fresh : is_named ≡ false → noted ≡ lines
+  pub makes : MakesCalls tells before now (record_calls line false done)
+  pub fresh : is_named ≡ false → now.lines ≡ before.lines
 
-pub records_begin : (tells : Type 0) (old : History) (line : ℕ) (bytes : List ℕ) (log : LogEnd) (lines : List ℕ) → AreRecords bytes → (tells → IsHistory old) → (tells → EndsThere log old.world)
-    → RecordsSoFar tells old old line bytes bytes false log log lines lines
-records_begin tells old line bytes log lines are sound ends = record {
+pub records_begin : {tells : Type 0} (now : Writer) (line : ℕ) (bytes : List ℕ) → AreRecords bytes → (tells → IsHistory now.history) → (tells → EndsThere now.log now.history.world)
+    → RecordsSoFar tells now now line bytes bytes false
+records_begin now line bytes are sound ends = record {
   done = [];
   left = are.0;
   done_are = tt;
   left_is = are.1;
   whole = refl;
   named = refl;
-  makes = makes_none tells old log lines sound ends;
-  most = omega arith;
+  makes = makes_none now sound ends;
   fresh = λ e. refl;
 }
 
@@ -77,90 +76,65 @@ named_once line is_named kind e = subst (λ b. named_line line b kind ≡ None) 
     each true = refl
     each false = refl
 
-lines_of_one : (line : Option ℕ) (f : Frame) → length (lines_in (AppendFrame line f ∷ [])) ≤ 1
-lines_of_one None f = omega arith
-lines_of_one (Some line) f = omega arith
-
--- one record more
-pub records_more : (tells : Type 0) (old mid new : History) (line : ℕ) (bytes rest rest' : List ℕ) (is_named is_named' : Bool) (f : Frame) (log between now : LogEnd) (lines some noted : List ℕ)
-    → RecordsSoFar tells old mid line bytes rest is_named log between lines some → IsLogged f → rest ≡ record_bytes f ++ rest' → is_named' ≡ (is_named || f.kind == LOGICAL)
-    → MakesCalls tells mid new (AppendFrame (named_line line is_named f.kind) f ∷ []) between now some noted
-    → RecordsSoFar tells old new line bytes rest' is_named' log now lines noted
-records_more tells old mid new line bytes rest rest' is_named is_named' f log between now lines some noted so_far is_f e named makes =
-    let next = next_of rest rest' f so_far.left so_far.left_is is_f e in
-    let calls : record_calls line false so_far.done ++ AppendFrame (named_line line is_named f.kind) f ∷ [] ≡ record_calls line false (so_far.done ++ f ∷ []) =
-    ap (λ b. record_calls line false so_far.done ++ AppendFrame (named_line line b f.kind) f ∷ []) so_far.named ∙ sym (record_calls-append line false so_far.done (f ∷ [])) in
-    record {
-      done = so_far.done ++ f ∷ [];
-      left = next.0;
-      done_are = logged-append so_far.done (f ∷ []) so_far.done_are (is_f, tt);
-      left_is = next.2;
-      whole = so_far.whole ∙ ap (λ r. records_bytes so_far.done ++ r) e ∙ sym (append_assoc (records_bytes so_far.done) (record_bytes f) rest')
-          ∙ ap (λ b. b ++ rest') (ap (λ b. records_bytes so_far.done ++ b) (sym (append-nil (record_bytes f))) ∙ sym (records_bytes-append so_far.done (f ∷ [])));
-      named = named ∙ ap (λ b. b || f.kind == LOGICAL) so_far.named ∙ sym (named_after-push false so_far.done f);
-      makes = subst (λ cs. MakesCalls tells old new cs log now lines noted) calls (makes_then tells old mid new _ _ log between now lines some noted so_far.makes makes);
-      most = bound is_named refl;
-      fresh = λ none. let still : (is_named || f.kind == LOGICAL) ≡ false = sym named ∙ none in
-          makes.lines_are ∙ ap (λ l. some ++ lines_in (AppendFrame l f ∷ [])) (unnamed line is_named f.kind still) ∙ append-nil some ∙ so_far.fresh (was is_named (f.kind == LOGICAL) still);
-    }
+module _ {tells : Type 0} {before between now : Writer} {line : ℕ} {bytes rest : List ℕ} (rest' : List ℕ) {is_named : Bool} (so_far : RecordsSoFar tells before between line bytes rest is_named)
+    (f : Frame) (is_f : IsLogged f) (e : rest ≡ record_bytes f ++ rest')
   where
-    was : (a b : Bool) → (a || b) ≡ false → a ≡ false
-    was true b e = e
-    was false b e = refl
+    -- one record more
+    pub records_more : {is_named' : Bool} → is_named' ≡ (is_named || f.kind == LOGICAL) → MakesCalls tells between now (AppendFrame (named_line line is_named f.kind) f ∷ [])
+        → RecordsSoFar tells before now line bytes rest' is_named'
+    records_more {is_named'} named makes =
+        let next = next_of rest rest' f so_far.left so_far.left_is is_f e in
+        let calls : record_calls line false so_far.done ++ AppendFrame (named_line line is_named f.kind) f ∷ [] ≡ record_calls line false (so_far.done ++ f ∷ []) =
+        ap (λ b. record_calls line false so_far.done ++ AppendFrame (named_line line b f.kind) f ∷ []) so_far.named ∙ sym (record_calls-append line false so_far.done (f ∷ [])) in
+        record {
+          done = so_far.done ++ f ∷ [];
+          left = next.0;
+          done_are = logged-append so_far.done (f ∷ []) so_far.done_are (is_f, tt);
+          left_is = next.2;
+          whole = so_far.whole ∙ ap (λ r. records_bytes so_far.done ++ r) e ∙ sym (append_assoc (records_bytes so_far.done) (record_bytes f) rest')
+              ∙ ap (λ b. b ++ rest') (ap (λ b. records_bytes so_far.done ++ b) (sym (append-nil (record_bytes f))) ∙ sym (records_bytes-append so_far.done (f ∷ [])));
+          named = named ∙ ap (λ b. b || f.kind == LOGICAL) so_far.named ∙ sym (named_after-push false so_far.done f);
+          makes = subst (MakesCalls tells before now) calls (makes_then so_far.makes makes);
+          fresh = λ none. let still : (is_named || f.kind == LOGICAL) ≡ false = sym named ∙ none in
+              makes.lines_are ∙ ap (λ l. between.lines ++ lines_in (AppendFrame l f ∷ [])) (unnamed line is_named f.kind still) ∙ append-nil between.lines ∙ so_far.fresh (was is_named (f.kind == LOGICAL) still);
+        }
+      where
+        was : (a b : Bool) → (a || b) ≡ false → a ≡ false
+        was true b e = e
+        was false b e = refl
 
-    bound : (b : Bool) → is_named ≡ b → length noted ≤ length lines + 1
-    bound true e =
-        let same : noted ≡ some = makes.lines_are ∙ ap (λ l. some ++ lines_in (AppendFrame l f ∷ [])) (named_once line is_named f.kind e) ∙ append-nil some in
-        omega (arith, ap length same, so_far.most)
-    bound false e =
-        omega (arith, ap length makes.lines_are, length-append some (lines_in (AppendFrame (named_line line is_named f.kind) f ∷ [])), lines_of_one (named_line line is_named f.kind) f, ap length (so_far.fresh e))
+    -- the next one failed
+    pub records_broke : BreaksOff tells between now (AppendFrame (named_line line is_named f.kind) f ∷ []) → (frames : List Frame) → SpellRecords bytes frames → BreaksOff tells before now (record_calls line false frames)
+    records_broke broke frames spelled =
+        let next = next_of rest rest' f so_far.left so_far.left_is is_f e in
+        let more = record_calls line (is_named || f.kind == LOGICAL) next.0 in
+        let call = AppendFrame (named_line line is_named f.kind) f in
+        let all = breaks_then so_far.makes (breaks_before more broke) in
+        let calls : record_calls line false so_far.done ++ call ∷ more ≡ record_calls line false (so_far.done ++ f ∷ next.0) =
+        ap (λ b. record_calls line false so_far.done ++ record_calls line b (f ∷ next.0)) so_far.named ∙ sym (record_calls-append line false so_far.done (f ∷ next.0)) in
+        let whole : bytes ≡ records_bytes (so_far.done ++ f ∷ next.0) = so_far.whole ∙ ap (λ r. records_bytes so_far.done ++ r) (e ∙ ap (λ r. record_bytes f ++ r) next.2.1) ∙ sym (records_bytes-append so_far.done (f ∷ next.0)) in
+        let same = same_records (so_far.done ++ f ∷ next.0) frames (logged-append so_far.done (f ∷ next.0) so_far.done_are (is_f, next.2.0)) spelled.0 (sym whole ∙ spelled.1) in
+        subst (BreaksOff tells before now) (calls ∙ ap (record_calls line false) same) all
 
 -- all records were appended
-pub records_done : (tells : Type 0) (old mid : History) (line : ℕ) (bytes rest : List ℕ) (is_named : Bool) (log now : LogEnd) (lines noted : List ℕ)
-    → RecordsSoFar tells old mid line bytes rest is_named log now lines noted → BeginsWithNoRecord rest → (frames : List Frame) → SpellRecords bytes frames → MakesCalls tells old mid (record_calls line false frames) log now lines noted
-records_done tells old mid line bytes rest is_named log now lines noted so_far none frames spelled =
+pub records_done : {tells : Type 0} {before now : Writer} {line : ℕ} {bytes rest : List ℕ} {is_named : Bool} → RecordsSoFar tells before now line bytes rest is_named → BeginsWithNoRecord rest
+    → (frames : List Frame) → SpellRecords bytes frames → MakesCalls tells before now (record_calls line false frames)
+records_done {tells} {before} {now} {line} {bytes} {rest} so_far none frames spelled =
     let over : (left : List Frame) → SpellRecords rest left → rest ≡ [] = λ left. elim left as (λ left. SpellRecords rest left → rest ≡ []) [
       | [] ↦ λ is. is.1
       | f ∷ fs ↦ λ is. absurd (none f (records_bytes fs) is.0.0 is.1)
     ] in
     let whole : bytes ≡ records_bytes so_far.done = so_far.whole ∙ ap (λ r. records_bytes so_far.done ++ r) (over so_far.left so_far.left_is) ∙ append-nil (records_bytes so_far.done) in
-    subst (λ fs. MakesCalls tells old mid (record_calls line false fs) log now lines noted) (same_records so_far.done frames so_far.done_are spelled.0 (sym whole ∙ spelled.1)) so_far.makes
+    subst (λ fs. MakesCalls tells before now (record_calls line false fs)) (same_records so_far.done frames so_far.done_are spelled.0 (sym whole ∙ spelled.1)) so_far.makes
 
--- the next one failed
-pub records_broke : (tells : Type 0) (old mid new : History) (line : ℕ) (bytes rest rest' : List ℕ) (is_named : Bool) (f : Frame) (log between now : LogEnd) (lines some noted : List ℕ)
-    → RecordsSoFar tells old mid line bytes rest is_named log between lines some → IsLogged f → rest ≡ record_bytes f ++ rest'
-    → BreaksOff tells mid new (AppendFrame (named_line line is_named f.kind) f ∷ []) between now some noted
-    → (frames : List Frame) → SpellRecords bytes frames → BreaksOff tells old new (record_calls line false frames) log now lines noted
-records_broke tells old mid new line bytes rest rest' is_named f log between now lines some noted so_far is_f e broke frames spelled =
-    let next = next_of rest rest' f so_far.left so_far.left_is is_f e in
-    let more = record_calls line (is_named || f.kind == LOGICAL) next.0 in
-    let call = AppendFrame (named_line line is_named f.kind) f in
-    let broke_all = breaks_before tells mid new (call ∷ []) more between now some noted broke in
-    let all = breaks_then tells old mid new (record_calls line false so_far.done) (call ∷ more) log between now lines some noted so_far.makes broke_all in
-    let calls : record_calls line false so_far.done ++ call ∷ more ≡ record_calls line false (so_far.done ++ f ∷ next.0) =
-    ap (λ b. record_calls line false so_far.done ++ record_calls line b (f ∷ next.0)) so_far.named ∙ sym (record_calls-append line false so_far.done (f ∷ next.0)) in
-    let whole : bytes ≡ records_bytes (so_far.done ++ f ∷ next.0) = so_far.whole ∙ ap (λ r. records_bytes so_far.done ++ r) (e ∙ ap (λ r. record_bytes f ++ r) next.2.1) ∙ sym (records_bytes-append so_far.done (f ∷ next.0)) in
-    let same = same_records (so_far.done ++ f ∷ next.0) frames (logged-append so_far.done (f ∷ next.0) so_far.done_are (is_f, next.2.0)) spelled.0 (sym whole ∙ spelled.1) in
-    subst (λ cs. BreaksOff tells old new cs log now lines noted) (calls ∙ ap (record_calls line false) same) all
-
--- a failed append notes one line at most
-pub broke_most : (tells : Type 0) (old mid new : History) (line : ℕ) (bytes rest : List ℕ) (is_named : Bool) (f : Frame) (log between now : LogEnd) (lines some noted : List ℕ)
-    → RecordsSoFar tells old mid line bytes rest is_named log between lines some
-    → BreaksOff tells mid new (AppendFrame (named_line line is_named f.kind) f ∷ []) between now some noted → length noted ≤ length lines + 1
-broke_most tells old mid new line bytes rest is_named f log between now lines some noted so_far broke =
-    let call = AppendFrame (named_line line is_named f.kind) f in
-    let few : (n : ℕ) → length (lines_in (take n (call ∷ []))) ≤ length (lines_in (call ∷ [])) = λ n. elim n as (λ n. length (lines_in (take n (call ∷ []))) ≤ length (lines_in (call ∷ []))) [
-      | zero ↦ omega arith
-      | suc m ↦ subst (λ cs. length (lines_in cs) ≤ length (lines_in (call ∷ []))) (sym (ap (λ cs. call ∷ cs) (take-nil m))) (omega arith)
-    ] in
-    let many : length noted ≤ length some + length (lines_in (call ∷ [])) =
-    omega (arith, ap length broke.lines_are, length-append some (lines_in (take (if now.tried then broke.count + 1 else broke.count) (call ∷ []))), few (if now.tried then broke.count + 1 else broke.count)) in
-    bound is_named refl many
+-- a line is named once at most, so that there is still room for it
+pub still_room : {tells : Type 0} {before now : Writer} {line : ℕ} {bytes rest : List ℕ} {is_named : Bool} → RecordsSoFar tells before now line bytes rest is_named
+    → (kind most : ℕ) → length before.lines < most → IsSome (named_line line is_named kind) → length now.lines < most
+still_room {before} {now} {line} {is_named} so_far kind most room some = each is_named refl
   where
-    take-nil : (m : ℕ) → take {A = LogCall} m [] ≡ []
-    take-nil zero = refl
-    take-nil (suc m) = refl
+    nothing : IsSome {T = ℕ} None → ⊥
+    nothing e = absurd cc
 
-    bound : (b : Bool) → is_named ≡ b → length noted ≤ length some + length (lines_in (AppendFrame (named_line line is_named f.kind) f ∷ [])) → length noted ≤ length lines + 1
-    bound true e many = omega (arith, many, ap (λ l. length (lines_in (AppendFrame l f ∷ []))) (named_once line is_named f.kind e), so_far.most)
-    bound false e many = omega (arith, many, lines_of_one (named_line line is_named f.kind) f, ap length (so_far.fresh e))
+    each : (b : Bool) → is_named ≡ b → length now.lines < most
+    each true e = absurd (nothing (subst IsSome (named_once line is_named kind e) some))
+    each false e = omega (arith, room, ap length (so_far.fresh e))

@@ -1,15 +1,15 @@
 -- Bytes are operations and a rest in one way only, so that what was appended is what was handed over.
-use Rattle.std.proofs.Common.{◌≡◌, ◌⊎◌, inl, inr, ℕ, ◌<◌, List, [], ◌∷◌, ◌++◌, length, take, drop, refl, sym, ap, ◌∙◌, arith, length-append, append-nil, take-append-drop}
+use Rattle.std.proofs.Common.{◌≡◌, ◌⊎◌, inl, inr, true, ℕ, ◌<◌, List, [], ◌∷◌, ◌++◌, length, take, drop, refl, sym, ap, ◌∙◌, arith, length-append, append-nil, take-append-drop, Result, Ok, Err}
+use Rattle.std.specs.Prelude.{OnOk, is_ok}
 use Rattle.std.specs.List.{slice_get}
 use Rattle.std.proofs.lemmas.List.{append_assoc, append_cancel_left, drop_all, nil_from_length}
 use Rattle.pm_types.specs.declared.limits.TheConstants.{BATCH_LINES_MAX}
-use Rattle.pm_disk.specs.Moments.{History}
 use Rattle.pm_logger.specs.Blocks.{joined}
-use Rattle.pm_logger.specs.Fronts.{WriterState}
 use Rattle.pm_logger.specs.Inboxes.{kept, taken, waiting}
 use Rattle.pm_logger.specs.Merges.{HandsOver}
 use Rattle.pm_logger.specs.Operations.{Operation, IsOperation, AreOperations, operation_head, operation_bytes, operations_bytes, records_bytes, BeginsWithNone, IsBad, IsBeginning}
 use Rattle.pm_logger.specs.Rings.{IsEmptied, KeepsBeginning, KeepsNothing, GivesTo}
+use Rattle.pm_logger.specs.Writers.{Writer}
 use Rattle.pm_logger.specs.declared.inbox.Inbox.{Inbox}
 use Rattle.pm_logger.specs.declared.log_end.LogEnd.{LogEnd}
 use Rattle.pm_logger.proofs.Joining.{joined-append}
@@ -91,12 +91,12 @@ keeps_nothing before bytes left at appended os a b e f all =
     ] in
     nil_from_length left (omega (arith, ap length empty, length-append left (drop at bytes)))
 
-pub gives_nothing : (tells : Type 0) (old new : History) (before now : WriterState) (was inboxes : List Inbox) (worker : ℕ) (bytes : List ℕ) → GivesTo tells old new before now was inboxes worker bytes → length now.lines < BATCH_LINES_MAX
+pub gives_nothing : {tells : Type 0} {before now : Writer} {was inboxes : List Inbox} {worker : ℕ} {bytes : List ℕ} → GivesTo tells before now true was inboxes worker bytes → length now.lines < BATCH_LINES_MAX
     → KeepsNothing was inboxes worker bytes
-gives_nothing tells old new before now was inboxes worker bytes gives room from inbox os at_from at_inbox os_are e =
+gives_nothing {tells} {before} {now} {was} {inboxes} {worker} {bytes} gives room from inbox os at_from at_inbox os_are e =
     let from_is : gives.from ≡ from = some_same gives.from from (sym gives.there ∙ at_from) in
     let front = gives.given.front in
-    let all : IsBad (kept gives.inbox) ⊎ ((gives.at ≡ length bytes) × BeginsWithNone (kept gives.inbox)) = elim gives.all [
+    let all : IsBad (kept gives.inbox) ⊎ ((gives.at ≡ length bytes) × BeginsWithNone (kept gives.inbox)) = elim (gives.all refl) [
       | inl halted ↦ elim halted [
         | inl bad ↦ inl bad
         | inr full ↦ absurd (omega (arith, room, full))
@@ -108,3 +108,8 @@ gives_nothing tells old new before now was inboxes worker bytes gives room from 
       | inl h ↦ ap kept h.1 ∙ none
       | inr h ↦ absurd (h.0 refl)
     ]
+
+pub gives_nothing_ok : {tells : Type 0} {before now : Writer} {was inboxes : List Inbox} {worker : ℕ} {bytes : List ℕ} {T E : Type 0} (result : Result T E) → GivesTo tells before now (is_ok result) was inboxes worker bytes
+    → OnOk result (length now.lines < BATCH_LINES_MAX → KeepsNothing was inboxes worker bytes)
+gives_nothing_ok (Ok x) gives = gives_nothing gives
+gives_nothing_ok (Err e) gives = tt

@@ -1,16 +1,17 @@
 -- How blocks are taken out of a worker's ring.
-use Rattle.std.proofs.Common.{◌≡◌, ℕ, List, [], ◌∷◌, ◌++◌, refl, sym, ap, ◌∙◌, subst, append-nil}
+use Rattle.std.proofs.Common.{◌≡◌, ℕ, Bool, true, List, [], ◌∷◌, ◌++◌, refl, sym, ap, ◌∙◌, subst, append-nil}
 use Rattle.std.proofs.lemmas.List.{append_assoc}
 use Rattle.rtrb.specs.Ring.{SameConsumer}
 use Rattle.rtrb.specs.declared.consumer.Consumer.{Consumer}
-use Rattle.pm_disk.specs.Moments.{History, IsHistory}
+use Rattle.pm_disk.specs.Moments.{IsHistory}
 use Rattle.pm_segments.specs.Ends.{EndsThere}
 use Rattle.pm_logger.specs.Blocks.{joined}
-use Rattle.pm_logger.specs.Fronts.{WriterState, AppendsFront, FailsAtFront}
-use Rattle.pm_logger.specs.Inboxes.{taken, kept, Takes, TakesBlock, Looks, AppendsTaken, FailsTaken, AppendsGiven, FailsGiven}
+use Rattle.pm_logger.specs.Fronts.{AppendsFront}
+use Rattle.pm_logger.specs.Inboxes.{taken, kept, Takes, TakesBlock, Looks, KeepsSeen, AppendsTaken, AppendsGiven}
 use Rattle.pm_logger.specs.Operations.{IsBad}
+use Rattle.pm_logger.specs.Writers.{Writer}
 use Rattle.pm_logger.specs.declared.inbox.Inbox.{Inbox}
-use Rattle.pm_logger.proofs.Appending.{front_none, front_then, front_fails}
+use Rattle.pm_logger.proofs.Appending.{front_none, front_then}
 use Rattle.pm_logger.proofs.Joining.{joined-append}
 
 module _ {T A P : Type 0} where
@@ -39,107 +40,74 @@ takes_then a b c xs ys p q = record {
 pub joined_after : (bytes : List ℕ) (xs ys : List (List ℕ)) → (bytes ++ joined xs) ++ joined ys ≡ bytes ++ joined (xs ++ ys)
 joined_after bytes xs ys = append_assoc bytes (joined xs) (joined ys) ∙ ap (λ b. bytes ++ b) (sym (joined-append xs ys))
 
+pub seen_none : (inbox : Inbox) → KeepsSeen inbox inbox
+seen_none inbox = record { ring = same_consumer inbox.consumer inbox.consumer refl; seen_is = refl }
+
+pub seen_then : {a b c : Inbox} → KeepsSeen a b → KeepsSeen b c → KeepsSeen a c
+seen_then {a} {b} {c} p q = record { ring = same_consumer_then a.consumer b.consumer c.consumer p.ring q.ring; seen_is = q.seen_is ∙ p.seen_is }
+
 -- what is kept was appended as far as it is whole
-pub kept_appended : (tells : Type 0) (old new : History) (before now : WriterState) (was inbox : Inbox) → inbox.consumer ≡ was.consumer → AppendsFront tells old new before now (kept was) (kept inbox) → AppendsTaken tells old new before now was inbox
-kept_appended tells old new before now was inbox e front = record {
+pub kept_appended : {tells : Type 0} {before now : Writer} {done : Bool} {was inbox : Inbox} → inbox.consumer ≡ was.consumer → AppendsFront tells before now done (kept was) (kept inbox) → AppendsTaken tells before now done was inbox
+kept_appended {tells} {before} {now} {done} {was} {inbox} e front = record {
   came = [];
   takes = takes_none was inbox e;
-  front = subst (λ b. AppendsFront tells old new before now b (kept inbox)) (sym (append-nil (kept was))) front;
+  front = subst (λ b. AppendsFront tells before now done b (kept inbox)) (sym (append-nil (kept was))) front;
 }
 
-pub kept_failed : (tells : Type 0) (old new : History) (before now : WriterState) (was inbox : Inbox) → inbox.consumer ≡ was.consumer → FailsAtFront tells old new before now (kept was) (kept inbox) → FailsTaken tells old new before now was inbox
-kept_failed tells old new before now was inbox e front = record {
-  came = [];
-  takes = takes_none was inbox e;
-  front = subst (λ b. FailsAtFront tells old new before now b (kept inbox)) (sym (append-nil (kept was))) front;
+pub taken_none : {tells : Type 0} (now : Writer) (inbox : Inbox) → (tells → IsHistory now.history) → (tells → EndsThere now.log now.history.world) → AppendsTaken tells now now true inbox inbox
+taken_none now inbox sound ends = kept_appended refl (front_none now (kept inbox) sound ends)
+
+pub taken_then : {tells : Type 0} {before between now : Writer} {done : Bool} {a b c : Inbox} → AppendsTaken tells before between true a b → AppendsTaken tells between now done b c → AppendsTaken tells before now done a c
+taken_then {tells} {before} {between} {now} {done} {a} {b} {c} first second = record {
+  came = first.came ++ second.came;
+  takes = takes_then a b c first.came second.came first.takes second.takes;
+  front = subst (λ bytes. AppendsFront tells before now done bytes (kept c)) (joined_after (kept a) first.came second.came) (front_then first.front (joined second.came) second.front);
 }
-
-pub taken_none : (tells : Type 0) (old : History) (writer_state : WriterState) (inbox : Inbox) → (tells → IsHistory old) → (tells → EndsThere writer_state.log old.world) → AppendsTaken tells old old writer_state writer_state inbox inbox
-taken_none tells old writer_state inbox sound ends = kept_appended tells old old writer_state writer_state inbox inbox refl (front_none tells old writer_state (kept inbox) sound ends)
-
-module _ (tells : Type 0) (old mid new : History) (before between now : WriterState) (a b c : Inbox) (first : AppendsTaken tells old mid before between a b) where
-  pub taken_then : AppendsTaken tells mid new between now b c → AppendsTaken tells old new before now a c
-  taken_then second = record {
-    came = first.came ++ second.came;
-    takes = takes_then a b c first.came second.came first.takes second.takes;
-    front = subst (λ bytes. AppendsFront tells old new before now bytes (kept c)) (joined_after (kept a) first.came second.came)
-        (front_then tells old mid new before between now (kept a ++ joined first.came) (kept b) first.front (joined second.came) (kept c) second.front);
-  }
-
-  pub fails_taken_then : FailsTaken tells mid new between now b c → FailsTaken tells old new before now a c
-  fails_taken_then second = record {
-    came = first.came ++ second.came;
-    takes = takes_then a b c first.came second.came first.takes second.takes;
-    front = subst (λ bytes. FailsAtFront tells old new before now bytes (kept c)) (joined_after (kept a) first.came second.came)
-        (front_fails tells old mid new before between now (kept a ++ joined first.came) (kept b) first.front (joined second.came) (kept c) second.front);
-  }
 
 -- a block was taken
-pub taken_block : (tells : Type 0) (old : History) (writer_state : WriterState) (was inbox : Inbox) → TakesBlock was inbox → (tells → IsHistory old) → (tells → EndsThere writer_state.log old.world) → AppendsTaken tells old old writer_state writer_state was inbox
-taken_block tells old writer_state was inbox takes sound ends = record {
+pub taken_block : {tells : Type 0} (now : Writer) {was inbox : Inbox} → TakesBlock was inbox → (tells → IsHistory now.history) → (tells → EndsThere now.log now.history.world) → AppendsTaken tells now now true was inbox
+taken_block {tells} now {was} {inbox} takes sound ends = record {
   came = takes.block ∷ [];
   takes = takes.takes;
-  front = subst (λ bytes. AppendsFront tells old old writer_state writer_state bytes (kept inbox)) (takes.kept_is ∙ ap (λ b. kept was ++ b) (sym (append-nil takes.block))) (front_none tells old writer_state (kept inbox) sound ends);
+  front = subst (λ bytes. AppendsFront tells now now true bytes (kept inbox)) (takes.kept_is ∙ ap (λ b. kept was ++ b) (sym (append-nil takes.block))) (front_none now (kept inbox) sound ends);
 }
 
 -- ---- bytes given beside the ring
 
-pub given_none : (tells : Type 0) (old : History) (writer_state : WriterState) (inbox : Inbox) → (tells → IsHistory old) → (tells → EndsThere writer_state.log old.world) → AppendsGiven tells old old writer_state writer_state inbox inbox []
-given_none tells old writer_state inbox sound ends = record {
-  ring = refl;
-  front = subst (λ bytes. AppendsFront tells old old writer_state writer_state bytes (kept inbox)) (sym (append-nil (kept inbox))) (front_none tells old writer_state (kept inbox) sound ends);
-}
-
 -- what is kept was appended as far as it is whole
-pub given_kept : (tells : Type 0) (old new : History) (before now : WriterState) (was inbox : Inbox) → inbox.consumer ≡ was.consumer → AppendsFront tells old new before now (kept was) (kept inbox) → AppendsGiven tells old new before now was inbox []
-given_kept tells old new before now was inbox e front = record { ring = e; front = subst (λ b. AppendsFront tells old new before now b (kept inbox)) (sym (append-nil (kept was))) front }
+pub given_kept : {tells : Type 0} {before now : Writer} {done : Bool} {was inbox : Inbox} → inbox.consumer ≡ was.consumer → AppendsFront tells before now done (kept was) (kept inbox) → AppendsGiven tells before now done was inbox []
+given_kept {tells} {before} {now} {done} {was} {inbox} e front = record { ring = e; front = subst (λ b. AppendsFront tells before now done b (kept inbox)) (sym (append-nil (kept was))) front }
 
-pub given_failed : (tells : Type 0) (old new : History) (before now : WriterState) (was inbox : Inbox) → inbox.consumer ≡ was.consumer → FailsAtFront tells old new before now (kept was) (kept inbox) → FailsGiven tells old new before now was inbox []
-given_failed tells old new before now was inbox e front = record { ring = e; front = subst (λ b. FailsAtFront tells old new before now b (kept inbox)) (sym (append-nil (kept was))) front }
+pub given_none : {tells : Type 0} (now : Writer) (inbox : Inbox) → (tells → IsHistory now.history) → (tells → EndsThere now.log now.history.world) → AppendsGiven tells now now true inbox inbox []
+given_none now inbox sound ends = given_kept refl (front_none now (kept inbox) sound ends)
 
 -- and then more bytes were kept
-pub given_piece : (tells : Type 0) (old new : History) (before now : WriterState) (was inbox : Inbox) (left piece : List ℕ) → inbox.consumer ≡ was.consumer → kept inbox ≡ left ++ piece → (tells → IsHistory new) → (tells → EndsThere now.log new.world)
-    → AppendsFront tells old new before now (kept was) left → AppendsGiven tells old new before now was inbox piece
-given_piece tells old new before now was inbox left piece e kept_is sound ends front = record {
+pub given_piece : {tells : Type 0} {before now : Writer} {was inbox : Inbox} {left piece : List ℕ} → inbox.consumer ≡ was.consumer → kept inbox ≡ left ++ piece → (tells → IsHistory now.history) → (tells → EndsThere now.log now.history.world)
+    → AppendsFront tells before now true (kept was) left → AppendsGiven tells before now true was inbox piece
+given_piece {tells} {before} {now} {was} {inbox} {left} {piece} e kept_is sound ends front = record {
   ring = e;
-  front = front_then tells old new new before now now (kept was) left front piece (kept inbox)
-      (subst (λ b. AppendsFront tells new new now now b (kept inbox)) kept_is (front_none tells new now (kept inbox) sound ends));
+  front = front_then front piece (subst (λ b. AppendsFront tells now now true b (kept inbox)) kept_is (front_none now (kept inbox) sound ends));
 }
 
-module _ (tells : Type 0) (old mid new : History) (before between now : WriterState) (a b c : Inbox) (given : List ℕ) (first : AppendsGiven tells old mid before between a b given) where
-  pub given_then : (more : List ℕ) → AppendsGiven tells mid new between now b c more → AppendsGiven tells old new before now a c (given ++ more)
+module _ {tells : Type 0} {before between now : Writer} {done : Bool} {a b c : Inbox} {given : List ℕ} (first : AppendsGiven tells before between true a b given) where
+  pub given_then : (more : List ℕ) → AppendsGiven tells between now done b c more → AppendsGiven tells before now done a c (given ++ more)
   given_then more second = record {
     ring = second.ring ∙ first.ring;
-    front = subst (λ bytes. AppendsFront tells old new before now bytes (kept c)) (append_assoc (kept a) given more)
-        (front_then tells old mid new before between now (kept a ++ given) (kept b) first.front more (kept c) second.front);
+    front = subst (λ bytes. AppendsFront tells before now done bytes (kept c)) (append_assoc (kept a) given more) (front_then first.front more second.front);
   }
 
-  pub fails_given_then : (more : List ℕ) → FailsGiven tells mid new between now b c more → FailsGiven tells old new before now a c (given ++ more)
-  fails_given_then more second = record {
-    ring = second.ring ∙ first.ring;
-    front = subst (λ bytes. FailsAtFront tells old new before now bytes (kept c)) (append_assoc (kept a) given more)
-        (front_fails tells old mid new before between now (kept a ++ given) (kept b) first.front more (kept c) second.front);
-  }
+  -- where no more was given
+  pub given_end : AppendsGiven tells between now done b c [] → AppendsGiven tells before now done a c given
+  given_end second = subst (λ bytes. AppendsGiven tells before now done a c bytes) (append-nil given) (given_then [] second)
 
 -- ---- after a look into the ring
 
-module _ (tells : Type 0) (old new : History) (before now : WriterState) (a b c : Inbox) (looks : Looks a b) where
-  looked : (came : List (List ℕ)) → Takes b c came → Takes a c came
-  looked came takes = record {
-    ring = same_consumer_then a.consumer b.consumer c.consumer looks.ring takes.ring;
-    taken_are = takes.taken_are ∙ ap (λ bs. bs ++ came) looks.taken_are;
-  }
-
-  pub look_then : AppendsTaken tells old new before now b c → AppendsTaken tells old new before now a c
-  look_then second = record {
-    came = second.came;
-    takes = looked second.came second.takes;
-    front = subst (λ bytes. AppendsFront tells old new before now (bytes ++ joined second.came) (kept c)) looks.kept_is second.front;
-  }
-
-  pub look_fails : FailsTaken tells old new before now b c → FailsTaken tells old new before now a c
-  look_fails second = record {
-    came = second.came;
-    takes = looked second.came second.takes;
-    front = subst (λ bytes. FailsAtFront tells old new before now (bytes ++ joined second.came) (kept c)) looks.kept_is second.front;
-  }
+pub look_then : {tells : Type 0} {before now : Writer} {done : Bool} {a b c : Inbox} → Looks a b → AppendsTaken tells before now done b c → AppendsTaken tells before now done a c
+look_then {tells} {before} {now} {done} {a} {b} {c} looks second = record {
+  came = second.came;
+  takes = record {
+    ring = same_consumer_then a.consumer b.consumer c.consumer looks.ring second.takes.ring;
+    taken_are = second.takes.taken_are ∙ ap (λ bs. bs ++ second.came) looks.taken_are;
+  };
+  front = subst (λ bytes. AppendsFront tells before now done (bytes ++ joined second.came) (kept c)) looks.kept_is second.front;
+}

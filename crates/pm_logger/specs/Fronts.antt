@@ -1,13 +1,10 @@
 -- What stands at the front of the bytes that a worker handed over, and how it is appended.
-use Rattle.std.specs.Prelude.{◌≡◌, ◌≤◌, ◌<◌, ℕ, List, [], ◌∷◌, ◌++◌, length, take, Vec, vec_capacity}
-use Rattle.std.specs.Global.{Global}
+use Rattle.std.specs.Prelude.{◌≡◌, ◌≤◌, ◌<◌, ℕ, List, [], ◌∷◌, ◌++◌, length, take, Bool, true, false}
 use Rattle.pm_types.specs.declared.limits.TheConstants.{OUTBOX, BATCH_LINES_MAX}
-use Rattle.pm_disk.specs.Moments.{History}
-use Rattle.pm_segments.specs.Ends.{LogEnd}
 use Rattle.pm_logger.specs.LogCalls.{MakesCalls, BreaksOff, operations_calls, since_after}
-use Rattle.pm_logger.specs.declared.limits.TheConstants.{FORCE_AFTER}
 use Rattle.pm_logger.specs.Operations.{Operation, IsOperation, AreOperations, operation_bytes}
 use Rattle.pm_logger.specs.Operations.{operations_bytes, IsWhole, BeginsWithNone, IsBad}
+use Rattle.pm_logger.specs.Writers.{Writer}
 use Rattle.pm_logger.specs.declared.front.Stop.{Stop}
 use Rattle.pm_logger.specs.declared.front.Stop.TheVariants as stop
 use Rattle.pm_logger.specs.declared.operation.Front.{Front}
@@ -33,49 +30,33 @@ IsStop left noted stop.Begun = IsBegun left
 IsStop left noted stop.Bad = IsBad left
 IsStop left noted stop.Full = BATCH_LINES_MAX ≤ noted
 
--- What the log writer knows besides its rings: the log's end, the lines noted, and how many operations were
--- appended since the log was forced.
-pub record WriterState : Type 0 where
-  pub log : LogEnd
-  pub lines : List ℕ
-  pub since : ℕ
+-- this operation stands at the front of these bytes
+abbrev pub StandsFirst : Operation → List ℕ → Type 0
+StandsFirst operation bytes = (rest : List ℕ) × (bytes ≡ operation_bytes operation ++ rest)
 
 -- These operations were appended, one after the other.
-pub record Appends (tells : Type 0) (old new : History) (before now : WriterState) (appended : List Operation)
-    : Type 0 where
+pub record AppendsAll (tells : Type 0) (before now : Writer) (appended : List Operation) : Type 0 where
   pub since_is : now.since ≡ since_after before.since appended
-  pub makes : MakesCalls tells old new (operations_calls before.since appended) before.log now.log
-      before.lines now.lines
+  pub makes : MakesCalls tells before now (operations_calls before.since appended)
 
 -- These operations were appended, and the next one failed: it may be in the log in part, or whole.
-pub record Fails (tells : Type 0) (old new : History) (before now : WriterState) (appended : List Operation)
-    (failed : Operation) : Type 0 where
+pub record FailsAfter (tells : Type 0) (before now : Writer) (appended : List Operation) (failed : Operation)
+    : Type 0 where
   pub failed_is : IsOperation failed
-  pub breaks : BreaksOff tells old new (operations_calls before.since (appended ++ failed ∷ []))
-      before.log now.log before.lines now.lines
+  pub breaks : BreaksOff tells before now (operations_calls before.since (appended ++ failed ∷ []))
 
--- The operations at the front of these bytes were appended, and these are left.
-pub record AppendsFront (tells : Type 0) (old new : History) (before now : WriterState) (bytes left : List ℕ)
+-- These operations were appended; where not all was done, the next one failed, of which this holds.
+abbrev pub Appends : (tells : Type 0) → (before now : Writer) → (done : Bool) → List Operation
+    → (IsNext : Operation → Type 0) → Type 0
+Appends tells before now true appended IsNext = AppendsAll tells before now appended
+Appends tells before now false appended IsNext =
+    (failed : Operation) × IsNext failed × FailsAfter tells before now appended failed
+
+-- The operations at the front of these bytes were appended, and these are left; where not all was done, they
+-- begin with the one that failed.
+pub record AppendsFront (tells : Type 0) (before now : Writer) (done : Bool) (bytes left : List ℕ)
     : Type 0 where
   pub appended : List Operation
   pub operations_are : AreOperations appended
   pub bytes_are : bytes ≡ operations_bytes appended ++ left
-  pub appends : Appends tells old new before now appended
-
--- So were they up to one that failed, which is still at the front of what is left.
-pub record FailsAtFront (tells : Type 0) (old new : History) (before now : WriterState) (bytes left : List ℕ)
-    : Type 0 where
-  pub appended : List Operation
-  pub operations_are : AreOperations appended
-  pub bytes_are : bytes ≡ operations_bytes appended ++ left
-  pub failed : Operation
-  pub rest : List ℕ
-  pub front : left ≡ operation_bytes failed ++ rest
-  pub fails : Fails tells old new before now appended failed
-
--- the lines noted keep their room and their limit, and the log was forced after so many operations at the
--- latest
-pub record KeepsLimits (old new : Vec ℕ Global) (since : ℕ) : Type 0 where
-  pub room : vec_capacity new ≡ vec_capacity old
-  pub most : length old.items ≤ BATCH_LINES_MAX → length new.items ≤ BATCH_LINES_MAX
-  pub below : since < FORCE_AFTER
+  pub appends : Appends tells before now done appended (λ failed. StandsFirst failed left)

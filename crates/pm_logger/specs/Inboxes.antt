@@ -1,11 +1,11 @@
 -- What contracts see of the log writer's end of a worker's ring.
-use Rattle.std.specs.Prelude.{◌≡◌, ◌≤◌, ◌⊎◌, ℕ, List, [], ◌∷◌, ◌++◌}
+use Rattle.std.specs.Prelude.{◌≡◌, ◌≤◌, ◌⊎◌, ℕ, List, [], ◌∷◌, ◌++◌, Bool, if◌then◌else◌, Result, Ok, Err}
 use Rattle.rtrb.specs.Ring.{received, known_items, SameConsumer, IsPair}
 use Rattle.pm_types.specs.declared.limits.TheConstants.{BATCH_LINES_MAX}
-use Rattle.pm_disk.specs.Moments.{History}
 use Rattle.pm_logger.specs.Blocks.{joined}
-use Rattle.pm_logger.specs.Fronts.{WriterState, AppendsFront, FailsAtFront}
+use Rattle.pm_logger.specs.Fronts.{AppendsFront}
 use Rattle.pm_logger.specs.Operations.{BeginsWithNone, IsBad}
+use Rattle.pm_logger.specs.Writers.{Writer}
 use Rattle.pm_logger.specs.declared.log_end.LogEnd.{LogEnd}
 use Rattle.pm_logger.specs.declared.inbox.Inbox.{Inbox}
 
@@ -47,32 +47,28 @@ pub record TakesBlock (old new : Inbox) : Type 0 where
   pub was_next : waiting old ≡ block ∷ waiting new
   pub kept_is : kept new ≡ kept old ++ block
 
+-- The same ring, of which nothing more was seen.
+pub record KeepsSeen (old new : Inbox) : Type 0 where
+  pub ring : SameConsumer old.consumer new.consumer
+  pub seen_is : seen new ≡ seen old
+
 -- Blocks were taken, the operations at the front of what was kept and of them were appended, and what is left
 -- is kept.
-pub record AppendsTaken (tells : Type 0) (old new : History) (before now : WriterState) (was inbox : Inbox)
-    : Type 0 where
+pub record AppendsTaken (tells : Type 0) (before now : Writer) (done : Bool) (was inbox : Inbox) : Type 0 where
   pub came : List (List ℕ)
   pub takes : Takes was inbox came
-  pub front : AppendsFront tells old new before now (kept was ++ joined came) (kept inbox)
-
--- So were they up to one that failed.
-pub record FailsTaken (tells : Type 0) (old new : History) (before now : WriterState) (was inbox : Inbox)
-    : Type 0 where
-  pub came : List (List ℕ)
-  pub takes : Takes was inbox came
-  pub front : FailsAtFront tells old new before now (kept was ++ joined came) (kept inbox)
+  pub front : AppendsFront tells before now done (kept was ++ joined came) (kept inbox)
 
 -- The same of bytes that were given beside the ring: they were kept, and appended as far as they are whole.
-pub record AppendsGiven (tells : Type 0) (old new : History) (before now : WriterState) (was inbox : Inbox)
+pub record AppendsGiven (tells : Type 0) (before now : Writer) (done : Bool) (was inbox : Inbox)
     (given : List ℕ) : Type 0 where
   pub ring : inbox.consumer ≡ was.consumer
-  pub front : AppendsFront tells old new before now (kept was ++ given) (kept inbox)
+  pub front : AppendsFront tells before now done (kept was ++ given) (kept inbox)
 
--- So were they up to one that failed, of these bytes.
-pub record FailsGiven (tells : Type 0) (old new : History) (before now : WriterState) (was inbox : Inbox)
-    (given : List ℕ) : Type 0 where
-  pub ring : inbox.consumer ≡ was.consumer
-  pub front : FailsAtFront tells old new before now (kept was ++ given) (kept inbox)
+-- what was taken of a piece, where a call answers whether it took it
+abbrev pub piece_taken : {E : Type 0} → Result Bool E → List ℕ → List ℕ
+piece_taken (Ok took) piece = if took then piece else []
+piece_taken (Err error) piece = []
 
 -- No operation can be appended of what is kept: either no more lines can be noted, or none will ever stand
 -- there.

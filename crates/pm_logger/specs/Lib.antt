@@ -7,3 +7,4 @@ pub mod Loggers
 pub mod Merges
 pub mod Operations
 pub mod Rings
+pub mod Writers

@@ -1,13 +1,14 @@
 -- The calls that the log writer makes on the log, and what they do.
 use Rattle.std.specs.Prelude.{◌≡◌, ◌<◌, ◌+◌, ℕ, zero, suc, List, [], ◌∷◌, ◌++◌, take, length, Bool}
-use Rattle.std.specs.Prelude.{false, ◌||◌, ◌&&◌, not, ◌==◌, if◌then◌else◌, Option, Some, None}
+use Rattle.std.specs.Prelude.{true, false, ◌||◌, ◌&&◌, not, ◌==◌, if◌then◌else◌, Option, Some, None}
 use Rattle.pm_frame.specs.declared.kinds.TheConstants.{LOGICAL}
 use Rattle.pm_frame.specs.Frames.{Frame}
-use Rattle.pm_disk.specs.Moments.{History, AllMoments}
+use Rattle.pm_disk.specs.Moments.{AllMoments}
 use Rattle.pm_records.specs.LogSteps.{Step, Force, world_after, DoesPrefix}
 use Rattle.pm_segments.specs.Appends.{append_steps, grown, steps_of}
 use Rattle.pm_segments.specs.Ends.{LogEnd, EndsThere}
 use Rattle.pm_logger.specs.Operations.{Operation}
+use Rattle.pm_logger.specs.Writers.{Writer}
 use Rattle.pm_logger.specs.declared.limits.TheConstants.{FORCE_AFTER}
 
 -- one call
@@ -55,23 +56,29 @@ lines_in (AppendFrame None frame ∷ calls) = lines_in calls
 lines_in (ForceLog ∷ calls) = lines_in calls
 
 -- The calls were made, one after the other. The lines of their logical records were noted.
-pub record MakesCalls (tells : Type 0) (old new : History) (calls : List LogCall) (log now : LogEnd)
-    (lines noted : List ℕ) : Type 0 where
-  pub log_is : now ≡ calls_log log calls
-  pub lines_are : noted ≡ lines ++ lines_in calls
-  pub ends : tells → EndsThere now new.world
-  pub world : tells → new.world ≡ world_after (calls_steps log calls) log.end old.world
-  pub moments : tells → AllMoments old new (DoesPrefix (calls_steps log calls) log.end old.world)
+pub record MakesCalls (tells : Type 0) (before now : Writer) (calls : List LogCall) : Type 0 where
+  pub log_is : now.log ≡ calls_log before.log calls
+  pub lines_are : now.lines ≡ before.lines ++ lines_in calls
+  pub ends : tells → EndsThere now.log now.history.world
+  pub world : tells
+      → now.history.world ≡ world_after (calls_steps before.log calls) before.log.end before.history.world
+  pub moments : tells → AllMoments before.history now.history
+      (DoesPrefix (calls_steps before.log calls) before.log.end before.history.world)
 
 -- So many of the calls were made, and the next one failed. The lines were noted whose logical record's write
 -- was tried.
-pub record BreaksOff (tells : Type 0) (old new : History) (calls : List LogCall) (log now : LogEnd)
-    (lines noted : List ℕ) : Type 0 where
+pub record BreaksOff (tells : Type 0) (before now : Writer) (calls : List LogCall) : Type 0 where
   pub count : ℕ
   pub within : count < length calls
-  pub lines_are : noted ≡ lines ++ lines_in (take (if now.tried then count + 1 else count) calls)
-  pub moments : tells
-      → AllMoments old new (DoesPrefix (broken_steps now.tried log calls count) log.end old.world)
+  pub lines_are : now.lines
+      ≡ before.lines ++ lines_in (take (if now.log.tried then count + 1 else count) calls)
+  pub moments : tells → AllMoments before.history now.history
+      (DoesPrefix (broken_steps now.log.tried before.log calls count) before.log.end before.history.world)
+
+-- either all of the calls were made, or one failed
+abbrev pub DoesCalls : (tells : Type 0) → (before now : Writer) → (done : Bool) → List LogCall → Type 0
+DoesCalls tells before now true calls = MakesCalls tells before now calls
+DoesCalls tells before now false calls = BreaksOff tells before now calls
 
 -- the line that a record's append names: where it is the first logical record of its operation
 abbrev pub named_line : ℕ → Bool → ℕ → Option ℕ

@@ -1,7 +1,8 @@
 -- What contracts see of the log writer.
 use Rattle.std.specs.Prelude.{ℕ, List}
+use Rattle.pm_disk.specs.Moments.{History}
 use Rattle.pm_segments.specs.Ends.{LogEnd}
-use Rattle.pm_logger.specs.Fronts.{WriterState}
+use Rattle.pm_logger.specs.Writers.{Writer, writer}
 use Rattle.pm_logger.specs.declared.inbox.Inbox.{Inbox}
 use Rattle.pm_logger.specs.declared.logger.Logger.{Logger}
 
@@ -11,12 +12,12 @@ inboxes logger = logger.rings.items
 
 -- the lines noted
 abbrev pub noted_lines : Logger → List ℕ
-noted_lines logger = logger.lines.items
+noted_lines logger = logger.tally.lines
 
 -- how many operations were appended since it forced the log
 abbrev pub since_forced : Logger → ℕ
-since_forced logger = logger.since
+since_forced logger = logger.tally.since
 
 -- what it knows besides its rings
-abbrev pub writer_state : LogEnd → Logger → WriterState
-writer_state log logger = record { log = log; lines = noted_lines logger; since = since_forced logger }
+abbrev pub writer_of : History → LogEnd → Logger → Writer
+writer_of history log logger = writer history log logger.tally

@@ -1,12 +1,12 @@
 -- How the log writer merges what the workers hand over: it appends the operations of each worker in their
 -- order.
-use Rattle.std.specs.Prelude.{◌≡◌, ◌<◌, ℕ, List, [], ◌∷◌, ◌++◌, length, ◌==◌, if◌then◌else◌, Some}
+use Rattle.std.specs.Prelude.{◌≡◌, ◌<◌, ℕ, List, [], ◌∷◌, ◌++◌, length, ◌==◌, if◌then◌else◌, Some, Bool}
 use Rattle.std.specs.List.{slice_get}
-use Rattle.pm_disk.specs.Moments.{History}
 use Rattle.pm_logger.specs.Blocks.{joined}
-use Rattle.pm_logger.specs.Fronts.{WriterState, Appends, Fails}
+use Rattle.pm_logger.specs.Fronts.{Appends, StandsFirst}
 use Rattle.pm_logger.specs.Inboxes.{kept, Takes}
-use Rattle.pm_logger.specs.Operations.{Operation, AreOperations, operation_bytes, operations_bytes}
+use Rattle.pm_logger.specs.Operations.{Operation, AreOperations, operations_bytes}
+use Rattle.pm_logger.specs.Writers.{Writer}
 use Rattle.pm_logger.specs.declared.inbox.Inbox.{Inbox}
 
 -- An operation in the log, and the worker whose it is.
@@ -47,24 +47,16 @@ pub record Merges (was inboxes : List Inbox) (entries : List Entry) : Type 0 whe
       → slice_get inboxes worker ≡ Some new
       → HandsOver old new (of_worker worker entries)
 
--- this operation stands at the front of these bytes
-abbrev pub StandsFirst : Operation → List ℕ → Type 0
-StandsFirst operation bytes = (rest : List ℕ) × (bytes ≡ operation_bytes operation ++ rest)
+-- this operation is the first of what is kept of one of the workers
+abbrev pub IsNextKept : List Inbox → Operation → Type 0
+IsNextKept inboxes operation =
+    (worker : ℕ) × (worker < length inboxes)
+    × ((inbox : Inbox) → slice_get inboxes worker ≡ Some inbox → StandsFirst operation (kept inbox))
 
--- A merge of what the workers handed over was appended.
-pub record AppendsMerge (tells : Type 0) (old new : History) (before now : WriterState)
-    (was inboxes : List Inbox) : Type 0 where
+-- A merge of what the workers handed over was appended; where not all was done, the operation that failed is
+-- still the first of what is kept of its worker.
+pub record AppendsMerge (tells : Type 0) (before now : Writer) (done : Bool) (was inboxes : List Inbox)
+    : Type 0 where
   pub entries : List Entry
   pub merges : Merges was inboxes entries
-  pub appends : Appends tells old new before now (operations_in entries)
-
--- So it was up to an operation that failed: it is still the first of what is kept of its worker.
-pub record FailsInMerge (tells : Type 0) (old new : History) (before now : WriterState)
-    (was inboxes : List Inbox) : Type 0 where
-  pub entries : List Entry
-  pub merges : Merges was inboxes entries
-  pub failed : Entry
-  pub of_these : failed.worker < length was
-  pub first : (inbox : Inbox) → slice_get inboxes failed.worker ≡ Some inbox
-      → StandsFirst failed.operation (kept inbox)
-  pub fails : Fails tells old new before now (operations_in entries) failed.operation
+  pub appends : Appends tells before now done (operations_in entries) (IsNextKept inboxes)

@@ -107,7 +107,8 @@ IsWhole bytes = (operation : Operation) × SpellOperation bytes operation
 -- no operation's bytes stand at the front of these
 abbrev pub BeginsWithNone : List ℕ → Type 0
 BeginsWithNone bytes =
-    (operation : Operation) (rest : List ℕ) → IsOperation operation → bytes ≡ operation_bytes operation ++ rest → ⊥
+    (operation : Operation) (rest : List ℕ) → IsOperation operation
+    → bytes ≡ operation_bytes operation ++ rest → ⊥
 
 -- and whatever follows them, none will
 abbrev pub IsBad : List ℕ → Type 0

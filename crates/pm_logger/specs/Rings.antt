@@ -1,14 +1,13 @@
 -- The rings of all workers, and both their ends.
-use Rattle.std.specs.Prelude.{◌≡◌, ◌<◌, ◌≤◌, ◌⊎◌, ℕ, List, [], length, take, set, Some, ◌++◌}
+use Rattle.std.specs.Prelude.{◌≡◌, ◌<◌, ◌≤◌, ◌⊎◌, ℕ, List, [], length, take, set, Some, ◌++◌, Bool, IsTrue}
 use Rattle.std.specs.List.{slice_get}
 use Rattle.pm_types.specs.declared.limits.TheConstants.{RING_SLOTS}
-use Rattle.pm_disk.specs.Moments.{History}
 use Rattle.pm_logger.specs.Blocks.{joined}
-use Rattle.pm_logger.specs.Fronts.{WriterState}
 use Rattle.pm_logger.specs.Inboxes.{kept, taken, waiting, seen, IsEndOf, IsHalted, IsDrained}
-use Rattle.pm_logger.specs.Inboxes.{AppendsGiven, FailsGiven}
+use Rattle.pm_logger.specs.Inboxes.{AppendsGiven}
 use Rattle.pm_logger.specs.LogEnds.{pushed, free_slots, SameEnd}
 use Rattle.pm_logger.specs.Operations.{Operation, AreOperations, operations_bytes, BeginsWithNone, IsBeginning}
+use Rattle.pm_logger.specs.Writers.{Writer}
 use Rattle.pm_logger.specs.declared.inbox.Inbox.{Inbox}
 use Rattle.pm_logger.specs.declared.log_end.LogEnd.{LogEnd}
 
@@ -71,25 +70,16 @@ KeepsNothing was inboxes worker bytes =
     → AreOperations operations → kept from ++ bytes ≡ operations_bytes operations → kept inbox ≡ []
 
 -- So many of the bytes were taken beside the ring of a worker, and with what was kept of it they were
--- appended as far as they are whole; at the end all of them were, or no operation can be appended.
-pub record GivesTo (tells : Type 0) (old new : History) (before now : WriterState)
-    (was inboxes : List Inbox) (worker : ℕ) (bytes : List ℕ) : Type 0 where
+-- appended as far as they are whole; where all was done, all of them were taken, or no operation can be
+-- appended.
+pub record GivesTo (tells : Type 0) (before now : Writer) (done : Bool) (was inboxes : List Inbox)
+    (worker : ℕ) (bytes : List ℕ) : Type 0 where
   pub from : Inbox
   pub inbox : Inbox
   pub at : ℕ
   pub within : at ≤ length bytes
   pub there : slice_get was worker ≡ Some from
   pub others_stay : inboxes ≡ set was worker inbox
-  pub given : AppendsGiven tells old new before now from inbox (take at bytes)
-  pub all : IsHalted inbox (length now.lines) ⊎ ((at ≡ length bytes) × BeginsWithNone (kept inbox))
-
--- So it was up to an operation that failed.
-pub record FailsToGive (tells : Type 0) (old new : History) (before now : WriterState)
-    (was inboxes : List Inbox) (worker : ℕ) (bytes : List ℕ) : Type 0 where
-  pub from : Inbox
-  pub inbox : Inbox
-  pub at : ℕ
-  pub within : at ≤ length bytes
-  pub there : slice_get was worker ≡ Some from
-  pub others_stay : inboxes ≡ set was worker inbox
-  pub given : FailsGiven tells old new before now from inbox (take at bytes)
+  pub given : AppendsGiven tells before now done from inbox (take at bytes)
+  pub all : IsTrue done
+      → IsHalted inbox (length now.lines) ⊎ ((at ≡ length bytes) × BeginsWithNone (kept inbox))

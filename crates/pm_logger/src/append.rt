@@ -1,18 +1,19 @@
 //! Records and operations, appended to the log.
 
-ghost use Rattle.std.specs.Prelude.{◌≡◌, ◌<◌, ◌≤◌, ◌+◌, ℕ, List, [], ◌∷◌, false, ◌||◌, ◌==◌, length};
-ghost use Rattle.std.specs.Prelude.{IsSome, OnOk, OnErr, vec_capacity};
+ghost use Rattle.std.specs.Prelude.{◌≡◌, ◌<◌, [], ◌∷◌, false, ◌||◌, ◌==◌, length, List, IsSome, OnOk, is_ok};
+ghost use Rattle.pm_types.specs.declared.limits.TheConstants.{BATCH_LINES_MAX as most_lines};
 ghost use Rattle.pm_frame.specs.declared.kinds.TheConstants.{LOGICAL as logical_kind};
 ghost use Rattle.pm_frame.specs.Frames.{Frame};
 ghost use Rattle.pm_disk.specs.States.{HasCause, IsUsable};
 ghost use Rattle.pm_segments.specs.Ends.{EndsThere};
-ghost use Rattle.pm_logger.specs.LogCalls.{AppendFrame, MakesCalls, BreaksOff, noted, named_line};
+ghost use Rattle.pm_logger.specs.LogCalls.{AppendFrame, DoesCalls, named_line};
 ghost use Rattle.pm_logger.specs.LogCalls.{record_calls, force_calls, next_since, operation_calls};
 ghost use Rattle.pm_logger.specs.Operations.{Operation, frame_of, MayBeLogged, SpellRecords};
 ghost use Rattle.pm_logger.specs.Operations.{AreRecords, SpellOperation, IsWhole};
+ghost use Rattle.pm_logger.specs.Writers.{writer};
 
-use crate::limits::FORCE_AFTER;
 use crate::operation::{OPERATION_HEAD_LEN, first_record, operation_head_of};
+use crate::tally::Tally;
 use pm_disk::{Failed, LogFile};
 use pm_frame::LOGICAL;
 use pm_segments::Log;
@@ -21,30 +22,23 @@ use pm_segments::Log;
 pub(crate) fn append_operation<L: LogFile>(
     log: &mut Log,
     dev: &mut L,
-    lines: &mut Vec<u32>,
-    since: &mut u32,
+    tally: &mut Tally,
     operation: &[u8],
 ) -> Result<(), Failed>
     requires usable { IsUsable (L.state dev.old) }
     requires whole { IsWhole operation.now }
-    requires room { length lines.old.items < vec_capacity lines.old }
-    requires since { since.old < FORCE_AFTER }
+    requires room { length tally.old.lines < most_lines }
     requires end { L.tells → EndsThere log.old (L.history dev.old).world }
-    ensures appended { OnOk result ((spelled : Operation) → SpellOperation operation.now spelled
-        → MakesCalls L.tells (L.history dev.old) (L.history dev.new)
-        (operation_calls since.old spelled) log.old log.new lines.old.items lines.new.items) }
-    ensures failed { OnErr result ((spelled : Operation) → SpellOperation operation.now spelled
-        → BreaksOff L.tells (L.history dev.old) (L.history dev.new)
-        (operation_calls since.old spelled) log.old log.new lines.old.items lines.new.items) }
-    ensures since { OnOk result (since.new ≡ next_since since.old) }
-    ensures below { since.new < FORCE_AFTER }
-    ensures room { vec_capacity lines.new ≡ vec_capacity lines.old }
-    ensures noted { length lines.new.items ≤ length lines.old.items + 1 }
+    ensures appended { (spelled : Operation) → SpellOperation operation.now spelled
+        → DoesCalls L.tells (writer (L.history dev.old) log.old tally.old)
+        (writer (L.history dev.new) log.new tally.new) (is_ok result)
+        (operation_calls tally.old.since spelled) }
+    ensures since { OnOk result (tally.new.since ≡ next_since tally.old.since) }
     ensures cause { HasCause (L.state dev.old) (L.state dev.new) result }
 {
     let (line, records) = parts_of(operation);
-    append_records(log, dev, lines, line, records)?;
-    count_operation(log, dev, since)
+    append_records(log, dev, tally, line, records)?;
+    count_operation(log, dev, tally)
 }
 
 // The number of an operation's line, and the bytes of its records.
@@ -61,53 +55,43 @@ fn parts_of(operation: &[u8]) -> (u32, &[u8])
 }
 
 // Counts an operation that was appended, and forces the log where so many were since it was forced last.
-fn count_operation<L: LogFile>(log: &mut Log, dev: &mut L, since: &mut u32) -> Result<(), Failed>
+fn count_operation<L: LogFile>(log: &mut Log, dev: &mut L, tally: &mut Tally) -> Result<(), Failed>
     requires usable { IsUsable (L.state dev.old) }
-    requires since { since.old < FORCE_AFTER }
     requires end { L.tells → EndsThere log.old (L.history dev.old).world }
-    ensures forced { OnOk result ((lines : List ℕ) → MakesCalls L.tells (L.history dev.old) (L.history dev.new)
-        (force_calls since.old) log.old log.new lines lines) }
-    ensures failed { OnErr result ((lines : List ℕ) → BreaksOff L.tells (L.history dev.old) (L.history dev.new)
-        (force_calls since.old) log.old log.new lines lines) }
-    ensures since { OnOk result (since.new ≡ next_since since.old) }
-    ensures below { since.new < FORCE_AFTER }
+    ensures forced { DoesCalls L.tells (writer (L.history dev.old) log.old tally.old)
+        (writer (L.history dev.new) log.new tally.new) (is_ok result) (force_calls tally.old.since) }
+    ensures since { tally.new.since ≡ next_since tally.old.since }
     ensures cause { HasCause (L.state dev.old) (L.state dev.new) result }
 {
-    *since += 1;
-    if *since < FORCE_AFTER {
-        return Ok(());
+    if tally.count() {
+        return log.force(dev);
     }
-    *since = 0;
-    log.force(dev)
+    Ok(())
 }
 
 // Appends records, one after the other, and notes the line at the first logical one.
 fn append_records<L: LogFile>(
     log: &mut Log,
     dev: &mut L,
-    lines: &mut Vec<u32>,
+    tally: &mut Tally,
     line: u32,
     records: &[u8],
 ) -> Result<(), Failed>
     requires usable { IsUsable (L.state dev.old) }
     requires records { AreRecords records.now }
-    requires room { length lines.old.items < vec_capacity lines.old }
+    requires room { length tally.old.lines < most_lines }
     requires end { L.tells → EndsThere log.old (L.history dev.old).world }
-    ensures appended { OnOk result ((frames : List Frame) → SpellRecords records.now frames
-        → MakesCalls L.tells (L.history dev.old) (L.history dev.new)
-        (record_calls line false frames) log.old log.new lines.old.items lines.new.items) }
-    ensures failed { OnErr result ((frames : List Frame) → SpellRecords records.now frames
-        → BreaksOff L.tells (L.history dev.old) (L.history dev.new)
-        (record_calls line false frames) log.old log.new lines.old.items lines.new.items) }
-    ensures room { vec_capacity lines.new ≡ vec_capacity lines.old }
-    ensures noted { length lines.new.items ≤ length lines.old.items + 1 }
+    ensures appended { (frames : List Frame) → SpellRecords records.now frames
+        → DoesCalls L.tells (writer (L.history dev.old) log.old tally.old)
+        (writer (L.history dev.new) log.new tally.new) (is_ok result) (record_calls line false frames) }
+    ensures since { tally.new.since ≡ tally.old.since }
     ensures cause { HasCause (L.state dev.old) (L.state dev.new) result }
 {
     let mut rest = records;
     let mut is_named = false;
     'each: while let Some(first) = first_record(rest) {
         let named = named_line(line, is_named, first.kind);
-        append_record(log, dev, lines, named, first.kind, first.payload)?;
+        append_record(log, dev, tally, named, first.kind, first.payload)?;
         is_named = names_line(is_named, first.kind);
         rest = first.rest;
     }
@@ -136,37 +120,23 @@ fn names_line(is_named: bool, kind: u8) -> bool
 fn append_record<L: LogFile>(
     log: &mut Log,
     dev: &mut L,
-    lines: &mut Vec<u32>,
+    tally: &mut Tally,
     line: Option<u32>,
     kind: u8,
     payload: &[u8],
 ) -> Result<(), Failed>
     requires usable { IsUsable (L.state dev.old) }
     requires logged { MayBeLogged kind (length payload.now) }
-    requires room { IsSome line → length lines.old.items < vec_capacity lines.old }
+    requires room { IsSome line → length tally.old.lines < most_lines }
     requires end { L.tells → EndsThere log.old (L.history dev.old).world }
-    ensures appended { OnOk result (MakesCalls L.tells (L.history dev.old) (L.history dev.new)
-        (AppendFrame line (frame_of kind payload.now) ∷ []) log.old log.new lines.old.items lines.new.items) }
-    ensures failed { OnErr result (BreaksOff L.tells (L.history dev.old) (L.history dev.new)
-        (AppendFrame line (frame_of kind payload.now) ∷ []) log.old log.new lines.old.items lines.new.items) }
-    ensures room { vec_capacity lines.new ≡ vec_capacity lines.old }
+    ensures appended { DoesCalls L.tells (writer (L.history dev.old) log.old tally.old)
+        (writer (L.history dev.new) log.new tally.new) (is_ok result)
+        (AppendFrame line (frame_of kind payload.now) ∷ []) }
+    ensures since { tally.new.since ≡ tally.old.since }
     ensures cause { HasCause (L.state dev.old) (L.state dev.new) result }
 {
     let appended = log.append(dev, kind, payload);
-    note(lines, log.tried(), line);
+    tally.note(log.tried(), line);
     appended?;
     Ok(())
-}
-
-// Notes a line, where it is named and the write of its record was tried.
-fn note(lines: &mut Vec<u32>, tried: bool, line: Option<u32>)
-    requires room { IsSome line → length lines.old.items < vec_capacity lines.old }
-    ensures noted { lines.new.items ≡ noted lines.old.items tried line }
-    ensures room { vec_capacity lines.new ≡ vec_capacity lines.old }
-{
-    if let Some(line) = line {
-        if tried {
-            lines.push_reserved(line);
-        }
-    }
 }

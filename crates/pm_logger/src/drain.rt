@@ -1,18 +1,15 @@
 //! A worker's bytes, taken as far as they are known.
 
-ghost use Rattle.std.specs.Prelude.{◌≡◌, ◌⊎◌, ◌<◌, ◌≤◌, length, take, OnOk, OnErr, vec_capacity};
-ghost use Rattle.pm_types.specs.declared.limits.TheConstants.{BATCH_LINES_MAX as most_lines};
-ghost use Rattle.rtrb.specs.Ring.{SameConsumer};
+ghost use Rattle.std.specs.Prelude.{◌≡◌, ◌⊎◌, ◌≤◌, length, take, is_ok, OnOk};
 ghost use Rattle.pm_disk.specs.States.{HasCause, IsUsable};
 ghost use Rattle.pm_segments.specs.Ends.{EndsThere};
-ghost use Rattle.pm_logger.specs.declared.limits.TheConstants.{FORCE_AFTER as force_after};
-ghost use Rattle.pm_logger.specs.Fronts.{KeepsLimits};
-ghost use Rattle.pm_logger.specs.Inboxes.{kept, seen, AppendsTaken, FailsTaken, AppendsGiven};
-ghost use Rattle.pm_logger.specs.Inboxes.{FailsGiven, IsHalted, IsDrained};
+ghost use Rattle.pm_logger.specs.Inboxes.{kept, AppendsTaken, AppendsGiven, KeepsSeen, IsHalted, IsDrained};
 ghost use Rattle.pm_logger.specs.Operations.{BeginsWithNone};
+ghost use Rattle.pm_logger.specs.Writers.{writer};
 
 use crate::block::next_cut;
 use crate::inbox::Inbox;
+use crate::tally::Tally;
 use pm_disk::{Failed, LogFile};
 use pm_segments::Log;
 
@@ -21,32 +18,23 @@ pub(crate) fn take_known<L: LogFile>(
     inbox: &mut Inbox,
     log: &mut Log,
     dev: &mut L,
-    lines: &mut Vec<u32>,
-    since: &mut u32,
+    tally: &mut Tally,
 ) -> Result<(), Failed>
     requires usable { IsUsable (L.state dev.old) }
-    requires room { most_lines ≤ vec_capacity lines.old }
-    requires since { since.old < force_after }
     requires end { L.tells → EndsThere log.old (L.history dev.old).world }
-    ensures appended { OnOk result (AppendsTaken L.tells (L.history dev.old) (L.history dev.new)
-        (record { log = log.old; lines = lines.old.items; since = since.old })
-        (record { log = log.new; lines = lines.new.items; since = since.new }) inbox.old inbox.new) }
-    ensures failed { OnErr result (FailsTaken L.tells (L.history dev.old) (L.history dev.new)
-        (record { log = log.old; lines = lines.old.items; since = since.old })
-        (record { log = log.new; lines = lines.new.items; since = since.new }) inbox.old inbox.new) }
-    ensures ring { SameConsumer inbox.old.consumer inbox.new.consumer }
-    ensures seen { seen inbox.new ≡ seen inbox.old }
-    ensures drained { OnOk result (IsDrained inbox.new (length lines.new.items)) }
-    ensures limits { KeepsLimits lines.old lines.new since.new }
+    ensures appended { AppendsTaken L.tells (writer (L.history dev.old) log.old tally.old)
+        (writer (L.history dev.new) log.new tally.new) (is_ok result) inbox.old inbox.new }
+    ensures seen { KeepsSeen inbox.old inbox.new }
+    ensures drained { OnOk result (IsDrained inbox.new (length tally.new.lines)) }
     ensures cause { HasCause (L.state dev.old) (L.state dev.new) result }
 {
     'each: while inbox.is_waited_for() {
-        let took = inbox.take_block(log, dev, lines, since)?;
+        let took = inbox.take_block(log, dev, tally)?;
         if !took {
             return Ok(());
         }
     }
-    inbox.append_kept(log, dev, lines, since)?;
+    inbox.append_kept(log, dev, tally)?;
     Ok(())
 }
 
@@ -56,36 +44,29 @@ pub(crate) fn take_given<L: LogFile>(
     inbox: &mut Inbox,
     log: &mut Log,
     dev: &mut L,
-    lines: &mut Vec<u32>,
-    since: &mut u32,
+    tally: &mut Tally,
     bytes: &[u8],
     at: &mut usize,
 ) -> Result<(), Failed>
     requires usable { IsUsable (L.state dev.old) }
     requires front { at.old ≡ 0 }
-    requires room { most_lines ≤ vec_capacity lines.old }
-    requires since { since.old < force_after }
     requires end { L.tells → EndsThere log.old (L.history dev.old).world }
-    ensures appended { OnOk result (AppendsGiven L.tells (L.history dev.old) (L.history dev.new)
-        (record { log = log.old; lines = lines.old.items; since = since.old })
-        (record { log = log.new; lines = lines.new.items; since = since.new }) inbox.old inbox.new (take at.new bytes.now)) }
-    ensures failed { OnErr result (FailsGiven L.tells (L.history dev.old) (L.history dev.new)
-        (record { log = log.old; lines = lines.old.items; since = since.old })
-        (record { log = log.new; lines = lines.new.items; since = since.new }) inbox.old inbox.new (take at.new bytes.now)) }
-    ensures taken { OnOk result (IsHalted inbox.new (length lines.new.items)
+    ensures appended { AppendsGiven L.tells (writer (L.history dev.old) log.old tally.old)
+        (writer (L.history dev.new) log.new tally.new) (is_ok result)
+        inbox.old inbox.new (take at.new bytes.now) }
+    ensures taken { OnOk result (IsHalted inbox.new (length tally.new.lines)
         ⊎ ((at.new ≡ length bytes.now) × BeginsWithNone (kept inbox.new))) }
     ensures within { at.new ≤ length bytes.now }
-    ensures limits { KeepsLimits lines.old lines.new since.new }
     ensures cause { HasCause (L.state dev.old) (L.state dev.new) result }
 {
     'each: while *at < bytes.len() {
         let end = next_cut(*at, bytes.len());
-        let took = inbox.take_piece(log, dev, lines, since, &bytes[*at..end])?;
+        let took = inbox.take_piece(log, dev, tally, &bytes[*at..end])?;
         if !took {
             return Ok(());
         }
         *at = end;
     }
-    inbox.append_kept(log, dev, lines, since)?;
+    inbox.append_kept(log, dev, tally)?;
     Ok(())
 }

@@ -1,23 +1,22 @@
 //! The log writer's end of a worker's ring, with what was taken out of it.
 
-ghost use Rattle.std.specs.Prelude.{◌≡◌, ◌<◌, ◌≤◌, ◌+◌, ◌++◌, [], ◌↔◌, true, false, IsTrue, IsFalse};
-ghost use Rattle.std.specs.Prelude.{length, drop, IfOk, OnOk, OnErr, vec_capacity};
-ghost use Rattle.pm_types.specs.declared.limits.TheConstants.{BATCH_LINES_MAX as most_lines, OUTBOX as longest};
-ghost use Rattle.rtrb.specs.Ring.{SameConsumer};
+ghost use Rattle.std.specs.Prelude.{◌≡◌, ◌<◌, ◌≤◌, ◌+◌, ◌++◌, ◌↔◌, true, false, IsTrue, length, drop};
+ghost use Rattle.std.specs.Prelude.{Ok, is_ok, IfOk, vec_capacity};
+ghost use Rattle.pm_types.specs.declared.limits.TheConstants.{OUTBOX as longest};
 ghost use Rattle.pm_disk.specs.States.{HasCause, IsUsable};
 ghost use Rattle.pm_segments.specs.Ends.{EndsThere};
-ghost use Rattle.pm_logger.specs.declared.limits.TheConstants.{FORCE_AFTER as force_after};
 ghost use Rattle.pm_logger.specs.declared.limits.TheConstants.{KEPT_MAX as kept_max};
-ghost use Rattle.pm_logger.specs.Fronts.{IsStop, KeepsLimits, AppendsFront, FailsAtFront};
+ghost use Rattle.pm_logger.specs.Fronts.{IsStop, AppendsFront};
 ghost use Rattle.pm_logger.specs.Operations.{IsBad};
+ghost use Rattle.pm_logger.specs.Writers.{writer};
 ghost use Rattle.pm_logger.specs.declared.block.TheConstants.{BLOCK_BYTES_MAX as most_in_block};
-ghost use Rattle.std.specs.Prelude.{Ok};
 ghost use Rattle.pm_logger.specs.declared.front.Stop.TheVariants as stop;
 
 use crate::block::Block;
 use crate::front::{Stop, append_front};
 use crate::limits::KEPT_MAX;
 use crate::log_end::LogEnd;
+use crate::tally::Tally;
 use pm_disk::{Failed, LogFile};
 use pm_segments::Log;
 use pm_types::RING_SLOTS;
@@ -38,9 +37,8 @@ pub(crate) struct Inbox {
 impl Inbox {
     ghost use Rattle.pm_logger.specs.Rings.{IsFresh};
     ghost use Rattle.pm_logger.specs.LogEnds.{pushed, SameEnd};
-    ghost use Rattle.pm_logger.specs.Inboxes.{IsEndOf, Looks, seen, kept, waiting, TakesBlock};
-    ghost use Rattle.pm_logger.specs.Inboxes.{AppendsTaken, FailsTaken, AppendsGiven, FailsGiven};
-    ghost use Rattle.pm_logger.specs.Inboxes.{IsHalted};
+    ghost use Rattle.pm_logger.specs.Inboxes.{IsEndOf, Looks, seen, kept, waiting, TakesBlock, KeepsSeen};
+    ghost use Rattle.pm_logger.specs.Inboxes.{AppendsTaken, AppendsGiven, piece_taken, IsHalted};
 
     /// A new ring, as its two ends.
     pub(crate) fn open(alloc: Global) -> Result<(Inbox, LogEnd), AllocError>
@@ -61,29 +59,21 @@ impl Inbox {
         &mut self,
         log: &mut Log,
         dev: &mut L,
-        lines: &mut Vec<u32>,
-        since: &mut u32,
+        tally: &mut Tally,
     ) -> Result<Stop, Failed>
         requires usable { IsUsable (L.state dev.old) }
-        requires room { most_lines ≤ vec_capacity lines.old }
-        requires since { since.old < force_after }
         requires end { L.tells → EndsThere log.old (L.history dev.old).world }
-        ensures appended { OnOk result (AppendsFront L.tells (L.history dev.old) (L.history dev.new)
-            (record { log = log.old; lines = lines.old.items; since = since.old })
-            (record { log = log.new; lines = lines.new.items; since = since.new }) (kept self.old) (kept self.new)) }
-        ensures failed { OnErr result (FailsAtFront L.tells (L.history dev.old) (L.history dev.new)
-            (record { log = log.old; lines = lines.old.items; since = since.old })
-            (record { log = log.new; lines = lines.new.items; since = since.new }) (kept self.old) (kept self.new)) }
-        ensures stop { IfOk result (IsStop (kept self.new) (length lines.new.items)) }
+        ensures appended { AppendsFront L.tells (writer (L.history dev.old) log.old tally.old)
+            (writer (L.history dev.new) log.new tally.new) (is_ok result) (kept self.old) (kept self.new) }
+        ensures stop { IfOk result (IsStop (kept self.new) (length tally.new.lines)) }
         ensures ring { self.new.consumer ≡ self.old.consumer }
-        ensures limits { KeepsLimits lines.old lines.new since.new }
         ensures cause { HasCause (L.state dev.old) (L.state dev.new) result }
     {
         if self.is_stopped {
             return Ok(Stop::Bad);
         }
         let mut at = 0;
-        let appended = append_front(log, dev, lines, since, &self.kept, &mut at);
+        let appended = append_front(log, dev, tally, &self.kept, &mut at);
         drop_front(&mut self.kept, at);
         self.is_stopped = is_bad(&appended);
         appended
@@ -105,29 +95,20 @@ impl Inbox {
         &mut self,
         log: &mut Log,
         dev: &mut L,
-        lines: &mut Vec<u32>,
-        since: &mut u32,
+        tally: &mut Tally,
     ) -> Result<bool, Failed>
         requires usable { IsUsable (L.state dev.old) }
-        requires room { most_lines ≤ vec_capacity lines.old }
-        requires since { since.old < force_after }
         requires waiting { 0 < length (waiting self.old) }
         requires end { L.tells → EndsThere log.old (L.history dev.old).world }
-        ensures appended { OnOk result (AppendsTaken L.tells (L.history dev.old) (L.history dev.new)
-            (record { log = log.old; lines = lines.old.items; since = since.old })
-            (record { log = log.new; lines = lines.new.items; since = since.new }) self.old self.new) }
-        ensures failed { OnErr result (FailsTaken L.tells (L.history dev.old) (L.history dev.new)
-            (record { log = log.old; lines = lines.old.items; since = since.old })
-            (record { log = log.new; lines = lines.new.items; since = since.new }) self.old self.new) }
-        ensures ring { SameConsumer self.old.consumer self.new.consumer }
-        ensures seen { seen self.new ≡ seen self.old }
+        ensures appended { AppendsTaken L.tells (writer (L.history dev.old) log.old tally.old)
+            (writer (L.history dev.new) log.new tally.new) (is_ok result) self.old self.new }
+        ensures seen { KeepsSeen self.old self.new }
         ensures took { IfOk result (λ took. took ≡ true
             → length (waiting self.new) + 1 ≡ length (waiting self.old)) }
-        ensures halted { IfOk result (λ took. took ≡ false → IsHalted self.new (length lines.new.items)) }
-        ensures limits { KeepsLimits lines.old lines.new since.new }
+        ensures halted { IfOk result (λ took. took ≡ false → IsHalted self.new (length tally.new.lines)) }
         ensures cause { HasCause (L.state dev.old) (L.state dev.new) result }
     {
-        match self.append_kept(log, dev, lines, since)? {
+        match self.append_kept(log, dev, tally)? {
             Stop::Begun => {
                 self.take_next();
                 Ok(true)
@@ -143,30 +124,19 @@ impl Inbox {
         &mut self,
         log: &mut Log,
         dev: &mut L,
-        lines: &mut Vec<u32>,
-        since: &mut u32,
+        tally: &mut Tally,
         piece: &[u8],
     ) -> Result<bool, Failed>
         requires usable { IsUsable (L.state dev.old) }
-        requires room { most_lines ≤ vec_capacity lines.old }
-        requires since { since.old < force_after }
         requires short { length piece.now ≤ most_in_block }
         requires end { L.tells → EndsThere log.old (L.history dev.old).world }
-        ensures took { IfOk result (λ took. took ≡ true
-            → AppendsGiven L.tells (L.history dev.old) (L.history dev.new)
-            (record { log = log.old; lines = lines.old.items; since = since.old })
-            (record { log = log.new; lines = lines.new.items; since = since.new }) self.old self.new piece.now) }
-        ensures halted { IfOk result (λ took. took ≡ false
-            → IsHalted self.new (length lines.new.items) × AppendsGiven L.tells (L.history dev.old) (L.history dev.new)
-            (record { log = log.old; lines = lines.old.items; since = since.old })
-            (record { log = log.new; lines = lines.new.items; since = since.new }) self.old self.new []) }
-        ensures failed { OnErr result (FailsGiven L.tells (L.history dev.old) (L.history dev.new)
-            (record { log = log.old; lines = lines.old.items; since = since.old })
-            (record { log = log.new; lines = lines.new.items; since = since.new }) self.old self.new []) }
-        ensures limits { KeepsLimits lines.old lines.new since.new }
+        ensures appended { AppendsGiven L.tells (writer (L.history dev.old) log.old tally.old)
+            (writer (L.history dev.new) log.new tally.new) (is_ok result) self.old self.new
+            (piece_taken result piece.now) }
+        ensures halted { IfOk result (λ took. took ≡ false → IsHalted self.new (length tally.new.lines)) }
         ensures cause { HasCause (L.state dev.old) (L.state dev.new) result }
     {
-        match self.append_kept(log, dev, lines, since)? {
+        match self.append_kept(log, dev, tally)? {
             Stop::Begun => {
                 keep(&mut self.kept, piece);
                 Ok(true)

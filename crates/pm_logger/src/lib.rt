@@ -13,6 +13,7 @@ mod logger;
 mod operation;
 mod rest;
 mod rings;
+mod tally;
 mod turn;
 
 pub use block::{BLOCK_BYTES_MAX, Block};

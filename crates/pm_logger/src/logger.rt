@@ -1,17 +1,16 @@
 //! The log writer.
 
-ghost use Rattle.std.specs.Prelude.{◌≡◌, ◌≤◌, ◌<◌, length, vec_capacity};
+ghost use Rattle.std.specs.Prelude.{◌≡◌, ◌≤◌, ◌<◌, length};
 ghost use Rattle.pm_types.specs.declared.limits.TheConstants.{BATCH_LINES_MAX as most_lines};
-ghost use Rattle.pm_logger.specs.declared.limits.TheConstants.{FORCE_AFTER as force_after};
 
 use crate::inbox::Inbox;
 use crate::log_end::LogEnd;
 use crate::rest::{give_to, take_all};
 use crate::rings::open_rings;
+use crate::tally::Tally;
 use crate::turn::turns;
 use pm_disk::{Failed, LogFile};
 use pm_segments::Log;
-use pm_types::BATCH_LINES_MAX;
 use std::alloc::{AllocError, Global};
 
 /// The log writer: it takes the operations that workers push to their rings, and appends them to the log. It
@@ -21,22 +20,17 @@ use std::alloc::{AllocError, Global};
 #[derive(Drop)]
 pub struct Logger {
     rings: Vec<Inbox>,
-    lines: Vec<u32>,
-    // How many operations were appended since the log was forced.
-    since: u32,
-    ghost room: { most_lines ≤ vec_capacity lines },
-    ghost most: { length lines.items ≤ most_lines },
-    ghost below: { since < force_after },
+    tally: Tally,
 }
 
 impl Logger {
-    ghost use Rattle.std.specs.Prelude.{List, [], IfOk, OnOk, OnErr};
+    ghost use Rattle.std.specs.Prelude.{List, [], is_ok, IfOk, OnOk};
     ghost use Rattle.pm_disk.specs.States.{HasCause, IsUsable};
     ghost use Rattle.pm_segments.specs.Ends.{EndsThere};
-    ghost use Rattle.pm_logger.specs.Loggers.{inboxes, noted_lines, since_forced, writer_state};
-    ghost use Rattle.pm_logger.specs.Merges.{AppendsMerge, FailsInMerge};
+    ghost use Rattle.pm_logger.specs.Loggers.{inboxes, noted_lines, since_forced, writer_of};
+    ghost use Rattle.pm_logger.specs.Merges.{AppendsMerge};
     ghost use Rattle.pm_logger.specs.Rings.{IsFresh, EachPair, AreLinked, KeepsEnds, AreEmptied};
-    ghost use Rattle.pm_logger.specs.Rings.{KeepBeginnings, KeepsNothing, GivesTo, FailsToGive};
+    ghost use Rattle.pm_logger.specs.Rings.{KeepBeginnings, KeepsNothing, GivesTo};
 
     /// A log writer for so many workers, and each worker's end of its ring.
     pub fn new(alloc: Global, workers: u32) -> Result<(Logger, Vec<LogEnd>), AllocError>
@@ -45,14 +39,9 @@ impl Logger {
         ensures none_noted { IfOk result (λ both. noted_lines both.0 ≡ []) }
         ensures none_since { IfOk result (λ both. since_forced both.0 ≡ 0) }
     {
-        let lines = Vec::with_capacity(alloc, BATCH_LINES_MAX)?;
+        let tally = Tally::new(alloc)?;
         let (rings, ends) = open_rings(alloc, workers)?;
-        let logger = Logger {
-            rings,
-            lines,
-            since: 0,
-        };
-        Ok((logger, ends))
+        Ok((Logger { rings, tally }, ends))
     }
 
     /// How many workers there are.
@@ -70,15 +59,14 @@ impl Logger {
     pub fn job<L: LogFile>(&mut self, log: &mut Log, dev: &mut L) -> Result<(), Failed>
         requires usable { IsUsable (L.state dev.old) }
         requires end { L.tells → EndsThere log.old (L.history dev.old).world }
-        ensures appended { OnOk result (AppendsMerge L.tells (L.history dev.old) (L.history dev.new)
-            (writer_state log.old self.old) (writer_state log.new self.new) (inboxes self.old) (inboxes self.new)) }
-        ensures failed { OnErr result (FailsInMerge L.tells (L.history dev.old) (L.history dev.new)
-            (writer_state log.old self.old) (writer_state log.new self.new) (inboxes self.old) (inboxes self.new)) }
+        ensures appended { AppendsMerge L.tells (writer_of (L.history dev.old) log.old self.old)
+            (writer_of (L.history dev.new) log.new self.new) (is_ok result)
+            (inboxes self.old) (inboxes self.new) }
         ensures linked { (ends : List LogEnd) → AreLinked ends (inboxes self.old)
             → AreLinked ends (inboxes self.new) }
         ensures cause { HasCause (L.state dev.old) (L.state dev.new) result }
     {
-        turns(&mut self.rings, log, dev, &mut self.lines, &mut self.since)
+        turns(&mut self.rings, log, dev, &mut self.tally)
     }
 
     /// Takes all that was pushed, once the workers push no more, and appends each operation that is whole.
@@ -95,10 +83,9 @@ impl Logger {
         requires usable { IsUsable (L.state dev.old) }
         requires linked { AreLinked ends.old (inboxes self.old) }
         requires end { L.tells → EndsThere log.old (L.history dev.old).world }
-        ensures appended { OnOk result (AppendsMerge L.tells (L.history dev.old) (L.history dev.new)
-            (writer_state log.old self.old) (writer_state log.new self.new) (inboxes self.old) (inboxes self.new)) }
-        ensures failed { OnErr result (FailsInMerge L.tells (L.history dev.old) (L.history dev.new)
-            (writer_state log.old self.old) (writer_state log.new self.new) (inboxes self.old) (inboxes self.new)) }
+        ensures appended { AppendsMerge L.tells (writer_of (L.history dev.old) log.old self.old)
+            (writer_of (L.history dev.new) log.new self.new) (is_ok result)
+            (inboxes self.old) (inboxes self.new) }
 
         // All that was pushed was taken, and no whole operation is left, where its line can be noted.
         ensures emptied { OnOk result (AreEmptied (length (noted_lines self.new)) (length ends.new)
@@ -109,14 +96,7 @@ impl Logger {
         ensures ends { KeepsEnds ends.old ends.new }
         ensures cause { HasCause (L.state dev.old) (L.state dev.new) result }
     {
-        take_all(
-            &mut self.rings,
-            ends,
-            log,
-            dev,
-            &mut self.lines,
-            &mut self.since,
-        )
+        take_all(&mut self.rings, ends, log, dev, &mut self.tally)
     }
 
     /// Appends the operations that the worker's kept bytes and these hold together. `rest` was called after
@@ -133,10 +113,9 @@ impl Logger {
         requires usable { IsUsable (L.state dev.old) }
         requires worker { worker < length (inboxes self.old) }
         requires end { L.tells → EndsThere log.old (L.history dev.old).world }
-        ensures appended { OnOk result (GivesTo L.tells (L.history dev.old) (L.history dev.new)
-            (writer_state log.old self.old) (writer_state log.new self.new) (inboxes self.old) (inboxes self.new) worker bytes.now) }
-        ensures failed { OnErr result (FailsToGive L.tells (L.history dev.old) (L.history dev.new)
-            (writer_state log.old self.old) (writer_state log.new self.new) (inboxes self.old) (inboxes self.new) worker bytes.now) }
+        ensures appended { GivesTo L.tells (writer_of (L.history dev.old) log.old self.old)
+            (writer_of (L.history dev.new) log.new self.new) (is_ok result)
+            (inboxes self.old) (inboxes self.new) worker bytes.now }
         ensures whole { OnOk result (length (noted_lines self.new) < most_lines
             → KeepsNothing (inboxes self.old) (inboxes self.new) worker bytes.now) }
         ensures linked { (ends : List LogEnd) → AreLinked ends (inboxes self.old)
@@ -149,8 +128,7 @@ impl Logger {
             bytes,
             log,
             dev,
-            &mut self.lines,
-            &mut self.since,
+            &mut self.tally,
         )
     }
 
@@ -160,7 +138,7 @@ impl Logger {
         ensures lines { result.now ≡ noted_lines self.now }
         ensures most { length result.now ≤ most_lines }
     {
-        &self.lines
+        self.tally.lines()
     }
 
     /// Forgets the lines noted.
@@ -169,6 +147,6 @@ impl Logger {
         ensures rings { inboxes self.new ≡ inboxes self.old }
         ensures since { since_forced self.new ≡ since_forced self.old }
     {
-        self.lines.clear();
+        self.tally.clear();
     }
 }

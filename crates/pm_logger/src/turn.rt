@@ -1,17 +1,16 @@
 //! A turn of the log writer over all rings.
 
-ghost use Rattle.std.specs.Prelude.{◌≡◌, ◌<◌, ◌≤◌, length, OnOk, OnErr, vec_capacity};
-ghost use Rattle.pm_types.specs.declared.limits.TheConstants.{BATCH_LINES_MAX as most_lines};
+ghost use Rattle.std.specs.Prelude.{is_ok};
 ghost use Rattle.pm_disk.specs.States.{HasCause, IsUsable};
 ghost use Rattle.pm_segments.specs.Ends.{EndsThere};
-ghost use Rattle.pm_logger.specs.declared.limits.TheConstants.{FORCE_AFTER as force_after};
-ghost use Rattle.pm_logger.specs.Fronts.{KeepsLimits};
-ghost use Rattle.pm_logger.specs.Inboxes.{AppendsTaken, FailsTaken, Looks};
-ghost use Rattle.pm_logger.specs.Merges.{AppendsMerge, FailsInMerge};
+ghost use Rattle.pm_logger.specs.Inboxes.{AppendsTaken};
+ghost use Rattle.pm_logger.specs.Merges.{AppendsMerge};
+ghost use Rattle.pm_logger.specs.Writers.{writer};
 
 use crate::drain::take_known;
 use crate::inbox::Inbox;
 use crate::limits::TURNS_MAX;
+use crate::tally::Tally;
 use pm_disk::{Failed, LogFile};
 use pm_segments::Log;
 
@@ -20,24 +19,16 @@ pub(crate) fn turn<L: LogFile>(
     rings: &mut Vec<Inbox>,
     log: &mut Log,
     dev: &mut L,
-    lines: &mut Vec<u32>,
-    since: &mut u32,
+    tally: &mut Tally,
 ) -> Result<(), Failed>
     requires usable { IsUsable (L.state dev.old) }
-    requires room { most_lines ≤ vec_capacity lines.old }
-    requires since { since.old < force_after }
     requires end { L.tells → EndsThere log.old (L.history dev.old).world }
-    ensures appended { OnOk result (AppendsMerge L.tells (L.history dev.old) (L.history dev.new)
-        (record { log = log.old; lines = lines.old.items; since = since.old })
-        (record { log = log.new; lines = lines.new.items; since = since.new }) rings.old.items rings.new.items) }
-    ensures failed { OnErr result (FailsInMerge L.tells (L.history dev.old) (L.history dev.new)
-        (record { log = log.old; lines = lines.old.items; since = since.old })
-        (record { log = log.new; lines = lines.new.items; since = since.new }) rings.old.items rings.new.items) }
-    ensures limits { KeepsLimits lines.old lines.new since.new }
+    ensures appended { AppendsMerge L.tells (writer (L.history dev.old) log.old tally.old)
+        (writer (L.history dev.new) log.new tally.new) (is_ok result) rings.old.items rings.new.items }
     ensures cause { HasCause (L.state dev.old) (L.state dev.new) result }
 {
     'each: for worker in 0..rings.len() {
-        take_ready(&mut rings[worker], log, dev, lines, since)?;
+        take_ready(&mut rings[worker], log, dev, tally)?;
     }
     Ok(())
 }
@@ -47,24 +38,16 @@ pub(crate) fn turns<L: LogFile>(
     rings: &mut Vec<Inbox>,
     log: &mut Log,
     dev: &mut L,
-    lines: &mut Vec<u32>,
-    since: &mut u32,
+    tally: &mut Tally,
 ) -> Result<(), Failed>
     requires usable { IsUsable (L.state dev.old) }
-    requires room { most_lines ≤ vec_capacity lines.old }
-    requires since { since.old < force_after }
     requires end { L.tells → EndsThere log.old (L.history dev.old).world }
-    ensures appended { OnOk result (AppendsMerge L.tells (L.history dev.old) (L.history dev.new)
-        (record { log = log.old; lines = lines.old.items; since = since.old })
-        (record { log = log.new; lines = lines.new.items; since = since.new }) rings.old.items rings.new.items) }
-    ensures failed { OnErr result (FailsInMerge L.tells (L.history dev.old) (L.history dev.new)
-        (record { log = log.old; lines = lines.old.items; since = since.old })
-        (record { log = log.new; lines = lines.new.items; since = since.new }) rings.old.items rings.new.items) }
-    ensures limits { KeepsLimits lines.old lines.new since.new }
+    ensures appended { AppendsMerge L.tells (writer (L.history dev.old) log.old tally.old)
+        (writer (L.history dev.new) log.new tally.new) (is_ok result) rings.old.items rings.new.items }
     ensures cause { HasCause (L.state dev.old) (L.state dev.new) result }
 {
     'each: for _ in 0..TURNS_MAX {
-        turn(rings, log, dev, lines, since)?;
+        turn(rings, log, dev, tally)?;
     }
     Ok(())
 }
@@ -74,22 +57,14 @@ fn take_ready<L: LogFile>(
     inbox: &mut Inbox,
     log: &mut Log,
     dev: &mut L,
-    lines: &mut Vec<u32>,
-    since: &mut u32,
+    tally: &mut Tally,
 ) -> Result<(), Failed>
     requires usable { IsUsable (L.state dev.old) }
-    requires room { most_lines ≤ vec_capacity lines.old }
-    requires since { since.old < force_after }
     requires end { L.tells → EndsThere log.old (L.history dev.old).world }
-    ensures appended { OnOk result (AppendsTaken L.tells (L.history dev.old) (L.history dev.new)
-        (record { log = log.old; lines = lines.old.items; since = since.old })
-        (record { log = log.new; lines = lines.new.items; since = since.new }) inbox.old inbox.new) }
-    ensures failed { OnErr result (FailsTaken L.tells (L.history dev.old) (L.history dev.new)
-        (record { log = log.old; lines = lines.old.items; since = since.old })
-        (record { log = log.new; lines = lines.new.items; since = since.new }) inbox.old inbox.new) }
-    ensures limits { KeepsLimits lines.old lines.new since.new }
+    ensures appended { AppendsTaken L.tells (writer (L.history dev.old) log.old tally.old)
+        (writer (L.history dev.new) log.new tally.new) (is_ok result) inbox.old inbox.new }
     ensures cause { HasCause (L.state dev.old) (L.state dev.new) result }
 {
     inbox.look();
-    take_known(inbox, log, dev, lines, since)
+    take_known(inbox, log, dev, tally)
 }

@@ -1,102 +1,57 @@
-use Rattle.std.proofs.Common.{◌≡◌, ◌-◌, refl, sym, ◌∙◌, subst, arith, [], ◌++◌, take, drop, append-nil}
+use Rattle.std.proofs.Common.{◌≡◌, ◌-◌, sym, subst, arith, true, [], ◌++◌, take, drop}
+use Rattle.std.specs.Prelude.{if◌then◌else◌}
 use Rattle.std.proofs.lemmas.Result.{err_from_is_err_and}
-use Rattle.pm_logger.specs.Fronts.{WriterState}
-use Rattle.pm_logger.specs.Inboxes.{AppendsGiven, FailsGiven}
+use Rattle.pm_logger.specs.Inboxes.{AppendsGiven}
+use Rattle.pm_logger.specs.Writers.{writer}
 use Rattle.pm_logger.proofs.Joining.{take_piece}
-use Rattle.pm_logger.proofs.Taking.{given_none, given_then, fails_given_then, given_kept, given_failed}
+use Rattle.pm_logger.proofs.LaterStates.{same_state, later_state}
+use Rattle.pm_logger.proofs.Taking.{given_none, given_then, given_end, given_kept}
 use Rattle.pm_logger.proofs.drain.take_given.Goals as goal
 
 pub each-init : goal.each-init
 each-init g c =
-    let tells = g.L.Device.tells in
-    let old = g.L.Device.history c.args.dev.now in
-    let before : WriterState = record { log = c.args.log.now; lines = c.args.lines.now.items; since = c.args.since.now } in
+    let before = writer (g.L.Device.history c.args.dev.now) c.args.log.now c.args.tally.now in
     record {
-      taken = subst (λ n. AppendsGiven tells old old before before c.args.inbox.now c.args.inbox.now (take n c.args.bytes.now)) (sym c.requires.front)
-          (given_none tells old before c.args.inbox.now (g.L.Device.sound c.args.dev.now) c.requires.end);
+      taken = subst (λ n. AppendsGiven g.L.Device.tells before before true c.args.inbox.now c.args.inbox.now (take n c.args.bytes.now)) (sym c.requires.front)
+          (given_none before c.args.inbox.now (g.L.Device.sound c.args.dev.now) c.requires.end);
       within = omega (arith, c.requires.front);
-      limits = record { room = refl; most = λ h. h; below = c.requires.since };
-      state = record { later = omega arith; access = refl; usable = λ usable. usable };
+      state = same_state;
     }
 
 pub each-preserved : goal.each-preserved
 each-preserved g c =
-    let tells = g.L.Device.tells in
-    let old = g.L.Device.history c.args.dev.now in
-    let before : WriterState = record { log = c.args.log.now; lines = c.args.lines.now.items; since = c.args.since.now } in
-    let between : WriterState = record { log = c.each.log; lines = c.each.lines.items; since = c.each.since } in
-    let mid = g.L.Device.history c.each.dev in
-    let new = g.L.Device.history c.take_piece.new.dev in
-    let now : WriterState = record { log = c.take_piece.new.log; lines = c.take_piece.new.lines.items; since = c.take_piece.new.since } in
+    let before = writer (g.L.Device.history c.args.dev.now) c.args.log.now c.args.tally.now in
+    let now = writer (g.L.Device.history c.take_piece.new.dev) c.take_piece.new.log c.take_piece.new.tally in
     let v = c.each.invariant in
-    let call = c.take_piece.ensures in
     let end = c.next_cut-end.result in
     let piece = take (end - c.each.at) (drop c.each.at c.args.bytes.now) in
+    let between = writer (g.L.Device.history c.each.dev) c.each.log c.each.tally in
+    let taken = subst (λ took. AppendsGiven g.L.Device.tells between now true c.each.inbox c.take_piece.new.self (if took then piece else [])) c.if-not-took.false c.in_ok-took.ensures.appended in
     let all : take c.each.at c.args.bytes.now ++ piece ≡ take end c.args.bytes.now = take_piece c.each.at end c.args.bytes.now (omega (arith, c.next_cut-end.ensures.later)) v.within in
     record {
-      taken = subst (λ given. AppendsGiven tells old new before now c.args.inbox.now c.take_piece.new.self given) all
-          (given_then tells old mid new before between now c.args.inbox.now c.each.inbox c.take_piece.new.self (take c.each.at c.args.bytes.now) v.taken piece (c.in_ok-took.ensures.took c.if-not-took.false));
+      taken = subst (λ given. AppendsGiven g.L.Device.tells before now true c.args.inbox.now c.take_piece.new.self given) all
+          (given_then v.taken piece taken);
       within = c.next_cut-end.ensures.within;
-      limits = record { room = call.limits.room ∙ v.limits.room; most = λ h. call.limits.most (v.limits.most h); below = call.limits.below };
-      state = record {
-        later = omega (arith, v.state.later, call.cause.later);
-        access = call.cause.access ∙ v.state.access;
-        usable = λ usable. call.cause.usable (v.state.usable usable);
-      };
+      state = later_state v.state c.take_piece.ensures.cause;
     }
 
-pub returns-in_err-took-clause-failed : goal.returns-in_err-took-clause-failed
-returns-in_err-took-clause-failed g c =
-    let tells = g.L.Device.tells in
-    let old = g.L.Device.history c.args.dev.now in
-    let before : WriterState = record { log = c.args.log.now; lines = c.args.lines.now.items; since = c.args.since.now } in
-    let between : WriterState = record { log = c.each.log; lines = c.each.lines.items; since = c.each.since } in
-    let mid = g.L.Device.history c.each.dev in
-    let new = g.L.Device.history c.take_piece.new.dev in
-    let now : WriterState = record { log = c.take_piece.new.log; lines = c.take_piece.new.lines.items; since = c.take_piece.new.since } in
+pub returns-in_err-took-clause-appended : goal.returns-in_err-took-clause-appended
+returns-in_err-took-clause-appended g c =
     let p = err_from_is_err_and c.from_residual.result c.from_residual.ensures.1 in
-    let given = take c.each.at c.args.bytes.now in
-    rw p.1 (subst (λ given. FailsGiven tells old new before now c.args.inbox.now c.take_piece.new.self given) (append-nil given)
-    (fails_given_then tells old mid new before between now c.args.inbox.now c.each.inbox c.take_piece.new.self given c.each.invariant.taken [] c.in_err-took.ensures.failed))
+    rw p.1 (given_end c.each.invariant.taken c.in_err-took.ensures.appended)
 
 pub returns-then-not-took-clause-appended : goal.returns-then-not-took-clause-appended
 returns-then-not-took-clause-appended g c =
-    let tells = g.L.Device.tells in
-    let old = g.L.Device.history c.args.dev.now in
-    let before : WriterState = record { log = c.args.log.now; lines = c.args.lines.now.items; since = c.args.since.now } in
-    let between : WriterState = record { log = c.each.log; lines = c.each.lines.items; since = c.each.since } in
-    let mid = g.L.Device.history c.each.dev in
-    let new = g.L.Device.history c.take_piece.new.dev in
-    let now : WriterState = record { log = c.take_piece.new.log; lines = c.take_piece.new.lines.items; since = c.take_piece.new.since } in
-    let given = take c.each.at c.args.bytes.now in
-    subst (λ given. AppendsGiven tells old new before now c.args.inbox.now c.take_piece.new.self given) (append-nil given)
-    (given_then tells old mid new before between now c.args.inbox.now c.each.inbox c.take_piece.new.self given c.each.invariant.taken [] (c.in_ok-took.ensures.halted c.if-not-took.true).1)
+    let now = writer (g.L.Device.history c.take_piece.new.dev) c.take_piece.new.log c.take_piece.new.tally in
+    let between = writer (g.L.Device.history c.each.dev) c.each.log c.each.tally in
+    let piece = take (c.next_cut-end.result - c.each.at) (drop c.each.at c.args.bytes.now) in
+    given_end c.each.invariant.taken
+    (subst (λ took. AppendsGiven g.L.Device.tells between now true c.each.inbox c.take_piece.new.self (if took then piece else [])) c.if-not-took.true c.in_ok-took.ensures.appended)
 
-pub returns-in_err-append_kept-clause-failed : goal.returns-in_err-append_kept-clause-failed
-returns-in_err-append_kept-clause-failed g c =
-    let tells = g.L.Device.tells in
-    let old = g.L.Device.history c.args.dev.now in
-    let before : WriterState = record { log = c.args.log.now; lines = c.args.lines.now.items; since = c.args.since.now } in
-    let between : WriterState = record { log = c.each.log; lines = c.each.lines.items; since = c.each.since } in
-    let mid = g.L.Device.history c.each.dev in
-    let new = g.L.Device.history c.append_kept.new.dev in
-    let now : WriterState = record { log = c.append_kept.new.log; lines = c.append_kept.new.lines.items; since = c.append_kept.new.since } in
+pub returns-in_err-append_kept-clause-appended : goal.returns-in_err-append_kept-clause-appended
+returns-in_err-append_kept-clause-appended g c =
     let p = err_from_is_err_and c.from_residual-in_err-append_kept.result c.from_residual-in_err-append_kept.ensures.1 in
-    let given = take c.each.at c.args.bytes.now in
-    rw p.1 (subst (λ given. FailsGiven tells old new before now c.args.inbox.now c.append_kept.new.self given) (append-nil given)
-    (fails_given_then tells old mid new before between now c.args.inbox.now c.each.inbox c.append_kept.new.self given c.each.invariant.taken []
-    (given_failed tells mid new between now c.each.inbox c.append_kept.new.self c.append_kept.ensures.ring c.in_err-append_kept.ensures.failed)))
+    rw p.1 (given_end c.each.invariant.taken (given_kept c.append_kept.ensures.ring c.in_err-append_kept.ensures.appended))
 
 pub returns-clause-appended : goal.returns-clause-appended
-returns-clause-appended g c =
-    let tells = g.L.Device.tells in
-    let old = g.L.Device.history c.args.dev.now in
-    let before : WriterState = record { log = c.args.log.now; lines = c.args.lines.now.items; since = c.args.since.now } in
-    let between : WriterState = record { log = c.each.log; lines = c.each.lines.items; since = c.each.since } in
-    let mid = g.L.Device.history c.each.dev in
-    let new = g.L.Device.history c.append_kept.new.dev in
-    let now : WriterState = record { log = c.append_kept.new.log; lines = c.append_kept.new.lines.items; since = c.append_kept.new.since } in
-    let given = take c.each.at c.args.bytes.now in
-    subst (λ given. AppendsGiven tells old new before now c.args.inbox.now c.append_kept.new.self given) (append-nil given)
-    (given_then tells old mid new before between now c.args.inbox.now c.each.inbox c.append_kept.new.self given c.each.invariant.taken []
-    (given_kept tells mid new between now c.each.inbox c.append_kept.new.self c.append_kept.ensures.ring c.in_ok-append_kept.ensures.appended))
+returns-clause-appended g c = given_end c.each.invariant.taken (given_kept c.append_kept.ensures.ring c.in_ok-append_kept.ensures.appended)

@@ -1,18 +1,16 @@
-use Rattle.std.proofs.Common.{length}
+use Rattle.std.proofs.Common.{true, length}
 use Rattle.pm_disk.specs.States.{IsLaterState}
-use Rattle.pm_logger.specs.Fronts.{KeepsLimits}
 use Rattle.pm_logger.specs.Merges.{AppendsMerge}
 use Rattle.pm_logger.specs.Rings.{AreLinked, KeepsEnds, AreEmptied}
+use Rattle.pm_logger.specs.Writers.{writer}
 use Rattle.pm_logger.proofs.rest.take_all.Given as goal
 
 abbrev pub invariant-each : goal.invariant-each
 invariant-each g l = record {
-  merged : AppendsMerge g.L.Device.tells (g.L.Device.history l.fn.dev) (g.L.Device.history l.dev)
-      (record { log = l.fn.log; lines = l.fn.lines.items; since = l.fn.since }) (record { log = l.log; lines = l.lines.items; since = l.since })
-      l.fn.rings.items l.rings.items;
+  merged : AppendsMerge g.L.Device.tells (writer (g.L.Device.history l.fn.dev) l.fn.log l.fn.tally) (writer (g.L.Device.history l.dev) l.log l.tally)
+      true l.fn.rings.items l.rings.items;
   linked : AreLinked l.ends l.rings.items;
   ends : KeepsEnds l.fn.ends l.ends;
-  emptied : AreEmptied (length l.lines.items) l.worker l.ends l.rings.items;
-  limits : KeepsLimits l.fn.lines l.lines l.since;
+  emptied : AreEmptied (length l.tally.lines) l.worker l.ends l.rings.items;
   state : IsLaterState (g.L.Device.state l.fn.dev) (g.L.Device.state l.dev);
 }
