@@ -3,6 +3,7 @@ mod Emptying
 mod Forcing
 mod Joining
 mod LaterStates
+pub mod Linking
 mod Merging
 mod Appending
 mod Opening

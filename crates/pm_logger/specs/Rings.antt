@@ -30,6 +30,10 @@ pub record EachPair (P : LogEnd → Inbox → Type 0) (ends : List LogEnd) (inbo
 abbrev pub AreLinked : List LogEnd → List Inbox → Type 0
 AreLinked ends inboxes = EachPair IsEndOf ends inboxes
 
+-- whichever rings the ends are linked to, they still are
+abbrev pub StayLinked : List LogEnd → List LogEnd → Type 0
+StayLinked old new = (inboxes : List Inbox) → AreLinked old inboxes → AreLinked new inboxes
+
 -- The same ends of the same rings, to which nothing was pushed.
 pub record KeepsEnds (old new : List LogEnd) : Type 0 where
   pub many : length new ≡ length old

@@ -85,8 +85,9 @@ impl Inbox {
         requires begun { length (kept self.old) < longest }
         ensures { TakesBlock self.old self.new }
     {
-        let block = self.consumer.pop_known();
-        keep(&mut self.kept, block.bytes());
+        // It is read where it lies: a block that is moved out first is copied whole, however short it is.
+        keep(&mut self.kept, self.consumer.peek_known().bytes());
+        self.consumer.pop_known();
     }
 
     /// Takes a block that is known to be in the ring, once all whole operations that are kept were appended,
