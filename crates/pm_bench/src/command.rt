@@ -1,7 +1,8 @@
 //! The commands.
 
+use crate::log_rings::Delta;
 use crate::policies::{Frames, Kind};
-use crate::{block, hash_map, keys, locks, maps, page_table, policies, region, trees};
+use crate::{block, hash_map, keys, locks, log_rings, maps, page_table, policies, region, trees};
 use std::alloc::{AllocError, Global};
 use std::thread::Threads;
 
@@ -34,10 +35,14 @@ pub enum Command {
     MapPuts,
     /// The same, and then looked for.
     MapGets,
+    /// The records of so many operations, appended to a log in memory.
+    Appends(Delta),
+    /// The same through the rings of two workers, which the appends are compared with.
+    Rings(Delta),
 }
 
 /// All commands, in the order in which `all` runs them.
-pub const COMMANDS: [Command; 21] = [
+pub const COMMANDS: [Command; 25] = [
     Command::PageTable,
     Command::HashMap,
     Command::Region,
@@ -59,6 +64,10 @@ pub const COMMANDS: [Command; 21] = [
     Command::TreeGets,
     Command::MapPuts,
     Command::MapGets,
+    Command::Appends(Delta::Short),
+    Command::Rings(Delta::Short),
+    Command::Appends(Delta::Long),
+    Command::Rings(Delta::Long),
 ];
 
 impl Command {
@@ -86,6 +95,10 @@ impl Command {
             "tree_gets" => Some(Command::TreeGets),
             "map_puts" => Some(Command::MapPuts),
             "map_gets" => Some(Command::MapGets),
+            "appends_short" => Some(Command::Appends(Delta::Short)),
+            "rings_short" => Some(Command::Rings(Delta::Short)),
+            "appends_long" => Some(Command::Appends(Delta::Long)),
+            "rings_long" => Some(Command::Rings(Delta::Long)),
             _ => None,
         }
     }
@@ -114,6 +127,10 @@ impl Command {
             Command::TreeGets => "tree_gets",
             Command::MapPuts => "map_puts",
             Command::MapGets => "map_gets",
+            Command::Appends(Delta::Short) => "appends_short",
+            Command::Rings(Delta::Short) => "rings_short",
+            Command::Appends(Delta::Long) => "appends_long",
+            Command::Rings(Delta::Long) => "rings_long",
         }
     }
 
@@ -138,6 +155,8 @@ impl Command {
             Command::TreeGets => trees::gets(alloc, count),
             Command::MapPuts => maps::puts(alloc, count),
             Command::MapGets => maps::gets(alloc, count),
+            Command::Appends(delta) => log_rings::appends(alloc, *delta, count),
+            Command::Rings(delta) => log_rings::rings(alloc, *delta, count),
         }
     }
 }
