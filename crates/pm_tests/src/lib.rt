@@ -24,6 +24,8 @@ mod hosts;
 mod lasting;
 pub mod lock_clients;
 #[cfg(test)]
+mod log_writers;
+#[cfg(test)]
 mod logs;
 #[cfg(test)]
 mod markers;
