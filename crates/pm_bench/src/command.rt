@@ -31,10 +31,14 @@ pub enum Command {
     TreePuts,
     /// The same, and then looked for.
     TreeGets,
+    /// The same, and then removed.
+    TreeRemoves,
     /// The keys put into std's `BTreeMap`, which the tree is compared with.
     MapPuts,
     /// The same, and then looked for.
     MapGets,
+    /// The same, and then removed.
+    MapRemoves,
     /// The records of so many operations, appended to a log in memory.
     Appends(Delta),
     /// The same through the rings of two workers, which the appends are compared with.
@@ -42,7 +46,7 @@ pub enum Command {
 }
 
 /// All commands, in the order in which `all` runs them.
-pub const COMMANDS: [Command; 25] = [
+pub const COMMANDS: [Command; 27] = [
     Command::PageTable,
     Command::HashMap,
     Command::Region,
@@ -62,8 +66,10 @@ pub const COMMANDS: [Command; 25] = [
     Command::Keys,
     Command::TreePuts,
     Command::TreeGets,
+    Command::TreeRemoves,
     Command::MapPuts,
     Command::MapGets,
+    Command::MapRemoves,
     Command::Appends(Delta::Short),
     Command::Rings(Delta::Short),
     Command::Appends(Delta::Long),
@@ -93,8 +99,10 @@ impl Command {
             "keys" => Some(Command::Keys),
             "tree_puts" => Some(Command::TreePuts),
             "tree_gets" => Some(Command::TreeGets),
+            "tree_removes" => Some(Command::TreeRemoves),
             "map_puts" => Some(Command::MapPuts),
             "map_gets" => Some(Command::MapGets),
+            "map_removes" => Some(Command::MapRemoves),
             "appends_short" => Some(Command::Appends(Delta::Short)),
             "rings_short" => Some(Command::Rings(Delta::Short)),
             "appends_long" => Some(Command::Appends(Delta::Long)),
@@ -125,8 +133,10 @@ impl Command {
             Command::Keys => "keys",
             Command::TreePuts => "tree_puts",
             Command::TreeGets => "tree_gets",
+            Command::TreeRemoves => "tree_removes",
             Command::MapPuts => "map_puts",
             Command::MapGets => "map_gets",
+            Command::MapRemoves => "map_removes",
             Command::Appends(Delta::Short) => "appends_short",
             Command::Rings(Delta::Short) => "rings_short",
             Command::Appends(Delta::Long) => "appends_long",
@@ -153,8 +163,10 @@ impl Command {
             Command::Keys => keys::run(alloc, count),
             Command::TreePuts => trees::puts(alloc, count),
             Command::TreeGets => trees::gets(alloc, count),
+            Command::TreeRemoves => trees::removes(alloc, count),
             Command::MapPuts => maps::puts(alloc, count),
             Command::MapGets => maps::gets(alloc, count),
+            Command::MapRemoves => maps::removes(alloc, count),
             Command::Appends(delta) => log_rings::appends(alloc, *delta, count),
             Command::Rings(delta) => log_rings::rings(alloc, *delta, count),
         }

@@ -1,4 +1,4 @@
-//! The keys that are put and looked for, the same in a tree and in the map beside it.
+//! The keys that are put, looked for and removed, the same in a tree and in the map beside it.
 
 use pm_types::Key;
 use std::alloc::{AllocError, Global};

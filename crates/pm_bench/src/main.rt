@@ -24,7 +24,7 @@ const USAGE: &str =
     "usage: pm_bench all|page_table|hash_map|region|block|locks|locks_apart|locks_near\
 |random_64|random_4096|random_65536|segmented_64|segmented_4096|segmented_65536\
 |clock_64|clock_4096|clock_65536\
-|keys|tree_puts|tree_gets|map_puts|map_gets\
+|keys|tree_puts|tree_gets|tree_removes|map_puts|map_gets|map_removes\
 |appends_short|rings_short|appends_long|rings_long COUNT";
 
 fn main(rt: HostRuntime) -> io::Result<ExitCode> {

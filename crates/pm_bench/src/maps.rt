@@ -1,4 +1,4 @@
-//! Puts and look-ups in std's `BTreeMap`.
+//! Puts, look-ups and removals in std's `BTreeMap`.
 
 use crate::keys::keys;
 use pm_types::Key;
@@ -21,6 +21,19 @@ pub fn gets(alloc: Global, count: u32) -> Result<u64, AllocError> {
     for key in &keys {
         if let Some(link) = map.get(key) {
             sum = sum.wrapping_add(*link);
+        }
+    }
+    Ok(sum)
+}
+
+/// The sum of what all keys had, each of which is put and then removed.
+pub fn removes(alloc: Global, count: u32) -> Result<u64, AllocError> {
+    let keys = keys(alloc, count)?;
+    let mut map = filled(alloc, &keys)?;
+    let mut sum = 0u64;
+    for key in &keys {
+        if let Some(link) = map.remove(key) {
+            sum = sum.wrapping_add(link);
         }
     }
     Ok(sum)

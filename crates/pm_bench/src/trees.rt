@@ -1,4 +1,4 @@
-//! Puts and look-ups in a tree over pages in memory.
+//! Puts, look-ups and removals in a tree over pages in memory.
 
 ghost use Rattle.std.specs.Prelude.{◌≡◌, ◌≤◌, IfOk, length};
 ghost use Rattle.pm_types.specs.Keys.{HasKeyLength};
@@ -12,6 +12,7 @@ use crate::keys::keys;
 use pm_meta::{MetaSlot, fresh};
 use pm_pages::{Pages, PlainPages, find_number};
 use pm_tree::{tree_get, tree_put};
+use pm_tree_del::tree_remove;
 use pm_types::{Key, Link, Page, PageId, Shape};
 use std::alloc::{AllocError, Global};
 
@@ -38,6 +39,14 @@ pub fn gets(alloc: Global, count: u32) -> Result<u64, AllocError> {
     let mut pages = partition(alloc)?;
     put_all(alloc, &mut pages, &keys)?;
     get_all(alloc, &mut pages, &keys)
+}
+
+/// The sum of what all keys had, each of which is put and then removed.
+pub fn removes(alloc: Global, count: u32) -> Result<u64, AllocError> {
+    let keys = keys(alloc, count)?;
+    let mut pages = partition(alloc)?;
+    put_all(alloc, &mut pages, &keys)?;
+    remove_all(alloc, &mut pages, &keys)
 }
 
 // A partition with a meta page alone.
@@ -101,6 +110,21 @@ fn get_all(alloc: Global, pages: &mut PlainPages, keys: &Vec<Key>) -> Result<u64
     Ok(sum)
 }
 
+// Removes each key, and gives the sum of what they had.
+fn remove_all(alloc: Global, pages: &mut PlainPages, keys: &Vec<Key>) -> Result<u64, AllocError>
+    requires plain { ArePlain pages.old }
+    requires readable { AllReadable (plain_seen pages.old) }
+    ensures plain { ArePlain pages.new }
+    ensures readable { AllReadable (plain_seen pages.new) }
+{
+    let mut sum = 0u64;
+    'keys: for key in keys {
+        pages.ready(alloc)?;
+        sum = sum.wrapping_add(remove(pages, key.bytes()));
+    }
+    Ok(sum)
+}
+
 // Puts a link at a key, and gives 1 where the key wasn't there.
 fn put<P: Pages>(pages: &mut P, key: &[u8], link: u64) -> u64
     requires ready { P.ready pages.old }
@@ -130,6 +154,21 @@ fn get<P: Pages>(pages: &mut P, key: &[u8]) -> u64
     ensures readable { AllReadable (P.seen pages.new) }
 {
     match tree_get(pages, 0, key) {
+        Ok(Some(link)) => link.0,
+        Ok(None) => 0,
+        Err(_) => 0,
+    }
+}
+
+// Removes a key, and gives the link that it had, or 0.
+fn remove<P: Pages>(pages: &mut P, key: &[u8]) -> u64
+    requires ready { P.ready pages.old }
+    requires room { 16 ≤ (P.seen pages.old).spare }
+    requires readable { AllReadable (P.seen pages.old) }
+    ensures kept { P.kept pages.old pages.new }
+    ensures readable { AllReadable (P.seen pages.new) }
+{
+    match tree_remove(pages, 0, key) {
         Ok(Some(link)) => link.0,
         Ok(None) => 0,
         Err(_) => 0,

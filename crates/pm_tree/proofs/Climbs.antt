@@ -33,27 +33,41 @@ use Rattle.pm_pages.specs.SpareChains.{MovesSpare}
 use Rattle.pm_tree.proofs.SpareRoom.{can_take_less, can_take_looked}
 use Rattle.pm_tree.proofs.LeafChanges.{held_node, changes_one}
 use Rattle.pm_tree.proofs.Divided.{numbers_looked, numbers_then, added_looked}
+use Rattle.pm_btpage.specs.Stored.{IsLink}
 use Rattle.pm_tree.proofs.LeafSteps.{puts_pages}
+use Rattle.pm_tree.specs.Stored.{IsStored}
+use Rattle.pm_tree.specs.StoredPuts.{KeepsPage}
+use Rattle.pm_tree.proofs.StoredMeta.{keeps_looked}
+use Rattle.pm_tree.proofs.StoredNodes.{insert_stored, child_word, stored_two, stored_looked, forks_stored}
 use Rattle.pm_tree.proofs.Told.{below_count, count_there, is_inner}
 use Rattle.pm_tree.proofs.Descents.{pages_told, number_told}
 use Rattle.pm_tree.proofs.ForkSteps.{inner_says}
 use Rattle.pm_tree.proofs.Ascents.{child_tree, child_once, get_here, kept_up, grown_up, forked_up}
 
 -- what was changed, one after the other
-pub changes_then : (T : Type 0) (a b c : Paged) (m n k : ℕ) → m + n ≤ k → PutsPages T a b m → PutsPages T b c n → PutsPages T a c k
-changes_then T a b c m n k le x y = record {
+pub changes_then : {X Y G : Type 0} → (T : Type 0) (a b c : Paged) (m n k : ℕ) → m + n ≤ k → (G → X) → (G → Y) → PutsPages T a b m X → PutsPages T b c n Y → PutsPages T a c k G
+changes_then T a b c m n k le gx gy x y = record {
   edits = edits_more T a c (λ j. IsTrue (b.asked j) ⊎ IsTrue (c.asked j)) (λ j. IsTrue (c.asked j)) (m + n) k (λ j h. elim h [ inl z ↦ y.edits.asked j z | inr z ↦ z ]) le
       (edits_then T a b c (λ j. IsTrue (b.asked j)) (λ j. IsTrue (c.asked j)) m n x.edits y.edits);
   meta = y.meta;
   numbers = numbers_then a b c x.numbers y.numbers;
   takes = λ t limit left can. y.takes t limit left (x.takes t limit (n + left) (can_take_less limit a (k + left) (m + (n + left)) (omega (arith, le)) can));
+  passes = λ t g limit small can stored.
+      y.passes t (gy g) limit (omega (arith, small, x.edits.same.max_rows)) (x.takes t limit n (can_take_less limit a k (m + n) le can)) (x.passes t (gx g) limit small (can_take_less limit a k m (omega (arith, le)) can) stored);
 }
 
-pub changes_looked : (T : Type 0) (a b : Paged) (m : ℕ) → HasMeta a → LooksAtPages T a b m → PutsPages T a b m
-changes_looked T a b m meta looks = record { edits = edits_looked T a b (λ j. IsTrue (b.asked j)) m looks; meta = meta_looked T a b m looks meta; numbers = numbers_looked T a b m looks; takes = λ t limit left can. can_take_looked T a b m t looks limit left (can_take_less limit a (m + left) left (omega arith) can) }
+pub changes_looked : {G : Type 0} → (T : Type 0) (a b : Paged) (m : ℕ) → HasMeta a → LooksAtPages T a b m → PutsPages T a b m G
+changes_looked T a b m meta looks = record { edits = edits_looked T a b (λ j. IsTrue (b.asked j)) m looks; meta = meta_looked T a b m looks meta; numbers = numbers_looked T a b m looks; takes = λ t limit left can. can_take_looked T a b m t looks limit left (can_take_less limit a (m + left) left (omega arith) can); passes = λ t g limit small can stored. stored_looked T a b m t looks stored }
 
-pub changes_more : (T : Type 0) (a b : Paged) (m n : ℕ) → m ≤ n → PutsPages T a b m → PutsPages T a b n
-changes_more T a b m n le x = record { edits = edits_more T a b (λ j. IsTrue (b.asked j)) (λ j. IsTrue (b.asked j)) m n (λ j h. h) le x.edits; meta = x.meta; numbers = x.numbers; takes = λ t limit left can. x.takes t limit left (can_take_less limit a (n + left) (m + left) (omega (arith, le)) can) }
+pub changes_more : {G : Type 0} → (T : Type 0) (a b : Paged) (m n : ℕ) → m ≤ n → PutsPages T a b m G → PutsPages T a b n G
+changes_more T a b m n le x = record { edits = edits_more T a b (λ j. IsTrue (b.asked j)) (λ j. IsTrue (b.asked j)) m n (λ j h. h) le x.edits; meta = x.meta; numbers = x.numbers; takes = λ t limit left can. x.takes t limit left (can_take_less limit a (n + left) (m + left) (omega (arith, le)) can); passes = λ t g limit small can stored. x.passes t g limit small (can_take_less limit a n m le can) stored }
+
+-- pages were looked at before
+pub looked_then : {G : Type 0} → (T : Type 0) (a b c : Paged) (m n k : ℕ) → m + n ≤ k → HasMeta a → LooksAtPages T a b m → PutsPages T b c n G → PutsPages T a c k G
+looked_then {G} T a b c m n k le meta looks x = changes_then {X = G} {Y = G} {G = G} T a b c m n k le (λ g. g) (λ g. g) (changes_looked {G = G} T a b m meta looks) x
+
+pub link_then : (T : Type 0) (a b c : Paged) (m n k word : ℕ) → m + n ≤ k → HasMeta a → LooksAtPages T a b m → PutsPages T b c n (IsLink b.part word) → PutsPages T a c k (IsLink a.part word)
+link_then T a b c m n k word le meta looks x = looked_then T a b c m n k le meta looks (subst (λ i. PutsPages T b c n (IsLink i word)) looks.same.part x)
 
 -- causes
 pub put_cause_take : {R : Type 0} (T : Type 0) (a d : Paged) (cache : ℕ) (r : Result R PageFault) → HasTakeCause T a d r → HasPutCause T a d cache r
@@ -135,8 +149,8 @@ below_after a b at meta keeps below n is =
     omega (arith, below old.0 old.1, new.2, same)
 
 -- The step up: a put into the child, and what became of the page above.
-module _ (T : Type 0) (a b c : Paged) (at i child limit m : ℕ) (key : List ℕ) (word : ℕ) (t : T) (meta : HasMeta a) (place : IsPlaceIn a at key (Below i child)) (below : (n : ℕ) → IsNumberIn a Pages n → at < n) (some : 1 ≤ limit)
-    (changes : PutsPages T a b m) (readable : AllReadable b) where
+module _ {G : Type 0} (T : Type 0) (a b c : Paged) (at i child limit m : ℕ) (key : List ℕ) (word : ℕ) (t : T) (meta : HasMeta a) (place : IsPlaceIn a at key (Below i child)) (below : (n : ℕ) → IsNumberIn a Pages n → at < n) (some : 1 ≤ limit)
+    (changes : PutsPages T a b m G) (readable : AllReadable b) where
   below_b : (n : ℕ) → IsNumberIn b Pages n → at < n
   below_b = below_after a b at meta changes.numbers below
 
@@ -183,22 +197,29 @@ module _ (T : Type 0) (a b c : Paged) (at i child limit m : ℕ) (key : List ℕ
   lift_step (Kept was) lifted puts lifts = subst (PutsFor a.pages c.pages (half_of a.page_size) limit at key word) (sym lifts.0) (kept_step was puts lifts.1)
   lift_step (Split part) lifted puts lifts = takes_step part lifted puts lifts
 
+-- pages that pass still, after pages were looked at, and after a page above the one that kept its place
+pub page_after : (a b c : Paged) (X G : Type 0) (put : Put) → (G → X) → (IsStored a → IsStored b) → KeepsPage b c X put → KeepsPage a c G put
+page_after a b c X G put gx before keeps = record { kept = keeps.kept; passes = λ g stored. keeps.passes (gx g) (before stored) }
+
+pub page_then : (a b c d : Paged) (X G : Type 0) (put lifted : Put) → (G → X) → (IsStored a → IsStored b) → KeepsPage b c X put → KeepsPage c d (Unit {0}) lifted → KeepsPage a d G lifted
+page_then a b c d X G put lifted gx before below keeps = record { kept = keeps.kept; passes = λ g stored. keeps.passes tt (below.passes (gx g) (before stored)) }
+
 -- levels are one more above
 pub levels_more : (limit : ℕ) (put : Put) (more : ℕ) → limit ≤ more → HasLevels limit put → HasLevels more put
 levels_more limit (Kept was) more le h = tt
-levels_more limit (Split part) more le h = omega (arith, le, h)
+levels_more limit (Split part) more le h = (omega (arith, le, h.0), h.1)
 
 -- a page that was found to take a child
 pub parent_of : (p : Paged) (at : ℕ) (key : List ℕ) (i : ℕ) (page : List ℕ) → 1 ≤ at → ((n : ℕ) → IsNumberIn p Pages n → at < n) → IsInHand p at page → length page ≡ p.page_size → IsParent page key i → IsParentAt p at key i
 parent_of p at key i page some below in_hand size parent = record { some = some; below = below; page = page; in_hand = in_hand; size = size; parent = parent }
 
 -- changes of an inner page
-pub changes_grown : (T : Type 0) (a c : Paged) (at i : ℕ) (part : Part) → 1 ≤ at → HasMeta a → Grows T a c at i part → PutsPages T a c 1
-changes_grown T a c at i part some meta grows =
-    changes_more T a c 0 1 (omega arith) (changes_one T a c at grows.says _ some meta grows.before grows.after grows.edits)
+pub changes_grown : (T : Type 0) (a c : Paged) (at i : ℕ) (part : Part) → 1 ≤ at → HasMeta a → ((n : ℕ) → IsNumberIn a Pages n → at < n) → 1 ≤ part.right → Grows T a c at i part → PutsPages T a c 1 (Unit {0})
+changes_grown T a c at i part some meta below right grows =
+    changes_more T a c 0 1 (omega arith) (changes_one T a c at grows.says _ some meta below grows.before grows.after grows.edits (λ small g stored. insert_stored a.part at i grows.says (child_item a.part part) (child_word a.part grows.says.leaf part small right grows.inner grows.index) stored))
 
-pub changes_forked : (T : Type 0) (a c : Paged) (at i : ℕ) (part forked : Part) → Forks T a c at i part forked → PutsPages T a c 1
-changes_forked T a c at i part forked forks =
+pub changes_forked : (T : Type 0) (a c : Paged) (at i : ℕ) (part forked : Part) → 1 ≤ at → HasMeta a → ((n : ℕ) → IsNumberIn a Pages n → at < n) → 1 ≤ part.right → Forks T a c at i part forked → PutsPages T a c 1 (Unit {0})
+changes_forked T a c at i part forked some meta below right forks =
     puts_pages T a c (λ j. (j ≡ 0) ⊎ (j ≡ forked.right) ⊎ (j ≡ at)) 1 1 (forked.right ∷ []) (omega arith) forks.edits
     (λ j h. elim h [
       | inl e ↦ subst (λ n. IsTrue (c.asked n)) (sym e) forks.meta.asked
@@ -212,6 +233,7 @@ changes_forked T a c at i part forked forks =
       ]
     ])
     (λ t j lt. elim (forks.added t j lt) [ inl old ↦ inl old | inr e ↦ inr (inr (inl e)) ]) forks.moves (omega arith)
+    (λ t g limit small can stored. stored_two T a c at forked.right 1 limit forks.says _ _ t some (below_count a at meta below) forks.some forks.before forks.left_is forks.right_is forks.edits (forks.meta_passes t) (forks.added t) (forks_stored T a c at i part forked stored.part right forks) small can stored)
 
 -- an inner page took a child after it was looked at
 pub grows_looked : (T : Type 0) (a b c : Paged) (at i : ℕ) (part : Part) → IsTrue (a.known at) → IsTrue (a.asked at) → LooksAtPages T a b 0 → Grows T b c at i part → Grows T a c at i part
@@ -252,6 +274,7 @@ forks_looked T a b c at i part forked known asked looks g = record {
   spare = λ t. subst (λ (q : Partition). IsSpare (nodes_in q forked.right)) (pages_told T a b 0 t looks) (g.spare t);
   added = λ t j lt. added_looked T a b 0 forked.right t looks j (g.added t j lt);
   moves = λ t. subst (λ (q : Partition). MovesSpare q c.pages (forked.right ∷ []) []) (pages_told T a b 0 t looks) (g.moves t);
+  meta_passes = λ t. keeps_looked T a b c 0 t looks (g.meta_passes t);
 }
 
 pub takes_looked : (T : Type 0) (a b c : Paged) (at i : ℕ) (part : Part) (put : Put) → IsTrue (a.known at) → IsTrue (a.asked at) → LooksAtPages T a b 0 → TakesChild T b c at i part put → TakesChild T a c at i part put

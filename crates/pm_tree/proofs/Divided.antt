@@ -26,6 +26,7 @@ use Rattle.pm_tree.proofs.NodeEdits.{node_stays}
 use Rattle.pm_pages.proofs.SpareMoves.{moves_on}
 use Rattle.pm_pages.proofs.SpareSteps.{zeros_at, moves_page, moves_take}
 use Rattle.pm_tree.proofs.NodeKinds.{node_kind}
+use Rattle.pm_tree.proofs.StoredMeta.{keeps_taken, keeps_on, keeps_looked}
 
 -- the number that a meta page has
 pub number_is : (p : Paged) (slot : MetaSlot) (n : ℕ) (was : List ℕ) → IsNumberIn p slot n → p.pages 0 ≡ Some was → n ≡ field_of was slot
@@ -194,6 +195,7 @@ divides_looked T a b c at right page first start end looks d = record {
   spare = λ t. subst (λ (q : Partition). IsSpare (nodes_in q right)) (λ k j. looks.pages j (inl t) k) (d.spare t);
   added = λ t j lt. added_looked T a b 0 right t looks j (d.added t j lt);
   moves = λ t. subst (λ (q : Partition). MovesSpare q c.pages (right ∷ []) []) (λ k j. looks.pages j (inl t) k) (d.moves t);
+  meta_passes = λ t. keeps_looked T a b c 0 t looks (d.meta_passes t);
 }
 
 -- a number of the meta page was the same before another page was changed
@@ -254,4 +256,5 @@ divided T a b c d e at right page first start end meta can takes edits_c node ed
           (moves_on a.pages b.pages c.pages (right ∷ []) [] (moves_take T a b 1 right t takes) (moves_page T b c right 0 t takes.some edits_c (zeros_at b right a.page_size takes.zeros) (node_kind c right _ blank_at)))
           (moves_page T c d right 0 t takes.some edits_d (node_kind c right _ blank_at) (node_kind d right _ tail_at)))
           (moves_page T d e at 0 t can.some edits_e (node_kind d at _ old_at) (node_kind e at _ cut_at));
+      meta_passes = λ t. keeps_on T a d e (λ j. j ≡ at) 0 t edits_e at_some (keeps_on T a c d (λ j. j ≡ right) 0 t edits_d not_zero (keeps_on T a b c (λ j. j ≡ right) 0 t edits_c not_zero (keeps_taken T a b 1 right t takes)));
     }

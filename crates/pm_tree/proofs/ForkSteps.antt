@@ -26,6 +26,8 @@ use Rattle.pm_tree.specs.Divisions.{KeepsNumbers, CanDivide, Divides}
 use Rattle.pm_tree.specs.Grown.{IsParentAt, child_item, Grows, Forks}
 use Rattle.pm_pages.specs.SpareChains.{MovesSpare}
 use Rattle.pm_pages.proofs.SpareMoves.{moves_on}
+use Rattle.pm_tree.specs.Stored.{KeepsMeta}
+use Rattle.pm_tree.proofs.StoredMeta.{keeps_on}
 use Rattle.pm_pages.proofs.SpareSteps.{moves_page}
 use Rattle.pm_tree.proofs.NodeKinds.{node_kind}
 use Rattle.pm_tree.proofs.NodeEdits.{node_stays}
@@ -114,8 +116,8 @@ cuts_right items i half x d lt in_range le =
 module _ (T : Type 0) (a d : Paged) (at i right : ℕ) (part : Part) (p : IsParentAt a at part.from i) (full : capacity_of (length p.page) ≤ length (items_of p.page)) (some : 1 ≤ right) (below : (n : ℕ) → IsNumberIn d Pages n → right < n) (other : right ≢ at)
     (edits : EditsPages T a d (λ j. (j ≡ 0) ⊎ (j ≡ right) ⊎ (j ≡ at)) 1) (meta : HasMeta d) (numbers : KeepsNumbers a d) (index : index_in (child_item a.part part).word ≡ part.right) where
   pub forks : (low : List Item) (middle : Item) (high : List Item) (from : List ℕ) → Cuts (items_of p.page) i (half_of a.page_size) (child_item a.part part) low middle high → IsNode d at (with_items (index_of p.page) low)
-      → IsNode d right (record { id = page_id a.part right; leaf = false; link = middle.word; items = high }) → from ≡ middle.key → (T → IsSpare (nodes_in a.pages right)) → (T → (j : ℕ) → j < page_count d.pages → (j < page_count a.pages) ⊎ (j ≡ right)) → (T → MovesSpare a.pages d.pages (right ∷ []) []) → Forks T a d at i part (record { from = from; right = right; levels = part.levels + 1 })
-  forks low middle high from cuts left_is right_is from_is spare added moves = record {
+      → IsNode d right (record { id = page_id a.part right; leaf = false; link = middle.word; items = high }) → from ≡ middle.key → (T → IsSpare (nodes_in a.pages right)) → (T → (j : ℕ) → j < page_count d.pages → (j < page_count a.pages) ⊎ (j ≡ right)) → (T → MovesSpare a.pages d.pages (right ∷ []) []) → (T → KeepsMeta a d) → Forks T a d at i part (record { from = from; right = right; levels = part.levels + 1 })
+  forks low middle high from cuts left_is right_is from_is spare added moves keeps = record {
     says = index_of p.page;
     before = parent_node a at i part.from p;
     inner = inner_says p.page p.parent.kind;
@@ -140,6 +142,7 @@ module _ (T : Type 0) (a d : Paged) (at i right : ℕ) (part : Part) (p : IsPare
     spare = spare;
     added = added;
     moves = moves;
+    meta_passes = keeps;
   }
 
 -- changes after a division, of one of its pages
@@ -176,7 +179,7 @@ module _ (T : Type 0) (a : Paged) (at i : ℕ) (part : Part) (p : IsParentAt a a
 
   pub middle_forks : (d : Paged) (right : ℕ) → index_in (child_item a.part part).word ≡ part.right → i ≡ half_of a.page_size → Divides T a d at p.page (Some (page_id a.part part.right)) i i right → Forks T a d at i part (record { from = part.from; right = right; levels = part.levels + 1 })
   middle_forks d right index e divides = forks T a d at i right part p full divides.some divides.below divides.other divides.edits divides.meta divides.numbers index
-      (take i (items_of p.page)) (child_item a.part part) (drop i (items_of p.page)) part.from (cuts_middle (items_of p.page) i (half_of a.page_size) (child_item a.part part) e half_twice) divides.left_is divides.right_is refl divides.spare divides.added divides.moves
+      (take i (items_of p.page)) (child_item a.part part) (drop i (items_of p.page)) part.from (cuts_middle (items_of p.page) i (half_of a.page_size) (child_item a.part part) e half_twice) divides.left_is divides.right_is refl divides.spare divides.added divides.moves divides.meta_passes
 
   pub left_forks : (c d : Paged) (right word w half : ℕ) (from : List ℕ) → index_in (child_item a.part part).word ≡ part.right → half ≡ half_of a.page_size → i < half → w ≡ word_in (items_of p.page) (half - 1) → from ≡ key_in (items_of p.page) (half - 1) → word ≡ (page_id a.part part.right).0
       → Divides T a c at p.page (Some (record { 0 = w })) half (half - 1) right → EditsPages T c d (λ j. j ≡ at) 0 → EditsNodeAt c d at part.from (Insert i word) → Forks T a d at i part (record { from = from; right = right; levels = part.levels + 1 })
@@ -193,6 +196,7 @@ module _ (T : Type 0) (a : Paged) (at i : ℕ) (part : Part) (p : IsParentAt a a
       (with_item (take (half - 1) items) i (child_item a.part part)) (get_or items (half - 1) (record { key = []; word = 0 })) (drop half items) from cuts left right_is from_is divides.spare
       (λ t j lt. divides.added t j (omega (arith, lt, count_of T c d (λ j. j ≡ at) 0 t edits (λ z. omega (arith, z, p.some)))))
       (λ t. moves_on a.pages c.pages d.pages (right ∷ []) [] (divides.moves t) (moves_page T c d at 0 t p.some edits (node_kind c at _ divides.left_is) (node_kind d at _ left)))
+      (λ t. keeps_on T a c d (λ j. j ≡ at) 0 t edits (λ z. omega (arith, z, p.some)) (divides.meta_passes t))
 
   pub right_forks : (c d : Paged) (right word w half : ℕ) (from : List ℕ) → index_in (child_item a.part part).word ≡ part.right → half ≡ half_of a.page_size → half < i → w ≡ word_in (items_of p.page) half → from ≡ key_in (items_of p.page) half → word ≡ (page_id a.part part.right).0
       → Divides T a c at p.page (Some (record { 0 = w })) (half + 1) half right → EditsPages T c d (λ j. j ≡ right) 0 → EditsNodeAt c d right part.from (Insert (i - half - 1) word) → Forks T a d at i part (record { from = from; right = right; levels = part.levels + 1 })
@@ -209,6 +213,7 @@ module _ (T : Type 0) (a : Paged) (at i : ℕ) (part : Part) (p : IsParentAt a a
       (take half items) (get_or items half (record { key = []; word = 0 })) (with_item (drop (half + 1) items) (i - half - 1) (child_item a.part part)) from cuts left right_is from_is divides.spare
       (λ t j lt. divides.added t j (omega (arith, lt, count_of T c d (λ j. j ≡ right) 0 t edits (λ z. omega (arith, z, divides.some)))))
       (λ t. moves_on a.pages c.pages d.pages (right ∷ []) [] (divides.moves t) (moves_page T c d right 0 t divides.some edits (node_kind c right _ divides.right_is) (node_kind d right _ right_is)))
+      (λ t. keeps_on T a c d (λ j. j ≡ right) 0 t edits (λ z. omega (arith, z, divides.some)) (divides.meta_passes t))
 
   -- the halves have room
   pub takes_low : (c : Paged) (right word half : ℕ) (first : Option PageId) → HasKeyLength part.from → half ≡ half_of a.page_size → i < half → Divides T a c at p.page first half (half - 1) right → TakesEdit c at part.from (Insert i word)

@@ -56,8 +56,8 @@ module _ (T : Type 0) (a b : Paged) (m count at i child levels : ℕ) (key : Lis
       }
 
 -- once the child was divided
-pub takes_place : (T : Type 0) (a b d : Paged) (m count at i child levels word : ℕ) (key : List ℕ) (part : Part) → LooksAtPages T a b m → HasMeta b → IsPlaceIn b at key (Below i child) → IsNumberIn b Pages count → at < count → 1 ≤ levels → MayGrow T a levels at → AllReadable d
-    → PutsPages T b d (2 * (levels - 1)) → PutsFor b.pages d.pages (half_of b.page_size) (levels - 1) child key word (Split part) → MayTakeChild T d at i part
+pub takes_place : {G : Type 0} → (T : Type 0) (a b d : Paged) (m count at i child levels word : ℕ) (key : List ℕ) (part : Part) → LooksAtPages T a b m → HasMeta b → IsPlaceIn b at key (Below i child) → IsNumberIn b Pages count → at < count → 1 ≤ levels → MayGrow T a levels at → AllReadable d
+    → PutsPages T b d (2 * (levels - 1)) G → PutsFor b.pages d.pages (half_of b.page_size) (levels - 1) child key word (Split part) → MayTakeChild T d at i part
 takes_place T a b d m count at i child levels word key part looks meta place number lt some n readable changes puts =
     let tree = tree_looked T a b m levels at n.told looks n.tree in
     let take = can_take_less n.limit b (2 * levels) (2 * (levels - 1) + 1) (omega (arith, some)) (can_take_looked T a b m n.told looks n.limit (2 * levels) n.take) in
@@ -145,5 +145,5 @@ not_tall T a b root key word part some readable meta may puts = elim (cases_lt p
 ]
 
 -- a page for the root can be taken
-pub may_take_root : (T : Type 0) (a b d : Paged) (m root : ℕ) → LooksAtPages T a b m → PutsPages T b d 16 → MayPutBelow T a root → MayTake T d
+pub may_take_root : {G : Type 0} → (T : Type 0) (a b d : Paged) (m root : ℕ) → LooksAtPages T a b m → PutsPages T b d 16 G → MayPutBelow T a root → MayTake T d
 may_take_root T a b d m root looks changes may = may_take T d may.limit 1 may.told may.small (omega arith) (changes.takes may.told may.limit 1 (can_take_looked T a b m may.told looks may.limit 17 may.take))

@@ -1,5 +1,5 @@
 -- A put into the index of a cache.
-use Rattle.std.proofs.Common.{◌≡◌, ◌≢◌, ℕ, zero, suc, ◌+◌, ◌<◌, ◌≤◌, ◌⊎◌, List, [], ◌∷◌, map, length, refl, sym, ap, subst, ◌∙◌, inl, inr, arith}
+use Rattle.std.proofs.Common.{◌≡◌, ◌≢◌, ℕ, zero, suc, ◌+◌, ◌^◌, ◌<◌, ◌≤◌, ◌⊎◌, List, [], ◌∷◌, map, length, refl, sym, ap, subst, ◌∙◌, inl, inr, arith}
 use Rattle.std.specs.Prelude.{Option, None, Some, IsTrue, Result}
 use Rattle.std.specs.Option.{option_map}
 use Rattle.std.proofs.lemmas.Bool.{cases_lt}
@@ -37,6 +37,8 @@ use Rattle.pm_tree.proofs.Frames.{used}
 use Rattle.pm_tree.specs.Sound.{CanTake}
 use Rattle.pm_tree.proofs.SpareRoom.{can_take_less, can_take_after, can_take_looked}
 use Rattle.pm_tree.proofs.LeafChanges.{held_node}
+use Rattle.pm_btpage.specs.Stored.{IsLink}
+use Rattle.pm_tree.proofs.StoredNodes.{IsStoredNode, stored_root, stored_looked}
 use Rattle.pm_tree.proofs.LeafPuts.{PutsRoot, root_kept, root_grown, root_planted}
 use Rattle.pm_tree.proofs.Told.{node_away_count, below_count, link_is, items_are, half_is, is_leaf, is_inner}
 use Rattle.pm_tree.proofs.Descents.{number_told}
@@ -134,7 +136,7 @@ plants_index T a c cache key word t readable meta makes zero nodes items index =
     (λ j not_zero none made. makes.edits.others j (inl t) (λ h. elim h [ inl e ↦ not_zero e | inr e ↦ omega (arith, made, times_here top [], ap (λ i. times i (top ∷ [])) e) ])) (makes.moves t) meta makes.numbers)
 
 -- A put below a root.
-module _ (T : Type 0) (a b : Paged) (cache root : ℕ) (key : List ℕ) (word m : ℕ) (t : T) (meta : HasMeta a) (in_caches : cache < CACHES) (is_root : IsNumberIn a (Root cache) root) (some : root ≢ 0) (changes : PutsPages T a b m)
+module _ (T : Type 0) (a b : Paged) (cache root : ℕ) (key : List ℕ) (word m : ℕ) (t : T) (meta : HasMeta a) (in_caches : cache < CACHES) (is_root : IsNumberIn a (Root cache) root) (some : root ≢ 0) {G : Type 0} (changes : PutsPages T a b m G)
     (levels : ℕ) (nodes : List ℕ) (items : List Item) (index : IsTreeAt a.pages root levels nodes items) where
   tree_a : IsTreeIn (nodes_in a.pages) levels 1 root
   tree_a = tree_to a.pages levels 1 root index.tree
@@ -189,12 +191,12 @@ module _ (T : Type 0) (a b : Paged) (cache root : ℕ) (key : List ℕ) (word m 
       node_away_root j ne not_spare = node_away_count T b c (λ j. (j ≡ 0) ⊎ (j ≡ makes_top.makes.top)) 1 t readable changes.meta makes_top.makes.edits (count_told b c cache changes.meta makes_top.makes.numbers) j (λ h. elim h [ inl e ↦ e | inr e ↦ absurd (ne e) ]) not_spare
 
 -- whatever height the index has
-pub keeps_height : (T : Type 0) (a b : Paged) (cache root : ℕ) (key : List ℕ) (word m : ℕ) → T → HasMeta a → cache < CACHES → IsNumberIn a (Root cache) root → root ≢ 0 → PutsPages T a b m → (was : Option ℕ) → PutsFor a.pages b.pages (half_of a.page_size) 8 root key word (Kept was)
+pub keeps_height : {G : Type 0} → (T : Type 0) (a b : Paged) (cache root : ℕ) (key : List ℕ) (word m : ℕ) → T → HasMeta a → cache < CACHES → IsNumberIn a (Root cache) root → root ≢ 0 → PutsPages T a b m G → (was : Option ℕ) → PutsFor a.pages b.pages (half_of a.page_size) 8 root key word (Kept was)
     → (height : ℕ) (nodes : List ℕ) (items : List Item) → IsIndex a.pages root height nodes items → PutsIndex a.pages b.pages cache nodes items key word (option_map as_link was)
 keeps_height T a b cache root key word m t meta in_caches is_root some changes was puts zero nodes items index = absurd (some index.0)
 keeps_height T a b cache root key word m t meta in_caches is_root some changes was puts (suc levels) nodes items index = keeps_index T a b cache root key word m t meta in_caches is_root some changes levels nodes items index was puts
 
-pub grows_height : (T : Type 0) (a b c : Paged) (cache root : ℕ) (key : List ℕ) (word m : ℕ) → T → HasMeta a → cache < CACHES → IsNumberIn a (Root cache) root → root ≢ 0 → PutsPages T a b m → (part : Part) → AllReadable b → PutsFor a.pages b.pages (half_of a.page_size) 8 root key word (Split part) → part.levels < 7 → MakesTop T b c cache root part
+pub grows_height : {G : Type 0} → (T : Type 0) (a b c : Paged) (cache root : ℕ) (key : List ℕ) (word m : ℕ) → T → HasMeta a → cache < CACHES → IsNumberIn a (Root cache) root → root ≢ 0 → PutsPages T a b m G → (part : Part) → AllReadable b → PutsFor a.pages b.pages (half_of a.page_size) 8 root key word (Split part) → part.levels < 7 → MakesTop T b c cache root part
     → (height : ℕ) (nodes : List ℕ) (items : List Item) → IsIndex a.pages root height nodes items → PutsIndex a.pages c.pages cache nodes items key word None
 grows_height T a b c cache root key word m t meta in_caches is_root some changes part readable puts few makes zero nodes items index = absurd (some index.0)
 grows_height T a b c cache root key word m t meta in_caches is_root some changes part readable puts few makes (suc levels) nodes items index = grows_index T a b cache root key word m t meta in_caches is_root some changes levels nodes items index c part readable puts few makes
@@ -218,29 +220,35 @@ can_take_root T a c cache first key word t makes limit left can =
     (λ j lt. elim (makes.added t j lt) [ inl old ↦ inl old | inr e ↦ inr (inr e) ]) (makes.moves t) (omega arith) limit left can
 
 -- what was changed, with a new root
-pub changes_root : (T : Type 0) (a b c : Paged) (cache m n : ℕ) (first : Option PageId) (key : List ℕ) (word : ℕ) → m + 1 ≤ n → PutsPages T a b m → MakesRoot T b c cache first key word → PutsRootPages T a c cache n
-changes_root T a b c cache m n first key word le x makes = record {
+pub changes_root : {X G : Type 0} → (T : Type 0) (a b c : Paged) (cache m n : ℕ) (first : Option PageId) (key : List ℕ) (word : ℕ) → m + 1 ≤ n → (G → X) → PutsPages T a b m X → (makes : MakesRoot T b c cache first key word)
+    → (G → b.part < 2 ^ 16 → IsStoredNode b.part makes.top (with_items (blank (page_id b.part makes.top) first) (record { key = key; word = word } ∷ []))) → PutsRootPages T a c cache n G
+changes_root T a b c cache m n first key word le gx x makes node = record {
   edits = edits_more T a c (λ j. IsTrue (b.asked j) ⊎ ((j ≡ 0) ⊎ (j ≡ makes.top))) (λ j. IsTrue (c.asked j)) (m + 1) n
       (λ j h. elim h [ inl z ↦ makes.edits.asked j z | inr h2 ↦ elim h2 [ inl e ↦ subst (λ i. IsTrue (c.asked i)) (sym e) makes.meta.asked | inr e ↦ subst (λ i. IsTrue (c.asked i)) (sym e) makes.node.in_hand.asked ] ]) le
       (edits_then T a b c (λ j. IsTrue (b.asked j)) (λ j. (j ≡ 0) ⊎ (j ≡ makes.top)) m 1 x.edits makes.edits);
   meta = makes.meta;
   numbers = but_root_then a b c cache x.numbers makes.numbers;
   takes = λ t limit left can. can_take_root T b c cache first key word t makes limit left (x.takes t limit (1 + left) (can_take_less limit a (n + left) (m + (1 + left)) (omega (arith, le)) can));
+  passes = λ t g limit small can stored.
+      let stored_b = x.passes t (gx g) limit small (can_take_less limit a n m (omega (arith, le)) can) stored in
+      let can_b = x.takes t limit 1 (can_take_less limit a n (m + 1) le can) in
+      stored_root T b c makes.top 1 limit _ t makes.some makes.node makes.edits (makes.meta_passes t) (makes.added t) (node g stored_b.part) (omega (arith, small, x.edits.same.max_rows)) can_b stored_b;
 }
 
-pub changes_same_root : (T : Type 0) (a b : Paged) (cache m n : ℕ) → m ≤ n → PutsPages T a b m → PutsRootPages T a b cache n
-changes_same_root T a b cache m n le x = record { edits = edits_more T a b (λ j. IsTrue (b.asked j)) (λ j. IsTrue (b.asked j)) m n (λ j h. h) le x.edits; meta = x.meta; numbers = keeps_but_root a b cache x.numbers; takes = λ t limit left can. x.takes t limit left (can_take_less limit a (n + left) (m + left) (omega (arith, le)) can) }
+pub changes_same_root : {G : Type 0} → (T : Type 0) (a b : Paged) (cache m n : ℕ) → m ≤ n → PutsPages T a b m G → PutsRootPages T a b cache n G
+changes_same_root T a b cache m n le x = record { edits = edits_more T a b (λ j. IsTrue (b.asked j)) (λ j. IsTrue (b.asked j)) m n (λ j h. h) le x.edits; meta = x.meta; numbers = keeps_but_root a b cache x.numbers; takes = λ t limit left can. x.takes t limit left (can_take_less limit a (n + left) (m + left) (omega (arith, le)) can); passes = λ t g limit small can stored. x.passes t g limit small (can_take_less limit a n m le can) stored }
 
 -- after pages were looked at
-pub root_changes_looked : (T : Type 0) (a b c : Paged) (cache n : ℕ) → HasMeta a → LooksAtPages T a b 0 → PutsRootPages T b c cache n → PutsRootPages T a c cache n
-root_changes_looked T a b c cache n meta looks x =
-    let y = changes_looked T a b 0 meta looks in
+pub root_changes_looked : (T : Type 0) (a b c : Paged) (cache n word : ℕ) → HasMeta a → LooksAtPages T a b 0 → PutsRootPages T b c cache n (IsLink b.part word) → PutsRootPages T a c cache n (IsLink a.part word)
+root_changes_looked T a b c cache n word meta looks x =
+    let y = changes_looked {G = Unit {0}} T a b 0 meta looks in
     record {
       edits = edits_more T a c (λ j. IsTrue (b.asked j) ⊎ IsTrue (c.asked j)) (λ j. IsTrue (c.asked j)) (0 + n) n (λ j h. elim h [ inl z ↦ x.edits.asked j z | inr z ↦ z ]) (omega arith)
           (edits_then T a b c (λ j. IsTrue (b.asked j)) (λ j. IsTrue (c.asked j)) 0 n y.edits x.edits);
       meta = x.meta;
       numbers = but_root_then a b c cache y.numbers x.numbers;
       takes = λ t limit left can. x.takes t limit left (can_take_looked T a b 0 t looks limit (n + left) can);
+      passes = λ t g limit small can stored. x.passes t (subst (λ i. IsLink i word) (sym looks.same.part) g) limit (omega (arith, small, looks.same.max_rows)) (can_take_looked T a b 0 t looks limit n can) (stored_looked T a b 0 t looks stored);
     }
 
 pub tree_cause : {R : Type 0} (T : Type 0) (a d : Paged) (cache : ℕ) (r : Result R PageFault) → HasPutCause T a d cache r → HasTreePutCause T a d cache r
@@ -250,7 +258,7 @@ pub tree_cause_looked : {R : Type 0} (T : Type 0) (a b d : Paged) (cache : ℕ) 
 tree_cause_looked T a b d cache r meta looks cause = record {
   failed = λ e. omega (arith, cause.failed e, looks.same.faults);
   bad = λ id e. elim (cause.bad id e) [
-    | inl f ↦ (let ch = changes_looked T a b 0 meta looks in inl (fault_after T a b d cache id 0 ch.edits f))
+    | inl f ↦ (let ch = changes_looked {G = Unit {0}} T a b 0 meta looks in inl (fault_after T a b d cache id 0 ch.edits f))
     | inr tall ↦ inr (record {
       root = tall.root;
       name = tall.name ∙ ap (λ n. page_id n tall.root) looks.same.part;
@@ -261,7 +269,7 @@ tree_cause_looked T a b d cache r meta looks cause = record {
 }
 
 -- why no root was made above one that was divided
-pub grow_cause : {R : Type 0} (T : Type 0) (a b c : Paged) (cache root : ℕ) (key : List ℕ) (word m : ℕ) (part : Part) (r : Result R PageFault) → IsNumberIn a (Root cache) root → root ≢ 0 → PutsPages T a b m → (T → PutsFor a.pages b.pages (half_of a.page_size) 8 root key word (Split part)) → HasGrowCause T b c root part.levels r → HasTreePutCause T a c cache r
+pub grow_cause : {R G : Type 0} → (T : Type 0) (a b c : Paged) (cache root : ℕ) (key : List ℕ) (word m : ℕ) (part : Part) (r : Result R PageFault) → IsNumberIn a (Root cache) root → root ≢ 0 → PutsPages T a b m G → (T → PutsFor a.pages b.pages (half_of a.page_size) 8 root key word (Split part)) → HasGrowCause T b c root part.levels r → HasTreePutCause T a c cache r
 grow_cause T a b c cache root key word m part r is_root some changes puts cause = record {
   failed = λ e. omega (arith, cause.failed e, changes.edits.same.faults);
   bad = λ id e. elim (cause.bad id e) [

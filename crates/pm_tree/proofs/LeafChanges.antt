@@ -1,5 +1,5 @@
 -- Puts into a leaf, over the calls that make them.
-use Rattle.std.proofs.Common.{◌≡◌, ◌≢◌, ℕ, ◌+◌, ◌-◌, ◌<◌, ◌≤◌, ◌⊎◌, true, List, [], ◌∷◌, length, take, drop, refl, sym, ap, subst, ◌∙◌, inl, inr, arith}
+use Rattle.std.proofs.Common.{◌≡◌, ◌≢◌, ℕ, ◌+◌, ◌-◌, ◌^◌, ◌<◌, ◌≤◌, ◌⊎◌, true, List, [], ◌∷◌, length, take, drop, refl, sym, ap, subst, ◌∙◌, inl, inr, arith}
 use Rattle.std.specs.Prelude.{None, Some, IsSome, IsTrue}
 use Rattle.std.proofs.lemmas.Bool.{cases_eq, eq-eqb}
 use Rattle.std.proofs.lemmas.List.{length-take-le, length-drop, get_or-take, get_or-drop}
@@ -32,9 +32,13 @@ use Rattle.pm_pages.proofs.SpareSteps.{moves_page}
 use Rattle.pm_tree.proofs.NodeKinds.{node_kind}
 use Rattle.pm_tree.proofs.Divided.{node_edited, meta_stays, numbers_stay, numbers_then, numbers_looked, number_back, count_of, added_looked}
 use Rattle.pm_tree.proofs.Told.{below_count, counts_rise}
+use Rattle.pm_btpage.specs.Stored.{IsLink}
+use Rattle.pm_tree.specs.Stored.{IsStored, KeepsStored}
+use Rattle.pm_tree.proofs.StoredMeta.{keeps_on, keeps_looked}
+use Rattle.pm_tree.proofs.StoredNodes.{IsStoredNode, stored_one, stored_two, halves_stored}
 use Rattle.pm_tree.proofs.LeafSteps.{puts_pages, leaf_kept, leaf_parted, Halves, left_half, right_half}
 
-leaf_says : (page : List ℕ) → kind_of page ≡ LEAF_KIND → (index_of page).leaf ≡ true
+pub leaf_says : (page : List ℕ) → kind_of page ≡ LEAF_KIND → (index_of page).leaf ≡ true
 leaf_says page kind = eq-eqb (kind_of page) LEAF_KIND kind
 
 -- what a page says once it took a change
@@ -46,18 +50,27 @@ pub held_node : (p : Paged) (i : ℕ) (says : IndexPage) → IsNode p i says →
 held_node p i says node = (node.in_hand.known, subst IsSome (sym node.in_hand.page) refl)
 
 -- one page of the tree was changed, which was asked for
-pub changes_one : (T : Type 0) (a c : Paged) (at : ℕ) (says now : IndexPage) → 1 ≤ at → HasMeta a → IsNode a at says → IsNode c at now → EditsPages T a c (λ j. j ≡ at) 0 → PutsPages T a c 0
-changes_one T a c at says now some meta node node' edits =
+pub changes_one : {G : Type 0} → (T : Type 0) (a c : Paged) (at : ℕ) (says now : IndexPage) → 1 ≤ at → HasMeta a → ((n : ℕ) → IsNumberIn a Pages n → at < n) → IsNode a at says → IsNode c at now → EditsPages T a c (λ j. j ≡ at) 0
+    → (a.part < 2 ^ 16 → G → IsStoredNode a.part at says → IsStoredNode a.part at now) → PutsPages T a c 0 G
+changes_one T a c at says now some meta below node node' edits step =
     let out : 0 ≡ at → ⊥ = λ e. omega (arith, e, some) in
     puts_pages T a c (λ j. j ≡ at) 0 0 [] (omega arith) edits (λ j e. subst (λ n. IsTrue (c.asked n)) (sym e) node'.in_hand.asked) (meta_stays T a c (λ j. j ≡ at) 0 edits out meta) (numbers_stay T a c (λ j. j ≡ at) 0 edits out)
     (λ j e. subst (λ n. IsTrue (c.known n) × IsThere c n) (sym e) (held_node c at now node')) (λ t j lt. inl (omega (arith, lt, count_of T a c (λ j. j ≡ at) 0 t edits out)))
     (λ t. moves_page T a c at 0 t some edits (node_kind a at says node) (node_kind c at now node')) (omega arith)
+    (λ t g limit small can stored. stored_one T a c at 0 says now t some (below_count a at meta below) node node' edits (step stored.part g) stored)
 
 -- the page of a leaf that took a change
-pub changes_leaf : (T : Type 0) (a c : Paged) (at : ℕ) (key : List ℕ) (edit : Edit) (page : List ℕ) → 1 ≤ at → HasMeta a → IsInHand a at page → IsIndexPage page → length page ≡ a.page_size → EditsPages T a c (λ j. j ≡ at) 0 → EditsNodeAt a c at key edit → PutsPages T a c 0
-changes_leaf T a c at key edit page some meta in_hand index size edits changed =
+pub changes_leaf : {G : Type 0} → (T : Type 0) (a c : Paged) (at : ℕ) (key : List ℕ) (edit : Edit) (page : List ℕ) → 1 ≤ at → HasMeta a → ((n : ℕ) → IsNumberIn a Pages n → at < n) → IsInHand a at page → IsIndexPage page → length page ≡ a.page_size → EditsPages T a c (λ j. j ≡ at) 0 → EditsNodeAt a c at key edit
+    → (G → IsStoredNode a.part at (index_of page) → IsStoredNode a.part at (edited (index_of page) key edit)) → PutsPages T a c 0 G
+changes_leaf T a c at key edit page some meta below in_hand index size edits changed step =
     let node : IsNode a at (index_of page) = record { page = page; in_hand = in_hand; well_made = index; size = size; is = refl } in
-    changes_one T a c at (index_of page) (edited (index_of page) key edit) some meta node (node_edited T a c at 0 key edit (index_of page) edits node changed) edits
+    changes_one T a c at (index_of page) (edited (index_of page) key edit) some meta below node (node_edited T a c at 0 key edit (index_of page) edits node changed) edits (λ small g stored. step g stored)
+
+pub stored_leaf : (T : Type 0) (a c : Paged) (at : ℕ) (key : List ℕ) (edit : Edit) (page : List ℕ) → T → 1 ≤ at → HasMeta a → ((n : ℕ) → IsNumberIn a Pages n → at < n) → IsInHand a at page → IsIndexPage page → length page ≡ a.page_size → EditsPages T a c (λ j. j ≡ at) 0 → EditsNodeAt a c at key edit
+    → (IsStoredNode a.part at (index_of page) → IsStoredNode a.part at (edited (index_of page) key edit)) → IsStored a → IsStored c
+stored_leaf T a c at key edit page t some meta below in_hand index size edits changed step stored =
+    let node : IsNode a at (index_of page) = record { page = page; in_hand = in_hand; well_made = index; size = size; is = refl } in
+    stored_one T a c at 0 (index_of page) (edited (index_of page) key edit) t some (below_count a at meta below) node (node_edited T a c at 0 key edit (index_of page) edits node changed) edits step stored
 
 -- a leaf has another word at a key
 pub set_puts : (T : Type 0) (a c : Paged) (at i was : ℕ) (key : List ℕ) (word half : ℕ) → T → AllReadable a → HasMeta a → ((n : ℕ) → IsNumberIn a Pages n → at < n) → IsPlaceIn a at key (Held i was) → EditsPages T a c (λ j. j ≡ at) 0 → EditsNodeAt a c at key (Word i word)
@@ -142,6 +155,7 @@ parts_looked T a b c at page cut right looks d = record {
   spare = λ t. subst (λ (q : Partition). IsSpare (nodes_in q right)) (λ k j. looks.pages j (inl t) k) (d.spare t);
   added = λ t j lt. added_looked T a b 0 right t looks j (d.added t j lt);
   moves = λ t. subst (λ (q : Partition). MovesSpare q c.pages (right ∷ []) []) (λ k j. looks.pages j (inl t) k) (d.moves t);
+  meta_passes = λ t. keeps_looked T a b c 0 t looks (d.meta_passes t);
 }
 
 -- A full leaf was divided, and then the item was put into one of the halves, page `into`.
@@ -186,8 +200,18 @@ module _ (T : Type 0) (a c d : Paged) (at : ℕ) (key : List ℕ) (i cut word ri
   left_held : IsTrue (d.known at) × IsThere d at
   left_held = still_there at _ parts.left_is
 
-  pub half_changes : PutsPages T a d 1
-  half_changes = puts_pages T a d (λ j. (j ≡ 0) ⊎ (j ≡ right) ⊎ (j ≡ at)) 1 1 (right ∷ []) (omega arith) all_edits
+  -- what both halves say passes
+  half_stored : (t : T) (left_now right_now : IndexPage) → IsNode d at left_now → IsNode d right right_now → left_now.id ≡ (index_of leaf.page).id → left_now.leaf ≡ true → right_now.id ≡ page_id a.part right → right_now.leaf ≡ true
+      → Halves (items_of leaf.page) i cut (record { key = key; word = word }) left_now.items right_now.items → IsLink a.part word → KeepsStored a d 1
+  half_stored t left_now right_now left_is right_is left_id left_leaf right_id right_leaf halves link limit small can stored =
+      let node : IsNode a at (index_of leaf.page) = record { page = leaf.page; in_hand = leaf.in_hand; well_made = leaf.gap.well_made; size = leaf.size; is = refl } in
+      stored_two T a d at right 1 limit (index_of leaf.page) left_now right_now t leaf.some (below_count a at meta leaf.below) parts.some node left_is right_is all_edits
+      (keeps_on T a c d (λ j. j ≡ into) 0 t edits not_zero (parts.meta_passes t)) (λ j lt. parts.added t j (omega (arith, lt, count_of T c d (λ j. j ≡ into) 0 t edits not_zero)))
+      (λ was. halves_stored a.part at right i (index_of leaf.page) left_now right_now (record { key = key; word = word }) (leaf_says leaf.page leaf.gap.kind) left_id left_leaf right_id right_leaf halves.whole
+      (omega (arith, halves.left_len, middle.some)) (omega (arith, halves.right_len, halves.left_high, middle.high, full_is a at key i cut leaf middle, capacity_bounds (length leaf.page) leaf.gap.well_made.size, cap_is a at key i cut leaf middle)) link was) small can stored
+
+  half_changes : (T → IsLink a.part word → KeepsStored a d 1) → PutsPages T a d 1 (IsLink a.part word)
+  half_changes pass = puts_pages T a d (λ j. (j ≡ 0) ⊎ (j ≡ right) ⊎ (j ≡ at)) 1 1 (right ∷ []) (omega arith) all_edits
       (λ j h. elim h [
         | inl e ↦ subst (λ n. IsTrue (d.asked n)) (sym e) meta_d.asked
         | inr h2 ↦ elim h2 [
@@ -204,7 +228,27 @@ module _ (T : Type 0) (a c d : Paged) (at : ℕ) (key : List ℕ) (i cut word ri
       ])
       (λ t j lt. elim (parts.added t j (omega (arith, lt, count_of T c d (λ j. j ≡ into) 0 t edits not_zero))) [ inl old ↦ inl old | inr e ↦ inr (inr (inl e)) ])
       (λ t. moves_on a.pages c.pages d.pages (right ∷ []) [] (parts.moves t) (moves_page T c d into 0 t into_there edits (node_kind c into into_was.0 into_was.1) (node_kind d into _ into_now)))
-      (omega arith)
+      (omega arith) pass
+
+  edits_to : (n : ℕ) → into ≡ n → EditsPages T c d (λ j. j ≡ n) 0
+  edits_to n e = subst (λ n. EditsPages T c d (λ j. j ≡ n) 0) e edits
+
+  edited_to : (n l : ℕ) → into ≡ n → k ≡ l → EditsNodeAt c d n key (Insert l word)
+  edited_to n l into_is k_is = subst (λ (p : ℕ × ℕ). EditsNodeAt c d p.0 key (Insert p.1 word)) {x = (into, k)} {y = (n, l)} (λ z. (into_is z, k_is z)) edited
+
+  pub left_changes : i ≤ cut → into ≡ at → k ≡ i → PutsPages T a d 1 (IsLink a.part word)
+  left_changes side into_is k_is = half_changes (λ t link.
+      let says = with_link (with_items (index_of leaf.page) (take cut (items_of leaf.page))) right in
+      half_stored t _ _ (node_edited T c d at 0 key (Insert i word) says (edits_to at into_is) parts.left_is (edited_to at i into_is k_is)) (node_stays T c d (λ j. j ≡ at) 0 right _ (edits_to at into_is) parts.other parts.right_is)
+      refl (leaf_says leaf.page leaf.gap.kind) refl refl
+      (left_half (items_of leaf.page) i cut (record { key = key; word = word }) (cut_below a at key i cut leaf middle) leaf.gap.well_made.items.rising leaf.gap.between side) link)
+
+  pub right_changes : cut < i → into ≡ right → k ≡ i - cut → PutsPages T a d 1 (IsLink a.part word)
+  right_changes side into_is k_is = half_changes (λ t link.
+      let says = with_link (with_items (empty_leaf (page_id a.part right)) (drop cut (items_of leaf.page))) (index_of leaf.page).link in
+      half_stored t _ _ (node_stays T c d (λ j. j ≡ right) 0 at _ (edits_to right into_is) (λ e. parts.other (sym e)) parts.left_is) (node_edited T c d right 0 key (Insert (i - cut) word) says (edits_to right into_is) parts.right_is (edited_to right (i - cut) into_is k_is))
+      refl (leaf_says leaf.page leaf.gap.kind) refl refl
+      (right_half (items_of leaf.page) i cut (record { key = key; word = word }) (cut_below a at key i cut leaf middle) leaf.gap.well_made.items.rising leaf.gap.between side) link)
 
   module _ (t : T) (readable : AllReadable a) where
     at_in : at < page_count d.pages

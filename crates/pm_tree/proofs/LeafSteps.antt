@@ -17,6 +17,7 @@ use Rattle.pm_tree.specs.Nodes.{nodes_in, nodes_under, IsFrom, IsUpTo, IsTreeIn,
 use Rattle.pm_tree.specs.Puts.{IsSpare, PutsAs, PutsFor}
 use Rattle.pm_tree.specs.Edits.{IsNode}
 use Rattle.pm_tree.specs.Divisions.{KeepsNumbers, PutsPages}
+use Rattle.pm_tree.specs.Stored.{KeepsStored}
 use Rattle.pm_pages.specs.SpareChains.{MovesSpare}
 use Rattle.pm_tree.proofs.SpareRoom.{can_take_after}
 use Rattle.pm_tree.proofs.KeyOrder.{below_then, not_below_itself}
@@ -28,9 +29,9 @@ use Rattle.pm_tree.proofs.LeafPuts.{leaf_puts, leaf_divided}
 use Rattle.pm_tree.proofs.Told.{node_away, below_count, link_is, items_are, is_leaf}
 
 -- what changed is what was asked for
-pub puts_pages : (T : Type 0) (a c : Paged) (touched : ℕ → Type 0) (m n : ℕ) (made : List ℕ) → m ≤ n → EditsPages T a c touched m → ((j : ℕ) → touched j → IsTrue (c.asked j)) → HasMeta c → KeepsNumbers a c
-    → ((j : ℕ) → touched j → IsTrue (c.known j) × IsThere c j) → (T → (j : ℕ) → j < page_count c.pages → (j < page_count a.pages) ⊎ touched j) → (T → MovesSpare a.pages c.pages made []) → length made ≤ n → PutsPages T a c n
-puts_pages T a c touched m n made le edits asked meta numbers held added moves few = record {
+pub puts_pages : {G : Type 0} → (T : Type 0) (a c : Paged) (touched : ℕ → Type 0) (m n : ℕ) (made : List ℕ) → m ≤ n → EditsPages T a c touched m → ((j : ℕ) → touched j → IsTrue (c.asked j)) → HasMeta c → KeepsNumbers a c
+    → ((j : ℕ) → touched j → IsTrue (c.known j) × IsThere c j) → (T → (j : ℕ) → j < page_count c.pages → (j < page_count a.pages) ⊎ touched j) → (T → MovesSpare a.pages c.pages made []) → length made ≤ n → (T → G → KeepsStored a c n) → PutsPages T a c n G
+puts_pages T a c touched m n made le edits asked meta numbers held added moves few pass = record {
   edits = record {
     others = λ j told out. edits.others j told (λ h. out (asked j h));
     known = edits.known;
@@ -44,6 +45,7 @@ puts_pages T a c touched m n made le edits asked meta numbers held added moves f
   meta = meta;
   numbers = numbers;
   takes = λ t limit left can. can_take_after T a c touched m n made t edits held (added t) (moves t) few limit left can;
+  passes = pass;
 }
 
 -- only a leaf is a tree of one level whose page is a leaf

@@ -28,5 +28,8 @@ pub mod SoundPages
 pub mod SoundPuts
 pub mod SoundTrees
 pub mod SpareRoom
+pub mod StoredMeta
+pub mod StoredNodes
+pub mod StoredPuts
 pub mod TallTrees
 pub mod Told

@@ -17,6 +17,7 @@ use Rattle.pm_tree.proofs.NodeEdits.{node_stays}
 use Rattle.pm_pages.proofs.SpareMoves.{moves_on}
 use Rattle.pm_pages.proofs.SpareSteps.{moves_pages}
 use Rattle.pm_tree.proofs.NodeKinds.{node_kind}
+use Rattle.pm_tree.proofs.StoredMeta.{keeps_on}
 use Rattle.pm_tree.proofs.Divided.{node_edited, meta_stays, numbers_then, numbers_stay, number_back, count_of}
 
 -- a change that the other page's leaves possible
@@ -62,6 +63,7 @@ parts_leaf T a b c d at right next cut page can looks next_is divides links =
           moves_on a.pages c.pages d.pages (right ∷ []) [] (divides.moves t)
           (moves_pages T c d right at 0 t divides.some can.some links.edits (node_kind c right tail divides.right_is) (node_kind d right (with_link tail next) (links.right_is tail divides.right_is))
           (node_kind c at left divides.left_is) (node_kind d at (with_link left right) (links.left_is left divides.left_is)));
+      meta_passes = λ t. keeps_on T a c d (λ j. (j ≡ right) ⊎ (j ≡ at)) 0 t links.edits zero_out (divides.meta_passes t);
     }
 
 -- an error that is passed on has the cause that it had

@@ -1,5 +1,5 @@
 -- A new page is the root of a cache, step by step.
-use Rattle.std.proofs.Common.{◌≡◌, ◌≢◌, ℕ, ◌+◌, ◌≤◌, ◌⊎◌, List, [], ◌∷◌, length, refl, sym, ap, subst, ◌∙◌, inl, inr, arith}
+use Rattle.std.proofs.Common.{◌≡◌, ◌≢◌, ℕ, ◌+◌, ◌<◌, ◌≤◌, ◌⊎◌, List, [], ◌∷◌, length, refl, sym, ap, subst, ◌∙◌, inl, inr, arith}
 use Rattle.std.specs.Prelude.{Option, None, Some, IsSome}
 use Rattle.pm_types.specs.Ids.{page_id}
 use Rattle.pm_types.specs.Keys.{HasKeyLength}
@@ -7,7 +7,7 @@ use Rattle.pm_types.specs.declared.page_id.PageId.{PageId}
 use Rattle.pm_btpage.specs.IndexPages.{Item, IndexPage, index_of, with_items, with_item, IsBetween}
 use Rattle.pm_meta.specs.declared.slots.MetaSlot.{MetaSlot}
 use Rattle.pm_meta.specs.declared.slots.MetaSlot.TheVariants.{Root, Pages}
-use Rattle.pm_meta.specs.MetaPages.{IsSlot}
+use Rattle.pm_meta.specs.MetaPages.{field_of, IsSlot}
 use Rattle.pm_pages.specs.Rows.{number_of}
 use Rattle.pm_pages.specs.Paged.{Paged}
 use Rattle.pm_pages.specs.Edits.{EditsPages, HasMeta, IsNumberIn}
@@ -21,6 +21,8 @@ use Rattle.pm_tree.proofs.NodeEdits.{node_stays}
 use Rattle.pm_pages.proofs.SpareMoves.{moves_on}
 use Rattle.pm_pages.proofs.SpareSteps.{zeros_at, moves_page, moves_number, moves_take}
 use Rattle.pm_tree.proofs.NodeKinds.{node_kind}
+use Rattle.pm_pages.proofs.PassingPages.{meta_sets}
+use Rattle.pm_tree.proofs.StoredMeta.{keeps_taken, keeps_on}
 use Rattle.pm_tree.proofs.Divided.{number_is, number_now, node_edited, meta_stays, numbers_taken, numbers_then, numbers_stay, number_back, below_taken, spare_taken, blank_items, count_of, added_taken}
 use Rattle.pm_tree.proofs.LeafChanges.{capacity_bounds}
 
@@ -108,4 +110,8 @@ makes_root T a b c d e cache top first key word takes edits_c node edits_d edite
           (moves_on a.pages b.pages c.pages (top ∷ []) [] (moves_take T a b 1 top t takes) (moves_page T b c top 0 t takes.some edits_c (zeros_at b top a.page_size takes.zeros) (node_kind c top _ node)))
           (moves_page T c d top 0 t takes.some edits_d (node_kind c top _ node) (node_kind d top _ new)))
           (moves_number T d e (Root cache) top 0 t (λ z. cc z) (λ z. cc z) edits_e sets);
+      meta_passes = λ t limit small can meta.
+          let keeps_d = keeps_on T a c d (λ j. j ≡ top) 0 t edits_d not_zero (keeps_on T a b c (λ j. j ≡ top) 0 t edits_c not_zero (keeps_taken T a b 1 top t takes)) in
+          let below_d : (n : ℕ) → IsNumberIn d Pages n → top < n = λ n is. below_taken T a b 1 top takes n (number_back T b c (λ j. j ≡ top) 0 Pages n edits_c not_zero takes.meta (number_back T c d (λ j. j ≡ top) 0 Pages n edits_d not_zero meta_c is)) in
+          meta_sets d e (Root cache) top edits_e.same sets.was sets.now sets.before sets.after sets.change (below_d (field_of sets.was Pages) (number_now d Pages (field_of sets.was Pages) sets.was meta_d sets.before refl)) (keeps_d limit small can meta);
     }

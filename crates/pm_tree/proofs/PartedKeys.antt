@@ -1,7 +1,7 @@
 -- The key that parts a tree from a new one beside it has its place in the page above.
 use Rattle.std.proofs.Common.{◌≡◌, ℕ, zero, suc, ◌-◌, ◌<◌, ◌≤◌, List, [], ◌∷◌, ◌++◌, map, length, refl, sym, ap, subst, ◌∙◌, inl, inr, arith}
 use Rattle.std.specs.Prelude.{None, Some}
-use Rattle.std.proofs.lemmas.Bool.{cases_lt}
+use Rattle.std.proofs.lemmas.Bool.{cases_eq, cases_lt}
 use Rattle.std.proofs.lemmas.List.{length-append}
 use Rattle.pm_btpage.specs.declared.layout.TheConstants.{INNER_KIND}
 use Rattle.pm_btpage.specs.IndexPages.{Item, items_of, index_of, key_in, capacity_of, IsBelow, IsBetween, IsRising}
@@ -15,7 +15,7 @@ use Rattle.pm_tree.specs.declared.put.Part.{Part}
 use Rattle.pm_tree.specs.declared.put.Put.TheVariants.{Split}
 use Rattle.pm_tree.specs.declared.places.Place.TheVariants.{Below}
 use Rattle.pm_tree.specs.Maps.{put_in}
-use Rattle.pm_tree.specs.Nodes.{Node, entry, first_entry, entries, nodes_in, items_under, nodes_under, Keys, IsFrom, IsUpTo, AreBounded, IsTreeIn}
+use Rattle.pm_tree.specs.Nodes.{Node, Entry, Each, entry, first_entry, entries, nodes_in, items_under, nodes_under, Keys, IsFrom, IsUpTo, AreBounded, IsTreeIn}
 use Rattle.pm_tree.specs.Steps.{IsChildFor}
 use Rattle.pm_tree.specs.Places.{IsPlaceIn}
 use Rattle.pm_tree.specs.Puts.{flat, row, half_of, PutsIn, PutsFor}
@@ -24,7 +24,7 @@ use Rattle.pm_tree.specs.Sound.{IsSound, HasTree}
 use Rattle.pm_tree.proofs.KeyOrder.{below_then, key_cases}
 use Rattle.pm_tree.proofs.MapLists.{keys_left, keys_right, keys_at, keys_put}
 use Rattle.pm_tree.proofs.Decoded.{lower, upper, kid, kid_is, lower_first, lower_is, upper_is, upper_none, at_index}
-use Rattle.pm_pages.proofs.ChainWalks.{times-append, times_here}
+use Rattle.pm_pages.proofs.ChainWalks.{times-append, times_here, times_other}
 use Rattle.pm_tree.proofs.Frames.{used}
 use Rattle.pm_tree.proofs.Told.{below_count, page_is}
 use Rattle.pm_tree.proofs.LeafChanges.{capacity_bounds}
@@ -44,6 +44,35 @@ tree_some N (suc g) least at le wide tree =
     let half : 1 ≤ (N at).half = wide at (omega (arith, times-append at (at ∷ []) (flat (nodes_under N g) (entries (N at))), times_here at [])) in
     let some = tree_some N g (N at).half first half (λ j there. wide j (omega (arith, there, times-append j (at ∷ []) (flat (nodes_under N g) (entries (N at))), times-append j (nodes_under N g first) rest))) tree.1.0 in
     omega (arith, some, length-append (items_under N g first) (flat (items_under N g) (map entry (N at).items)))
+
+pub trees_some : (N : ℕ → Node) (h half : ℕ) (es : List Entry) → 1 ≤ half → AreWide N (flat (nodes_under N h) es) → Each (IsTreeIn N h half) es → Each (λ i. 0 < length (items_under N h i)) es
+trees_some N h half [] le wide trees = tt
+trees_some N h half (e ∷ es) le wide trees = (
+  tree_some N h half e.child le (λ j there. wide j (omega (arith, there, times-append j (nodes_under N h e.child) (flat (nodes_under N h) es)))) trees.0,
+  trees_some N h half es le (λ j there. wide j (omega (arith, there, times-append j (nodes_under N h e.child) (flat (nodes_under N h) es)))) trees.1,
+)
+
+-- what holds of a page below one of these entries
+in_row : (N : ℕ → Node) (g half j : ℕ) (es : List Entry) → ((n : ℕ) → AreWide N (nodes_under N g n) → IsTreeIn N g half n → 1 ≤ times j (nodes_under N g n) → 1 ≤ length (N j).items) → AreWide N (flat (nodes_under N g) es) → Each (IsTreeIn N g half) es → 1 ≤ times j (flat (nodes_under N g) es) → 1 ≤ length (N j).items
+in_row N g half j [] deeper wide trees here = absurd (omega (arith, here))
+in_row N g half j (e ∷ es) deeper wide trees here = elim (cases_lt 0 (times j (nodes_under N g e.child))) [
+  | inl lt ↦ deeper e.child (λ k more. wide k (omega (arith, more, times-append k (nodes_under N g e.child) (flat (nodes_under N g) es)))) trees.0 (omega (arith, lt))
+  | inr none ↦ in_row N g half j es deeper (λ k more. wide k (omega (arith, more, times-append k (nodes_under N g e.child) (flat (nodes_under N g) es)))) trees.1 (omega (arith, none, here, times-append j (nodes_under N g e.child) (flat (nodes_under N g) es)))
+]
+
+-- each page of a tree has an item
+pub page_some : (N : ℕ → Node) (h least at j : ℕ) → 1 ≤ least → AreWide N (nodes_under N h at) → IsTreeIn N h least at → 1 ≤ times j (nodes_under N h at) → 1 ≤ length (N j).items
+page_some N zero least at j le wide tree there = elim (cases_eq at j) [
+  | inl e ↦ subst (λ n. 1 ≤ length (N n).items) e (omega (arith, le, tree.full))
+  | inr ne ↦ absurd (omega (arith, there, times_other j at [] ne))
+]
+page_some N (suc g) least at j le wide tree there = elim (cases_eq at j) [
+  | inl e ↦ subst (λ n. 1 ≤ length (N n).items) e (omega (arith, le, tree.0.full))
+  | inr ne ↦ in_row N g (N at).half j (entries (N at)) (λ n w t h. page_some N g (N at).half n j half w t h) (λ k more. wide k (omega (arith, more, times-append k (at ∷ []) (flat (nodes_under N g) (entries (N at)))))) tree.1 (omega (arith, there, times_other j at (flat (nodes_under N g) (entries (N at))) ne))
+]
+  where
+    half : 1 ≤ (N at).half
+    half = wide at (omega (arith, times-append at (at ∷ []) (flat (nodes_under N g) (entries (N at))), times_here at []))
 
 -- the pages of a tree that are there have room for items
 pub wide_tree : (p : Paged) (h least at : ℕ) → IsSound p → AllReadable p → HasMeta p → IsTreeIn (nodes_in p.pages) h least at → AreWide (nodes_in p.pages) (nodes_under (nodes_in p.pages) h at)

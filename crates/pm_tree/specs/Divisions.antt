@@ -15,6 +15,7 @@ use Rattle.pm_tree.specs.Nodes.{nodes_in}
 use Rattle.pm_tree.specs.Puts.{IsSpare}
 use Rattle.pm_pages.specs.SpareChains.{MovesSpare}
 use Rattle.pm_tree.specs.Sound.{CanTake}
+use Rattle.pm_tree.specs.Stored.{KeepsStored, KeepsMeta}
 use Rattle.pm_tree.specs.Edits.{blank, IsNode}
 use Rattle.pm_tree.specs.Places.{HasGap}
 
@@ -52,14 +53,17 @@ pub record Divides (T : Type 0) (old new : Paged) (at : ℕ) (page : List ℕ) (
   pub spare : T → IsSpare (nodes_in old.pages right)
   pub added : T → (j : ℕ) → j < page_count new.pages → (j < page_count old.pages) ⊎ (j ≡ right)
   pub moves : T → MovesSpare old.pages new.pages (right ∷ []) []
+  pub meta_passes : T → KeepsMeta old new
 
 -- What a put changed, whatever the pages say: at most so many were asked for that weren't before, and no others
--- changed than were asked for. At most so many were taken.
-pub record PutsPages (T : Type 0) (old new : Paged) (most : ℕ) : Type 0 where
+-- changed than were asked for. At most so many were taken, and where this was given pages that pass their checks do so
+-- still.
+pub record PutsPages (T : Type 0) (old new : Paged) (most : ℕ) (given : Type 0) : Type 0 where
   pub edits : EditsPages T old new (λ j. IsTrue (new.asked j)) most
   pub meta : HasMeta new
   pub numbers : KeepsNumbers old new
   pub takes : T → (limit left : ℕ) → CanTake limit old (most + left) → CanTake limit new left
+  pub passes : T → given → KeepsStored old new most
 
 -- a leaf was divided, and the new one stands after it
 pub record PartsLeaf (T : Type 0) (old new : Paged) (at : ℕ) (page : List ℕ) (cut right : ℕ) : Type 0 where
@@ -74,6 +78,7 @@ pub record PartsLeaf (T : Type 0) (old new : Paged) (at : ℕ) (page : List ℕ)
   pub spare : T → IsSpare (nodes_in old.pages right)
   pub added : T → (j : ℕ) → j < page_count new.pages → (j < page_count old.pages) ⊎ (j ≡ right)
   pub moves : T → MovesSpare old.pages new.pages (right ∷ []) []
+  pub meta_passes : T → KeepsMeta old new
 
 -- a leaf that is at hand has no room for a key, which would stand before item i
 pub record IsFullLeaf (p : Paged) (at : ℕ) (key : List ℕ) (i : ℕ) : Type 0 where

@@ -19,6 +19,7 @@ use Rattle.pm_tree.specs.Puts.{IsSpare, half_of}
 use Rattle.pm_pages.specs.SpareChains.{MovesSpare}
 use Rattle.pm_tree.specs.Edits.{IsNode}
 use Rattle.pm_tree.specs.Divisions.{KeepsNumbers}
+use Rattle.pm_tree.specs.Stored.{KeepsMeta}
 
 -- an inner page, whose keys before place i are below the key, and those from it on above
 pub record IsParent (page key : List ℕ) (i : ℕ) : Type 0 where
@@ -88,6 +89,7 @@ pub record Forks (T : Type 0) (old new : Paged) (at i : ℕ) (part forked : Part
   pub spare : T → IsSpare (nodes_in old.pages forked.right)
   pub added : T → (j : ℕ) → j < page_count new.pages → (j < page_count old.pages) ⊎ (j ≡ forked.right)
   pub moves : T → MovesSpare old.pages new.pages (forked.right ∷ []) []
+  pub meta_passes : T → KeepsMeta old new
 
 -- what became of the inner page
 abbrev pub TakesChild : Type 0 → Paged → Paged → ℕ → ℕ → Part → Put → Type 0

@@ -74,7 +74,7 @@ abbrev pub IsKept : Put → Type 0
 IsKept (Kept was) = Unit {0}
 IsKept (Split part) = ⊥
 
--- a page that was divided has fewer levels than so many
+-- a page that was divided has fewer levels than so many, and the new page isn't the first
 abbrev pub HasLevels : ℕ → Put → Type 0
 HasLevels limit (Kept was) = Unit {0}
-HasLevels limit (Split part) = part.levels < limit
+HasLevels limit (Split part) = (part.levels < limit) × (1 ≤ part.right)

@@ -25,6 +25,7 @@ use Rattle.pm_tree.specs.Indexes.{IsIndex, link_in}
 use Rattle.pm_tree.specs.Puts.{IsSpare}
 use Rattle.pm_pages.specs.SpareChains.{MovesSpare}
 use Rattle.pm_tree.specs.Sound.{CanTake}
+use Rattle.pm_tree.specs.Stored.{KeepsStored, KeepsMeta}
 use Rattle.pm_tree.specs.Edits.{blank, IsNode}
 use Rattle.pm_tree.specs.PutCauses.{IsPutFaultAfter}
 
@@ -46,6 +47,7 @@ pub record MakesRoot (T : Type 0) (old new : Paged) (cache : ℕ) (first : Optio
   pub spare : T → IsSpare (nodes_in old.pages top)
   pub added : T → (j : ℕ) → j < page_count new.pages → (j < page_count old.pages) ⊎ (j ≡ top)
   pub moves : T → MovesSpare old.pages new.pages (top ∷ []) []
+  pub meta_passes : T → KeepsMeta old new
 
 -- A put into the index of a cache that had these pages and items: it has the items of the put. The pages `made`
 -- are new in it, of no tree before, and were taken from the reuse chain or follow the last page. Besides the
@@ -64,13 +66,14 @@ pub record PutsIndex (old new : Partition) (cache : ℕ) (nodes : List ℕ) (ite
   pub numbers : (slot : MetaSlot) → IsSlot slot → slot ≢ Reuse → slot ≢ Pages → slot ≢ Root cache → number_in new slot ≡ number_in old slot
   pub moves : MovesSpare old new made []
 
--- what a put changed: at most so many pages were asked for that weren't before, and no others changed than were asked
--- for
-pub record PutsRootPages (T : Type 0) (old new : Paged) (cache most : ℕ) : Type 0 where
+-- What a put changed: at most so many pages were asked for that weren't before, and no others changed than were asked
+-- for. Where this was given pages that pass their checks do so still.
+pub record PutsRootPages (T : Type 0) (old new : Paged) (cache most : ℕ) (given : Type 0) : Type 0 where
   pub edits : EditsPages T old new (λ j. IsTrue (new.asked j)) most
   pub meta : HasMeta new
   pub numbers : KeepsButRoot old new cache
   pub takes : T → (limit left : ℕ) → CanTake limit old (most + left) → CanTake limit new left
+  pub passes : T → given → KeepsStored old new most
 
 -- the tree has as many levels as it may have, and all pages on the way are full; the root has this name
 pub record IsTooTall (T : Type 0) (p : Paged) (cache : ℕ) (id : PageId) : Type 0 where
@@ -88,7 +91,9 @@ pub record HasTreePutCause {R : Type 0} (T : Type 0) (old new : Paged) (cache : 
 pub record MakesTop (T : Type 0) (old new : Paged) (cache root : ℕ) (part : Part) : Type 0 where
   pub first : PageId
   pub second : PageId
+  pub first_name : first ≡ page_id old.part root
   pub first_is : index_in first.0 ≡ root
+  pub second_name : second ≡ page_id old.part part.right
   pub second_is : index_in second.0 ≡ part.right
   pub makes : MakesRoot T old new cache (Some first) part.from second.0
 

@@ -4,6 +4,7 @@ ghost use Rattle.std.specs.Prelude.{◌≡◌, ◌≢◌, ℕ, ◌+◌, ◌-◌,
 ghost use Rattle.std.specs.Prelude.{true, [], length};
 ghost use Rattle.pm_types.specs.Keys.{HasKeyLength};
 ghost use Rattle.pm_btpage.specs.IndexPages.{items_of, index_of, key_in, word_in, capacity_of, IsIndexPage};
+ghost use Rattle.pm_btpage.specs.Stored.{IsLink};
 ghost use Rattle.pm_pages.specs.Paged.{AllReadable, IsInHand};
 ghost use Rattle.pm_pages.specs.Edits.{LooksAtPages, HasMeta, IsNumberIn, HasDiskCause};
 ghost use Rattle.pm_pages.specs.SparePages.{HasTakeCause};
@@ -11,7 +12,8 @@ ghost use Rattle.pm_tree.specs.declared.edits.Edit.TheVariants.{Next, Insert};
 ghost use Rattle.pm_tree.specs.Sound.{NoBadPage, MayTake};
 ghost use Rattle.pm_tree.specs.Edits.{TakesEdit};
 ghost use Rattle.pm_tree.specs.Divisions.{CanDivide, LinksLeaves, PartsLeaf, PutsPages, IsFullLeaf};
-ghost use Rattle.pm_tree.specs.Puts.{PutsFor, IsKept, HasLevels, half_of, IsMiddle};
+ghost use Rattle.pm_tree.specs.Puts.{PutsFor, HasLevels, half_of, IsMiddle};
+ghost use Rattle.pm_tree.specs.StoredPuts.{KeepsPage};
 ghost use Rattle.pm_tree.specs.declared.put.Put.TheVariants.{Split};
 ghost use Rattle.pm_tree.specs.Places.{IsPlaceIn};
 ghost use Rattle.pm_tree.specs.declared.places.Place.TheVariants.{Held, Gap};
@@ -121,10 +123,12 @@ pub fn set_item<P: Pages>(
     requires below { (n : ℕ) → IsNumberIn (P.seen pages.old) Pages n → at < n }
     ensures kept { P.kept pages.old pages.new }
     ensures readable { AllReadable (P.seen pages.new) }
-    ensures changes { OnOk result (PutsPages P.tells (P.seen pages.old) (P.seen pages.new) 0) }
+    ensures changes { OnOk result (PutsPages P.tells (P.seen pages.old) (P.seen pages.new) 0
+        (IsLink (P.seen pages.old).part word)) }
     ensures puts { IfOk result (λ put. P.tells → (limit : ℕ)
         → PutsFor (P.seen pages.old).pages (P.seen pages.new).pages (half_of (P.seen pages.old).page_size) limit at key.now word put) }
-    ensures keeps { IfOk result IsKept }
+    ensures keeps { IfOk result (λ put. P.tells → KeepsPage (P.seen pages.old) (P.seen pages.new)
+        (IsLink (P.seen pages.old).part word) put) }
     ensures levels { IfOk result (HasLevels 1) }
     ensures cause { HasDiskCause (P.seen pages.old) (P.seen pages.new).faults result }
 {
@@ -148,7 +152,8 @@ pub fn add_item<P: Pages>(
     requires below { (n : ℕ) → IsNumberIn (P.seen pages.old) Pages n → at < n }
     ensures kept { P.kept pages.old pages.new }
     ensures readable { AllReadable (P.seen pages.new) }
-    ensures changes { OnOk result (PutsPages P.tells (P.seen pages.old) (P.seen pages.new) 0) }
+    ensures changes { OnOk result (PutsPages P.tells (P.seen pages.old) (P.seen pages.new) 0
+        (IsLink (P.seen pages.old).part word)) }
     ensures puts { IfOk result (λ put. P.tells → (limit : ℕ)
         → PutsFor (P.seen pages.old).pages (P.seen pages.new).pages (half_of (P.seen pages.old).page_size) limit at key.now word put) }
     ensures levels { IfOk result (HasLevels 1) }
@@ -174,7 +179,8 @@ pub fn split_leaf<P: Pages>(
     requires leaf { IsFullLeaf (P.seen pages.old) at key.now i }
     ensures kept { P.kept pages.old pages.new }
     ensures readable { AllReadable (P.seen pages.new) }
-    ensures changes { OnOk result (PutsPages P.tells (P.seen pages.old) (P.seen pages.new) 1) }
+    ensures changes { OnOk result (PutsPages P.tells (P.seen pages.old) (P.seen pages.new) 1
+        (IsLink (P.seen pages.old).part word)) }
     ensures puts { IfOk result (λ put. P.tells → (limit : ℕ)
         → PutsFor (P.seen pages.old).pages (P.seen pages.new).pages (half_of (P.seen pages.old).page_size) limit at key.now word put) }
     ensures levels { IfOk result (HasLevels 1) }
@@ -208,7 +214,8 @@ fn split_left<P: Pages>(
     requires side { i ≤ cut }
     ensures kept { P.kept pages.old pages.new }
     ensures readable { AllReadable (P.seen pages.new) }
-    ensures changes { OnOk result (PutsPages P.tells (P.seen pages.old) (P.seen pages.new) 1) }
+    ensures changes { OnOk result (PutsPages P.tells (P.seen pages.old) (P.seen pages.new) 1
+        (IsLink (P.seen pages.old).part word)) }
     ensures puts { IfOk result (λ put. P.tells → (limit : ℕ)
         → PutsFor (P.seen pages.old).pages (P.seen pages.new).pages (half_of (P.seen pages.old).page_size) limit at key.now word put) }
     ensures levels { IfOk result (HasLevels 1) }
@@ -240,7 +247,8 @@ fn split_right<P: Pages>(
     requires side { cut < i }
     ensures kept { P.kept pages.old pages.new }
     ensures readable { AllReadable (P.seen pages.new) }
-    ensures changes { OnOk result (PutsPages P.tells (P.seen pages.old) (P.seen pages.new) 1) }
+    ensures changes { OnOk result (PutsPages P.tells (P.seen pages.old) (P.seen pages.new) 1
+        (IsLink (P.seen pages.old).part word)) }
     ensures puts { IfOk result (λ put. P.tells → (limit : ℕ)
         → PutsFor (P.seen pages.old).pages (P.seen pages.new).pages (half_of (P.seen pages.old).page_size) limit at key.now word put) }
     ensures levels { IfOk result (HasLevels 1) }

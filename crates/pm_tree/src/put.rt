@@ -5,6 +5,7 @@ ghost use Rattle.std.specs.Prelude.{IsTrue, length};
 ghost use Rattle.pm_types.specs.Keys.{HasKeyLength};
 ghost use Rattle.pm_meta.specs.declared.slots.MetaSlot.TheVariants.{Pages};
 ghost use Rattle.pm_btpage.specs.IndexPages.{items_of, capacity_of};
+ghost use Rattle.pm_btpage.specs.Stored.{IsLink};
 ghost use Rattle.pm_pages.specs.Paged.{AllReadable};
 ghost use Rattle.pm_pages.specs.SparePages.{HasTakeCause};
 ghost use Rattle.pm_pages.specs.Edits.{HasMeta, IsNumberIn};
@@ -12,6 +13,7 @@ ghost use Rattle.pm_tree.specs.Steps.{IsPath};
 ghost use Rattle.pm_tree.specs.Divisions.{PutsPages};
 ghost use Rattle.pm_tree.specs.Puts.{PutsFor, IsKept, HasLevels, half_of};
 ghost use Rattle.pm_tree.specs.Indexes.{AnswersFrom};
+ghost use Rattle.pm_tree.specs.StoredPuts.{KeepsPage};
 ghost use Rattle.pm_tree.specs.Sound.{NoBadPage, MayTake};
 ghost use Rattle.pm_tree.specs.SoundPuts.{MayPut, MayTakeChild};
 ghost use Rattle.pm_tree.specs.declared.put.Part.{Part};
@@ -68,13 +70,15 @@ pub fn put_at<P: Pages>(
     requires path { IsPath (P.seen pages.old) cache (8 - levels) from at }
     ensures kept { P.kept pages.old pages.new }
     ensures readable { AllReadable (P.seen pages.new) }
-    ensures changes { OnOk result (PutsPages P.tells (P.seen pages.old) (P.seen pages.new) (2 * levels)) }
+    ensures changes { OnOk result (PutsPages P.tells (P.seen pages.old) (P.seen pages.new) (2 * levels)
+        (IsLink (P.seen pages.old).part word)) }
     ensures puts { IfOk result (λ put. P.tells
         → PutsFor (P.seen pages.old).pages (P.seen pages.new).pages (half_of (P.seen pages.old).page_size) levels at key.now word put) }
     ensures levels { IfOk result (HasLevels levels) }
     ensures cause { HasPutCause P.tells (P.seen pages.old) (P.seen pages.new) cache result }
     ensures keeps { P.tells → (held : ℕ)
-        → AnswersFrom (P.seen pages.old).pages key.now levels at (Some held) → IfOk result IsKept }
+        → AnswersFrom (P.seen pages.old).pages key.now levels at (Some held)
+        → IfOk result (KeepsPage (P.seen pages.old) (P.seen pages.new) (IsLink (P.seen pages.old).part word)) }
     ensures sound { MayPut P.tells (P.seen pages.old) levels at key.now → NoBadPage result }
 {
     if levels == 0 {
@@ -105,11 +109,11 @@ fn lift<P: Pages>(pages: &mut P, at: u32, i: u16, put: Put) -> Result<Put, PageF
     requires levels { HasLevels 8 put }
     ensures kept { P.kept pages.old pages.new }
     ensures readable { AllReadable (P.seen pages.new) }
-    ensures changes { OnOk result (PutsPages P.tells (P.seen pages.old) (P.seen pages.new) 1) }
+    ensures changes { OnOk result (PutsPages P.tells (P.seen pages.old) (P.seen pages.new) 1 (Unit {0})) }
     ensures lifts { IfOk result (Lifts P.tells (P.seen pages.old) (P.seen pages.new) at i put) }
     ensures levels { IfOk result (λ lifted. (limit : ℕ) → HasLevels limit put → HasLevels (limit + 1) lifted) }
     ensures cause { (cache : ℕ) → HasPutCause P.tells (P.seen pages.old) (P.seen pages.new) cache result }
-    ensures keeps { IsKept put → IfOk result IsKept }
+    ensures keeps { IsKept put → IfOk result (KeepsPage (P.seen pages.old) (P.seen pages.new) (Unit {0})) }
     ensures sound { ((part : Part) → put ≡ Split part → MayTakeChild P.tells (P.seen pages.old) at i part)
         → NoBadPage result }
 {
@@ -130,9 +134,10 @@ fn take_child<P: Pages>(pages: &mut P, at: u32, i: u16, part: Part) -> Result<Pu
     requires some { 1 ≤ at }
     requires below { (n : ℕ) → IsNumberIn (P.seen pages.old) Pages n → at < n }
     requires levels { part.levels < 8 }
+    requires right { 1 ≤ part.right }
     ensures kept { P.kept pages.old pages.new }
     ensures readable { AllReadable (P.seen pages.new) }
-    ensures changes { OnOk result (PutsPages P.tells (P.seen pages.old) (P.seen pages.new) 1) }
+    ensures changes { OnOk result (PutsPages P.tells (P.seen pages.old) (P.seen pages.new) 1 (Unit {0})) }
     ensures takes { IfOk result (TakesChild P.tells (P.seen pages.old) (P.seen pages.new) at i part) }
     ensures levels { IfOk result (λ put. (limit : ℕ) → part.levels < limit → HasLevels (limit + 1) put) }
     ensures cause { (cache : ℕ) → HasPutCause P.tells (P.seen pages.old) (P.seen pages.new) cache result }
@@ -150,10 +155,11 @@ fn take_with_room<P: Pages>(pages: &mut P, at: u32, i: u16, part: &Part) -> Resu
     requires meta { HasMeta (P.seen pages.old) }
     requires readable { AllReadable (P.seen pages.old) }
     requires parent { IsParentAt (P.seen pages.old) at part.now.from i }
+    requires right { 1 ≤ part.now.right }
     requires space { (page : List ℕ) → (P.seen pages.old).pages at ≡ Some page → length (items_of page) < capacity_of (length page) }
     ensures kept { P.kept pages.old pages.new }
     ensures readable { AllReadable (P.seen pages.new) }
-    ensures changes { OnOk result (PutsPages P.tells (P.seen pages.old) (P.seen pages.new) 1) }
+    ensures changes { OnOk result (PutsPages P.tells (P.seen pages.old) (P.seen pages.new) 1 (Unit {0})) }
     ensures takes { IfOk result (TakesChild P.tells (P.seen pages.old) (P.seen pages.new) at i part.now) }
     ensures levels { IfOk result (λ put. (limit : ℕ) → HasLevels limit put) }
     ensures cause { HasTakeCause P.tells (P.seen pages.old) (P.seen pages.new) result }
@@ -171,9 +177,10 @@ fn take_without_room<P: Pages>(pages: &mut P, at: u32, i: u16, part: Part) -> Re
     requires parent { IsParentAt (P.seen pages.old) at part.from i }
     requires full { (page : List ℕ) → (P.seen pages.old).pages at ≡ Some page → capacity_of (length page) ≤ length (items_of page) }
     requires levels { part.levels < 8 }
+    requires right { 1 ≤ part.right }
     ensures kept { P.kept pages.old pages.new }
     ensures readable { AllReadable (P.seen pages.new) }
-    ensures changes { OnOk result (PutsPages P.tells (P.seen pages.old) (P.seen pages.new) 1) }
+    ensures changes { OnOk result (PutsPages P.tells (P.seen pages.old) (P.seen pages.new) 1 (Unit {0})) }
     ensures takes { IfOk result (TakesChild P.tells (P.seen pages.old) (P.seen pages.new) at i part) }
     ensures levels { IfOk result (λ put. (limit : ℕ) → part.levels < limit → HasLevels (limit + 1) put) }
     ensures cause { HasTakeCause P.tells (P.seen pages.old) (P.seen pages.new) result }

@@ -6,6 +6,7 @@ ghost use Rattle.std.specs.Option.{option_map};
 ghost use Rattle.pm_types.specs.declared.limits.TheConstants.{CACHES};
 ghost use Rattle.pm_types.specs.Keys.{HasKeyLength};
 ghost use Rattle.pm_btpage.specs.IndexPages.{Item};
+ghost use Rattle.pm_btpage.specs.Stored.{IsLink};
 ghost use Rattle.pm_meta.specs.declared.slots.MetaSlot.TheVariants.{Root, Pages};
 ghost use Rattle.pm_pages.specs.Trees.{root_of};
 ghost use Rattle.pm_pages.specs.Paged.{AllReadable};
@@ -15,6 +16,8 @@ ghost use Rattle.pm_types.specs.declared.page_id.Link.{Link};
 ghost use Rattle.pm_tree.specs.Indexes.{IsIndex, link_in};
 ghost use Rattle.pm_tree.specs.Sound.{PassesAll, NoBadPage, MayTake};
 ghost use Rattle.pm_tree.specs.SoundPuts.{HasSparePages, MayPutBelow};
+ghost use Rattle.pm_tree.specs.Stored.{IsStored};
+ghost use Rattle.pm_tree.specs.StoredPuts.{MayPutKey};
 ghost use Rattle.pm_tree.specs.Roots.{MakesRoot, MakesTop, PutsIndex, PutsRootPages, HasGrowCause};
 ghost use Rattle.pm_tree.specs.Roots.{HasTreePutCause};
 
@@ -32,7 +35,8 @@ use pm_types::{Link, PageFault, PageId};
 /// wrong one: on the way from the root, the meta page where it names no page that can be taken, a page without
 /// a place for a child that was divided; or the root of a tree that has as many levels as it may have. Where
 /// the key is there in a tree whose pages pass their checks none is bad; and where it isn't there, none is bad if 17
-/// more pages can be taken. After an error the pages that were asked for may be half changed.
+/// more pages can be taken. Then, after `Ok`, all pages pass their checks still, where the link names a row of a page of
+/// this partition. After an error the pages that were asked for may be half changed.
 pub fn tree_put<P: Pages>(
     pages: &mut P,
     cache: u8,
@@ -47,7 +51,8 @@ pub fn tree_put<P: Pages>(
     requires readable { AllReadable (P.seen pages.old) }
     ensures kept { P.kept pages.old pages.new }
     ensures readable { AllReadable (P.seen pages.new) }
-    ensures changes { OnOk result (PutsRootPages P.tells (P.seen pages.old) (P.seen pages.new) cache 17) }
+    ensures changes { OnOk result (PutsRootPages P.tells (P.seen pages.old) (P.seen pages.new) cache 17
+        (IsLink (P.seen pages.old).part link.0)) }
     ensures puts { IfOk result (λ was. P.tells → (height : ℕ) (nodes : List ℕ) (items : List Item)
         → IsIndex (P.seen pages.old).pages (root_of (P.seen pages.old).pages cache) height nodes items
         → PutsIndex (P.seen pages.old).pages (P.seen pages.new).pages cache nodes items key.now link.0 was) }
@@ -59,7 +64,10 @@ pub fn tree_put<P: Pages>(
         → (height : ℕ) (nodes : List ℕ) (items : List Item)
         → IsIndex (P.seen pages.old).pages (root_of (P.seen pages.old).pages cache) height nodes items
         → length items ≤ (P.seen pages.old).max_rows → NoBadPage result }
+    ensures passes { OnOk result (P.tells → IsLink (P.seen pages.old).part link.0
+        → MayPutKey (P.seen pages.old) cache key.now → PassesAll (P.seen pages.new)) }
 {
+    let _part = pages.part();
     let root = number(pages, MetaSlot::Root(cache))?;
     if root == 0 {
         plant(pages, cache, key, link)
@@ -84,7 +92,8 @@ fn plant<P: Pages>(
     requires root { IsNumberIn (P.seen pages.old) (Root cache) 0 }
     ensures kept { P.kept pages.old pages.new }
     ensures readable { AllReadable (P.seen pages.new) }
-    ensures changes { OnOk result (PutsRootPages P.tells (P.seen pages.old) (P.seen pages.new) cache 17) }
+    ensures changes { OnOk result (PutsRootPages P.tells (P.seen pages.old) (P.seen pages.new) cache 17
+        (IsLink (P.seen pages.old).part link.0)) }
     ensures puts { IfOk result (λ was. P.tells → (height : ℕ) (nodes : List ℕ) (items : List Item)
         → IsIndex (P.seen pages.old).pages 0 height nodes items
         → PutsIndex (P.seen pages.old).pages (P.seen pages.new).pages cache nodes items key.now link.0 was) }
@@ -113,7 +122,8 @@ fn put_below<P: Pages>(
     requires some { root ≢ 0 }
     ensures kept { P.kept pages.old pages.new }
     ensures readable { AllReadable (P.seen pages.new) }
-    ensures changes { OnOk result (PutsRootPages P.tells (P.seen pages.old) (P.seen pages.new) cache 17) }
+    ensures changes { OnOk result (PutsRootPages P.tells (P.seen pages.old) (P.seen pages.new) cache 17
+        (IsLink (P.seen pages.old).part link.0)) }
     ensures puts { IfOk result (λ was. P.tells → (height : ℕ) (nodes : List ℕ) (items : List Item)
         → IsIndex (P.seen pages.old).pages root height nodes items
         → PutsIndex (P.seen pages.old).pages (P.seen pages.new).pages cache nodes items key.now link.0 was) }
@@ -121,6 +131,10 @@ fn put_below<P: Pages>(
     ensures sound { P.tells → PassesAll (P.seen pages.old) → (height : ℕ) (nodes : List ℕ) (items : List Item)
         → IsIndex (P.seen pages.old).pages root height nodes items
         → (held : Link) → link_in items key.now ≡ Some held → NoBadPage result }
+    ensures passes { OnOk result (P.tells → (height : ℕ) (nodes : List ℕ) (items : List Item)
+        → IsIndex (P.seen pages.old).pages root height nodes items
+        → (held : Link) → link_in items key.now ≡ Some held
+        → IsLink (P.seen pages.old).part link.0 → IsStored (P.seen pages.old) → IsStored (P.seen pages.new)) }
     ensures sound_with_room { MayPutBelow P.tells (P.seen pages.old) root → NoBadPage result }
 {
     let count = number(pages, MetaSlot::Pages)?;

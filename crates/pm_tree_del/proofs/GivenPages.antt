@@ -7,7 +7,7 @@ use Rattle.pm_meta.specs.declared.slots.MetaSlot.TheVariants.{Reuse}
 use Rattle.pm_pages.specs.Rows.{Partition, bytes_of, page_at, number_in, page_count, kind_of}
 use Rattle.pm_pages.specs.Chains.{times, reuse_next_of, reuse_chain}
 use Rattle.pm_pages.specs.SpareChains.{HasSpare, MovesSpare}
-use Rattle.pm_pages.proofs.ChainWalks.{stands}
+use Rattle.pm_pages.proofs.ChainWalks.{stands, times-append, times_other}
 use Rattle.pm_pages.proofs.SpareMoves.{moves_then, moves_none, moves_given, same_chain, chain_now}
 use Rattle.pm_tree_del.specs.Given.{GivesBack}
 
@@ -16,6 +16,11 @@ gives_then a b c given given' x y = record {
   count = y.count ∙ x.count;
   moves = moves_then a b c [] [] given given' x.moves y.moves;
   chain = λ h. y.chain (x.moves.sound h) ∙ ap (λ t. given' ++ t) (x.chain h) ∙ sym (append_assoc given' given (reuse_chain a));
+  reuse = λ j there. elim (cases_lt 0 (times j given')) [
+    | inl lt ↦ y.reuse j (omega (arith, lt))
+    | inr none ↦ (let was = x.reuse j (omega (arith, there, none, times-append j given' given)) in (was.0, y.stays j was.0 was.1))
+  ];
+  stays = λ j some kind. y.stays j some (x.stays j some kind);
 }
 
 -- a page that is none of the chain's, before or after
@@ -39,6 +44,8 @@ gives_none a b first count each = record {
   count = count;
   moves = moves_none a b first count (λ j some. next_stays (page_at a j) (page_at b j) (each j some)) (λ j some. kind_stays (page_at a j) (page_at b j) (each j some));
   chain = λ h. same_chain a b first count (λ j some. next_stays (page_at a j) (page_at b j) (each j some)) (λ j some. kind_stays (page_at a j) (page_at b j) (each j some));
+  reuse = λ j there. absurd (omega (arith, there));
+  stays = λ j some kind. kind_stays (page_at a j) (page_at b j) (each j (λ e. omega (arith, e, some))) kind;
 }
 
 -- One page was given back, and others changed that are none of the chain's. Between the two no page was given back.
@@ -84,6 +91,14 @@ module _ (a b : Partition) (i head : ℕ) (some : 1 ≤ i) (below : i < page_cou
     count = count;
     moves = record { count = omega (arith, count); sound = λ h. (moves_by h).sound h; moved = λ h. (moves_by h).moved h; room = λ h. (moves_by h).room h };
     chain = λ h. chain_now mid b i head some below (away h) first count first' kind names mid_same h;
+    reuse = λ j there. elim (cases_eq i j) [
+      | inl e ↦ subst (λ n. (1 ≤ n) × (kind_of (page_at b n) ≡ REUSE_KIND)) e (some, kind)
+      | inr ne ↦ absurd (omega (arith, there, times_other j i [] ne))
+    ];
+    stays = λ j some_j is. elim (cases_eq j i) [
+      | inl e ↦ subst (λ n. kind_of (page_at b n) ≡ REUSE_KIND) (sym e) kind
+      | inr ne ↦ ap kind_of (mid_same j (λ z. omega (arith, z, some_j)) ne) ∙ is
+    ];
   }
 
   pub gives_one : GivesBack a b (i ∷ [])

@@ -3,6 +3,8 @@ pub mod GivenPages
 pub mod IndexCalls
 pub mod MendedNodes
 pub mod MendedTrees
+pub mod NearlyMended
+pub mod NearlyStored
 pub mod PairSwaps
 pub mod PairTrees
 pub mod ParentTrees
@@ -17,4 +19,5 @@ pub mod SharedPages
 pub mod SoundRemovals
 pub mod SoundRows
 pub mod Stands
+pub mod StoredRemovals
 pub mod WrittenPages

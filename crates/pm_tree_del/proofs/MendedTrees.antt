@@ -37,7 +37,8 @@ use Rattle.pm_tree_del.specs.Given.{GivesBack}
 use Rattle.pm_tree_del.specs.Mending.{IsOfFamily, MergesPages, SharesPages}
 use Rattle.pm_tree_del.proofs.EditedItems.{length_without}
 use Rattle.pm_tree_del.proofs.Stands.{IsAbove, Two, two_of}
-use Rattle.pm_tree_del.proofs.SoundRows.{above_then, between_row, AreWide, trees_some, leaves_apart}
+use Rattle.pm_tree.proofs.PartedKeys.{AreWide, trees_some}
+use Rattle.pm_tree_del.proofs.SoundRows.{above_then, between_row, leaves_apart}
 use Rattle.pm_tree_del.proofs.SharedItems.{joined_after_key, joined_before}
 use Rattle.pm_tree_del.proofs.RowSwaps.{RowSwap}
 use Rattle.pm_tree_del.proofs.PairTrees.{two, one, PairSwap, all_from, all_upto}

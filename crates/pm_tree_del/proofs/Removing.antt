@@ -36,6 +36,9 @@ use Rattle.pm_tree.specs.Sound.{IsSound, HasTree}
 use Rattle.pm_tree_del.specs.Sound.{CanBeMended}
 use Rattle.pm_tree_del.proofs.RemovedTrees.{child_tree, child_once, get_here, kept_up, can_be_mended, mended_as}
 use Rattle.pm_tree.proofs.SoundPages.{sound_edited, sound_looked}
+use Rattle.pm_tree_del.specs.Stored.{AreNearlyStored}
+use Rattle.pm_tree_del.proofs.NearlyStored.{nearly_looked}
+use Rattle.pm_tree_del.proofs.NearlyMended.{mended_nearly}
 
 -- a page that is at hand
 there_at : (p : Paged) (j i : ℕ) → j ≡ i → IsTrue (p.known i) → IsThere p i → IsTrue (p.known j) × IsThere p j
@@ -59,6 +62,7 @@ changes_then T a b c m n k le x y = record {
   meta = y.meta;
   numbers = keeps_then a b c x.numbers y.numbers;
   sound = λ t h. y.sound t (x.sound t h);
+  passes = λ t near. y.passes t (x.passes t near);
 }
 
 pub changes_looked : (T : Type 0) (a b : Paged) (m : ℕ) → HasMeta a → LooksAtPages T a b m → RemovesPages T a b m
@@ -67,25 +71,27 @@ changes_looked T a b m meta looks = record {
   meta = meta_looked T a b m looks meta;
   numbers = record { others = λ slot is_slot ne n is. number_looked T a b m slot n looks is };
   sound = λ t h. sound_looked T a b m t looks h;
+  passes = λ t near. nearly_looked T a b m t looks near;
 }
 
 pub changes_more : (T : Type 0) (a b : Paged) (m n : ℕ) → m ≤ n → RemovesPages T a b m → RemovesPages T a b n
-changes_more T a b m n le x = record { edits = edits_more T a b (λ j. IsTrue (b.asked j)) (λ j. IsTrue (b.asked j)) m n (λ j h. h) le x.edits; meta = x.meta; numbers = x.numbers; sound = x.sound }
+changes_more T a b m n le x = record { edits = edits_more T a b (λ j. IsTrue (b.asked j)) (λ j. IsTrue (b.asked j)) m n (λ j h. h) le x.edits; meta = x.meta; numbers = x.numbers; sound = x.sound; passes = x.passes }
 
 -- one page was changed, which was asked for
-pub changes_one : (T : Type 0) (a c : Paged) (at : ℕ) (now : List ℕ) → 1 ≤ at → HasMeta a → IsTrue (a.asked at) → IsTrue (a.known at) → c.pages at ≡ Some now → EditsPages T a c (λ j. j ≡ at) 0 → RemovesPages T a c 0
-changes_one T a c at now some meta asked known here edits =
+pub changes_one : (T : Type 0) (a c : Paged) (at : ℕ) (now : List ℕ) → 1 ≤ at → HasMeta a → IsTrue (a.asked at) → IsTrue (a.known at) → c.pages at ≡ Some now → EditsPages T a c (λ j. j ≡ at) 0 → (T → AreNearlyStored a → AreNearlyStored c) → RemovesPages T a c 0
+changes_one T a c at now some meta asked known here edits pass =
     let out : 0 ≡ at → ⊥ = λ e. omega (arith, e, some) in
     record {
       edits = edits_more T a c (λ j. j ≡ at) (λ j. IsTrue (c.asked j)) 0 0 (λ j e. subst (λ n. IsTrue (c.asked n)) (sym e) (edits.asked at asked)) (omega arith) edits;
       meta = meta_stays T a c (λ j. j ≡ at) 0 edits out meta;
       numbers = keeps_edited T a c (λ j. j ≡ at) 0 edits out;
       sound = λ t h. sound_edited T a c (λ j. j ≡ at) 0 t edits (λ j e. held_at c j at now e (edits.known at known) here) (ap (λ o. number_of o Pages) (edits.others 0 (inl t) out)) h;
+      passes = pass;
     }
 
 -- a child was mended
-pub changes_mended : (T : Type 0) (b c : Paged) (count at i child : ℕ) (few : Bool) → 1 ≤ at → HasMeta b → MendsChild T b c count at i child few → RemovesPages T b c 1
-changes_mended T b c count at i child few some meta mended = by mended.mends.mends.mend mended.mends.mends.written
+pub changes_mended : (T : Type 0) (b c : Paged) (count at i child : ℕ) (few : Bool) → 1 ≤ at → HasMeta b → IsNumberIn b Pages count → MendsChild T b c count at i child few → RemovesPages T b c 1
+changes_mended T b c count at i child few some meta number mended = by mended.mends.mends.mend mended.mends.mends.written
   where
     pair : Pair
     pair = mended.pair
@@ -112,12 +118,14 @@ changes_mended T b c count at i child few some meta mended = by mended.mends.men
           sound = λ t h. sound_edited T b c (λ j. (j ≡ 0) ⊎ IsOfFamily at mended.pair j) 1 t w.0.edits
               (λ j h2. elim h2 [ inl e ↦ there_at c j 0 e w.0.gives.meta.known w.0.gives.meta.there | inr z ↦ family_held mended.mends.mends.parent' mended.mends.mends.left' w.0.gives.page w.0.parent_now w.0.left_now w.0.gives.here j z ])
               (ap (λ o. number_of o Pages) n.after ∙ n.change.1.others Pages tt (λ e. cc e) ∙ sym (ap (λ o. number_of o Pages) n.before)) h;
+          passes = λ t near. mended_nearly T b c count at i child few t some number mended near;
         }
     by Shared w = record {
       edits = edits_more T b c (IsOfFamily at mended.pair) (λ j. IsTrue (c.asked j)) 1 1 mended.mends.asked (omega arith) w.0.edits;
       meta = meta_stays T b c (IsOfFamily at mended.pair) 1 w.0.edits out meta;
       numbers = keeps_edited T b c (IsOfFamily at mended.pair) 1 w.0.edits out;
       sound = λ t h. sound_edited T b c (IsOfFamily at mended.pair) 1 t w.0.edits (family_held mended.mends.mends.parent' mended.mends.mends.left' mended.mends.mends.right' w.0.parent_now w.0.left_now w.0.right_now) (ap (λ o. number_of o Pages) (w.0.edits.others 0 (inl t) out)) h;
+      passes = λ t near. mended_nearly T b c count at i child few t some number mended near;
     }
     by Wrong w = absurd w
 

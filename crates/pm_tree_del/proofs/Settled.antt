@@ -1,6 +1,7 @@
 -- A root that is replaced, and the calls of a removal from an index.
-use Rattle.std.proofs.Common.{◌≡◌, ℕ, zero, suc, ◌+◌, ◌<◌, ◌≤◌, ◌⊎◌, List, refl, sym, ap, subst, ◌∙◌, inl, inr, arith}
+use Rattle.std.proofs.Common.{◌≡◌, ℕ, zero, suc, ◌+◌, ◌<◌, ◌≤◌, ◌⊎◌, List, length, refl, sym, ap, subst, ◌∙◌, inl, inr, arith}
 use Rattle.std.specs.Prelude.{Option, None, IsSome, IsTrue, Result, Err}
+use Rattle.pm_types.specs.declared.limits.TheConstants.{CACHES}
 use Rattle.pm_types.specs.Ids.{page_id}
 use Rattle.pm_types.specs.declared.page_id.PageId.{PageId}
 use Rattle.pm_types.specs.declared.page_id.Link.{Link}
@@ -10,7 +11,7 @@ use Rattle.pm_types.specs.declared.fault.PageFault.TheVariants.{BadPage}
 use Rattle.pm_meta.specs.declared.slots.MetaSlot.{MetaSlot}
 use Rattle.pm_meta.specs.declared.slots.MetaSlot.TheVariants.{Root, Reuse, Pages}
 use Rattle.pm_meta.specs.MetaPages.{field_of}
-use Rattle.pm_pages.specs.Rows.{Partition, number_of}
+use Rattle.pm_pages.specs.Rows.{Partition, number_of, page_count}
 use Rattle.pm_pages.specs.Trees.{root_of}
 use Rattle.pm_pages.specs.Paged.{Paged, IsFirstAbsent}
 use Rattle.pm_pages.specs.Edits.{LooksAtPages, EditsPages, HasMeta, IsNumberIn}
@@ -18,9 +19,13 @@ use Rattle.pm_pages.specs.SparePages.{IsMetaOr, SetsNumber, MetaBecomes, GivesPa
 use Rattle.pm_pages.proofs.EditedPages.{edits_then, edits_more, edits_looked, looks_at_none}
 use Rattle.pm_pages.proofs.TakenPages.{number_looked}
 use Rattle.pm_tree.specs.Steps.{NamesNoNode}
-use Rattle.pm_meta.specs.MetaPages.{IsStoredReuse}
+use Rattle.pm_meta.specs.MetaPages.{IsStoredMeta, IsStoredReuse}
 use Rattle.pm_tree.specs.Indexes.{IsIndex}
+use Rattle.pm_pages.proofs.PassingPages.{count_within}
+use Rattle.pm_tree.proofs.Told.{count_there}
 use Rattle.pm_tree.proofs.Descents.{number_told, pages_told}
+use Rattle.pm_tree_del.proofs.NearlyStored.{nearly_looked}
+use Rattle.pm_tree_del.proofs.NearlyMended.{root_nearly}
 use Rattle.pm_tree.proofs.Divided.{number_is, number_now}
 use Rattle.pm_tree.proofs.NewRoots.{meta_set}
 use Rattle.pm_tree_del.specs.Causes.{RemovesPages, HasRemoveCause}
@@ -38,6 +43,7 @@ replaces_root T a b c cache root child some known asked gives again edits sets =
       edits = edits_more T a c (λ j. IsMetaOr root j ⊎ (j ≡ 0)) (λ j. (j ≡ 0) ⊎ (j ≡ root)) (0 + 0) 0 (λ j h. elim h [ inl x ↦ x | inr e ↦ inl e ]) (omega arith) (edits_then T a b c (IsMetaOr root) (λ j. j ≡ 0) 0 0 e1 edits);
       page = gives.page;
       here = edits.others root (inr (e1.known root known)) (λ e. omega (arith, e, some)) ∙ gives.here;
+      size = gives.size;
       stored = gives.stored;
       meta = meta_set T b c cache child edits gives.meta sets;
       numbers = record {
@@ -50,13 +56,16 @@ replaces_root T a b c cache root child some known asked gives again edits sets =
           reuse = sets.change.others Reuse tt (λ e. cc e) ∙ ap (λ (q : List ℕ). field_of q Reuse) same ∙ first.here;
           root_is = sets.change.here;
           others = λ slot is_slot not_reuse not_root. sets.change.others slot is_slot not_root ∙ ap (λ (q : List ℕ). field_of q slot) same ∙ first.others slot is_slot not_reuse;
+          size = sets.change.size ∙ ap length same ∙ first.size;
+          stored = λ id max_rows was root_in child_in. sets.change.stored id max_rows (subst (IsStoredMeta id max_rows) (sym same) (first.stored id max_rows was root_in))
+              (omega (arith, child_in, ap (λ (q : List ℕ). field_of q Pages) same, first.others Pages tt (λ e. cc e)));
         };
       };
     }
 
 -- what was changed where a root was replaced
-pub changes_replaced : (T : Type 0) (a b c : Paged) (cache root child : ℕ) → HasMeta a → IsTrue (a.asked root) → LooksAtPages T a b 0 → ReplacesRoot T b c cache root child → RemovesRootPages T a c cache 0
-changes_replaced T a b c cache root child meta asked looks rep =
+pub changes_replaced : (T : Type 0) (a b c : Paged) (cache root child : ℕ) → HasMeta a → IsTrue (a.asked root) → cache < CACHES → 1 ≤ root → IsNumberIn a (Root cache) root → ((n : ℕ) → IsNumberIn a Pages n → 1 ≤ n → child < n) → LooksAtPages T a b 0 → ReplacesRoot T b c cache root child → RemovesRootPages T a c cache 0
+changes_replaced T a b c cache root child meta asked in_caches some is_root below looks rep =
     let asked_c : IsTrue (c.asked root) = rep.edits.asked root (looks.asked root asked) in
     record {
       edits = edits_more T a c (λ j. ((j ≡ 0) ⊎ (j ≡ root)) ⊎ ((j ≡ 0) ⊎ (j ≡ root))) (λ j. IsTrue (c.asked j)) (0 + 0) 0
@@ -67,6 +76,12 @@ changes_replaced T a b c cache root child meta asked looks rep =
             (let is_b = number_looked T a b 0 slot n looks is in
             number_now c slot n rep.numbers.now rep.meta rep.numbers.after (number_is b slot n rep.numbers.was is_b rep.numbers.before ∙ sym (rep.numbers.change.others slot is_slot not_reuse not_root)));
       };
+      passes = λ t near.
+          let n = count_there a meta in
+          let near_b = nearly_looked T a b 0 t looks near in
+          let same = pages_told T a b 0 t looks in
+          let count : page_count b.pages ≡ n.0 = ap (λ (q : Partition). page_count q) same ∙ number_told a Pages n.0 n.1 in
+          root_nearly T b c cache root child t in_caches some (number_looked T a b 0 (Root cache) root looks is_root) (omega (arith, count, below n.0 n.1 (omega (arith, count, (count_within b near_b.meta).0)))) rep near_b;
     }
   where
     one : (j : ℕ) → (j ≡ 0) ⊎ (j ≡ root) → IsTrue (c.asked root) → IsTrue (c.asked j)
@@ -74,17 +89,18 @@ changes_replaced T a b c cache root child meta asked looks rep =
 
 -- pages were only looked at
 pub root_looked : (T : Type 0) (a b : Paged) (cache m : ℕ) → LooksAtPages T a b m → RemovesRootPages T a b cache m
-root_looked T a b cache m looks = record { edits = edits_looked T a b (λ j. IsTrue (b.asked j)) m looks; numbers = record { others = λ slot is_slot not_reuse not_root n is. number_looked T a b m slot n looks is } }
+root_looked T a b cache m looks = record { edits = edits_looked T a b (λ j. IsTrue (b.asked j)) m looks; numbers = record { others = λ slot is_slot not_reuse not_root n is. number_looked T a b m slot n looks is }; passes = λ t near. nearly_looked T a b m t looks near }
 
 pub root_then : (T : Type 0) (a b c : Paged) (cache m n k : ℕ) → m + n ≤ k → RemovesRootPages T a b cache m → RemovesRootPages T b c cache n → RemovesRootPages T a c cache k
 root_then T a b c cache m n k le x y = record {
   edits = edits_more T a c (λ j. IsTrue (b.asked j) ⊎ IsTrue (c.asked j)) (λ j. IsTrue (c.asked j)) (m + n) k (λ j h. elim h [ inl z ↦ y.edits.asked j z | inr z ↦ z ]) le
       (edits_then T a b c (λ j. IsTrue (b.asked j)) (λ j. IsTrue (c.asked j)) m n x.edits y.edits);
   numbers = record { others = λ slot is_slot not_reuse not_root n is. y.numbers.others slot is_slot not_reuse not_root n (x.numbers.others slot is_slot not_reuse not_root n is) };
+  passes = λ t near. y.passes t (x.passes t near);
 }
 
 pub root_changed : (T : Type 0) (a b : Paged) (cache m : ℕ) → RemovesPages T a b m → RemovesRootPages T a b cache m
-root_changed T a b cache m x = record { edits = x.edits; numbers = record { others = λ slot is_slot not_reuse not_root n is. x.numbers.others slot is_slot not_reuse n is } }
+root_changed T a b cache m x = record { edits = x.edits; numbers = record { others = λ slot is_slot not_reuse not_root n is. x.numbers.others slot is_slot not_reuse n is }; passes = x.passes }
 
 -- a root that was settled after it was looked at
 pub settles_full : (T : Type 0) (a b : Paged) (cache root : ℕ) → IsTrue (a.known root) → LooksAtPages T a b 0 → IsTopIn b root Full → Settles T a b cache root
@@ -96,6 +112,7 @@ replaces_looked T a b c cache root child meta looks rep = record {
       (edits_then T a b c (λ j. (j ≡ 0) ⊎ (j ≡ root)) (λ j. (j ≡ 0) ⊎ (j ≡ root)) 0 0 (edits_looked T a b (λ j. (j ≡ 0) ⊎ (j ≡ root)) 0 looks) rep.edits);
   page = rep.page;
   here = rep.here;
+  size = rep.size ∙ looks.same.page_size;
   stored = subst (λ n. IsStoredReuse (page_id n root) rep.page) looks.same.part rep.stored;
   meta = rep.meta;
   numbers = record { was = rep.numbers.was; now = rep.numbers.now; before = sym (looks.pages 0 (inr meta.known)) ∙ rep.numbers.before; after = rep.numbers.after; change = rep.numbers.change };

@@ -58,6 +58,7 @@ pub given_after : (T : Type 0) (a c d : Paged) (touched : ℕ → Type 0) (m i :
 given_after T a c d touched m i meta edits out gives = record {
   page = gives.page;
   here = gives.here;
+  size = gives.size ∙ edits.same.page_size;
   stored = subst (λ n. IsStoredReuse (page_id n i) gives.page) edits.same.part gives.stored;
   meta = gives.meta;
   numbers = record {
@@ -154,6 +155,7 @@ given_looked : (T : Type 0) (a b c : Paged) (m i : ℕ) → HasMeta a → LooksA
 given_looked T a b c m i meta looks given = record {
   page = given.page;
   here = given.here;
+  size = given.size ∙ looks.same.page_size;
   stored = subst (λ n. IsStoredReuse (page_id n i) given.page) looks.same.part given.stored;
   meta = given.meta;
   numbers = record {

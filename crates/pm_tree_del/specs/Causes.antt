@@ -14,19 +14,22 @@ use Rattle.pm_tree_del.specs.declared.remove.Removal.{Removal}
 use Rattle.pm_tree_del.specs.declared.remove.Removal.TheVariants.{Absent, Kept, Small}
 use Rattle.pm_tree_del.specs.Mending.{MendsChild, HasNoPair}
 use Rattle.pm_tree.specs.Sound.{IsSound}
+use Rattle.pm_tree_del.specs.Stored.{AreNearlyStored}
 
 -- every number of the meta page is as it was but the reuse chain's first page
 pub record KeepsNumbers (old new : Paged) : Type 0 where
   pub others : (slot : MetaSlot) → IsSlot slot → slot ≢ Reuse → (n : ℕ) → IsNumberIn old slot n
       → IsNumberIn new slot n
 
--- At most so many pages were asked for that weren't before, and no others changed than were asked for. Where each
--- page is there, and at hand or passes its check, it is so still.
+-- At most so many pages were asked for that weren't before, and no others changed than were asked for. Where
+-- each page is there, and at hand or passes its check, it is so still; and where each passes its check, but for
+-- index pages without items, it does so still.
 pub record RemovesPages (T : Type 0) (old new : Paged) (most : ℕ) : Type 0 where
   pub edits : EditsPages T old new (λ j. IsTrue (new.asked j)) most
   pub meta : HasMeta new
   pub numbers : KeepsNumbers old new
   pub sound : T → IsSound old → IsSound new
+  pub passes : T → AreNearlyStored old → AreNearlyStored new
 
 -- page i was asked for, isn't the first, and is at hand
 pub record IsHeld (p : Paged) (i : ℕ) : Type 0 where

@@ -9,3 +9,4 @@ pub mod Pairs
 pub mod Removes
 pub mod Roots
 pub mod Sound
+pub mod Stored

@@ -12,7 +12,7 @@ use Rattle.pm_btpage.specs.declared.layout.TheConstants.{LEAF_KIND, INNER_KIND}
 use Rattle.pm_btpage.specs.IndexPages.{Item, items_of, IsIndexPage}
 use Rattle.pm_meta.specs.declared.slots.MetaSlot.{MetaSlot}
 use Rattle.pm_meta.specs.declared.slots.MetaSlot.TheVariants.{Root, Reuse, Pages}
-use Rattle.pm_meta.specs.MetaPages.{field_of, next_of, IsSlot, IsStoredReuse}
+use Rattle.pm_meta.specs.MetaPages.{field_of, next_of, IsSlot, IsStoredMeta, IsStoredReuse}
 use Rattle.pm_pages.specs.Rows.{Partition, number_in, kind_of}
 use Rattle.pm_pages.specs.Chains.{times}
 use Rattle.pm_pages.specs.Trees.{root_of, child_of}
@@ -25,6 +25,7 @@ use Rattle.pm_tree_del.specs.declared.tops.Top.{Top}
 use Rattle.pm_tree_del.specs.declared.tops.Top.TheVariants.{Full, Empty, Only, Other}
 use Rattle.pm_tree_del.specs.Maps.{remove_in}
 use Rattle.pm_tree_del.specs.Given.{GivesBack}
+use Rattle.pm_tree_del.specs.Stored.{AreNearlyStored}
 
 -- an index page of this kind, with so many items or more
 pub record IsFullTop (page : List ℕ) : Type 0 where
@@ -54,25 +55,31 @@ pub record KeepsButRoot (old new : Paged) (cache : ℕ) : Type 0 where
   pub others : (slot : MetaSlot) → IsSlot slot → slot ≢ Reuse → slot ≢ Root cache → (n : ℕ)
       → IsNumberIn old slot n → IsNumberIn new slot n
 
--- at most so many pages were asked for that weren't before, and no others changed than were asked for
+-- At most so many pages were asked for that weren't before, and no others changed than were asked for. Where
+-- each page passes its check, but for index pages without items, it does so still.
 pub record RemovesRootPages (T : Type 0) (old new : Paged) (cache most : ℕ) : Type 0 where
   pub edits : EditsPages T old new (λ j. IsTrue (new.asked j)) most
   pub numbers : KeepsButRoot old new cache
+  pub passes : T → AreNearlyStored old → AreNearlyStored new
 
--- the meta page once a root was given back: it is the first of the reuse chain, and another page is the root,
--- or none
+-- The meta page once a root was given back: it is the first of the reuse chain, and another page is the root,
+-- or none. Where it passed its check and both are below the page count, it passes it still.
 pub record ReplacesNumbers (was now : List ℕ) (cache root child next : ℕ) : Type 0 where
   pub next_is : next ≡ field_of was Reuse
   pub reuse : field_of now Reuse ≡ root
   pub root_is : field_of now (Root cache) ≡ child
   pub others : (slot : MetaSlot) → IsSlot slot → slot ≢ Reuse → slot ≢ Root cache
       → field_of now slot ≡ field_of was slot
+  pub size : length now ≡ length was
+  pub stored : (id : PageId) (max_rows : ℕ) → IsStoredMeta id max_rows was
+      → root < field_of was Pages → child < field_of was Pages → IsStoredMeta id max_rows now
 
 -- the root was given back, and another page is the root, or none
 pub record ReplacesRoot (T : Type 0) (old new : Paged) (cache root child : ℕ) : Type 0 where
   pub edits : EditsPages T old new (λ j. (j ≡ 0) ⊎ (j ≡ root)) 0
   pub page : List ℕ
   pub here : new.pages root ≡ Some page
+  pub size : length page ≡ old.page_size
   pub stored : IsStoredReuse (page_id old.part root) page
   pub meta : HasMeta new
   pub numbers : MetaBecomes old new (λ was now. ReplacesNumbers was now cache root child (next_of page))

@@ -10,6 +10,7 @@ ghost use Rattle.pm_tree_del.specs.Neighbours.{AreNeighbours};
 ghost use Rattle.pm_tree.specs.Sound.{IsSound};
 ghost use Rattle.pm_tree_del.specs.Sound.{StandSo, CanBeMended};
 ghost use Rattle.pm_tree_del.specs.Pairs.{IsPairOf, MayMend, CanMend};
+ghost use Rattle.pm_tree_del.specs.declared.mending.TheConstants.{SMALL_PAGE};
 ghost use Rattle.pm_tree_del.specs.Copies.{TakesBytes};
 ghost use Rattle.pm_tree_del.specs.Mending.{IsFamily, MergesPages, SharesPages, MendsCopies, MendsPair};
 ghost use Rattle.pm_tree_del.specs.Mending.{MendsChild, HasMendCause};
@@ -20,6 +21,9 @@ use crate::mends::{Mend, Patches, mend_pages};
 use crate::pairs::{Pair, find_pair};
 use pm_pages::{Pages, give_page};
 use pm_types::{PAGE_SIZE_MAX, PageFault, PageId, Patch};
+
+// Most stores have pages of so many bytes at most.
+const SMALL_PAGE: usize = 4096;
 
 /// Mends child i of an inner page that is at hand, which has this index and one item too few, with the one
 /// beside it. Whether the inner page has lost a child and has too few items itself then.
@@ -79,6 +83,56 @@ fn mend_pair<P: Pages>(
     if !pair.may_mend(count, at, child) {
         return Err(PageFault::BadPage(PageId::new(pages.part(), at)));
     }
+    if pages.page_size() as usize <= SMALL_PAGE {
+        mend_small(pages, at, pair)
+    } else {
+        mend_large(pages, at, pair)
+    }
+}
+
+// Mends a pair of pages of 4,096 bytes at most, whose copies take less room that has to be cleared before.
+fn mend_small<P: Pages>(pages: &mut P, at: u32, pair: &Pair) -> Result<bool, PageFault>
+    requires ready { P.ready pages.old }
+    requires meta { HasMeta (P.seen pages.old) }
+    requires readable { AllReadable (P.seen pages.old) }
+    requires room { 1 ≤ (P.seen pages.old).spare }
+    requires pair { CanMend (P.seen pages.old) at pair.now }
+    requires small { (P.seen pages.old).page_size ≤ SMALL_PAGE }
+    ensures kept { P.kept pages.old pages.new }
+    ensures readable { AllReadable (P.seen pages.new) }
+    ensures mends { IfOk result (MendsPair P.tells (P.seen pages.old) (P.seen pages.new) at pair.now) }
+    ensures cause { HasMendCause P.tells (P.seen pages.old) (P.seen pages.new) result }
+    ensures sound { P.tells → IsSound (P.seen pages.old)
+        → StandSo (P.seen pages.old) at pair.now → NoBadPage result }
+{
+    let mut parent = [0; SMALL_PAGE];
+    let mut left = [0; SMALL_PAGE];
+    let mut right = [0; SMALL_PAGE];
+    let size = pages.page_size() as usize;
+    mend_over(
+        pages,
+        at,
+        pair,
+        &mut parent[..size],
+        &mut left[..size],
+        &mut right[..size],
+    )
+}
+
+// Mends a pair of pages of any size.
+fn mend_large<P: Pages>(pages: &mut P, at: u32, pair: &Pair) -> Result<bool, PageFault>
+    requires ready { P.ready pages.old }
+    requires meta { HasMeta (P.seen pages.old) }
+    requires readable { AllReadable (P.seen pages.old) }
+    requires room { 1 ≤ (P.seen pages.old).spare }
+    requires pair { CanMend (P.seen pages.old) at pair.now }
+    ensures kept { P.kept pages.old pages.new }
+    ensures readable { AllReadable (P.seen pages.new) }
+    ensures mends { IfOk result (MendsPair P.tells (P.seen pages.old) (P.seen pages.new) at pair.now) }
+    ensures cause { HasMendCause P.tells (P.seen pages.old) (P.seen pages.new) result }
+    ensures sound { P.tells → IsSound (P.seen pages.old)
+        → StandSo (P.seen pages.old) at pair.now → NoBadPage result }
+{
     let mut parent = [0; PAGE_SIZE_MAX];
     let mut left = [0; PAGE_SIZE_MAX];
     let mut right = [0; PAGE_SIZE_MAX];

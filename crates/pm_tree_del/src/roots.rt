@@ -1,7 +1,7 @@
 //! Removals from the index of a cache, and its roots.
 
 ghost use Rattle.std.specs.Prelude.{◌≡◌, ◌≢◌, ℕ, ◌<◌, ◌≤◌, List, OnOk, IfOk, IsTrue};
-ghost use Rattle.pm_types.specs.declared.limits.TheConstants.{CACHES};
+ghost use Rattle.pm_types.specs.declared.limits.TheConstants.{CACHES, ROWS_MAX};
 ghost use Rattle.pm_btpage.specs.IndexPages.{Item};
 ghost use Rattle.pm_meta.specs.declared.slots.MetaSlot.TheVariants.{Root, Pages};
 ghost use Rattle.pm_pages.specs.Trees.{root_of};
@@ -29,7 +29,8 @@ use pm_types::{Link, PageFault, PageId};
 /// `Failed` comes only where a call on the disk failed. `BadPage` names a page that is bad, or that names a
 /// wrong one: on the way from the root, or below a page whose children are to be mended and don't stand in
 /// their order; or the page before one that is given back, where it isn't there. In a tree whose pages pass their
-/// checks none is bad. After an error the pages that were asked for may be half changed.
+/// checks none is bad, and after `Ok` they pass them still. After an error the pages that were asked for may be half
+/// changed.
 pub fn tree_remove<P: Pages>(
     pages: &mut P,
     cache: u8,
@@ -49,7 +50,12 @@ pub fn tree_remove<P: Pages>(
     ensures sound { P.tells → PassesAll (P.seen pages.old) → (height : ℕ) (nodes : List ℕ) (items : List Item)
         → IsIndex (P.seen pages.old).pages (root_of (P.seen pages.old).pages cache) height nodes items
         → NoBadPage result }
+    ensures passes { OnOk result (P.tells → PassesAll (P.seen pages.old)
+        → (P.seen pages.old).max_rows ≤ ROWS_MAX → (height : ℕ) (nodes : List ℕ) (items : List Item)
+        → IsIndex (P.seen pages.old).pages (root_of (P.seen pages.old).pages cache) height nodes items
+        → PassesAll (P.seen pages.new)) }
 {
+    let _part = pages.part();
     match find_number(pages, MetaSlot::Root(cache))? {
         None => Ok(None),
         Some(root) => {

@@ -5,7 +5,7 @@ use Rattle.pm_tree.specs.declared.put.Put.TheVariants.{Split}
 use Rattle.pm_tree.specs.Puts.{half_of, PutsFor, HasLevels}
 use Rattle.pm_tree.proofs.Divided.{can_looked}
 use Rattle.pm_tree.proofs.LinkedLeaves.{cause_passed, disk_passed}
-use Rattle.pm_tree.proofs.LeafChanges.{cut_below, can_part, parts_looked, half_changes, right_puts, takes_right}
+use Rattle.pm_tree.proofs.LeafChanges.{cut_below, can_part, parts_looked, right_changes, right_puts, takes_right}
 use Rattle.pm_tree.proofs.SpareRoom.{may_take_looked}
 use Rattle.pm_tree.proofs.SoundPages.{no_bad_passed}
 use Rattle.pm_tree.proofs.leaves.split_right.Goals as goal
@@ -40,7 +40,7 @@ returns-clause-changes g c =
     let b = g.P.Pages.seen c.item_at.new.pages in
     let d = g.P.Pages.seen c.part_leaf.new.pages in
     let parts = parts_looked T a b d c.args.at leaf.page c.args.cut c.in_ok-right.right c.item_at.ensures.looks (c.in_ok-right.ensures.parts leaf.page (c.item_at.ensures.looks.pages c.args.at (inr leaf.in_hand.known) ∙ leaf.in_hand.page)) in
-    half_changes T a d (g.P.Pages.seen c.make_edit.new.pages) c.args.at c.args.key.now c.args.i c.args.cut c.args.word c.in_ok-right.right c.in_ok-right.right (c.args.i - c.args.cut) leaf c.requires.cut c.requires.meta parts c.make_edit.ensures.edits c.in_ok-make_edit.ensures.edited (inl refl)
+    right_changes T a d (g.P.Pages.seen c.make_edit.new.pages) c.args.at c.args.key.now c.args.i c.args.cut c.args.word c.in_ok-right.right c.in_ok-right.right (c.args.i - c.args.cut) leaf c.requires.cut c.requires.meta parts c.make_edit.ensures.edits c.in_ok-make_edit.ensures.edited (inl refl) c.requires.side refl refl
 
 pub returns-clause-puts : goal.returns-clause-puts
 returns-clause-puts g c = λ t limit.
@@ -89,7 +89,14 @@ returns-clause-kept g c =
     k c.args.pages.now c.part_leaf.new.pages c.make_edit.new.pages (k c.args.pages.now c.item_at.new.pages c.part_leaf.new.pages c.item_at.ensures.kept c.part_leaf.ensures.kept) c.make_edit.ensures.kept
 
 pub returns-clause-levels : goal.returns-clause-levels
-returns-clause-levels g c = subst (HasLevels 1) (sym c.split_off.ensures) (omega arith)
+returns-clause-levels g c =
+    let T = g.P.Pages.tells in
+    let a = g.P.Pages.seen c.args.pages.now in
+    let leaf = c.requires.leaf in
+    let b = g.P.Pages.seen c.item_at.new.pages in
+    let d = g.P.Pages.seen c.part_leaf.new.pages in
+    let parts = parts_looked T a b d c.args.at leaf.page c.args.cut c.in_ok-right.right c.item_at.ensures.looks (c.in_ok-right.ensures.parts leaf.page (c.item_at.ensures.looks.pages c.args.at (inr leaf.in_hand.known) ∙ leaf.in_hand.page)) in
+    subst (HasLevels 1) (sym c.split_off.ensures) (omega arith, parts.some)
 
 pub returns-in_err-right-clause-sound : goal.returns-in_err-right-clause-sound
 returns-in_err-right-clause-sound g c = λ may.

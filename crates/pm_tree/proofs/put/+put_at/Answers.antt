@@ -10,7 +10,9 @@ use Rattle.pm_tree.specs.Places.{IsPlace}
 use Rattle.pm_tree.specs.Puts.{HasLevels, PutsFor, half_of}
 use Rattle.pm_tree.specs.Steps.{IsPath}
 use Rattle.pm_tree.proofs.Descents.{path_looked}
-use Rattle.pm_tree.proofs.Climbs.{changes_looked, changes_then, below_count_of, below_after, at_place, full_leaf, path_below, puts_looked, lift_step, levels_more, names_no_place, put_cause_take, put_cause_disk, put_cause_page, put_cause_after, put_cause_passed}
+use Rattle.pm_btpage.specs.Stored.{IsLink}
+use Rattle.pm_tree.proofs.StoredNodes.{stored_looked}
+use Rattle.pm_tree.proofs.Climbs.{page_after, page_then, changes_looked, changes_then, link_then, below_count_of, below_after, at_place, full_leaf, path_below, puts_looked, lift_step, levels_more, names_no_place, put_cause_take, put_cause_disk, put_cause_page, put_cause_after, put_cause_passed}
 use Rattle.pm_tree.proofs.SoundLooks.{bad_passed, passes_looked, answers_not_bad, answers_end}
 use Rattle.pm_tree.proofs.SoundPages.{sound_not_bad, node_within}
 use Rattle.pm_tree.proofs.SoundTrees.{tree_looked, not_other}
@@ -44,7 +46,7 @@ returns-in-Held-clause-changes g t c =
     let a = g.P.Pages.seen c.args.pages.now in
     let b = g.P.Pages.seen c.find_place.new.pages in
     let looks = c.find_place.ensures.looks in
-    on_ok_weaker c.set_item.result (λ ch. changes_then T a b (g.P.Pages.seen c.set_item.new.pages) 1 0 (2 * c.args.levels) (omega (arith, c.if-levels-eq0.false)) (changes_looked T a b 1 c.requires.meta looks) ch) c.set_item.ensures.changes
+    on_ok_weaker c.set_item.result (λ ch. link_then T a b (g.P.Pages.seen c.set_item.new.pages) 1 0 (2 * c.args.levels) c.args.word (omega (arith, c.if-levels-eq0.false)) c.requires.meta looks ch) c.set_item.ensures.changes
 
 pub returns-in-Held-clause-puts : goal.returns-in-Held-clause-puts
 returns-in-Held-clause-puts g t c =
@@ -65,7 +67,7 @@ returns-in-Held-clause-cause g t c =
     let b = g.P.Pages.seen c.find_place.new.pages in
     let looks = c.find_place.ensures.looks in
     let d = g.P.Pages.seen c.set_item.new.pages in
-    let ch = changes_looked T a b 1 c.requires.meta looks in
+    let ch = changes_looked {G = Unit {0}} T a b 1 c.requires.meta looks in
     put_cause_after T a b d 1 c.args.cache c.set_item.result ch.edits (put_cause_disk T b d c.args.cache c.set_item.result c.set_item.ensures.cause)
 
 pub add_item-requires-clause-item : goal.add_item-requires-clause-item
@@ -93,7 +95,7 @@ returns-in-Gap-clause-changes g t c =
     let a = g.P.Pages.seen c.args.pages.now in
     let b = g.P.Pages.seen c.find_place.new.pages in
     let looks = c.find_place.ensures.looks in
-    on_ok_weaker c.add_item.result (λ ch. changes_then T a b (g.P.Pages.seen c.add_item.new.pages) 1 0 (2 * c.args.levels) (omega (arith, c.if-levels-eq0.false)) (changes_looked T a b 1 c.requires.meta looks) ch) c.add_item.ensures.changes
+    on_ok_weaker c.add_item.result (λ ch. link_then T a b (g.P.Pages.seen c.add_item.new.pages) 1 0 (2 * c.args.levels) c.args.word (omega (arith, c.if-levels-eq0.false)) c.requires.meta looks ch) c.add_item.ensures.changes
 
 pub returns-in-Gap-clause-puts : goal.returns-in-Gap-clause-puts
 returns-in-Gap-clause-puts g t c =
@@ -114,7 +116,7 @@ returns-in-Gap-clause-cause g t c =
     let b = g.P.Pages.seen c.find_place.new.pages in
     let looks = c.find_place.ensures.looks in
     let d = g.P.Pages.seen c.add_item.new.pages in
-    let ch = changes_looked T a b 1 c.requires.meta looks in
+    let ch = changes_looked {G = Unit {0}} T a b 1 c.requires.meta looks in
     put_cause_after T a b d 1 c.args.cache c.add_item.result ch.edits (put_cause_disk T b d c.args.cache c.add_item.result c.add_item.ensures.cause)
 
 pub split_leaf-requires-clause-leaf : goal.split_leaf-requires-clause-leaf
@@ -133,7 +135,7 @@ returns-in-Full-clause-changes g t c =
     let a = g.P.Pages.seen c.args.pages.now in
     let b = g.P.Pages.seen c.find_place.new.pages in
     let looks = c.find_place.ensures.looks in
-    on_ok_weaker c.split_leaf.result (λ ch. changes_then T a b (g.P.Pages.seen c.split_leaf.new.pages) 1 1 (2 * c.args.levels) (omega (arith, c.if-levels-eq0.false)) (changes_looked T a b 1 c.requires.meta looks) ch) c.split_leaf.ensures.changes
+    on_ok_weaker c.split_leaf.result (λ ch. link_then T a b (g.P.Pages.seen c.split_leaf.new.pages) 1 1 (2 * c.args.levels) c.args.word (omega (arith, c.if-levels-eq0.false)) c.requires.meta looks ch) c.split_leaf.ensures.changes
 
 pub returns-in-Full-clause-puts : goal.returns-in-Full-clause-puts
 returns-in-Full-clause-puts g t c =
@@ -154,7 +156,7 @@ returns-in-Full-clause-cause g t c =
     let b = g.P.Pages.seen c.find_place.new.pages in
     let looks = c.find_place.ensures.looks in
     let d = g.P.Pages.seen c.split_leaf.new.pages in
-    let ch = changes_looked T a b 1 c.requires.meta looks in
+    let ch = changes_looked {G = Unit {0}} T a b 1 c.requires.meta looks in
     put_cause_after T a b d 1 c.args.cache c.split_leaf.result ch.edits (put_cause_take T b d c.args.cache c.split_leaf.result c.split_leaf.ensures.cause)
 
 pub put_at-requires : goal.put_at-requires
@@ -256,8 +258,8 @@ returns-in_ok-put-in-Below-clause-changes g t c =
     let d = g.P.Pages.seen c.put_at.new.pages in
     let changes = c.in_ok-put-in-Below.ensures.changes in
     let e = g.P.Pages.seen c.lift.new.pages in
-    on_ok_weaker c.lift.result (λ ch. changes_then T a b e 1 (2 * (c.args.levels - 1) + 1) (2 * c.args.levels) (omega (arith, c.if-levels-eq0.false)) (changes_looked T a b 1 c.requires.meta looks)
-    (changes_then T b d e (2 * (c.args.levels - 1)) 1 (2 * (c.args.levels - 1) + 1) (omega arith) changes ch)) c.lift.ensures.changes
+    on_ok_weaker c.lift.result (λ ch. link_then T a b e 1 (2 * (c.args.levels - 1) + 1) (2 * c.args.levels) c.args.word (omega (arith, c.if-levels-eq0.false)) c.requires.meta looks
+    (changes_then T b d e (2 * (c.args.levels - 1)) 1 (2 * (c.args.levels - 1) + 1) (omega arith) (λ link. link) (λ link. tt) changes ch)) c.lift.ensures.changes
 
 pub returns-in_ok-put-in-Below-clause-puts : goal.returns-in_ok-put-in-Below-clause-puts
 returns-in_ok-put-in-Below-clause-puts g t c =
@@ -288,7 +290,7 @@ returns-in_ok-put-in-Below-clause-cause g t c =
     let d = g.P.Pages.seen c.put_at.new.pages in
     let changes = c.in_ok-put-in-Below.ensures.changes in
     let e = g.P.Pages.seen c.lift.new.pages in
-    let ch = changes_looked T a b 1 c.requires.meta looks in
+    let ch = changes_looked {G = Unit {0}} T a b 1 c.requires.meta looks in
     put_cause_after T a b e 1 c.args.cache c.lift.result ch.edits (put_cause_after T b d e (2 * (c.args.levels - 1)) c.args.cache c.lift.result changes.edits (c.lift.ensures.cause c.args.cache))
 
 pub returns-in_err-put-in-Below-clause-cause : goal.returns-in_err-put-in-Below-clause-cause
@@ -298,7 +300,7 @@ returns-in_err-put-in-Below-clause-cause g t c =
     let b = g.P.Pages.seen c.find_place.new.pages in
     let looks = c.find_place.ensures.looks in
     let d = g.P.Pages.seen c.put_at.new.pages in
-    let ch = changes_looked T a b 1 c.requires.meta looks in
+    let ch = changes_looked {G = Unit {0}} T a b 1 c.requires.meta looks in
     let p = err_from_is_err_and c.from_residual-in_err-put-in-Below.result c.from_residual-in_err-put-in-Below.ensures.1 in
     put_cause_passed T a d c.args.cache c.put_at.result c.from_residual-in_err-put-in-Below.result c.in_err-put-in-Below.field-0.0 p.0 c.in_err-put-in-Below.was p.1 p.2 (put_cause_after T a b d 1 c.args.cache c.put_at.result ch.edits c.put_at.ensures.cause)
 
@@ -474,7 +476,9 @@ returns-in_ok-put-in-Below-clause-keeps g t c = λ told held answers.
     let looks = c.find_place.ensures.looks in
     let number = number_looked T a b 1 Pages c.args.count looks c.requires.count in
     let found = at_place b c.args.count c.args.at c.args.key.now (Below c.in-Below.i c.in-Below.child) (λ e. absurd (cc e)) (subst (IsPlace b c.args.count c.args.at c.args.key.now) {y = (Below c.in-Below.i c.in-Below.child)} c.in-Below.is c.in_ok-i.ensures.place) in
-    c.lift.ensures.keeps (c.in_ok-put-in-Below.ensures.keeps told held (child_has T a b 1 c.args.count c.args.at c.args.levels c.in-Below.i c.in-Below.child held c.args.key.now told looks number found.0 found.1 answers))
+    let below = c.in_ok-put-in-Below.ensures.keeps told held (child_has T a b 1 c.args.count c.args.at c.args.levels c.in-Below.i c.in-Below.child held c.args.key.now told looks number found.0 found.1 answers) in
+    IfOk-weaker c.lift.result _ _ (λ put keeps. page_then a b (g.P.Pages.seen c.put_at.new.pages) (g.P.Pages.seen c.lift.new.pages) (IsLink b.part c.args.word) (IsLink a.part c.args.word) c.in_ok-put-in-Below.put put
+    (subst (λ n. IsLink n c.args.word) (sym looks.same.part)) (stored_looked T a b 1 told looks) below keeps) (c.lift.ensures.keeps below.kept)
 
 pub returns-in_ok-put-in-Below-clause-sound : goal.returns-in_ok-put-in-Below-clause-sound
 returns-in_ok-put-in-Below-clause-sound g t c = λ may id e. either may
@@ -489,7 +493,7 @@ returns-in_ok-put-in-Below-clause-sound g t c = λ may id e. either may
     let looks = c.find_place.ensures.looks in
     let number = number_looked T a b 1 Pages c.args.count looks c.requires.count in
     let found = at_place b c.args.count c.args.at c.args.key.now (Below c.in-Below.i c.in-Below.child) (λ e. absurd (cc e)) (subst (IsPlace b c.args.count c.args.at c.args.key.now) {y = (Below c.in-Below.i c.in-Below.child)} c.in-Below.is c.in_ok-i.ensures.place) in
-    c.lift.ensures.sound (kept_takes g.P.Pages.tells (g.P.Pages.seen c.put_at.new.pages) c.args.at c.in-Below.i c.in_ok-put-in-Below.put (c.in_ok-put-in-Below.ensures.keeps told held (child_has T a b 1 c.args.count c.args.at c.args.levels c.in-Below.i c.in-Below.child held c.args.key.now told looks number found.0 found.1 answers))) id e)
+    c.lift.ensures.sound (kept_takes g.P.Pages.tells (g.P.Pages.seen c.put_at.new.pages) c.args.at c.in-Below.i c.in_ok-put-in-Below.put (c.in_ok-put-in-Below.ensures.keeps told held (child_has T a b 1 c.args.count c.args.at c.args.levels c.in-Below.i c.in-Below.child held c.args.key.now told looks number found.0 found.1 answers)).kept) id e)
     (λ n.
     let T = g.P.Pages.tells in
     let a = g.P.Pages.seen c.args.pages.now in
@@ -522,3 +526,12 @@ returns-in-Other-clause-sound g t c = λ may id e. either may
     let number = number_looked T a b 1 Pages c.args.count looks c.requires.count in
     not_other b c.args.count c.args.levels c.args.at c.args.key.now c.find_place.ensures.readable (meta_looked T a b 1 looks c.requires.meta) number (tree_looked T a b 1 c.args.levels c.args.at n.told looks n.tree)
     (subst (IsPlace b c.args.count c.args.at c.args.key.now) {y = Other} c.in-Other.is c.in_ok-i.ensures.place))
+
+pub returns-in-Held-clause-keeps : goal.returns-in-Held-clause-keeps
+returns-in-Held-clause-keeps g t c = λ told held answers.
+    let T = g.P.Pages.tells in
+    let a = g.P.Pages.seen c.args.pages.now in
+    let b = g.P.Pages.seen c.find_place.new.pages in
+    let looks = c.find_place.ensures.looks in
+    IfOk-weaker c.set_item.result _ _ (λ put keeps. page_after a b (g.P.Pages.seen c.set_item.new.pages) (IsLink b.part c.args.word) (IsLink a.part c.args.word) put
+    (subst (λ n. IsLink n c.args.word) (sym looks.same.part)) (stored_looked T a b 1 told looks) (keeps told)) c.set_item.ensures.keeps

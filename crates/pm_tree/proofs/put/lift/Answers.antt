@@ -21,7 +21,10 @@ returns-in-Kept-clause-lifts g c =
     subst (λ (p : Put). Lifts T a a c.args.at c.args.i p (Kept c.in-Kept.was)) (sym c.in-Kept.is) (refl, λ j. refl)
 
 pub take_child-requires-clause-levels : goal.take_child-requires-clause-levels
-take_child-requires-clause-levels g c = subst (HasLevels 8) {y = Split c.in-Split.part} c.in-Split.is c.requires.levels
+take_child-requires-clause-levels g c = (subst (HasLevels 8) {y = Split c.in-Split.part} c.in-Split.is c.requires.levels).0
+
+pub take_child-requires-clause-right : goal.take_child-requires-clause-right
+take_child-requires-clause-right g c = (subst (HasLevels 8) {y = Split c.in-Split.part} c.in-Split.is c.requires.levels).1
 
 pub returns-in-Split-clause-lifts : goal.returns-in-Split-clause-lifts
 returns-in-Split-clause-lifts g c =
@@ -32,7 +35,7 @@ returns-in-Split-clause-lifts g c =
 
 pub returns-in-Split-clause-levels : goal.returns-in-Split-clause-levels
 returns-in-Split-clause-levels g c =
-    IfOk-weaker c.take_child.result _ _ (λ put levels limit h. levels limit (subst (HasLevels limit) {y = Split c.in-Split.part} c.in-Split.is h)) c.take_child.ensures.levels
+    IfOk-weaker c.take_child.result _ _ (λ put levels limit h. levels limit (subst (HasLevels limit) {y = Split c.in-Split.part} c.in-Split.is h).0) c.take_child.ensures.levels
 
 -- a page that was divided below isn't kept
 pub returns-in-Split-clause-keeps : goal.returns-in-Split-clause-keeps

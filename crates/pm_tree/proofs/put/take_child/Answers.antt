@@ -11,7 +11,7 @@ use Rattle.pm_tree.proofs.SoundLooks.{bad_passed}
 use Rattle.pm_tree.proofs.SoundPages.{sound_not_bad}
 use Rattle.pm_tree.proofs.SpareRoom.{may_take_looked}
 use Rattle.pm_tree.proofs.Divided.{numbers_looked}
-use Rattle.pm_tree.proofs.Climbs.{changes_looked, changes_then, below_after, parent_of, takes_looked, put_cause_take, put_cause_page, put_cause_after, put_cause_passed}
+use Rattle.pm_tree.proofs.Climbs.{changes_looked, looked_then, below_after, parent_of, takes_looked, put_cause_take, put_cause_page, put_cause_after, put_cause_passed}
 use Rattle.pm_tree.proofs.put.take_child.Goals as goal
 
 pub take_with_room-requires-clause-parent : goal.take_with_room-requires-clause-parent
@@ -37,7 +37,7 @@ returns-in-Room-clause-changes g c =
     let T = g.P.Pages.tells in
     let a = g.P.Pages.seen c.args.pages.now in
     let b = g.P.Pages.seen c.find_fit.new.pages in
-    on_ok_weaker c.take_with_room.result (λ ch. changes_then T a b (g.P.Pages.seen c.take_with_room.new.pages) 0 1 1 (omega arith) (changes_looked T a b 0 c.requires.meta c.find_fit.ensures.looks) ch) c.take_with_room.ensures.changes
+    on_ok_weaker c.take_with_room.result (λ ch. looked_then {G = Unit {0}} T a b (g.P.Pages.seen c.take_with_room.new.pages) 0 1 1 (omega arith) c.requires.meta c.find_fit.ensures.looks ch) c.take_with_room.ensures.changes
 
 pub returns-in-Room-clause-takes : goal.returns-in-Room-clause-takes
 returns-in-Room-clause-takes g c =
@@ -55,7 +55,7 @@ returns-in-Room-clause-cause g c = λ cache.
     let a = g.P.Pages.seen c.args.pages.now in
     let b = g.P.Pages.seen c.find_fit.new.pages in
     let d = g.P.Pages.seen c.take_with_room.new.pages in
-    let ch = changes_looked T a b 0 c.requires.meta c.find_fit.ensures.looks in
+    let ch = changes_looked {G = Unit {0}} T a b 0 c.requires.meta c.find_fit.ensures.looks in
     put_cause_after T a b d 0 cache c.take_with_room.result ch.edits (put_cause_take T b d cache c.take_with_room.result c.take_with_room.ensures.cause)
 
 pub take_without_room-requires-clause-parent : goal.take_without_room-requires-clause-parent
@@ -81,7 +81,7 @@ returns-in-Full-clause-changes g c =
     let T = g.P.Pages.tells in
     let a = g.P.Pages.seen c.args.pages.now in
     let b = g.P.Pages.seen c.find_fit.new.pages in
-    on_ok_weaker c.take_without_room.result (λ ch. changes_then T a b (g.P.Pages.seen c.take_without_room.new.pages) 0 1 1 (omega arith) (changes_looked T a b 0 c.requires.meta c.find_fit.ensures.looks) ch) c.take_without_room.ensures.changes
+    on_ok_weaker c.take_without_room.result (λ ch. looked_then {G = Unit {0}} T a b (g.P.Pages.seen c.take_without_room.new.pages) 0 1 1 (omega arith) c.requires.meta c.find_fit.ensures.looks ch) c.take_without_room.ensures.changes
 
 pub returns-in-Full-clause-takes : goal.returns-in-Full-clause-takes
 returns-in-Full-clause-takes g c =
@@ -99,7 +99,7 @@ returns-in-Full-clause-cause g c = λ cache.
     let a = g.P.Pages.seen c.args.pages.now in
     let b = g.P.Pages.seen c.find_fit.new.pages in
     let d = g.P.Pages.seen c.take_without_room.new.pages in
-    let ch = changes_looked T a b 0 c.requires.meta c.find_fit.ensures.looks in
+    let ch = changes_looked {G = Unit {0}} T a b 0 c.requires.meta c.find_fit.ensures.looks in
     put_cause_after T a b d 0 cache c.take_without_room.result ch.edits (put_cause_take T b d cache c.take_without_room.result c.take_without_room.ensures.cause)
 
 pub returns-in-Wrong-clause-cause : goal.returns-in-Wrong-clause-cause

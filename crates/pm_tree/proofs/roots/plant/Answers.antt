@@ -1,6 +1,8 @@
 use Rattle.std.proofs.Common.{arith}
 use Rattle.std.proofs.lemmas.Result.{err_from_is_err_and}
 use Rattle.pm_pages.proofs.EditedPages.{looks_at_none}
+use Rattle.pm_btpage.specs.Stored.{IsLink}
+use Rattle.pm_tree.proofs.StoredNodes.{leaf_root}
 use Rattle.pm_tree.proofs.LinkedLeaves.{cause_passed}
 use Rattle.pm_tree.proofs.SoundPages.{no_bad_passed}
 use Rattle.pm_tree.proofs.Climbs.{changes_looked, put_cause_take}
@@ -12,7 +14,8 @@ returns-clause-changes g c =
     let T = g.P.Pages.tells in
     let a = g.P.Pages.seen c.args.pages.now in
     let makes = c.in_ok-make_root.ensures.makes in
-    changes_root T a a (g.P.Pages.seen c.make_root.new.pages) c.args.cache 0 17 _ c.args.key.now c.args.link.0 (omega arith) (changes_looked T a a 0 c.requires.meta (looks_at_none T a)) makes
+    changes_root T a a (g.P.Pages.seen c.make_root.new.pages) c.args.cache 0 17 _ c.args.key.now c.args.link.0 (omega arith) (λ link. link) (changes_looked {G = IsLink a.part c.args.link.0} T a a 0 c.requires.meta (looks_at_none T a)) makes
+    (λ link small. leaf_root a.part makes.top c.args.key.now c.args.link.0 link)
 
 pub returns-clause-puts : goal.returns-clause-puts
 returns-clause-puts g c = λ t height nodes items index.

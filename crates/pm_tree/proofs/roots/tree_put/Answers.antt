@@ -1,4 +1,4 @@
-use Rattle.std.proofs.Common.{◌≡◌, ℕ, ◌+◌, ◌*◌, arith, subst, sym, ap, ◌∙◌}
+use Rattle.std.proofs.Common.{◌≡◌, ℕ, ◌+◌, ◌*◌, ◌^◌, ◌<◌, inl, inr, arith, subst, sym, ap, ◌∙◌}
 use Rattle.std.proofs.lemmas.Result.{IfOk-weaker, on_ok_weaker, err_from_is_err_and}
 use Rattle.pm_meta.specs.declared.slots.MetaSlot.TheVariants.{Root}
 use Rattle.pm_pages.specs.Edits.{IsNumberIn}
@@ -13,6 +13,9 @@ use Rattle.pm_tree.proofs.SoundLooks.{bad_passed, passes_looked}
 use Rattle.pm_tree.proofs.SoundPuts.{none_held}
 use Rattle.pm_tree.proofs.SpareRoom.{may_take, may_take_looked}
 use Rattle.pm_tree.proofs.GrownTrees.{can_take_spare, limit_small, may_put_below, may_put_looked}
+use Rattle.pm_btpage.specs.Stored.{IsLink}
+use Rattle.pm_tree.proofs.StoredNodes.{stored_looked}
+use Rattle.pm_tree.proofs.StoredPuts.{on_ok_both, passes_room, no_key}
 use Rattle.pm_tree.proofs.roots.tree_put.Goals as goal
 
 pub returns-then-root-eq0-clause-changes : goal.returns-then-root-eq0-clause-changes
@@ -21,7 +24,7 @@ returns-then-root-eq0-clause-changes g c =
     let a = g.P.Pages.seen c.args.pages.now in
     let b = g.P.Pages.seen c.number.new.pages in
     let d = g.P.Pages.seen c.plant.new.pages in
-    on_ok_weaker c.plant.result (λ ch. root_changes_looked T a b d c.args.cache 17 c.requires.meta c.number.ensures.looks ch) c.plant.ensures.changes
+    on_ok_weaker c.plant.result (λ ch. root_changes_looked T a b d c.args.cache 17 c.args.link.0 c.requires.meta c.number.ensures.looks ch) c.plant.ensures.changes
 
 pub returns-then-root-eq0-clause-puts : goal.returns-then-root-eq0-clause-puts
 returns-then-root-eq0-clause-puts g c =
@@ -49,7 +52,7 @@ returns-else-root-eq0-clause-changes g c =
     let a = g.P.Pages.seen c.args.pages.now in
     let b = g.P.Pages.seen c.number.new.pages in
     let d = g.P.Pages.seen c.put_below.new.pages in
-    on_ok_weaker c.put_below.result (λ ch. root_changes_looked T a b d c.args.cache 17 c.requires.meta c.number.ensures.looks ch) c.put_below.ensures.changes
+    on_ok_weaker c.put_below.result (λ ch. root_changes_looked T a b d c.args.cache 17 c.args.link.0 c.requires.meta c.number.ensures.looks ch) c.put_below.ensures.changes
 
 pub returns-else-root-eq0-clause-puts : goal.returns-else-root-eq0-clause-puts
 returns-else-root-eq0-clause-puts g c =
@@ -130,3 +133,38 @@ returns-else-root-eq0-clause-sound_with_room g c = λ t spare height nodes items
     let same = pages_told T a b 0 t c.number.ensures.looks in
     let root : root_of a.pages c.args.cache ≡ c.in_ok-root.root = ap (λ (q : Partition). root_of q c.args.cache) (sym same) ∙ number_told b (Root c.args.cache) c.in_ok-root.root c.in_ok-root.ensures.number in
     c.put_below.ensures.sound_with_room (may_put_looked T a b 0 c.in_ok-root.root c.number.ensures.looks (may_put_below T a c.in_ok-root.root t c.requires.meta spare height nodes items (subst (λ n. IsIndex a.pages n height nodes items) root index) few))
+
+-- pages pass still
+pub returns-then-root-eq0-clause-passes : goal.returns-then-root-eq0-clause-passes
+returns-then-root-eq0-clause-passes g c =
+    let T = g.P.Pages.tells in
+    let a = g.P.Pages.seen c.args.pages.now in
+    let b = g.P.Pages.seen c.number.new.pages in
+    let d = g.P.Pages.seen c.plant.new.pages in
+    let part : a.part < 2 ^ 16 = omega (arith, c.part-part.type_inv, c.part-part.ensures) in
+    on_ok_weaker c.plant.result (λ ch t link may.
+    let root : root_of a.pages c.args.cache ≡ 0 = ap (λ (q : Partition). root_of q c.args.cache) (sym (pages_told T a b 0 t c.number.ensures.looks)) ∙ number_told b (Root c.args.cache) c.in_ok-root.root c.in_ok-root.ensures.number ∙ c.if-root-eq0.true in
+    elim may [
+      | inl spare ↦ passes_room T a d c.args.cache c.args.link.0 t part c.requires.meta (root_changes_looked T a b d c.args.cache 17 c.args.link.0 c.requires.meta c.number.ensures.looks ch) link spare
+      | inr has ↦ absurd (no_key a.pages c.args.cache c.args.key.now root has.2)
+    ]) c.plant.ensures.changes
+
+pub returns-else-root-eq0-clause-passes : goal.returns-else-root-eq0-clause-passes
+returns-else-root-eq0-clause-passes g c =
+    let T = g.P.Pages.tells in
+    let a = g.P.Pages.seen c.args.pages.now in
+    let b = g.P.Pages.seen c.number.new.pages in
+    let d = g.P.Pages.seen c.put_below.new.pages in
+    let looks = c.number.ensures.looks in
+    let part : a.part < 2 ^ 16 = omega (arith, c.part-part.type_inv, c.part-part.ensures) in
+    on_ok_both c.put_below.result c.put_below.ensures.changes c.put_below.ensures.passes (λ ch passes t link may.
+    let same = pages_told T a b 0 t looks in
+    let root : root_of a.pages c.args.cache ≡ c.in_ok-root.root = ap (λ (q : Partition). root_of q c.args.cache) (sym same) ∙ number_told b (Root c.args.cache) c.in_ok-root.root c.in_ok-root.ensures.number in
+    elim may [
+      | inl spare ↦ passes_room T a d c.args.cache c.args.link.0 t part c.requires.meta (root_changes_looked T a b d c.args.cache 17 c.args.link.0 c.requires.meta looks ch) link spare
+      | inr has ↦
+          let key = has.2 in
+          let index_b : IsIndex b.pages c.in_ok-root.root key.height key.nodes key.items = subst (λ (q : Partition × ℕ). IsIndex q.0 q.1 key.height key.nodes key.items) {x = (a.pages, root_of a.pages c.args.cache)} {y = (b.pages, c.in_ok-root.root)} (λ z. (sym same z, root z)) key.index in
+          (passes t key.height key.nodes key.items index_b key.held key.is (subst (λ n. IsLink n c.args.link.0) (sym looks.same.part) link)
+          (stored_looked T a b 0 t looks (record { all = has.0; rows = has.1; part = part }))).all
+    ])

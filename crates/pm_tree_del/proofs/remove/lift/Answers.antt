@@ -28,7 +28,7 @@ pub returns-in_ok-few-in-Small-clause-changes : goal.returns-in_ok-few-in-Small-
 returns-in_ok-few-in-Small-clause-changes g c =
     let a = g.P.Pages.seen c.args.pages.now in
     let d = g.P.Pages.seen c.mend_child.new.pages in
-    changes_mended g.P.Pages.tells a d c.args.count c.args.at c.args.i c.args.child c.in_ok-few-in-Small.few c.requires.some c.requires.meta c.in_ok-few-in-Small.ensures.mends
+    changes_mended g.P.Pages.tells a d c.args.count c.args.at c.args.i c.args.child c.in_ok-few-in-Small.few c.requires.some c.requires.meta c.requires.count c.in_ok-few-in-Small.ensures.mends
 
 pub returns-in_ok-few-in-Small-clause-lifts : goal.returns-in_ok-few-in-Small-clause-lifts
 returns-in_ok-few-in-Small-clause-lifts g c =

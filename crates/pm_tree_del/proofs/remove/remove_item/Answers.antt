@@ -1,4 +1,5 @@
 use Rattle.std.proofs.Common.{refl}
+use Rattle.pm_tree_del.proofs.NearlyMended.{taken_nearly}
 use Rattle.pm_tree_del.proofs.Removing.{changes_one}
 use Rattle.pm_tree_del.proofs.RemovedTrees.{leaf_removes}
 use Rattle.std.proofs.Common.{subst, sym}
@@ -13,6 +14,7 @@ returns-clause-changes g c =
     let a = g.P.Pages.seen c.args.pages.now in
     let d = g.P.Pages.seen c.take_out.new.pages in
     changes_one T a d c.args.at c.in_ok-few.ensures.takes.now c.requires.item.some c.requires.meta c.requires.item.in_hand.asked c.requires.item.in_hand.known c.in_ok-few.ensures.takes.after c.take_out.ensures.edits
+    (λ t near. taken_nearly T a d c.args.at c.args.i c.in_ok-few.few t c.requires.item c.take_out.ensures.edits c.in_ok-few.ensures.takes near)
 
 pub returns-clause-removes : goal.returns-clause-removes
 returns-clause-removes g c =

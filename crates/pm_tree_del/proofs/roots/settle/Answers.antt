@@ -31,7 +31,7 @@ returns-in-Empty-clause-changes g c =
     let a = g.P.Pages.seen c.args.pages.now in
     let b = g.P.Pages.seen c.find_top.new.pages in
     let d = g.P.Pages.seen c.replace_root.new.pages in
-    on_ok_weaker c.replace_root.result (λ rep. changes_replaced T a b d c.args.cache c.args.root 0 c.requires.meta c.requires.held.asked c.find_top.ensures.looks rep) c.replace_root.ensures.replaces
+    on_ok_weaker c.replace_root.result (λ rep. changes_replaced T a b d c.args.cache c.args.root 0 c.requires.meta c.requires.held.asked c.requires.cache c.requires.held.some c.requires.root (λ n is some. omega (arith, some)) c.find_top.ensures.looks rep) c.replace_root.ensures.replaces
 
 pub returns-in-Empty-clause-settles : goal.returns-in-Empty-clause-settles
 returns-in-Empty-clause-settles g c =
@@ -63,7 +63,8 @@ returns-else-child-count-clause-changes g c =
     let a = g.P.Pages.seen c.args.pages.now in
     let b = g.P.Pages.seen c.find_top.new.pages in
     let d = g.P.Pages.seen c.replace_root-in-Only.new.pages in
-    on_ok_weaker c.replace_root-in-Only.result (λ rep. changes_replaced T a b d c.args.cache c.args.root c.in-Only.child c.requires.meta c.requires.held.asked c.find_top.ensures.looks rep) c.replace_root-in-Only.ensures.replaces
+    on_ok_weaker c.replace_root-in-Only.result (λ rep. changes_replaced T a b d c.args.cache c.args.root c.in-Only.child c.requires.meta c.requires.held.asked c.requires.cache c.requires.held.some c.requires.root
+    (λ n is some. omega (arith, number_told a Pages n is, number_told a Pages c.args.count c.requires.count, c.if-child-count.false)) c.find_top.ensures.looks rep) c.replace_root-in-Only.ensures.replaces
 
 pub returns-else-child-count-clause-settles : goal.returns-else-child-count-clause-settles
 returns-else-child-count-clause-settles g c =

@@ -1,4 +1,4 @@
-use Rattle.std.proofs.Common.{ℕ, Option, subst, arith}
+use Rattle.std.proofs.Common.{ℕ, ◌^◌, ◌<◌, Option, subst, arith}
 use Rattle.std.specs.Prelude.{IfSome, IfNone, IsTrue}
 use Rattle.std.proofs.lemmas.Result.{IfOk-weaker, on_ok_weaker, err_from_is_err_and}
 use Rattle.pm_meta.specs.declared.slots.MetaSlot.TheVariants.{Root}
@@ -7,7 +7,8 @@ use Rattle.pm_pages.specs.Edits.{IsNumberIn}
 use Rattle.pm_pages.proofs.EditedPages.{edits_looked, looks_at_none}
 use Rattle.pm_tree_del.proofs.Removing.{remove_cause_page, remove_cause_after, remove_cause_passed}
 use Rattle.pm_tree_del.proofs.Settled.{root_looked, root_then, index_looked, none_looked, zero_looked, meta_of}
-use Rattle.pm_tree.proofs.SoundLooks.{meta_not_bad}
+use Rattle.pm_tree.proofs.SoundLooks.{meta_not_bad, passes_looked}
+use Rattle.pm_tree_del.proofs.StoredRemovals.{if_ok_both, count_some, passes_removed}
 use Rattle.pm_tree.proofs.SoundPages.{sound_all, sound_looked, no_bad_passed}
 use Rattle.pm_tree.proofs.SoundTrees.{index_seen}
 use Rattle.pm_tree_del.proofs.roots.tree_remove.Goals as goal
@@ -116,3 +117,23 @@ returns-else-root-eq0-clause-sound g c = λ t all height nodes items index.
     let looks = c.find_number.ensures.looks in
     let number : IsNumberIn b (Root c.args.cache) c.in-Some.root = subst (λ (o : Option ℕ). IfSome o (IsNumberIn b (Root c.args.cache))) c.in-Some.is c.in_ok-find_number.ensures.number in
     c.remove_below.ensures.sound t (sound_looked T a b 1 t looks (sound_all a all)) height nodes items (index_seen T a b c.args.cache c.in-Some.root 1 t looks number height nodes items index)
+
+-- pages pass still
+pub returns-in-None-clause-passes : goal.returns-in-None-clause-passes
+returns-in-None-clause-passes g c = λ t all rows height nodes items index. passes_looked g.P.Pages.tells (g.P.Pages.seen c.args.pages.now) (g.P.Pages.seen c.find_number.new.pages) 1 t c.find_number.ensures.looks all
+
+pub returns-then-root-eq0-clause-passes : goal.returns-then-root-eq0-clause-passes
+returns-then-root-eq0-clause-passes g c = λ t all rows height nodes items index. passes_looked g.P.Pages.tells (g.P.Pages.seen c.args.pages.now) (g.P.Pages.seen c.find_number.new.pages) 1 t c.find_number.ensures.looks all
+
+pub returns-else-root-eq0-clause-passes : goal.returns-else-root-eq0-clause-passes
+returns-else-root-eq0-clause-passes g c =
+    let T = g.P.Pages.tells in
+    let a = g.P.Pages.seen c.args.pages.now in
+    let b = g.P.Pages.seen c.find_number.new.pages in
+    let looks = c.find_number.ensures.looks in
+    let number : IsNumberIn b (Root c.args.cache) c.in-Some.root = subst (λ (o : Option ℕ). IfSome o (IsNumberIn b (Root c.args.cache))) c.in-Some.is c.in_ok-find_number.ensures.number in
+    let d = g.P.Pages.seen c.remove_below.new.pages in
+    let part : b.part < 2 ^ 16 = omega (arith, c.part-part.type_inv, c.part-part.ensures, looks.same.part) in
+    if_ok_both c.remove_below.result c.remove_below.ensures.removes c.remove_below.ensures.changes (λ was removes changes t all rows height nodes items index.
+    passes_removed T b d c.args.cache 15 nodes items c.args.key.now was t part (omega (arith, rows, looks.same.max_rows)) (count_some b number (passes_looked T a b 1 t looks all)) changes
+    (removes t height nodes items (index_seen T a b c.args.cache c.in-Some.root 1 t looks number height nodes items index)) (passes_looked T a b 1 t looks all))
