@@ -2,7 +2,10 @@
 
 use crate::log_rings::Delta;
 use crate::policies::{Frames, Kind};
-use crate::{block, hash_map, keys, locks, log_rings, maps, page_table, policies, region, trees};
+use crate::{
+    block, hash_map, keys, locks, log_rings, maps, page_table, policies, region, ring_threads,
+    trees,
+};
 use std::alloc::{AllocError, Global};
 use std::thread::Threads;
 
@@ -43,10 +46,12 @@ pub enum Command {
     Appends(Delta),
     /// The same through the rings of two workers, which the appends are compared with.
     Rings(Delta),
+    /// The same where the two workers and the log writer have a thread each.
+    RingThreads(Delta),
 }
 
 /// All commands, in the order in which `all` runs them.
-pub const COMMANDS: [Command; 27] = [
+pub const COMMANDS: [Command; 29] = [
     Command::PageTable,
     Command::HashMap,
     Command::Region,
@@ -72,8 +77,10 @@ pub const COMMANDS: [Command; 27] = [
     Command::MapRemoves,
     Command::Appends(Delta::Short),
     Command::Rings(Delta::Short),
+    Command::RingThreads(Delta::Short),
     Command::Appends(Delta::Long),
     Command::Rings(Delta::Long),
+    Command::RingThreads(Delta::Long),
 ];
 
 impl Command {
@@ -105,8 +112,10 @@ impl Command {
             "map_removes" => Some(Command::MapRemoves),
             "appends_short" => Some(Command::Appends(Delta::Short)),
             "rings_short" => Some(Command::Rings(Delta::Short)),
+            "ring_threads_short" => Some(Command::RingThreads(Delta::Short)),
             "appends_long" => Some(Command::Appends(Delta::Long)),
             "rings_long" => Some(Command::Rings(Delta::Long)),
+            "ring_threads_long" => Some(Command::RingThreads(Delta::Long)),
             _ => None,
         }
     }
@@ -139,8 +148,10 @@ impl Command {
             Command::MapRemoves => "map_removes",
             Command::Appends(Delta::Short) => "appends_short",
             Command::Rings(Delta::Short) => "rings_short",
+            Command::RingThreads(Delta::Short) => "ring_threads_short",
             Command::Appends(Delta::Long) => "appends_long",
             Command::Rings(Delta::Long) => "rings_long",
+            Command::RingThreads(Delta::Long) => "ring_threads_long",
         }
     }
 
@@ -169,6 +180,7 @@ impl Command {
             Command::MapRemoves => maps::removes(alloc, count),
             Command::Appends(delta) => log_rings::appends(alloc, *delta, count),
             Command::Rings(delta) => log_rings::rings(alloc, *delta, count),
+            Command::RingThreads(delta) => ring_threads::run(rt, alloc, *delta, count),
         }
     }
 }

@@ -25,13 +25,14 @@ pub enum Delta {
 // The operations that a worker pushes before the log writer takes them.
 const PUSHED: u32 = 100;
 
-const LOGICAL_BYTES: usize = 40;
+/// How many bytes the first record of an operation has.
+pub(crate) const LOGICAL_BYTES: usize = 40;
 
 const SEGMENT_BYTES: u32 = 1_048_576;
 
 /// The last segment of a log, in memory.
 #[derive(Drop)]
-struct Segment {
+pub(crate) struct Segment {
     bytes: Vec<u8>,
     faults: u64,
 }
@@ -121,17 +122,19 @@ pub fn rings(alloc: Global, delta: Delta, count: u32) -> Result<u64, AllocError>
     Ok(log.appended())
 }
 
-fn new_log(dev: &mut Segment) -> Result<Log, Failed> {
+/// An empty log.
+pub(crate) fn new_log(dev: &mut Segment) -> Result<Log, Failed> {
     Log::cut_tail(dev, 1, Place { seg: 1, off: 0 }, SEGMENT_BYTES)
 }
 
-fn new_segment(alloc: Global) -> Result<Segment, AllocError> {
+/// A segment, with room for all that the log puts into it.
+pub(crate) fn new_segment(alloc: Global) -> Result<Segment, AllocError> {
     let bytes = Vec::with_capacity(alloc, SEGMENT_BYTES as usize)?;
     Ok(Segment { bytes, faults: 0 })
 }
 
-// The payload of an operation's second record.
-fn delta_bytes(alloc: Global, delta: Delta) -> Result<Vec<u8>, AllocError>
+/// The payload of an operation's second record.
+pub(crate) fn delta_bytes(alloc: Global, delta: Delta) -> Result<Vec<u8>, AllocError>
     ensures { IfOk result (λ bytes. length bytes.items ≤ longest) }
 {
     match delta {
@@ -140,8 +143,8 @@ fn delta_bytes(alloc: Global, delta: Delta) -> Result<Vec<u8>, AllocError>
     }
 }
 
-// The bytes of an operation with these two records.
-fn operation(alloc: Global, logical: &[u8], delta: &[u8]) -> Result<Vec<u8>, AllocError>
+/// The bytes of an operation with these two records.
+pub(crate) fn operation(alloc: Global, logical: &[u8], delta: &[u8]) -> Result<Vec<u8>, AllocError>
     requires logical { length logical.now ≤ longest }
     requires delta { length delta.now ≤ longest }
 {

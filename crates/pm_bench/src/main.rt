@@ -13,6 +13,7 @@ mod maps;
 mod page_table;
 mod policies;
 mod region;
+mod ring_threads;
 mod trees;
 
 use command::{COMMANDS, Command};
@@ -25,7 +26,7 @@ const USAGE: &str =
 |random_64|random_4096|random_65536|segmented_64|segmented_4096|segmented_65536\
 |clock_64|clock_4096|clock_65536\
 |keys|tree_puts|tree_gets|tree_removes|map_puts|map_gets|map_removes\
-|appends_short|rings_short|appends_long|rings_long COUNT";
+|appends_short|rings_short|ring_threads_short|appends_long|rings_long|ring_threads_long COUNT";
 
 fn main(rt: HostRuntime) -> io::Result<ExitCode> {
     let mut words = env::args(&rt)?;
