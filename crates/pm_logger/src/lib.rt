@@ -7,6 +7,7 @@ mod block;
 mod drain;
 mod front;
 mod inbox;
+mod intake;
 mod limits;
 mod log_end;
 mod logger;

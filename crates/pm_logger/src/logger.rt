@@ -51,9 +51,9 @@ impl Logger {
         self.rings.len()
     }
 
-    /// Takes what the workers push meanwhile, and appends each operation that is whole. It makes 4,096 turns
-    /// over all rings, forces the log after each 256 operations, and waits for nobody. Of a ring whose bytes
-    /// are no operation it takes no more, and of none while 1,024 lines are noted.
+    /// Takes what the workers push meanwhile, and appends each operation that is whole. It makes at most 4,096
+    /// turns over all rings, forces the log after each 256 operations, and waits for nobody. Of a ring whose
+    /// bytes are no operation it takes no more, and of none while 1,024 lines are noted: it ends once they are.
     ///
     /// After `Failed` the operations before one were appended, and this one in part or whole.
     pub fn job<L: LogFile>(&mut self, log: &mut Log, dev: &mut L) -> Result<(), Failed>

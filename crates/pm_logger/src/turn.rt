@@ -33,7 +33,8 @@ pub(crate) fn turn<L: LogFile>(
     Ok(())
 }
 
-/// Makes all turns of a call, one after the other.
+/// Makes all turns of a call, one after the other, and none once no more lines can be noted, since it
+/// would read no ring.
 pub(crate) fn turns<L: LogFile>(
     rings: &mut Vec<Inbox>,
     log: &mut Log,
@@ -48,6 +49,9 @@ pub(crate) fn turns<L: LogFile>(
 {
     'each: for _ in 0..TURNS_MAX {
         turn(rings, log, dev, tally)?;
+        if tally.is_full() {
+            return Ok(());
+        }
     }
     Ok(())
 }

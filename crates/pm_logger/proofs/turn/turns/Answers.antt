@@ -20,3 +20,6 @@ pub returns-in_err-turn-clause-appended : goal.returns-in_err-turn-clause-append
 returns-in_err-turn-clause-appended g c =
     let p = err_from_is_err_and c.from_residual.result c.from_residual.ensures.1 in
     rw p.1 (merge_then c.each.invariant.merged c.in_err-turn.ensures.appended)
+
+pub returns-then-is_full-clause-appended : goal.returns-then-is_full-clause-appended
+returns-then-is_full-clause-appended g c = merge_then c.each.invariant.merged c.in_ok-turn.ensures.appended
