@@ -54,8 +54,8 @@ pub record WasDone (wanted shape : Shape) (start : World) (pairs : Pairs) (stage
   pub found : SameDisk new stage.next
   pub lines_are : stage.lines ≡ script_of start.input
 
--- A run ended by a crash at a moment, and left this image, as `top` promises of it: a prefix of its order counts, which has each line
--- that was acknowledged.
+-- A run ended by a crash at a moment, and left this image, as `top` promises of it: a prefix of its
+-- order counts, which has each line that was acknowledged.
 pub record HasCrashed (wanted shape : Shape) (start : World) (pairs : Pairs) (stage : Stage) : Type 0 where
   pub begins : IsStart wanted start shape pairs
   pub order : List ℕ

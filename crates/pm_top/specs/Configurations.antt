@@ -19,7 +19,8 @@ shape_asked (Err fault) = default_config.shape
 unfoldable pub wanted_in : World → Shape
 wanted_in world = shape_asked (config_of world.config)
 
--- the field of a configuration that is refused: that of its text, or the first one by which the store's shape differs
+-- the field of a configuration that is refused: that of its text, or the first one by which the
+-- store's shape differs
 abbrev pub field_refused : Result Config ConfigFault → World → Option Field
 field_refused (Ok config) world = shape_fault config.shape world
 field_refused (Err (Bad field)) world = Some field

@@ -12,21 +12,26 @@ use Rattle.pm_script.specs.Texts.{text_of}
 use Rattle.pm_core.specs.LogAlone.{Holds, last_segment, HasTrueFrames}
 use Rattle.pm_top.specs.Served.{script_of}
 
--- how many of these replies begin in the bytes: the first byte of each stands there, after the texts of those before it
+-- how many of these replies begin in the bytes: the first byte of each stands there, after the
+-- texts of those before it
 abbrev pub begun : List Reply → List ℕ → ℕ
 begun [] bytes = 0
 begun (reply ∷ replies) bytes =
-    if starts_with nat_eq bytes (take 1 (text_of reply)) then 1 + begun replies (drop (length (text_of reply)) bytes) else 0
+    if starts_with nat_eq bytes (take 1 (text_of reply)) then 1 + begun replies
+        (drop (length (text_of reply)) bytes) else 0
 
--- the numbers of the accepted lines that have the first byte of their reply among the bytes said since the run began
+-- the numbers of the accepted lines that have the first byte of their reply among the bytes said
+-- since the run began
 abbrev pub acknowledged : World → Shape → Pairs → World → List ℕ
 acknowledged old shape pairs now =
     let script = script_of old.input in
-    accepted shape 1 (take (begun (replies_to shape script pairs) (drop (length old.said) now.said)) script) pairs
+    accepted shape 1 (take
+        (begun (replies_to shape script pairs) (drop (length old.said) now.said)) script) pairs
 
--- What a crash left is sound, and holds the map of the start after the lines of a prefix of the order, which has each one that was
--- acknowledged. Its log ends at most in this segment.
-pub record HoldsAfter (wanted : Shape) (most : ℕ) (old : World) (shape : Shape) (pairs : Pairs) (order : List ℕ) (now : World) (image : Image) : Type 0 where
+-- What a crash left is sound, and holds the map of the start after the lines of a prefix of the
+-- order, which has each one that was acknowledged. Its log ends at most in this segment.
+pub record HoldsAfter (wanted : Shape) (most : ℕ) (old : World) (shape : Shape) (pairs : Pairs)
+    (order : List ℕ) (now : World) (image : Image) : Type 0 where
   pub count : ℕ
   pub has : All (Contains (take count order)) (acknowledged old shape pairs now)
   pub holds : Holds wanted image shape (after_numbers shape (take count order) 1 (script_of old.input) pairs)

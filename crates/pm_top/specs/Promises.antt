@@ -46,7 +46,8 @@ abbrev pub SaysPart : List ℕ → World → World → Type 0
 SaysPart text old new = (n : ℕ) × (new ≡ with_said (take n text) old)
 
 -- the replies to the first lines were said, and this after them
-pub record HasAnswered (old new : World) (shape : Shape) (pairs : Pairs) (lines : ℕ) (tail : List ℕ) : Type 0 where
+pub record HasAnswered (old new : World) (shape : Shape) (pairs : Pairs) (lines : ℕ)
+    (tail : List ℕ) : Type 0 where
   pub within : lines ≤ length (script_of old.input)
   pub said : new.said ≡ old.said ++ texts_of (take lines (replies_of shape old.input pairs)) ++ tail
 
@@ -66,9 +67,11 @@ pub record IsDone (old new : World) (shape : Shape) (pairs : Pairs) (lines : ℕ
 abbrev pub IsTail : List Reply → List ℕ → Type 0
 IsTail next tail = (n : ℕ) × ((tail ≡ take n (texts_of next)) ⊎ (tail ≡ take n (codes "fault long\n")))
 
--- A call failed after the replies to the first lines. What was said after them belongs to the replies to some lines of the next
--- batch, of which the order has the accepted ones, or to a fault line.
-pub record HasFailed (old new : World) (shape : Shape) (pairs : Pairs) (lines : ℕ) (order : List ℕ) : Type 0 where
+-- A call failed after the replies to the first lines. What was said after them belongs to the
+-- replies to some lines of the next batch, of which the order has the accepted ones, or to a fault
+-- line.
+pub record HasFailed (old new : World) (shape : Shape) (pairs : Pairs) (lines : ℕ)
+    (order : List ℕ) : Type 0 where
   pub tail : List ℕ
   pub answers : HasAnswered old new shape pairs lines tail
   pub order_is : IsOrder shape old.input pairs lines BATCH_LINES_MAX order
@@ -78,12 +81,14 @@ pub record HasFailed (old new : World) (shape : Shape) (pairs : Pairs) (lines : 
   pub prefix : IsTail (take more (drop lines (replies_of shape old.input pairs))) tail
 
 -- memory ran out after the replies to the first lines
-pub record HasNoMemory (old new : World) (shape : Shape) (pairs : Pairs) (lines : ℕ) (order : List ℕ) : Type 0 where
+pub record HasNoMemory (old new : World) (shape : Shape) (pairs : Pairs) (lines : ℕ)
+    (order : List ℕ) : Type 0 where
   pub answers : HasAnswered old new shape pairs lines []
   pub order_is : IsOrder shape old.input pairs lines BATCH_LINES_MAX order
 
 -- all lines that are ended within both limits were answered, and this was said after their replies
-pub record IsStopped (old new : World) (shape : Shape) (pairs : Pairs) (lines : ℕ) (order : List ℕ) (tail : List ℕ) : Type 0 where
+pub record IsStopped (old new : World) (shape : Shape) (pairs : Pairs) (lines : ℕ) (order : List ℕ)
+    (tail : List ℕ) : Type 0 where
   pub answers : HasAnswered old new shape pairs lines tail
   pub order_is : IsOrder shape old.input pairs lines 0 order
   pub passes : PassesLimit old.input
@@ -111,7 +116,8 @@ pub record IsLeft (wanted : Shape) (last : ℕ) (old new : World) (shape : Shape
   pub grows : LogGrowsBy old new (restart_frame shape ∷ logged shape (script_of old.input) pairs)
   pub rises : last_segment holds ≤ last + 2 ^ 23
 
--- A run may begin: the store is sound and holds this map, its log has numbers for more segments, and nothing is pending.
+-- A run may begin: the store is sound and holds this map, its log has numbers for more segments,
+-- and nothing is pending.
 pub record IsStart (wanted : Shape) (world : World) (shape : Shape) (pairs : Pairs) : Type 0 where
   pub holds : Holds wanted (image_of world) shape pairs
   pub numbers : last_segment holds < 2 ^ 62
@@ -151,27 +157,36 @@ RefusalIs status old new lines order = ⊥
 -- What a run promises, by its status.
 pub record RunHolds (old new : History) (status : Status) (lines : ℕ) (order : List ℕ) : Type 0 where
   -- over a store that it opens: which lines are answered, and with what
-  pub outcome : (shape : Shape) (pairs : Pairs) → CanOpen old.world shape pairs → OutcomeIs status old.world new.world shape pairs lines order
+  pub outcome : (shape : Shape) (pairs : Pairs) → CanOpen old.world shape pairs
+      → OutcomeIs status old.world new.world shape pairs lines order
   -- a script is answered only over such a store, and no other one is changed
-  pub opened : (status ≡ Done) ⊎ (status ≡ Long) → (shape : Shape) × (pairs : Pairs) × CanOpen old.world shape pairs
-  pub untouched : ((shape : Shape) (pairs : Pairs) → CanOpen old.world shape pairs → ⊥) → AllMoments old new (SameLog old.world)
+  pub opened : (status ≡ Done) ⊎ (status ≡ Long)
+      → (shape : Shape) × (pairs : Pairs) × CanOpen old.world shape pairs
+  pub untouched : ((shape : Shape) (pairs : Pairs) → CanOpen old.world shape pairs → ⊥)
+      → AllMoments old new (SameLog old.world)
   -- a script that is done leaves a sound store for the next run
-  pub leaves : status ≡ Done → (shape : Shape) (pairs : Pairs) (start : IsStart (wanted_in old.world) old.world shape pairs)
+  pub leaves : status ≡ Done
+      → (shape : Shape) (pairs : Pairs) (start : IsStart (wanted_in old.world) old.world shape pairs)
       → IsLeft (wanted_in old.world) (last_segment start.holds) old.world new.world shape pairs
   -- a field that is refused is named so, and a bad record too: the store is left as it is
   pub misconfigured : status ≡ Misconfigured → IsMisconfigured old.world new.world lines order
   pub damaged : status ≡ Damaged → IsDamaged old.world new.world lines order
 
--- at each moment a crash leaves a sound store, which holds what was acknowledged, its log in at most 2^24 segments more
+-- at each moment a crash leaves a sound store, which holds what was acknowledged, its log in at
+-- most 2^24 segments more
 abbrev pub HoldsAtEachMoment : History → History → List ℕ → Type 0
 HoldsAtEachMoment old new order =
     (shape : Shape) (pairs : Pairs) (start : IsStart (wanted_in old.world) old.world shape pairs)
     → AllMoments old new (CrashHoldsAcknowledged (wanted_in old.world)
     (last_segment start.holds + 2 ^ 24) old.world shape pairs order)
 
--- Where no call fails: a field of the configuration that is refused is named, and a script over a store that is opened is answered
--- whole, or the limit that it passes is reported, unless memory runs out.
+-- Where no call fails: a field of the configuration that is refused is named, and a script over a
+-- store that is opened is answered whole, or the limit that it passes is reported, unless memory
+-- runs out.
 pub record Completes (status : Status) (old : World) (before now : DeviceState) : Type 0 where
-  pub refused : (field : Field) → config_fault old ≡ Some field → (Rose before now → ⊥) → (status ≡ Misconfigured) ⊎ (status ≡ Memory)
-  pub within : (shape : Shape) (pairs : Pairs) → CanOpen old shape pairs → IsWithinLimits old.input → (Rose before now → ⊥) → (status ≡ Done) ⊎ (status ≡ Memory)
-  pub passes : (shape : Shape) (pairs : Pairs) → CanOpen old shape pairs → PassesLimit old.input → (Rose before now → ⊥) → (status ≡ Long) ⊎ (status ≡ Memory)
+  pub refused : (field : Field) → config_fault old ≡ Some field → (Rose before now → ⊥)
+      → (status ≡ Misconfigured) ⊎ (status ≡ Memory)
+  pub within : (shape : Shape) (pairs : Pairs) → CanOpen old shape pairs → IsWithinLimits old.input
+      → (Rose before now → ⊥) → (status ≡ Done) ⊎ (status ≡ Memory)
+  pub passes : (shape : Shape) (pairs : Pairs) → CanOpen old shape pairs → PassesLimit old.input
+      → (Rose before now → ⊥) → (status ≡ Long) ⊎ (status ≡ Memory)

@@ -25,7 +25,8 @@ use Rattle.pm_top.specs.Served.{script_of}
 abbrev pub IsOrder : Shape → List ℕ → Pairs → ℕ → List ℕ → Type 0
 IsOrder shape input pairs lines order = order ≡ accepted shape 1 (take lines (script_of input)) pairs
 
--- the order has the numbers of the accepted ones among the lines that were answered, and among some next ones, all of one batch
+-- the order has the numbers of the accepted ones among the lines that were answered, and among some
+-- next ones, all of one batch
 pub record HasTried (shape : Shape) (input : List ℕ) (pairs : Pairs) (lines : ℕ) (order : List ℕ) : Type 0 where
   pub many : ℕ
   pub from : lines ≤ many
@@ -41,21 +42,24 @@ pub record IsDone (old new : World) (shape : Shape) (pairs : Pairs) (lines : ℕ
   pub read : new.input ≡ []
   pub limits : IsWithinLimits old.input
 
--- A call failed after the replies to the first lines. What was said after them belongs to the replies to the lines of the next
--- batch, and to none that wasn't done.
-pub record HasFailed (old new : World) (shape : Shape) (pairs : Pairs) (lines : ℕ) (order : List ℕ) : Type 0 where
+-- A call failed after the replies to the first lines. What was said after them belongs to the
+-- replies to the lines of the next batch, and to none that wasn't done.
+pub record HasFailed (old new : World) (shape : Shape) (pairs : Pairs) (lines : ℕ)
+    (order : List ℕ) : Type 0 where
   pub tail : List ℕ
   pub answers : HasAnswered old new shape pairs lines tail
   pub tried : HasTried shape old.input pairs lines order
   pub prefix : IsTail (take (tried.many - lines) (drop lines (replies_of shape old.input pairs))) tail
 
 -- memory ran out after the replies to the first lines
-pub record HasNoMemory (old new : World) (shape : Shape) (pairs : Pairs) (lines : ℕ) (order : List ℕ) : Type 0 where
+pub record HasNoMemory (old new : World) (shape : Shape) (pairs : Pairs) (lines : ℕ)
+    (order : List ℕ) : Type 0 where
   pub answers : HasAnswered old new shape pairs lines []
   pub tried : HasTried shape old.input pairs lines order
 
 -- all lines that are ended within both limits were answered, and this was said after their replies
-pub record IsStopped (old new : World) (shape : Shape) (pairs : Pairs) (lines : ℕ) (order : List ℕ) (tail : List ℕ) : Type 0 where
+pub record IsStopped (old new : World) (shape : Shape) (pairs : Pairs) (lines : ℕ) (order : List ℕ)
+    (tail : List ℕ) : Type 0 where
   pub answers : HasAnswered old new shape pairs lines tail
   pub order_is : IsOrder shape old.input pairs lines order
   pub passes : PassesLimit old.input
@@ -86,11 +90,13 @@ after_numbers shape (number ∷ numbers) script pairs =
 abbrev pub acknowledged_count : World → Shape → Pairs → World → ℕ
 acknowledged_count old shape pairs now =
     let script = script_of old.input in
-    length (accepted shape 1 (take (begun (replies_to shape script pairs) (drop (length old.said) now.said)) script) pairs)
+    length (accepted shape 1
+        (take (begun (replies_to shape script pairs) (drop (length old.said) now.said)) script) pairs)
 
--- What a crash left is sound, and holds the map of the start after the first of the lines in the order, with each one that was
--- acknowledged.
-pub record HoldsAfter (wanted : Shape) (old : World) (shape : Shape) (pairs : Pairs) (order : List ℕ) (now : World) (image : Image) : Type 0 where
+-- What a crash left is sound, and holds the map of the start after the first of the lines in the
+-- order, with each one that was acknowledged.
+pub record HoldsAfter (wanted : Shape) (old : World) (shape : Shape) (pairs : Pairs) (order : List ℕ)
+    (now : World) (image : Image) : Type 0 where
   pub count : ℕ
   pub fits : count ≤ length order
   pub has : acknowledged_count old shape pairs now ≤ count
@@ -103,7 +109,8 @@ CrashHoldsAcknowledged wanted old shape pairs order now =
     → HoldsAfter wanted old shape pairs order now image
 
 -- the same by the numbers of any order, without a bound on the log
-pub record HoldsSome (wanted : Shape) (old : World) (shape : Shape) (pairs : Pairs) (order : List ℕ) (now : World) (image : Image) : Type 0 where
+pub record HoldsSome (wanted : Shape) (old : World) (shape : Shape) (pairs : Pairs) (order : List ℕ)
+    (now : World) (image : Image) : Type 0 where
   pub count : ℕ
   pub has : All (Contains (take count order)) (acknowledged old shape pairs now)
   pub holds : Holds wanted image shape

@@ -49,8 +49,8 @@ pub record IsBatch (batch : Batch) : Type 0 where
   pub caches : All HasCache batch.lines.items
   pub alone_caches : All HasCache batch.alone.items
 
--- Whether a batch of so many lines takes one more: it isn't full, and the next item is in hand, or the last read gave all that
--- it was asked for.
+-- Whether a batch of so many lines takes one more: it isn't full, and the next item is in hand, or
+-- the last read gave all that it was asked for.
 abbrev pub takes_more : ℕ → Unread → Bool
 takes_more count input = nat_lt count BATCH_LINES_MAX && (not input.is_short || has_next input)
 
@@ -62,8 +62,8 @@ pub record LinesAreTaken (old now : Unread) (rest left : List ℕ) (lines : List
   pub few_bytes : old.bytes ≤ SCRIPT_BYTES_MAX → now.bytes ≤ SCRIPT_BYTES_MAX
   pub count : now.lines ≡ old.lines + length lines
 
--- How the script goes on after a batch: with what the reader has now, or it ends, or with a line that isn't ended within the
--- limits.
+-- How the script goes on after a batch: with what the reader has now, or it ends, or with a line
+-- that isn't ended within the limits.
 abbrev pub ContinuationIs : Continuation → Unread → Unread → List ℕ → List ℕ → Type 0
 ContinuationIs then_comes.More at new left now_rest = (at ≡ new) × (left ≡ now_rest)
 ContinuationIs then_comes.End at new left now_rest = (left ≡ []) × (now_rest ≡ [])

@@ -52,9 +52,10 @@ impl Batch {
     }
 }
 
-/// Takes the next lines off the script: up to one that is a batch by itself, or all that are left, and as many as a batch may
-/// have. It ends before that where the next line isn't in hand and the last read gave fewer bytes than it was asked for: who
-/// sends lines one by one gets each reply at once.
+/// Takes the next lines off the script: up to one that is a batch by itself, or all that are left,
+/// and as many as a batch may have. It ends before that where the next line isn't in hand and the
+/// last read gave fewer bytes than it was asked for: who sends lines one by one gets each reply at
+/// once.
 pub fn next_batch<H: Host>(
     alloc: Global,
     host: &mut H,
@@ -98,8 +99,8 @@ pub fn next_batch<H: Host>(
     }
 }
 
-// Whether a batch of so many lines takes one more: it isn't full, and the next line doesn't have to be waited for. A read that
-// gave all that was asked for is followed by more, as of a file.
+// Whether a batch of so many lines takes one more: it isn't full, and the next line doesn't have to
+// be waited for. A read that gave all that was asked for is followed by more, as of a file.
 fn takes_more(count: usize, input: &Lines) -> bool
     ensures exact { result ≡ takes_more count input.now }
     ensures room { IsTrue result → count < most_lines }

@@ -33,12 +33,13 @@ use std::alloc::Global;
 
 /// Does what the words of a command line ask for.
 ///
-/// The words are those after the program's name: `run` and a folder, which isn't empty and doesn't begin with `-`. The folder
-/// is bound, and made where it isn't there. Its configuration is read: one that is refused, or that asks for another shape than
-/// the store has, is named by its field, and nothing is changed. Then the script on the host's input is answered, batch by batch,
-/// over the map that the folder's log holds. The records of a batch are in the log, and forced, before any of its replies is
-/// printed. A store whose log has a bad record is refused: the record is named, and nothing is changed.
-/// After the statuses 3 and 4 nothing more is printed.
+/// The words are those after the program's name: `run` and a folder, which isn't empty and doesn't
+/// begin with `-`. The folder is bound, and made where it isn't there. Its configuration is read:
+/// one that is refused, or that asks for another shape than the store has, is named by its field,
+/// and nothing is changed. Then the script on the host's input is answered, batch by batch, over
+/// the map that the folder's log holds. The records of a batch are in the log, and forced, before
+/// any of its replies is printed. A store whose log has a bad record is refused: the record is
+/// named, and nothing is changed. After the statuses 3 and 4 nothing more is printed.
 pub fn top<Q: AllocGlobal, H: Host>(rt: &Q, words: &[String], host: &mut H) -> Report
     requires whole { (H.state host.old).access.is_lent ≡ false }
     ensures known { result.status ≡ code_of (status_of result.status) }
@@ -51,8 +52,8 @@ pub fn top<Q: AllocGlobal, H: Host>(rt: &Q, words: &[String], host: &mut H) -> R
         RefusalIs (status_of result.status) (H.history host.old).world
         (H.history host.new).world result.lines result.order.items }
 
-    // Whatever a crash at any moment leaves is sound, and holds each line that was acknowledged, and no line that the order
-    // lacks.
+    // Whatever a crash at any moment leaves is sound, and holds each line that was acknowledged,
+    // and no line that the order lacks.
     ensures crash { H.tells →
         HoldsAtEachMoment (H.history host.old) (H.history host.new) result.order.items }
 
@@ -149,7 +150,8 @@ fn run_configured<H: Host>(alloc: Global, host: &mut H) -> Outcome
     }
 }
 
-// Opens the store and answers the script of the input, or names the field that differs or the record that is bad.
+// Opens the store and answers the script of the input, or names the field that differs or the
+// record that is bad.
 fn run<H: Host>(alloc: Global, host: &mut H, wanted: Shape) -> Outcome
     requires usable { IsUsable (H.state host.old) }
     requires within_limits { IsShape wanted }
@@ -186,7 +188,8 @@ fn answer_script<H: Host>(alloc: Global, host: &mut H, engine: Engine) -> Outcom
     ensures outcome { H.tells → (start : World) → SameConsole start (H.history host.old).world →
         OutcomeIs result.status start (H.history host.new).world engine.shape engine.map
         result.lines result.order.items }
-    ensures moments { H.tells → (wanted : Shape) (start : World) → SameConsole start (H.history host.old).world →
+    ensures moments { H.tells → (wanted : Shape) (start : World)
+        → SameConsole start (H.history host.old).world →
         CanRun wanted engine (H.history host.old).world →
         AllMoments (H.history host.old) (H.history host.new)
         (CrashHoldsAcknowledged wanted start engine.shape engine.map result.order.items) }

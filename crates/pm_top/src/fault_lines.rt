@@ -40,8 +40,8 @@ pub fn print_limit_fault<H: Host>(host: &mut H) -> Status
     print_fault(host, b"fault long\n", Status::Long)
 }
 
-/// Prints the line that names a record that is bad. Gives `Damaged`, or `Failed` where that fails. Where there is no memory for
-/// it nothing is printed, and it gives `Memory`.
+/// Prints the line that names a record that is bad. Gives `Damaged`, or `Failed` where that fails.
+/// Where there is no memory for it nothing is printed, and it gives `Memory`.
 pub fn print_record_fault<H: Host>(alloc: Global, host: &mut H, at: Place) -> Status
     ensures damaged { H.tells → result ≡ Status.Damaged →
         (H.history host.new).world ≡ with_said (fault_record at) (H.history host.old).world }
@@ -58,8 +58,9 @@ pub fn print_record_fault<H: Host>(alloc: Global, host: &mut H, at: Place) -> St
     }
 }
 
-/// Prints the line that names a field of the configuration that is refused. Gives `Misconfigured`, or `Failed` where that fails.
-/// Where there is no memory for it nothing is printed, and it gives `Memory`.
+/// Prints the line that names a field of the configuration that is refused. Gives `Misconfigured`,
+/// or `Failed` where that fails. Where there is no memory for it nothing is printed, and it gives
+/// `Memory`.
 pub fn print_config_fault<H: Host>(alloc: Global, host: &mut H, field: Field) -> Status
     ensures misconfigured { H.tells → result ≡ Status.Misconfigured →
         (H.history host.new).world ≡ with_said (fault_config field) (H.history host.old).world }

@@ -1,4 +1,5 @@
-//! Runs and crashes follow each other. The functions do nothing: each states a law of the definitions that `top` promises by.
+//! Runs and crashes follow each other. The functions do nothing: each states a law of the
+//! definitions that `top` promises by.
 
 ghost use Rattle.std.specs.Prelude.{◌≡◌, ◌+◌, ◌*◌, ◌<◌, ◌^◌, List, length};
 ghost use Rattle.std.specs.FinMap.{empty};
@@ -32,9 +33,10 @@ pub fn what_a_crash_leaves_is_a_start()
         → IsFoundAfter image world → IsStart wanted world shape pairs }
 {}
 
-/// Over any sequence of runs and crashes the store is one over which a run may begin, and it holds the map after the lines that
-/// count, run after run: of a run that was done all its lines, and of one that crashed a prefix of its order, which has each line that
-/// was acknowledged. The log needs numbers for 2^24 segments for each run.
+/// Over any sequence of runs and crashes the store is one over which a run may begin, and it holds
+/// the map after the lines that count, run after run: of a run that was done all its lines, and of
+/// one that crashed a prefix of its order, which has each line that was acknowledged. The log needs
+/// numbers for 2^24 segments for each run.
 pub fn runs_and_crashes_follow_each_other()
     ensures { (wanted shape : Shape) (start : World) (pairs : Pairs) (stages : List Stage)
         → (begins : IsStart wanted start shape pairs)

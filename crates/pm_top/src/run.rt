@@ -20,7 +20,7 @@ ghost use Rattle.pm_engine.specs.Engines.{IsAtRest, HasSegments, LastIsForced};
 ghost use Rattle.pm_top.specs.ScriptOrder.{CrashHoldsAcknowledged};
 ghost use Rattle.pm_top.specs.ScriptOrder.{HasFailed, HasNoMemory, StopIs};
 ghost use Rattle.pm_top.specs.Runs.{CanRun, KeepsFiles, Progress, SameConsole, OnlyAnswers, KeepsRun};
-ghost use Rattle.pm_top.specs.Runs.{CountsBatch, IsOpenAfter, LinesAreAnswered, FaultIs, IsAtRestSince};
+ghost use Rattle.pm_top.specs.Runs.{CountsBatch, CountsLines, IsOpenAfter, LinesAreAnswered, FaultIs, IsAtRestSince};
 ghost use Rattle.pm_top.specs.Runs.{BatchIsAnswered, LeavesRun};
 ghost use Rattle.pm_top.specs.Served.{script_of};
 
@@ -65,7 +65,8 @@ impl Run {
         }
     }
 
-    /// Answers the script of the input, batch after batch, up to its end or to a limit. At its end the log is forced.
+    /// Answers the script of the input, batch after batch, up to its end or to a limit. At its end
+    /// the log is forced.
     pub fn serve<H: Host>(&mut self, alloc: Global, host: &mut H) -> Result<Stop, StoreFault>
         requires usable { IsUsable (H.state host.old) }
         requires lines { self.old.lines ≡ 0 }
@@ -83,11 +84,13 @@ impl Run {
             self.new result }
 
         // What a crash leaves, meanwhile and from then on.
-        ensures moments { H.tells → (wanted : Shape) (start : World) → SameConsole start (H.history host.old).world →
+        ensures moments { H.tells → (wanted : Shape) (start : World)
+            → SameConsole start (H.history host.old).world →
             CanRun wanted self.old.engine (H.history host.old).world →
             AllMoments (H.history host.old) (H.history host.new) (CrashHoldsAcknowledged wanted start
             self.old.engine.shape self.old.engine.map self.new.engine.order) }
-        ensures leaves { H.tells → (wanted : Shape) (start : World) → SameConsole start (H.history host.old).world →
+        ensures leaves { H.tells → (wanted : Shape) (start : World)
+            → SameConsole start (H.history host.old).world →
             CanRun wanted self.old.engine (H.history host.old).world →
             IfOk result (λ stop. stop ≡ Stop.Done → LeavesRun wanted start (H.history host.old).world
             self.old.engine.shape self.old.engine.map self.old self.new (H.history host.new).world) }
@@ -162,10 +165,8 @@ impl Run {
         requires numbers { self.old.lines + length lines.now ≤ most_lines }
         requires end { H.tells → EndsThere self.old.engine.log (H.history host.old).world }
         ensures keeps { KeepsRun self.old self.new }
-        ensures lines { OnOk result (self.new.lines ≡ self.old.lines + length lines.now) }
+        ensures counts { OnOk result (CountsLines self.old self.new (length lines.now)) }
         ensures end { H.tells → OnOk result (EndsThere self.new.engine.log (H.history host.new).world) }
-        ensures rises { OnOk result
-            (self.new.engine.log.end.seg ≤ self.old.engine.log.end.seg + length lines.now) }
         ensures only_answers { H.tells → AllMoments (H.history host.old) (H.history host.new)
             (OnlyAnswers (self.old.engine.log.end.seg + length lines.now) (H.history host.old).world) }
 
@@ -175,11 +176,13 @@ impl Run {
             LinesAreAnswered start (H.history host.new).world left shape pairs self.new result }
 
         // What a crash leaves.
-        ensures stands { H.tells → (wanted : Shape) → IsAtRest wanted self.old.engine (H.history host.old).world →
+        ensures stands { H.tells → (wanted : Shape)
+            → IsAtRest wanted self.old.engine (H.history host.old).world →
             HasSegments self.old.engine (length lines.now) → OnOk result
             (IsAtRestSince wanted self.old self.new lines.now (H.history host.old).world
             (H.history host.new).world) }
-        ensures moments { H.tells → (wanted : Shape) (start : World) (left : List Line) (shape : Shape) (pairs : Pairs) →
+        ensures moments { H.tells
+            → (wanted : Shape) (start : World) (left : List Line) (shape : Shape) (pairs : Pairs) →
             Progress start (H.history host.old).world (lines.now ++ left) shape pairs self.old →
             IsAtRest wanted self.old.engine (H.history host.old).world →
             HasSegments self.old.engine (length lines.now) →

@@ -154,7 +154,7 @@ returns-clause-answered g c t =
       at = its.at;
       left = its.left;
       taken = its.taken;
-      count = omega (arith, c.in_ok-answer_lines.ensures.lines, c.in_ok-answer_lines-2.ensures.lines, one, two, all);
+      count = omega (arith, c.in_ok-answer_lines.ensures.counts.counted, c.in_ok-answer_lines-2.ensures.counts.counted, one, two, all);
       continues = subst (λ i. ContinuationIs batch.continuation its.at c.next_batch.new.input its.left (c.next_batch.new.input.pending ++ i)) (sym input) its.continues;
       progress = λ start shape pairs progress.
           let left = script_of its.left in
@@ -233,10 +233,10 @@ returns-clause-counted g c =
     let all = length-append batch.lines.items batch.alone.items in
     let counts = c.in_ok-batch.ensures.counts in
     record {
-      few = omega (arith, counts.few (omega (arith, c.requires.counted, c.requires.few)), c.requires.counted, c.in_ok-answer_lines.ensures.lines, c.in_ok-answer_lines-2.ensures.lines, one, two, all);
-      same = λ is. omega (arith, counts.lines is, c.requires.counted, c.in_ok-answer_lines.ensures.lines, c.in_ok-answer_lines-2.ensures.lines, one, two, all);
-      some = λ is. omega (arith, c.in_ok-batch.ensures.batch.some is, c.in_ok-answer_lines.ensures.lines, c.in_ok-answer_lines-2.ensures.lines, one, two, all);
-      rises = omega (arith, c.in_ok-answer_lines.ensures.lines, c.in_ok-answer_lines-2.ensures.lines, c.in_ok-answer_lines.ensures.rises, c.in_ok-answer_lines-2.ensures.rises);
+      few = omega (arith, counts.few (omega (arith, c.requires.counted, c.requires.few)), c.requires.counted, c.in_ok-answer_lines.ensures.counts.counted, c.in_ok-answer_lines-2.ensures.counts.counted, one, two, all);
+      same = λ is. omega (arith, counts.lines is, c.requires.counted, c.in_ok-answer_lines.ensures.counts.counted, c.in_ok-answer_lines-2.ensures.counts.counted, one, two, all);
+      some = λ is. omega (arith, c.in_ok-batch.ensures.batch.some is, c.in_ok-answer_lines.ensures.counts.counted, c.in_ok-answer_lines-2.ensures.counts.counted, one, two, all);
+      rises = omega (arith, c.in_ok-answer_lines.ensures.counts.counted, c.in_ok-answer_lines-2.ensures.counts.counted, c.in_ok-answer_lines.ensures.counts.rises, c.in_ok-answer_lines-2.ensures.counts.rises);
     }
 
 pub returns-in_err-batch-clause-open : goal.returns-in_err-batch-clause-open
@@ -270,7 +270,7 @@ returns-in_err-answer_lines-2-clause-open g c t =
     let new = g.H.Device.history c.answer_lines-2.new.host in
     let alone_few : length c.deref-2.result.now ≤ 1 = omega (arith, c.in_ok-batch.ensures.batch.one, ap (λ (l : List Line). length l) c.deref-2.ensures.value) in
     let two : ℕ = c.answer_lines.new.self.engine.log.end.seg + length c.deref-2.result.now in
-    let both = keep_then most most two old done new (omega arith) (omega (arith, lines_few, alone_few, c.in_ok-answer_lines.ensures.rises)) (g.H.Device.sound c.answer_lines.new.host t) first (keep_answers two done new (c.answer_lines-2.ensures.only_answers t)) in
+    let both = keep_then most most two old done new (omega arith) (omega (arith, lines_few, alone_few, c.in_ok-answer_lines.ensures.counts.rises)) (g.H.Device.sound c.answer_lines.new.host t) first (keep_answers two done new (c.answer_lines-2.ensures.only_answers t)) in
     record { files = both; end = search rules; input_end = search rules }
 
 pub returns-clause-open : goal.returns-clause-open
@@ -286,7 +286,7 @@ returns-clause-open g c t =
     let new = g.H.Device.history c.answer_lines-2.new.host in
     let alone_few : length c.deref-2.result.now ≤ 1 = omega (arith, c.in_ok-batch.ensures.batch.one, ap (λ (l : List Line). length l) c.deref-2.ensures.value) in
     let two : ℕ = c.answer_lines.new.self.engine.log.end.seg + length c.deref-2.result.now in
-    let both = keep_then most most two old done new (omega arith) (omega (arith, lines_few, alone_few, c.in_ok-answer_lines.ensures.rises)) (g.H.Device.sound c.answer_lines.new.host t) first (keep_answers two done new (c.answer_lines-2.ensures.only_answers t)) in
+    let both = keep_then most most two old done new (omega arith) (omega (arith, lines_few, alone_few, c.in_ok-answer_lines.ensures.counts.rises)) (g.H.Device.sound c.answer_lines.new.host t) first (keep_answers two done new (c.answer_lines-2.ensures.only_answers t)) in
     let input : (g.H.Device.history c.answer_lines-2.new.host).world.input ≡ mid.world.input =
     (at_last (g.H.Device.history c.answer_lines.new.host) (g.H.Device.history c.answer_lines-2.new.host) (OnlyAnswers (c.answer_lines.new.self.engine.log.end.seg + length c.deref-2.result.now) (g.H.Device.history c.answer_lines.new.host).world) (g.H.Device.sound c.answer_lines-2.new.host t) (c.answer_lines-2.ensures.only_answers t)).input
     ∙ (at_last mid (g.H.Device.history c.answer_lines.new.host) (OnlyAnswers (c.args.self.now.engine.log.end.seg + length c.deref.result.now) mid.world) (g.H.Device.sound c.answer_lines.new.host t) (c.answer_lines.ensures.only_answers t)).input in
