@@ -1,5 +1,5 @@
-//! The program: it does what its words ask for, over real files and the standard streams. Where that isn't done, a line on
-//! standard error says why.
+//! The program: it does what its words ask for, over real files and the standard streams. Where
+//! that isn't done, a line on standard error says why.
 #![tactic(auto)]
 
 use pm_disk_fs::FsHost;
@@ -39,7 +39,8 @@ fn run(rt: &HostRuntime) -> u8 {
     }
 }
 
-// The words after the program's name, or the status that ends the program: a word that isn't UTF-8 is no word of a command.
+// The words after the program's name, or the status that ends the program: a word that isn't UTF-8
+// is no word of a command.
 fn read_words(rt: &HostRuntime) -> Result<Vec<String>, u8> {
     match env::args(rt) {
         Ok(words) => words
@@ -51,7 +52,8 @@ fn read_words(rt: &HostRuntime) -> Result<Vec<String>, u8> {
     }
 }
 
-// The status, once standard error has a line that says why the program ends with it. What can't be written there is lost.
+// The status, once standard error has a line that says why the program ends with it. What can't be
+// written there is lost.
 fn explained(rt: &HostRuntime, status: u8) -> u8 {
     if let Some(reason) = reason(status) {
         let _ = eprintln!(rt; "pagemem: {reason}");

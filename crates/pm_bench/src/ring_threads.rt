@@ -148,8 +148,8 @@ fn push_whole(end: &mut LogEnd, operation: &[u8], is_over: &AtomicBool) -> bool
     false
 }
 
-// Waits some microseconds: a worker that looks into its full ring without a pause slows the log writer down, which
-// writes the word that the worker reads.
+// Waits some microseconds: a worker that looks into its full ring without a pause slows the log
+// writer down, which writes the word that the worker reads.
 fn pause() {
     'each: for _ in 0..PAUSES {
         hint::spin_loop();

@@ -6,13 +6,12 @@
 --        9     1  zero
 --       10     2  count: how many items there are
 --       12     4  zero
---       16     8  the link: of a leaf the index of the next leaf, below 2^32; of an inner page its first child's name
---       24     8  zero
---       32    73  the first item: key length 1, key padded with zeros to 64, word 8
---      105    73  the second item, and so on; after the last all is zero
+-- 16     8  the link: of a leaf the index of the next leaf, below 2^32; of an inner page its first
+-- child's name 24     8  zero 32    73  the first item: key length 1, key padded with zeros to 64,
+-- word 8 105    73  the second item, and so on; after the last all is zero
 --
--- An item's word is in a leaf the link of the key's row, in an inner page the name of the child with the keys from the
--- item's key on and below the next item's.
+-- An item's word is in a leaf the link of the key's row, in an inner page the name of the child
+-- with the keys from the item's key on and below the next item's.
 use Rattle.std.specs.Prelude.{◌≡◌, ℕ, ◌+◌, ◌-◌, ◌*◌, ◌/◌, ◌^◌, ◌<◌, ◌≤◌, ◌⊎◌, ◌==◌, Bool, true, false}
 use Rattle.std.specs.Prelude.{List, [], length, map, take, drop, ◌∷◌, ◌++◌, slice_index, slice_index_or}
 use Rattle.std.specs.List.{range_with_len}
@@ -50,7 +49,8 @@ key_len_at page i = slice_index page (offset_of i)
 
 -- an item of the page
 abbrev pub item_at : List ℕ → ℕ → Item
-item_at page i = record { key = bytes_at page (offset_of i + 1) (key_len_at page i); word = u64_at page (offset_of i + WORD_IN_ITEM) }
+item_at page i = record { key = bytes_at page (offset_of i + 1) (key_len_at page i);
+    word = u64_at page (offset_of i + WORD_IN_ITEM) }
 
 -- the items of the page
 abbrev pub items_of : List ℕ → List Item

@@ -1,6 +1,8 @@
--- An index page as it may stand in its file: under its own name, with an item, and with names of pages of its partition.
+-- An index page as it may stand in its file: under its own name, with an item, and with names of
+-- pages of its partition.
 --
--- A page's name has the flag 1 and zero item bits; a row's name is its page's with the number of the row's item.
+-- A page's name has the flag 1 and zero item bits; a row's name is its page's with the number of
+-- the row's item.
 use Rattle.std.specs.Prelude.{◌≡◌, ℕ, ◌<◌, ◌≤◌, Bool, true, false, List, length}
 use Rattle.pm_types.specs.Ids.{page_id, part_of_id, index_of_id, page_of_link}
 use Rattle.pm_types.specs.declared.page_id.PageId.{PageId}

@@ -10,7 +10,8 @@ use crate::removal::cut;
 use crate::spans::copy_items;
 use pm_types::Patch;
 
-/// Writes the items of `left` from one on into `right`, a page of the same kind without items. In `left` they stay.
+/// Writes the items of `left` from one on into `right`, a page of the same kind without items. In
+/// `left` they stay.
 pub fn tail(left: &[u8], right: &mut [u8], at: u16, patch: &mut Patch)
     requires left { IsIndexPage left.now }
     requires right { IsIndexPage right.old }
@@ -45,7 +46,8 @@ pub fn merge(left: &mut [u8], right: &[u8], patch: &mut Patch)
     append(left, right, 0, patch);
 }
 
-/// What `tail` and `cut` divide, `merge` joins again: `left` says what it said, and `right` has the items from `at` on.
+/// What `tail` and `cut` divide, `merge` joins again: `left` says what it said, and `right` has the
+/// items from `at` on.
 ///
 /// It is a law, and a test runs it; a caller needs the three calls alone.
 pub fn parts_join(

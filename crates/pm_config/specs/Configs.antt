@@ -1,4 +1,5 @@
--- What a configuration's text says. A test that refuses it gives the refusal its name, and the first test counts.
+-- What a configuration's text says. A test that refuses it gives the refusal its name, and the
+-- first test counts.
 use Rattle.std.specs.Prelude.{ℕ, ◌*◌, List, Bool, true, ◌&&◌, nat_le, if◌then◌else◌, Option, Some, None}
 use Rattle.std.specs.Prelude.{is_some, option_and_then, Result, Ok, Err}
 use Rattle.std.specs.List.{list_all}
@@ -35,7 +36,8 @@ Values = Field → Option Data
 
 -- ---- one field
 
--- the whole number that a field says: its default where the field is absent, nothing where its value is something else
+-- the whole number that a field says: its default where the field is absent, nothing where its
+-- value is something else
 abbrev pub whole_of : ℕ → Option Data → Option ℕ
 whole_of default None = Some default
 whole_of default (Some d) = option_and_then as_u64 (as_number d)
@@ -55,7 +57,8 @@ is_within least most n = nat_le least n && nat_le n most
 
 -- a field whose value is a whole number from `least` to `most`
 abbrev pub number_of : Field → ℕ → ℕ → ℕ → Values → Result ℕ ConfigFault
-number_of field least most default values = tested field (is_within least most) (whole_of default (values field))
+number_of field least most default values =
+    tested field (is_within least most) (whole_of default (values field))
 
 abbrev pub page_size_of : Values → Result ℕ ConfigFault
 page_size_of values = tested PageSize is_page_size (whole_of PAGE_SIZE_DEFAULT (values PageSize))
@@ -63,7 +66,8 @@ page_size_of values = tested PageSize is_page_size (whole_of PAGE_SIZE_DEFAULT (
 -- ---- all fields, in the order of their tests
 
 -- the next test, where the one before was passed
-abbrev pub followed_by : {A B : Type 0} → Result A ConfigFault → (A → Result B ConfigFault) → Result B ConfigFault
+abbrev pub followed_by : {A B : Type 0} → Result A ConfigFault → (A → Result B ConfigFault)
+    → Result B ConfigFault
 followed_by (Ok x) next = next x
 followed_by (Err fault) next = Err fault
 
@@ -72,18 +76,22 @@ shape_of values =
     followed_by (page_size_of values) (λ page_size.
     followed_by (number_of Partitions 1 PARTITIONS_MAX PARTITIONS_DEFAULT values) (λ partitions.
     followed_by (number_of MaxRows 1 ROWS_MAX MAX_ROWS_DEFAULT values) (λ max_rows.
-    followed_by (number_of SegmentBytes SEGMENT_BYTES_MIN SEGMENT_BYTES_MAX SEGMENT_BYTES_DEFAULT values) (λ segment_bytes.
-    Ok (record { page_size = page_size; partitions = partitions; version = LAST_VERSION; max_rows = max_rows; segment_bytes = segment_bytes })))))
+    followed_by (number_of SegmentBytes SEGMENT_BYTES_MIN SEGMENT_BYTES_MAX SEGMENT_BYTES_DEFAULT values)
+        (λ segment_bytes.
+    Ok (record { page_size = page_size; partitions = partitions; version = LAST_VERSION;
+        max_rows = max_rows; segment_bytes = segment_bytes })))))
 
 abbrev pub run_of : Shape → Values → Result Config ConfigFault
 run_of shape values =
     followed_by (number_of Workers 1 WORKERS_MAX WORKERS_DEFAULT values) (λ workers.
     followed_by (number_of Frames (FRAMES_PER_WORKER * workers) FRAMES_MAX FRAMES_DEFAULT values) (λ frames.
-    followed_by (number_of BufferPages (BUFFER_PAGES_PER_WORKER * workers) BUFFER_PAGES_MAX BUFFER_PAGES_DEFAULT values) (λ buffer_pages.
+    followed_by (number_of BufferPages
+        (BUFFER_PAGES_PER_WORKER * workers) BUFFER_PAGES_MAX BUFFER_PAGES_DEFAULT values) (λ buffer_pages.
     followed_by (number_of CheckpointBytes CHECKPOINT_BYTES_MIN CHECKPOINT_BYTES_MAX CHECKPOINT_BYTES_DEFAULT values) (λ checkpoint_bytes.
     followed_by (number_of DirtyPercent 1 DIRTY_PERCENT_MAX DIRTY_PERCENT_DEFAULT values) (λ dirty_percent.
     followed_by (tested Policy (λ _. true) (policy_of (values Policy))) (λ policy.
-    Ok (record { shape = shape; workers = workers; frames = frames; buffer_pages = buffer_pages; checkpoint_bytes = checkpoint_bytes; dirty_percent = dirty_percent; policy = policy })))))))
+    Ok (record { shape = shape; workers = workers; frames = frames; buffer_pages = buffer_pages;
+        checkpoint_bytes = checkpoint_bytes; dirty_percent = dirty_percent; policy = policy })))))))
 
 abbrev pub config_by : Values → Result Config ConfigFault
 config_by values = followed_by (shape_of values) (λ shape. run_of shape values)
@@ -102,7 +110,8 @@ config_in (Some members) =
 abbrev pub default_config : Config
 default_config =
     record {
-      shape = record { page_size = PAGE_SIZE_DEFAULT; partitions = PARTITIONS_DEFAULT; version = LAST_VERSION; max_rows = MAX_ROWS_DEFAULT; segment_bytes = SEGMENT_BYTES_DEFAULT };
+      shape = record { page_size = PAGE_SIZE_DEFAULT; partitions = PARTITIONS_DEFAULT;
+          version = LAST_VERSION; max_rows = MAX_ROWS_DEFAULT; segment_bytes = SEGMENT_BYTES_DEFAULT };
       workers = WORKERS_DEFAULT;
       frames = FRAMES_DEFAULT;
       buffer_pages = BUFFER_PAGES_DEFAULT;

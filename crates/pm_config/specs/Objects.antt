@@ -19,7 +19,8 @@ json_of text = option_and_then (λ p. json.if_last p.0 p.1) (json.value max_dept
 -- the members, in the text's order; nothing where one has a number that is too large for a 64-bit float
 abbrev pub members_in : json.Members → Option (List Member)
 members_in json.no_members = Some []
-members_in (json.member name value more) = option_and_then (λ d. option_map (λ (ms : List Member). (name, d) ∷ ms) (members_in more)) (of_json value)
+members_in (json.member name value more) =
+    option_and_then (λ d. option_map (λ (ms : List Member). (name, d) ∷ ms) (members_in more)) (of_json value)
 
 -- the members of a value that is an object
 abbrev pub members_of : json.Json → Option (List Member)

@@ -57,9 +57,9 @@ pub record LeavesFrames (wanted shape : Shape) (frames : List Frame) (lasting : 
 
 module _ (wanted shape : Shape) (sound : IsShape shape) (old : World) (end : Place) (s : Written)
     (written : IsWritten old 1 (place 1 0) end s) (steps : List Step) (can : CanWriteAll 0 steps end s)
-    (first now : Pairs) (holds : WrittenHolds wanted shape s (frames_in steps) first now) where
+    (start now : Pairs) (holds : WrittenHolds wanted shape s (frames_in steps) start now) where
   abbrev state : State
-  state = state_of shape s end first [] first
+  state = state_of shape s end start [] start
 
   -- At each moment among the steps a crash leaves a prefix of the frames that has all that were lasting.
   pub crash_leaves : (later : World) → DoesPrefix steps end old later
@@ -68,10 +68,10 @@ module _ (wanted shape : Shape) (sound : IsShape shape) (old : World) (end : Pla
   crash_leaves later some image leaves honest =
       let added = frames_in steps in
       let all = append_assoc s.lasting s.pending added in
-      let stands = log_stands wanted shape sound old end s written added first now holds in
-      let replays = rest_replays wanted shape sound old end s written added first now holds in
-      let begins = subst (RestartIsFirst shape) all (all_first wanted shape sound old end s written added first now holds) in
-      let guards = steps_can shape first now steps end s [] first (log_only old) can written.log.leads.to replays begins in
+      let stands = log_stands wanted shape sound old end s written added start now holds in
+      let replays = rest_replays wanted shape sound old end s written added start now holds in
+      let begins = subst (RestartIsFirst shape) all (all_first wanted shape sound old end s written added start now holds) in
+      let guards = steps_can shape start now steps end s [] start (log_only old) can written.log.leads.to replays begins in
       let makes = prefix steps state (log_only old) (log_only later) (prefix_only steps end old later some) in
       let keeps = law_of_call wanted no_told state (log_only old) (on_log steps) stands guards (log_only later) makes
       (image_only image) (leaves_only later image leaves) (true_only later image honest) in
@@ -87,6 +87,6 @@ module _ (wanted shape : Shape) (sound : IsShape shape) (old : World) (end : Pla
             ∙ ap (λ fs. all_replayed shape fs (Some empty)) (take_past s.lasting more keeps.count)
             ∙ replayed-append shape s.lasting (take keeps.count more) (Some empty)
             ∙ ap (all_replayed shape (take keeps.count more)) holds.lasting.map
-            ∙ ap (λ fs. all_replayed shape (take keeps.count fs) (Some first)) (sym (appended_after steps state (log_only old)))
+            ∙ ap (λ fs. all_replayed shape (take keeps.count fs) (Some start)) (sym (appended_after steps state (log_only old)))
             ∙ keeps.is;
       }

@@ -96,7 +96,7 @@ replays_well shape (x ∷ xs) pairs now is =
 
 -- the state of a log that is alone on its disk
 abbrev pub state_of : Shape → Written → Place → Pairs → List Frame → Pairs → State
-state_of shape s end first order pairs = record {
+state_of shape s end start order pairs = record {
   shape = shape;
   low = 1;
   at = s.at;
@@ -106,7 +106,7 @@ state_of shape s end first order pairs = record {
   now = record { checkpoint = NoStart; rebuilt = no_pages };
   soon = None;
   files = no_pages;
-  first = first;
+  first = start;
   order = order;
   map = pairs;
 }
@@ -116,8 +116,8 @@ abbrev pub no_told : List ℕ → ℕ
 no_told bytes = 0
 
 -- What a log holds: its lasting frames the first map, and all that were written, with more after them, the other one.
-pub record WrittenHolds (wanted shape : Shape) (s : Written) (more : List Frame) (first now : Pairs) : Type 0 where
-  pub lasting : IsHeld wanted s.lasting shape first
+pub record WrittenHolds (wanted shape : Shape) (s : Written) (more : List Frame) (start now : Pairs) : Type 0 where
+  pub lasting : IsHeld wanted s.lasting shape start
   pub all : IsHeld wanted ((s.lasting ++ s.pending) ++ more) shape now
 
 -- a file that isn't there has no bytes after any change
@@ -126,13 +126,13 @@ absent_at zero = refl
 absent_at (suc k) = refl
 
 module _ (wanted shape : Shape) (sound : IsShape shape) (world : World) (end : Place) (s : Written)
-    (written : IsWritten world 1 (place 1 0) end s) (more : List Frame) (first now : Pairs)
-    (holds : WrittenHolds wanted shape s more first now) where
+    (written : IsWritten world 1 (place 1 0) end s) (more : List Frame) (start now : Pairs)
+    (holds : WrittenHolds wanted shape s more start now) where
   abbrev state : State
-  state = state_of shape s end first [] first
+  state = state_of shape s end start [] start
 
   -- what follows the lasting frames can be replayed
-  pub rest_replays : all_replayed shape (s.pending ++ more) (Some first) ≡ Some now
+  pub rest_replays : all_replayed shape (s.pending ++ more) (Some start) ≡ Some now
   rest_replays =
       ap (all_replayed shape (s.pending ++ more)) (sym holds.lasting.map)
       ∙ sym (replayed-append shape s.lasting (s.pending ++ more) (Some empty))
@@ -173,7 +173,7 @@ module _ (wanted shape : Shape) (sound : IsShape shape) (world : World) (end : P
 
   pub log_stands : Stands wanted no_told state (log_only world)
   log_stands =
-      let front = front_replays shape s.pending more first now rest_replays in
+      let front = front_replays shape s.pending more start now rest_replays in
       record {
         log = written.log.files;
         ends = written.ends;
@@ -181,7 +181,7 @@ module _ (wanted shape : Shape) (sound : IsShape shape) (world : World) (end : P
         reads = (no_marks, no_marks);
         quiet = (refl, refl);
         good = λ view is. subst (λ (v : View). IsGood wanted state world.log (log_only world).pages v) (sym is) good;
-        well = replays_well shape s.pending first front.0 front.1;
+        well = replays_well shape s.pending start front.0 front.1;
         newest = front.0;
         newest_is = front.1;
         said = omega arith;

@@ -1,4 +1,5 @@
--- The base pages: what the partition files hold, with the pages that the log of an unended checkpoint rebuilds laid over.
+-- The base pages: what the partition files hold, with the pages that the log of an unended
+-- checkpoint rebuilds laid over.
 use Rattle.std.specs.Prelude.{◌≡◌, ℕ, ◌+◌, ◌*◌, ◌&&◌, ◌||◌, nat_le, nat_lt, ◌==◌, if◌then◌else◌, List}
 use Rattle.std.specs.Prelude.{[], ◌∷◌, ◌++◌, fold, length, slice_range, Option, Some, None}
 use Rattle.std.specs.Option.{option_map, option_and_then, option_or}
@@ -34,7 +35,8 @@ with_page pages page bytes part index =
 abbrev pub page_in_file : ℕ → Option (List ℕ) → Partition
 page_in_file page_size file index =
     let from : ℕ = index * page_size in
-    if nat_le (from + page_size) (length (bytes_of file)) then Some (slice_range (bytes_of file) from (from + page_size)) else None
+    if nat_le (from + page_size) (length (bytes_of file)) then Some
+        (slice_range (bytes_of file) from (from + page_size)) else None
 
 -- the frames' records, none where one is in no grammar
 abbrev pub records_in : List Frame → Option (List Record)
@@ -44,7 +46,8 @@ records_in (frame ∷ frames) =
 
 -- the records after the last RESTART
 abbrev pub since_restart : List Record → List Record
-since_restart records = fold (λ taken found. if is_restart (Some found) then [] else taken ++ found ∷ []) [] records
+since_restart records =
+    fold (λ taken found. if is_restart (Some found) then [] else taken ++ found ∷ []) [] records
 
 -- a snapshot's page, none where it hasn't the page size
 abbrev pub whole : ℕ → List ℕ → Option (List ℕ)
@@ -52,15 +55,16 @@ whole page_size bytes = if length bytes == page_size then Some bytes else None
 
 -- a page after a delta, none where a range ends past the page
 abbrev pub patched : List ℕ → List ℕ → Option (List ℕ)
-patched delta page = if are_ranges (number_of delta) 0 (length page) (ranges_of delta) then Some (applied delta page) else None
+patched delta page = if are_ranges (number_of delta) 0 (length page) (ranges_of delta) then Some
+    (applied delta page) else None
 
 -- the pages with what a record makes of its page; a page outside the shape takes no part
 abbrev pub with_found : Shape → PageId → Option (List ℕ) → Partitions → Option Partitions
 with_found shape page found pages =
     if nat_lt (part_of_id page) shape.partitions then option_map (with_page pages page) found else Some pages
 
--- The pages after a record, none where it can't be: a snapshot of another size, or a delta that has no snapshot before it or
--- ends past its page.
+-- The pages after a record, none where it can't be: a snapshot of another size, or a delta that has
+-- no snapshot before it or ends past its page.
 abbrev pub rebuilt_by : Shape → Record → Partitions → Option Partitions
 rebuilt_by shape (Snapshot page bytes) pages = with_found shape page (whole shape.page_size bytes) pages
 rebuilt_by shape (Delta page delta) pages =
@@ -69,18 +73,22 @@ rebuilt_by shape found pages = Some pages
 
 -- the pages that records rebuild, the first of them first, none where they can't
 abbrev pub rebuilt_from : Shape → List Record → Option Partitions
-rebuilt_from shape records = fold (λ pages found. option_and_then (rebuilt_by shape found) pages) (Some no_pages) records
+rebuilt_from shape records =
+    fold (λ pages found. option_and_then (rebuilt_by shape found) pages) (Some no_pages) records
 
--- the pages that frames rebuild, of these only those after the last RESTART; none where they can't, or one is in no grammar
+-- the pages that frames rebuild, of these only those after the last RESTART; none where they can't,
+-- or one is in no grammar
 unfoldable pub rebuilt_of : Shape → List Frame → Option Partitions
-rebuilt_of shape frames = option_and_then (λ records. rebuilt_from shape (since_restart records)) (records_in frames)
+rebuilt_of shape frames =
+    option_and_then (λ records. rebuilt_from shape (since_restart records)) (records_in frames)
 
 -- the frame holds the begin of this checkpoint
 pub record IsBegin (number : ℕ) (frame : Frame) : Type 0 where
   pub replay : Place
   pub is : record_in frame ≡ Some (CpBegin number replay)
 
--- The log from the mark's from place leads up to its begin place, where its CP_BEGIN stands, and rebuilds these pages.
+-- The log from the mark's from place leads up to its begin place, where its CP_BEGIN stands, and
+-- rebuilds these pages.
 pub record Rebuilds (mark : Mark) (log : ℕ → List ℕ) (pages : Partitions) : Type 0 where
   pub frames : List Frame
   pub run : HasFrames all_frames log mark.from frames

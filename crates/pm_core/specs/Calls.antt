@@ -22,7 +22,8 @@ abbrev pub MakesPrefix : List DiskStep → State → World → World → Type 0
 MakesPrefix steps s old now = (k : ℕ) × (k ≤ length steps) × (now ≡ worlds (take k steps) s old)
 
 -- These steps were made, one after the other; at an `Err` a prefix of them.
-pub record MakesSteps {T E : Type 0} (old new : History) (result : Result T E) (steps : List DiskStep) (s : State) : Type 0 where
+pub record MakesSteps {T E : Type 0} (old new : History) (result : Result T E) (steps : List DiskStep)
+    (s : State) : Type 0 where
   pub all : OnOk result (new.world ≡ worlds steps s old.world)
   pub moments : AllMoments old new (MakesPrefix steps s old.world)
 
@@ -33,7 +34,8 @@ begin_steps mark rebuilt = WriteStart mark rebuilt ∷ ForceStart ∷ []
 -- the files of the partitions from this one on that these pages are of are forced
 unfoldable pub force_steps : ℕ → ℕ → List PageId → List DiskStep
 force_steps from zero pages = []
-force_steps from (suc n) pages = (if has_part from pages then ForcePages from ∷ [] else []) ++ force_steps (from + 1) n pages
+force_steps from (suc n) pages =
+    (if has_part from pages then ForcePages from ∷ [] else []) ++ force_steps (from + 1) n pages
 
 -- the files of these pages' partitions are forced, and then the end marker is written and forced
 abbrev pub finish_steps : Mark → List PageId → List DiskStep
@@ -53,7 +55,8 @@ pub record MayBegin (mark : Mark) (pages : List PageId) (world : World) : Type 0
   pub guard : CanStart mark rebuilt state world
   pub pages_are : AreRebuilt pages rebuilt
 
--- In this state the checkpoint may end once the files of these pages are forced: each page that the log rebuilds is in its file.
+-- In this state the checkpoint may end once the files of these pages are forced: each page that the
+-- log rebuilds is in its file.
 pub record CanFinish (mark : Mark) (pages : List PageId) (s : State) (world : World) : Type 0 where
   pub runs : s.now.checkpoint ≡ Started mark
   pub alone : s.soon ≡ None

@@ -13,9 +13,11 @@ use Rattle.pm_core.specs.BasePages.{Partitions, no_pages, with_page}
 use Rattle.pm_core.specs.Machine.{DiskStep, OnLog, WriteStart, ForceStart, WritePage, ForcePages}
 use Rattle.pm_core.specs.Machine.{WriteEnd, ForceEnd, Say}
 
--- the first page of the first partition, where it has no other one: its name, its kind, and 1 for its page count
+-- the first page of the first partition, where it has no other one: its name, its kind, and 1 for
+-- its page count
 abbrev pub first_page : ℕ → List ℕ
-first_page size = 0 ∷ 0 ∷ 0 ∷ 0 ∷ 0 ∷ 0 ∷ 1 ∷ 0 ∷ 1 ∷ (replicate 155 0 ++ (1 ∷ 0 ∷ 0 ∷ 0 ∷ replicate (size - 168) 0))
+first_page size = 0 ∷ 0 ∷ 0 ∷ 0 ∷ 0 ∷ 0 ∷ 1 ∷ 0 ∷ 1 ∷
+    (replicate 155 0 ++ (1 ∷ 0 ∷ 0 ∷ 0 ∷ replicate (size - 168) 0))
 
 -- its name
 abbrev pub first_id : PageId
@@ -65,7 +67,8 @@ log_goes_on shape = OnLog (Append (page_frame shape)) ∷ OnLog (Append (begin_f
 -- the checkpoint begins, its page is written, and it ends
 abbrev pub checkpoint_made : Shape → List DiskStep
 checkpoint_made shape =
-    WriteStart (first_mark shape) (first_rebuilt shape) ∷ ForceStart ∷ WritePage first_id [] (first_page shape.page_size)
+    WriteStart (first_mark shape) (first_rebuilt shape) ∷ ForceStart ∷ WritePage first_id []
+        (first_page shape.page_size)
     ∷ ForcePages 0 ∷ WriteEnd (first_mark shape) ∷ ForceEnd ∷ []
 
 -- the log's first segment is dropped, and a byte is said

@@ -24,7 +24,8 @@ in_force image = checkpoint_in (bytes_of image.starts) (bytes_of image.ends)
 
 -- the entries of the partitions' rows
 abbrev pub entries_in : ℕ → Partitions → List (CacheKey × List ℕ)
-entries_in partitions pages = flat_map (λ part. map entry_of (rows_of part (counted (pages part)))) (range_with_len 0 partitions)
+entries_in partitions pages =
+    flat_map (λ part. map entry_of (rows_of part (counted (pages part)))) (range_with_len 0 partitions)
 
 -- the map of the partitions' rows
 unfoldable pub pairs_in : ℕ → Partitions → Pairs
@@ -44,11 +45,13 @@ BeginsWell (Ended mark) frames = Unit {0}
 
 -- each partition's pages that count are well formed
 abbrev pub AllWellFormed : Shape → Partitions → Type 0
-AllWellFormed shape pages = (part : ℕ) → part < shape.partitions → IsWellFormed shape part (counted (pages part))
+AllWellFormed shape pages = (part : ℕ) → part < shape.partitions
+    → IsWellFormed shape part (counted (pages part))
 
--- With this checkpoint in force the disk holds this shape and this map, in a store that takes the wanted shape where it is
--- empty.
-pub record HoldsWith (wanted : Shape) (checkpoint : Checkpoint) (image : Image) (shape : Shape) (pairs : Pairs) : Type 0 where
+-- With this checkpoint in force the disk holds this shape and this map, in a store that takes the
+-- wanted shape where it is empty.
+pub record HoldsWith (wanted : Shape) (checkpoint : Checkpoint) (image : Image) (shape : Shape)
+    (pairs : Pairs) : Type 0 where
   -- the pages that the log rebuilds, and the frames from the replay place on
   pub rebuilt : Partitions
   pub frames : List Frame
@@ -58,7 +61,8 @@ pub record HoldsWith (wanted : Shape) (checkpoint : Checkpoint) (image : Image) 
   pub begins : BeginsWell checkpoint frames
   pub told : shape ≡ store_shape wanted checkpoint frames
   pub well_formed : AllWellFormed shape (base_of checkpoint rebuilt image.pages)
-  pub map : all_replayed shape frames (Some (pairs_in shape.partitions (base_of checkpoint rebuilt image.pages))) ≡ Some pairs
+  pub map : all_replayed shape frames
+      (Some (pairs_in shape.partitions (base_of checkpoint rebuilt image.pages))) ≡ Some pairs
 
 -- what a crash left holds this shape and this map
 abbrev pub HeldImage : Shape → Image → Shape → Pairs → Type 0

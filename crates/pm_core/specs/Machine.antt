@@ -72,12 +72,14 @@ forced_pages s world = pages_of s.shape.page_size (λ part. (world.pages part).f
 -- the state after a step
 abbrev pub next_state : DiskStep → State → World → State
 next_state (OnLog step) s world = log_state step s
-next_state (WriteStart mark rebuilt) s world = record s { soon = Some (record { checkpoint = Started mark; rebuilt = rebuilt }) }
+next_state (WriteStart mark rebuilt) s world =
+    record s { soon = Some (record { checkpoint = Started mark; rebuilt = rebuilt }) }
 next_state ForceStart s world = record s { now = soon_or s.soon s.now; soon = None }
 next_state (WritePage page gap bytes) s world = s
 next_state (ForcePages part) s world = s
 next_state (WriteEnd mark) s world =
-    record s { soon = Some (record { checkpoint = Ended mark; rebuilt = no_pages }); files = forced_pages s world }
+    record s { soon = Some (record { checkpoint = Ended mark; rebuilt = no_pages });
+        files = forced_pages s world }
 next_state ForceEnd s world = record s { now = soon_or s.soon s.now; soon = None }
 next_state (Say bytes) s world = s
 
@@ -87,14 +89,16 @@ next_world (OnLog step) s world = step_world step s.end world
 next_world (WriteStart mark rebuilt) s world = mark_written mark_file.Start mark world
 next_world ForceStart s world = starts_forced world
 next_world (WritePage page gap bytes) s world =
-    pages_changed (part_of_id page) (gapped (pages_in world (part_of_id page)) (page_at page (length bytes)) gap bytes) world
+    pages_changed (part_of_id page)
+        (gapped (pages_in world (part_of_id page)) (page_at page (length bytes)) gap bytes) world
 next_world (ForcePages part) s world = pages_forced part world
 next_world (WriteEnd mark) s world = mark_written mark_file.End mark world
 next_world ForceEnd s world = ends_forced world
 next_world (Say bytes) s world = with_said bytes world
 
--- A frame may be appended: the tail is cut and forced, the frame may stand at the log's end and is in its grammar, a put isn't
--- refused there, and an empty log gets a RESTART with the store's shape first.
+-- A frame may be appended: the tail is cut and forced, the frame may stand at the log's end and is
+-- in its grammar, a put isn't refused there, and an empty log gets a RESTART with the store's shape
+-- first.
 pub record CanAppend (frame : Frame) (s : State) : Type 0 where
   pub ready : s.tail ≡ Ready
   pub open_segment : HasNoSeal s.pending
@@ -124,10 +128,12 @@ CanLog (ForceSegment seg) s = seg < s.low
 -- with the mark written, each other slot of its file reads as it does now
 abbrev pub OthersStay : Mark → File → Type 0
 OthersStay mark file = (slot : ℕ) → slot ≢ slot_of mark.number
-    → mark_at slot (bytes_of (changed (mark_change (content file) mark) (content file))) ≡ mark_at slot (bytes_of (content file))
+    → mark_at slot (bytes_of (changed (mark_change (content file) mark) (content file)))
+        ≡ mark_at slot (bytes_of (content file))
 
--- The next checkpoint's start marker may be written: no checkpoint runs, the lasting log leads from the from place over the
--- begin place, where its CP_BEGIN stands, to its end, and with the marker in force the disk would hold what it holds.
+-- The next checkpoint's start marker may be written: no checkpoint runs, the lasting log leads from
+-- the from place over the begin place, where its CP_BEGIN stands, to its end, and with the marker
+-- in force the disk would hold what it holds.
 pub record CanStart (mark : Mark) (rebuilt : Partitions) (s : State) (world : World) : Type 0 where
   pub alone : s.soon ≡ None
   pub idle : (other : Mark) → s.now.checkpoint ≡ Started other → ⊥
@@ -151,7 +157,8 @@ pub record CanStart (mark : Mark) (rebuilt : Partitions) (s : State) (world : Wo
   pub based_is : HavePairs s.shape (laid_over rebuilt s.files) based
   pub same_map : all_replayed s.shape frames (Some based) ≡ Some s.map
 
--- A page may be written, any bytes: a checkpoint runs, its start marker is forced, and the log rebuilds this page.
+-- A page may be written, any bytes: a checkpoint runs, its start marker is forced, and the log
+-- rebuilds this page.
 pub record CanWritePage (page : PageId) (gap bytes : List ℕ) (s : State) (world : World) : Type 0 where
   pub mark : Mark
   pub runs : s.now.checkpoint ≡ Started mark
@@ -201,4 +208,5 @@ worlds (step ∷ steps) s world = worlds steps (next_state step s world) (next_w
 -- each step may be made after those before it
 abbrev pub CanAll : (List ℕ → ℕ) → List DiskStep → State → World → Type 0
 CanAll told [] s world = Unit {0}
-CanAll told (step ∷ steps) s world = Can told step s world × CanAll told steps (next_state step s world) (next_world step s world)
+CanAll told (step ∷ steps) s world = Can told step s world
+    × CanAll told steps (next_state step s world) (next_world step s world)

@@ -26,7 +26,8 @@ has_page page (other ∷ pages) = if other.0 == page.0 then true else has_page p
 -- whether the page with this index of this partition is among these
 abbrev pub has_index : ℕ → ℕ → List PageId → Bool
 has_index part index [] = false
-has_index part index (page ∷ pages) = if part_of_id page == part && index_of_id page == index then true else has_index part index pages
+has_index part index (page ∷ pages) =
+    if part_of_id page == part && index_of_id page == index then true else has_index part index pages
 
 -- whether a page of this partition is among these
 abbrev pub has_part : ℕ → List PageId → Bool
@@ -52,7 +53,8 @@ abbrev pub left_after : List PageId → List PageId → List PageId
 left_after [] left = left
 left_after (page ∷ pages) left = left_after pages (without_page page left)
 
--- A checkpoint that runs: its mark, its pages, those of them that are not written yet, and for how many more there was room.
+-- A checkpoint that runs: its mark, its pages, those of them that are not written yet, and for how
+-- many more there was room.
 pub record Running : Type 0 where
   pub mark : Mark
   pub set : PageList

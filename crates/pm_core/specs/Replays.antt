@@ -14,8 +14,9 @@ use Rattle.pm_model.specs.Eval.{Pairs, is_accepted, after}
 abbrev pub put_replayed : Shape → Line → Pairs → Option Pairs
 put_replayed shape line pairs = if is_accepted shape line pairs then Some (after shape line pairs) else None
 
--- The map after a record, none where the record can't be: its payload is in no grammar, or it is a put that meets a full
--- partition. A remove of an absent key changes nothing, and so do the records that aren't logical.
+-- The map after a record, none where the record can't be: its payload is in no grammar, or it is a
+-- put that meets a full partition. A remove of an absent key changes nothing, and so do the records
+-- that aren't logical.
 abbrev pub replayed : Shape → Option Record → Pairs → Option Pairs
 replayed shape None pairs = None
 replayed shape (Some (Logical op cache key value)) pairs =

@@ -35,15 +35,19 @@ AreBare (Started mark) page_size files = Unit {0}
 AreBare (Ended mark) page_size files = Unit {0}
 
 -- With this checkpoint in force the disk is sound, and holds this shape and this map.
-pub record SoundWith (wanted : Shape) (checkpoint : Checkpoint) (image : Image) (shape : Shape) (pairs : Pairs) : Type 0 where
+pub record SoundWith (wanted : Shape) (checkpoint : Checkpoint) (image : Image) (shape : Shape)
+    (pairs : Pairs) : Type 0 where
   pub holds : HoldsWith wanted checkpoint image shape pairs
   -- no segment above the log's last has bytes
-  pub nothing_above : (seg : ℕ) → (after_frames (replay_of checkpoint) holds.frames).seg < seg → log_in image seg ≡ []
+  pub nothing_above : (seg : ℕ) → (after_frames (replay_of checkpoint) holds.frames).seg < seg
+      → log_in image seg ≡ []
   pub begin_ends : BeginEnds checkpoint (log_in image) (after_frames (replay_of checkpoint) holds.frames)
   -- each partition of which a page is rebuilt has a meta page
-  pub has_meta : (part index : ℕ) → IsSome (holds.rebuilt part index) → IsSome (base_of checkpoint holds.rebuilt image.pages part 0)
+  pub has_meta : (part index : ℕ) → IsSome (holds.rebuilt part index)
+      → IsSome (base_of checkpoint holds.rebuilt image.pages part 0)
   -- no end marker is of a later checkpoint
-  pub ends_below : (slot : ℕ) (mark : Mark) → mark_at slot (bytes_of image.ends) ≡ Some mark → mark.number ≤ number_in checkpoint
+  pub ends_below : (slot : ℕ) (mark : Mark) → mark_at slot (bytes_of image.ends) ≡ Some mark
+      → mark.number ≤ number_in checkpoint
   pub bare : AreBare checkpoint shape.page_size image.pages
 
 -- what a crash left is sound, and holds this shape and this map

@@ -40,7 +40,8 @@ AreUpTo number ends = (slot : ℕ) (mark : Mark) → mark_at slot ends ≡ Some 
 
 -- the marker files say this checkpoint
 abbrev pub MarksSay : Checkpoint → List ℕ → List ℕ → Type 0
-MarksSay NoStart starts ends = ((slot : ℕ) → mark_at slot starts ≡ None) × ((slot : ℕ) → mark_at slot ends ≡ None)
+MarksSay NoStart starts ends = ((slot : ℕ) → mark_at slot starts ≡ None)
+    × ((slot : ℕ) → mark_at slot ends ≡ None)
 MarksSay (Started mark) starts ends =
     IsInForce mark starts × AreUpTo mark.number ends × (mark_at (slot_of mark.number) ends ≡ Some mark → ⊥)
 MarksSay (Ended mark) starts ends =
@@ -71,11 +72,13 @@ soon_checkpoint (Some view) = Some view.checkpoint
 -- whatever a crash leaves of the marker files, they say the checkpoint of a view
 abbrev pub MarksLeave : File → File → View → Option View → Type 0
 MarksLeave starts ends now soon =
-    (st en : Option (List ℕ)) → Leaves starts st → IsTrueOf mark_at starts st → Leaves ends en → IsTrueOf mark_at ends en
+    (st en : Option (List ℕ)) → Leaves starts st → IsTrueOf mark_at starts st → Leaves ends en
+        → IsTrueOf mark_at ends en
     → (view : View) × IsViewOf now soon view × MarksSay view.checkpoint (bytes_of st) (bytes_of en)
 
 -- The pages that the log rebuilds are in the lasting log: its frames from the from place on lead to its end.
-pub record RebuiltLasts (mark : Mark) (log : ℕ → File) (low : ℕ) (at : Place) (rebuilt : Partitions) : Type 0 where
+pub record RebuiltLasts (mark : Mark) (log : ℕ → File) (low : ℕ) (at : Place)
+    (rebuilt : Partitions) : Type 0 where
   pub before : List Frame
   pub after : List Frame
   pub leads : HasLasting all_frames log low at mark.from (before ++ after)
@@ -111,16 +114,19 @@ page_high size index = index * size + size
 -- A page that no record rebuilds is lasting in its file, or isn't there, or is one that doesn't count.
 pub record PagesStand (size : ℕ) (files rebuilt : Partitions) (pages : ℕ → File) : Type 0 where
   pub kept : (part index : ℕ) (bytes : List ℕ) → rebuilt part index ≡ None → files part index ≡ Some bytes
-      → Lasting (pages part) (page_low size index) (page_high size index) × (page_in_file size (pages part).forced index ≡ Some bytes)
+      → Lasting (pages part) (page_low size index) (page_high size index)
+          × (page_in_file size (pages part).forced index ≡ Some bytes)
   pub absent : (part index : ℕ) → rebuilt part index ≡ None → files part index ≡ None
-      → ((k : ℕ) → k ≤ length (pages part).since → length (bytes_of (at_change (pages part) k)) < page_high size index)
+      → ((k : ℕ) → k ≤ length (pages part).since
+          → length (bytes_of (at_change (pages part) k)) < page_high size index)
       ⊎ IsSome (laid_over rebuilt files part 0)
 
 -- With this view in force the disk is sound and holds the state's map.
 pub record IsGood (wanted : Shape) (s : State) (log pages : ℕ → File) (view : View) : Type 0 where
   pub shaped : HasShape s.shape view.checkpoint
   pub rebuilt_lasts : RebuiltIsLasting view.checkpoint log s.low s.at view.rebuilt
-  pub has_meta : (part index : ℕ) → IsSome (view.rebuilt part index) → IsSome (laid_over view.rebuilt s.files part 0)
+  pub has_meta : (part index : ℕ) → IsSome (view.rebuilt part index)
+      → IsSome (laid_over view.rebuilt s.files part 0)
   pub bare : OnlyNoStart view.checkpoint (s.files ≡ no_pages)
   pub pages_stand : PagesStand s.shape.page_size s.files view.rebuilt pages
   -- only files of rebuilt pages have something pending
@@ -134,12 +140,14 @@ pub record IsGood (wanted : Shape) (s : State) (log pages : ℕ → File) (view 
   pub restarts : OnlyNoStart view.checkpoint (RestartIsFirst s.shape (frames ++ s.pending))
   pub empty_wanted : OnlyNoStart view.checkpoint (frames ≡ [] → s.shape ≡ wanted)
 
--- The disk is as the state says. `told` is of how many appended records the replies speak that begin in these bytes.
+-- The disk is as the state says. `told` is of how many appended records the replies speak that
+-- begin in these bytes.
 pub record Stands (wanted : Shape) (told : List ℕ → ℕ) (s : State) (world : World) : Type 0 where
   pub log : FilesHoldLog all_frames world.log s.low s.at s.pending s.tail
   pub ends : EndIs s.tail s.end s.at s.pending
   pub marks : MarksLeave world.starts world.ends s.now s.soon
-  pub reads : MarksSay (soon_or s.soon s.now).checkpoint (bytes_of (content world.starts)) (bytes_of (content world.ends))
+  pub reads : MarksSay (soon_or s.soon s.now).checkpoint (bytes_of (content world.starts))
+      (bytes_of (content world.ends))
   pub quiet : QuietMarks (soon_checkpoint s.soon) world.starts world.ends
   pub good : (view : View) → IsViewOf s.now s.soon view → IsGood wanted s world.log world.pages view
   pub well : AllInGrammar s.pending

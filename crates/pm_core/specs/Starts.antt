@@ -15,7 +15,8 @@ use Rattle.pm_core.specs.Sound.{Sound}
 use Rattle.pm_core.specs.States.{State}
 
 -- the state of a sound disk: the tail isn't cut, nothing was appended, and the checkpoint is the one in force
-abbrev pub start_state : (wanted : Shape) (world : World) (shape : Shape) (pairs : Pairs) → Sound wanted world shape pairs → State
+abbrev pub start_state : (wanted : Shape) (world : World) (shape : Shape) (pairs : Pairs)
+    → Sound wanted world shape pairs → State
 start_state wanted world shape pairs sound = record {
   shape = shape;
   low = 0;
@@ -32,7 +33,8 @@ start_state wanted world shape pairs sound = record {
 }
 
 -- A run may begin: the disk is sound and nothing is pending, there is a next segment, and no reply was begun.
-pub record CanBegin (wanted : Shape) (told : List ℕ → ℕ) (world : World) (shape : Shape) (pairs : Pairs) : Type 0 where
+pub record CanBegin (wanted : Shape) (told : List ℕ → ℕ) (world : World) (shape : Shape)
+    (pairs : Pairs) : Type 0 where
   pub sound : Sound wanted world shape pairs
   pub quiet : NothingPending world
   pub numbered : (start_state wanted world shape pairs sound).at.seg + 1 < 2 ^ 64

@@ -1,4 +1,5 @@
-//! A checkpoint as typed states: it is begun from `Idle`, its pages are written while it is `Begun`, and it is finished.
+//! A checkpoint as typed states: it is begun from `Idle`, its pages are written while it is
+//! `Begun`, and it is finished.
 //!
 //!     Idle --begin--> Begun --finish--> Ended --idle--> Idle
 //!                     wrote: these pages are in their files
@@ -51,15 +52,16 @@ impl Idle {
         self.set.take()
     }
 
-    /// Begins a checkpoint with these pages: writes its start marker and forces it. After `Failed` the marker may be written or
-    /// not, and the store has to be opened again.
+    /// Begins a checkpoint with these pages: writes its start marker and forces it. After `Failed`
+    /// the marker may be written or not, and the store has to be opened again.
     pub fn begin<H: Host>(self, host: &mut H, mark: Mark, set: PageSet) -> Result<Begun, Failed>
         requires usable { IsUsable (H.Device.state host.old) }
         requires mark { IsMark mark }
         requires guard { H.Device.tells → MayBegin mark set.pages (H.Device.history host.old).world }
         ensures begun { IfOk result (λ begun. begun ≡ record { mark = mark; set = set; left = set.pages }) }
         ensures steps { H.Device.tells → (s : State) (rebuilt : Partitions)
-            → MakesSteps (H.Device.history host.old) (H.Device.history host.new) result (begin_steps mark rebuilt) s }
+            → MakesSteps (H.Device.history host.old) (H.Device.history host.new) result
+                (begin_steps mark rebuilt) s }
         ensures cause { HasCause (H.Device.state host.old) (H.Device.state host.new) result }
     {
         write_start(host, &mark)?;
@@ -108,16 +110,19 @@ impl Begun {
         forget_all(&mut self.left, pages);
     }
 
-    /// Finishes the checkpoint, each of whose pages is written: forces the files of its pages, and then writes its end marker
-    /// and forces it. After `Failed` some of this may be done, and the store has to be opened again.
+    /// Finishes the checkpoint, each of whose pages is written: forces the files of its pages, and
+    /// then writes its end marker and forces it. After `Failed` some of this may be done, and the
+    /// store has to be opened again.
     pub fn finish<H: Host>(self, host: &mut H) -> Result<Ended, Failed>
         requires usable { IsUsable (H.Device.state host.old) }
         requires mark { IsMark self.mark }
         requires written { self.left ≡ [] }
         requires guard { H.Device.tells → MayFinish self.mark self.set.pages (H.Device.history host.old).world }
-        ensures ended { IfOk result (λ ended. ended ≡ record { mark = self.mark; room = length self.set.pages + self.set.spare }) }
+        ensures ended { IfOk result
+            (λ ended. ended ≡ record { mark = self.mark; room = length self.set.pages + self.set.spare }) }
         ensures steps { H.Device.tells → (s : State)
-            → MakesSteps (H.Device.history host.old) (H.Device.history host.new) result (finish_steps self.mark self.set.pages) s }
+            → MakesSteps (H.Device.history host.old) (H.Device.history host.new) result
+                (finish_steps self.mark self.set.pages) s }
         ensures cause { HasCause (H.Device.state host.old) (H.Device.state host.new) result }
     {
         force_parts(host, &self.pages)?;
@@ -204,7 +209,8 @@ fn forget(left: &mut Vec<PageId>, page: PageId)
 // Forces the files of the partitions of these pages.
 fn force_parts<H: Host>(host: &mut H, pages: &Vec<PageId>) -> Result<(), Failed>
     requires usable { IsUsable (H.Device.state host.old) }
-    ensures steps { H.Device.tells → (s : State) → MakesSteps (H.Device.history host.old) (H.Device.history host.new) result
+    ensures steps { H.Device.tells → (s : State)
+        → MakesSteps (H.Device.history host.old) (H.Device.history host.new) result
         (force_steps 0 PARTITIONS_MAX pages.now.items) s }
     ensures cause { HasCause (H.Device.state host.old) (H.Device.state host.new) result }
 {
@@ -217,7 +223,8 @@ fn force_parts<H: Host>(host: &mut H, pages: &Vec<PageId>) -> Result<(), Failed>
 // Forces a partition's file, where one of the pages is of it.
 fn force_part<H: Host>(host: &mut H, part: u16, pages: &Vec<PageId>) -> Result<(), Failed>
     requires usable { IsUsable (H.Device.state host.old) }
-    ensures steps { H.Device.tells → (s : State) → MakesSteps (H.Device.history host.old) (H.Device.history host.new) result
+    ensures steps { H.Device.tells → (s : State)
+        → MakesSteps (H.Device.history host.old) (H.Device.history host.new) result
         (force_steps part 1 pages.now.items) s }
     ensures cause { HasCause (H.Device.state host.old) (H.Device.state host.new) result }
 {

@@ -18,7 +18,8 @@ bytes_of (Some bytes) = bytes
 
 -- the file after a change, or none where it is absent then
 abbrev pub changed : Change → Option (List ℕ) → Option (List ℕ)
-changed (Write at bytes) file = Some (take at (bytes_of file) ++ bytes ++ drop (at + length bytes) (bytes_of file))
+changed (Write at bytes) file =
+    Some (take at (bytes_of file) ++ bytes ++ drop (at + length bytes) (bytes_of file))
 changed (Cut len) file = Some (take len (bytes_of file))
 changed Drop file = None
 
@@ -27,7 +28,8 @@ abbrev pub after : List Change → Option (List ℕ) → Option (List ℕ)
 after [] file = file
 after (change ∷ changes) file = after changes (changed change file)
 
--- A file's value: its content when it was last forced (none where it was absent), and the changes since, oldest first.
+-- A file's value: its content when it was last forced (none where it was absent), and the changes
+-- since, oldest first.
 pub record File : Type 0 where
   pub forced : Option (List ℕ)
   pub since : List Change
@@ -52,13 +54,14 @@ all_forced file = record { forced = content file; since = [] }
 abbrev pub absent : File
 absent = record { forced = None; since = [] }
 
--- So many bytes of the file from this offset on were read to the front of a buffer: as many as fit, or as there are.
+-- So many bytes of the file from this offset on were read to the front of a buffer: as many as fit,
+-- or as there are.
 pub record ReadsFrom (file : Option (List ℕ)) (at count : ℕ) (buffer : List ℕ) : Type 0 where
   pub many : count ≡ min (length buffer) (length (bytes_of file) - at)
   pub front : take count buffer ≡ take count (drop at (bytes_of file))
 
--- A whole range of the file, from this offset on and as long as the buffer, was read to the buffer. Where the file ends
--- before the range does, the buffer has zeros.
+-- A whole range of the file, from this offset on and as long as the buffer, was read to the buffer.
+-- Where the file ends before the range does, the buffer has zeros.
 pub record ReadsWhole (file : Option (List ℕ)) (at : ℕ) (whole : Bool) (buffer : List ℕ) : Type 0 where
   pub there : IsTrue whole ↔ (at + length buffer ≤ length (bytes_of file))
   pub found : IsTrue whole → buffer ≡ take (length buffer) (drop at (bytes_of file))
@@ -68,6 +71,7 @@ pub record ReadsWhole (file : Option (List ℕ)) (at : ℕ) (whole : Bool) (buff
 abbrev pub missing : ℕ → Option (List ℕ) → ℕ
 missing at file = at - length (bytes_of file)
 
--- These bytes are written at this offset. Where the file ends before it, the gap is written too, from the file's end on.
+-- These bytes are written at this offset. Where the file ends before it, the gap is written too,
+-- from the file's end on.
 abbrev pub gapped : Option (List ℕ) → ℕ → List ℕ → List ℕ → Change
 gapped file at gap bytes = Write (min at (length (bytes_of file))) (gap ++ bytes)

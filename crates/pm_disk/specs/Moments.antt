@@ -30,10 +30,13 @@ pub record Does {T E : Type 0} (old new : History) (result : Result T E) (next :
   pub either : (new.world ≡ old.world) ⊎ (new.world ≡ next)
 
 -- A call that writes a page: after the end of a file that ends before it any bytes are written first.
-pub record WritesPage {T E : Type 0} (old new : History) (result : Result T E) (page : PageId) (bytes : List ℕ) : Type 0 where
+pub record WritesPage {T E : Type 0} (old new : History) (result : Result T E) (page : PageId)
+    (bytes : List ℕ) : Type 0 where
   pub gap : List ℕ
   pub reaches : length gap ≡ missing (page_at page (length bytes)) (pages_in old.world (part_of_id page))
-  pub does : Does old new result (pages_changed (part_of_id page) (gapped (pages_in old.world (part_of_id page)) (page_at page (length bytes)) gap bytes) old.world)
+  pub does : Does old new result
+      (pages_changed (part_of_id page)
+      (gapped (pages_in old.world (part_of_id page)) (page_at page (length bytes)) gap bytes) old.world)
 
 -- A call that says bytes: all of them at `Ok`, and at an `Err` a prefix of them.
 pub record Says {T E : Type 0} (old new : History) (result : Result T E) (bytes : List ℕ) : Type 0 where

@@ -44,22 +44,25 @@ pub record MayUseAllPages (state : DeviceState) : Type 0 where
 abbrev pub Rose : DeviceState → DeviceState → Type 0
 Rose before now = HasRisen before.faults now.faults
 
--- The count of faults doesn't fall, an `Err` comes only where it rose, and the same calls may be made as before.
+-- The count of faults doesn't fall, an `Err` comes only where it rose, and the same calls may be
+-- made as before.
 pub record HasCause {T E : Type 0} (before now : DeviceState) (result : Result T E) : Type 0 where
   pub later : before.faults ≤ now.faults
   pub failed : OnErr result (Rose before now)
   pub access : now.access ≡ before.access
   pub usable : IsUsable before → IsUsable now
 
--- A call that binds a folder: at `Ok` this one is bound, and at an `Err`, which comes only where the count of faults rose,
--- the one that was.
-pub record Binds {T E : Type 0} (before now : DeviceState) (folder : List ℕ) (result : Result T E) : Type 0 where
+-- A call that binds a folder: at `Ok` this one is bound, and at an `Err`, which comes only where
+-- the count of faults rose, the one that was.
+pub record Binds {T E : Type 0} (before now : DeviceState) (folder : List ℕ)
+    (result : Result T E) : Type 0 where
   pub later : before.faults ≤ now.faults
   pub bound : OnOk result (now.access ≡ record before.access { folder = Some folder })
   pub failed : OnErr result (Rose before now)
   pub unchanged : OnErr result (now.access ≡ before.access)
 
--- Of two states of an object, between which no folder was bound: the count of faults doesn't fall, and the same calls may be made.
+-- Of two states of an object, between which no folder was bound: the count of faults doesn't fall,
+-- and the same calls may be made.
 pub record IsLaterState (before now : DeviceState) : Type 0 where
   pub later : before.faults ≤ now.faults
   pub access : now.access ≡ before.access

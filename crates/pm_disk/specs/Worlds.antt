@@ -34,7 +34,8 @@ segment_in world seg = content (world.log seg)
 
 -- a segment of the log was changed
 abbrev pub log_changed : ℕ → Change → World → World
-log_changed seg change world = record world { log = with_file world.log seg (with_change (world.log seg) change) }
+log_changed seg change world =
+    record world { log = with_file world.log seg (with_change (world.log seg) change) }
 
 -- a segment of the log was forced
 abbrev pub log_forced : ℕ → World → World
@@ -50,7 +51,8 @@ page_at page len = index_of_id page * len
 
 -- a partition's file was changed
 abbrev pub pages_changed : ℕ → Change → World → World
-pages_changed part change world = record world { pages = with_file world.pages part (with_change (world.pages part) change) }
+pages_changed part change world =
+    record world { pages = with_file world.pages part (with_change (world.pages part) change) }
 
 -- a partition's file was forced
 abbrev pub pages_forced : ℕ → World → World
@@ -109,7 +111,8 @@ with_taken n world = record world { input = drop n world.input }
 
 -- a disk without a file, and a console on which nothing was said and that has no input
 abbrev pub empty_world : World
-empty_world = record { log = λ _. absent; pages = λ _. absent; starts = absent; ends = absent; config = []; said = []; input = [] }
+empty_world = record { log = λ _. absent; pages = λ _. absent; starts = absent; ends = absent;
+    config = []; said = []; input = [] }
 
 -- the segments of one world, the partitions' files of another, and all else of a third
 abbrev pub joined : World → World → World → World

@@ -7,7 +7,8 @@ use Rattle.pm_disk_fs.specs.declared.opened.Opened.{Opened}
 use Rattle.pm_disk_fs.specs.declared.open_files.TheConstants.{OPEN_MAX}
 
 -- The file of this name was taken out of the files, and each other one is left.
-pub record IsTakenOut {F : Type 0} (old new : List (Opened F)) (name : StoreFile) (file : Opened F) : Type 0 where
+pub record IsTakenOut {F : Type 0} (old new : List (Opened F)) (name : StoreFile)
+    (file : Opened F) : Type 0 where
   pub named : file.name ≡ name
   pub before : List (Opened F)
   pub after : List (Opened F)
@@ -20,7 +21,8 @@ after_oldest files = if length files == OPEN_MAX then remove files 0 else files
 
 -- Each file of another name that was open still is, unless as many were open as may be.
 pub record OthersStayOpen {F : Type 0} (old new : List (Opened F)) (name : StoreFile) : Type 0 where
-  pub stay : length old < OPEN_MAX → (file : Opened F) → file.name ≢ name → Contains old file → Contains new file
+  pub stay : length old < OPEN_MAX → (file : Opened F) → file.name ≢ name → Contains old file
+      → Contains new file
 
 -- a segment of the log
 abbrev pub is_segment : StoreFile → Bool

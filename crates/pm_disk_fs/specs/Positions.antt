@@ -18,7 +18,8 @@ pub record EndsAt {F : Type 0} (file : Opened F) (name : StoreFile) (end : ℕ) 
   pub noted : SomeIff file.at (end < 2 ^ 64) end
   pub unforced : file.is_forced ≡ false
 
--- Of the open files the one that was changed last is the one of this name, and the last write to it ended at this offset.
+-- Of the open files the one that was changed last is the one of this name, and the last write to it
+-- ended at this offset.
 pub record IsWritten {F : Type 0} (files : List (Opened F)) (name : StoreFile) (end : ℕ) : Type 0 where
   pub before : List (Opened F)
   pub file : Opened F
@@ -37,7 +38,9 @@ pub record IsChangedLast {F : Type 0} (files : List (Opened F)) (name : StoreFil
 abbrev pub IsStretchWritten : {F : Type 0} → List (Opened F) → Stretch → Type 0
 IsStretchWritten files stretch = IsWritten files (Segment stretch.seg) (stretch.at + length stretch.bytes)
 
--- A write to a segment follows what was buffered before, or is alone in the buffer since that was written, or was itself
--- written last of all.
+-- A write to a segment follows what was buffered before, or is alone in the buffer since that was
+-- written, or was itself written last of all.
 abbrev pub IsWrittenInOrder : {F : Type 0} → Stretch → Stretch → List (Opened F) → ℕ → ℕ → List ℕ → Type 0
-IsWrittenInOrder old new files seg at more = IsAppended old new seg at more ⊎ ((IsAlone new seg at more × (0 < length old.bytes → IsStretchWritten files old)) ⊎ ((new.bytes ≡ []) × IsWritten files (Segment seg) (at + length more)))
+IsWrittenInOrder old new files seg at more = IsAppended old new seg at more
+    ⊎ ((IsAlone new seg at more × (0 < length old.bytes → IsStretchWritten files old))
+    ⊎ ((new.bytes ≡ []) × IsWritten files (Segment seg) (at + length more)))

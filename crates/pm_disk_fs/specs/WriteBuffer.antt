@@ -29,10 +29,11 @@ pub record IsAlone (new : Stretch) (seg at : ℕ) (more : List ℕ) : Type 0 whe
   pub offset : new.at ≡ at
   pub all : new.bytes ≡ more
 
--- A write follows what was buffered before, or is alone in the buffer since that was written, or nothing is buffered any
--- more since both were written.
+-- A write follows what was buffered before, or is alone in the buffer since that was written, or
+-- nothing is buffered any more since both were written.
 abbrev pub IsBufferedOrWritten : Stretch → Stretch → ℕ → ℕ → List ℕ → Type 0
-IsBufferedOrWritten old new seg at more = IsAppended old new seg at more ⊎ (IsAlone new seg at more ⊎ (new.bytes ≡ []))
+IsBufferedOrWritten old new seg at more = IsAppended old new seg at more
+    ⊎ (IsAlone new seg at more ⊎ (new.bytes ≡ []))
 
 -- A buffer of this length and capacity: it is bounded, and has its room taken once there is something in it.
 pub record IsBuffer (len capacity : ℕ) : Type 0 where

@@ -8,7 +8,8 @@ pub record FlushesBuffer {T E : Type 0} (old new : Writes) (result : Result T E)
   pub same : OnOk result (new.is_poisoned ≡ old.is_poisoned)
   pub still_poisoned : IsTrue old.is_poisoned → IsTrue new.is_poisoned
 
--- A call that changes or forces a file is refused once one has failed, and fails exactly when the host is poisoned then.
+-- A call that changes or forces a file is refused once one has failed, and fails exactly when the
+-- host is poisoned then.
 pub record PoisonsOnFailure {T E : Type 0} (old new : Writes) (result : Result T E) : Type 0 where
   pub refused : IsTrue old.is_poisoned → IsErr result
   pub poisoned : IsErr result ↔ IsTrue new.is_poisoned

@@ -46,7 +46,8 @@ with_left contents number (Some bytes) = with_content contents number bytes
 
 -- the store as an image of the disk
 abbrev pub image_of : Store → Image
-image_of store = record { log = content_at store.log; pages = content_at store.pages; starts = store.starts; ends = store.ends }
+image_of store = record { log = content_at store.log; pages = content_at store.pages;
+    starts = store.starts; ends = store.ends }
 
 -- what a file of the store has, none where it is absent
 abbrev pub file_in : Store → StoreFile → Option (List ℕ)
@@ -71,7 +72,8 @@ Puts false old new name bytes = ((file : StoreFile) → IsNameOf name file → �
 
 -- What the file of this name has: none where it is absent or the name isn't one of the store's.
 abbrev pub Finds : Store → List ℕ → Option (List ℕ) → Type 0
-Finds store name found = ((file : StoreFile) × IsNameOf name file × (found ≡ file_in store file)) ⊎ (((file : StoreFile) → IsNameOf name file → ⊥) × (found ≡ None))
+Finds store name found = ((file : StoreFile) × IsNameOf name file × (found ≡ file_in store file))
+    ⊎ (((file : StoreFile) → IsNameOf name file → ⊥) × (found ≡ None))
 
 -- the configuration of a host that was handed these bytes: where they are none, that of the disk
 abbrev pub config_from : List ℕ → Option (List ℕ) → List ℕ

@@ -25,10 +25,14 @@ track_in files (Marks mark.End) = files.ends
 
 -- One of the files is this one now, and each other one is as it was.
 abbrev pub FileIs : Files → Files → ChangedFile → Track → Type 0
-FileIs old new (Segment seg) track = TrackIs old.log new.log seg track × (new.pages ≡ old.pages) × (new.starts ≡ old.starts) × (new.ends ≡ old.ends)
-FileIs old new (Pages part) track = TrackIs old.pages new.pages part track × (new.log ≡ old.log) × (new.starts ≡ old.starts) × (new.ends ≡ old.ends)
-FileIs old new (Marks mark.Start) track = (new.starts ≡ track) × (new.log ≡ old.log) × (new.pages ≡ old.pages) × (new.ends ≡ old.ends)
-FileIs old new (Marks mark.End) track = (new.ends ≡ track) × (new.log ≡ old.log) × (new.pages ≡ old.pages) × (new.starts ≡ old.starts)
+FileIs old new (Segment seg) track = TrackIs old.log new.log seg track × (new.pages ≡ old.pages)
+    × (new.starts ≡ old.starts) × (new.ends ≡ old.ends)
+FileIs old new (Pages part) track = TrackIs old.pages new.pages part track × (new.log ≡ old.log)
+    × (new.starts ≡ old.starts) × (new.ends ≡ old.ends)
+FileIs old new (Marks mark.Start) track = (new.starts ≡ track) × (new.log ≡ old.log)
+    × (new.pages ≡ old.pages) × (new.ends ≡ old.ends)
+FileIs old new (Marks mark.End) track = (new.ends ≡ track) × (new.log ≡ old.log) × (new.pages ≡ old.pages)
+    × (new.starts ≡ old.starts)
 
 -- Each file is as it was.
 pub record SameFiles (old new : Files) : Type 0 where

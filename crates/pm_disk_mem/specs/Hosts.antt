@@ -49,8 +49,8 @@ state_of host = record {
 abbrev pub IsPlanned : MemHost → List ℕ → Option ℕ → Type 0
 IsPlanned host failing stop = HasPlan host.failures failing stop
 
--- The call was counted, failed where it was to fail, and raised the count of faults exactly where it failed; which calls
--- are to fail is as it was.
+-- The call was counted, failed where it was to fail, and raised the count of faults exactly where
+-- it failed; which calls are to fail is as it was.
 abbrev pub IsCounted : {T E : Type 0} → MemHost → MemHost → Result T E → Type 0
 IsCounted old new result = IsCallCounted old.failures new.failures result
 

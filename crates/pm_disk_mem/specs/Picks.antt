@@ -94,4 +94,5 @@ pick_after (pick.Cut count) file = pick.Cut (count - written file.since)
 
 -- the file with such a start and these changes, of which the first ones are lasting
 abbrev pub file_of : Option (List ℕ) → List FileChange → List FileChange → File
-file_of start lasting pending = record { forced = after (map change_of lasting) start; since = map change_of pending }
+file_of start lasting pending =
+    record { forced = after (map change_of lasting) start; since = map change_of pending }

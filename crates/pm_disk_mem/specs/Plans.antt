@@ -11,7 +11,8 @@ is_stopped (Some stop) number = nat_le stop number
 
 -- the next call is to fail
 abbrev pub is_due : Failures → Bool
-is_due failures = list_any (λ number. number == failures.calls) failures.failing.items || is_stopped failures.stop failures.calls
+is_due failures = list_any
+    (λ number. number == failures.calls) failures.failing.items || is_stopped failures.stop failures.calls
 
 -- These calls are to fail, and each one from the stop on.
 pub record HasPlan (failures : Failures) (failing : List ℕ) (stop : Option ℕ) : Type 0 where

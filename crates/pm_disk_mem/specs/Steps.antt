@@ -26,11 +26,13 @@ replay (step ∷ steps) world = replay steps (stepped step world)
 
 -- the world was so after a prefix of the steps, at least so many
 abbrev pub HasBeen : World → List Step → ℕ → World → Type 0
-HasBeen start steps least world = (k : ℕ) × (least ≤ k) × (k ≤ length steps) × (world ≡ replay (take k steps) start)
+HasBeen start steps least world = (k : ℕ) × (least ≤ k) × (k ≤ length steps)
+    × (world ≡ replay (take k steps) start)
 
 -- what is told of these steps: a moment is a number of them
 abbrev pub history_after : World → List Step → History
-history_after start steps = record { world = replay steps start; clock = length steps; was = HasBeen start steps }
+history_after start steps =
+    record { world = replay steps start; clock = length steps; was = HasBeen start steps }
 
 -- the world of these files, with a console on which nothing was said and that has no input
 abbrev pub files_world : Files → World

@@ -42,7 +42,8 @@ pub record HasOpenFault {T : Type 0} (before now : DeviceState) (result : Result
   pub usable : IsUsable before → IsUsable now
   pub no_page : (page : PageId) → IsErrOf result (Store (BadPage page)) → ⊥
 
--- the count of faults doesn't fall, and `Failed` comes only where it rose; no other fault than that and out of memory comes
+-- the count of faults doesn't fall, and `Failed` comes only where it rose; no other fault than that
+-- and out of memory comes
 pub record HasPlainFault {T : Type 0} (before now : DeviceState) (result : Result T StoreFault) : Type 0 where
   pub later : before.faults ≤ now.faults
   pub failed : IsErrOf result Failed → Rose before now
@@ -55,20 +56,25 @@ abbrev pub noted : Bool → ℕ → List ℕ
 noted tried number = if tried then number ∷ [] else []
 
 -- The engine runs lines, of which the first has this number: at `Ok` all of them, and at an `Err` a prefix.
-pub record RunsLines {T E : Type 0} (tells : Type 0) (old new : History) (before now : Running) (first : ℕ) (lines : List Line) (result : Result T E) : Type 0 where
+pub record RunsLines {T E : Type 0} (tells : Type 0) (old new : History) (before now : Running)
+    (first : ℕ) (lines : List Line) (result : Result T E) : Type 0 where
   pub shape : now.shape ≡ before.shape
   pub map : OnOk result (now.map ≡ after_all before.shape lines before.map)
   pub end : tells → OnOk result (EndsThere now.log new.world)
-  -- The records of so many lines were handed to the log, and the order has the numbers of those that were accepted.
+  -- The records of so many lines were handed to the log, and the order has the numbers of those
+  -- that were accepted.
   pub tried : ℕ
   pub within : tried ≤ length lines
   pub all : OnOk result (tried ≡ length lines)
   pub order : now.order ≡ before.order ++ accepted before.shape first (take tried lines) before.map
   -- At `Ok` the log has one frame more for each accepted line, in order.
-  pub grows : tells → (wanted : Shape) (start : Pairs) (done : List Line) → HasDone wanted start done before old.world → HasSegments before (length lines)
+  pub grows : tells → (wanted : Shape) (start : Pairs) (done : List Line)
+      → HasDone wanted start done before old.world → HasSegments before (length lines)
       → OnOk result (LogGrowsBy old.world new.world (logged before.shape lines before.map))
-  -- A crash meanwhile leaves the map after a prefix of the lines done before and of those whose records were handed on.
-  pub crash : tells → (wanted : Shape) (start : Pairs) (done : List Line) → HasDone wanted start done before old.world → HasSegments before (length lines)
+  -- A crash meanwhile leaves the map after a prefix of the lines done before and of those whose
+  -- records were handed on.
+  pub crash : tells → (wanted : Shape) (start : Pairs) (done : List Line)
+      → HasDone wanted start done before old.world → HasSegments before (length lines)
       → AllMoments old new (CrashHoldsPrefix wanted before.shape start (done ++ take tried lines))
   pub log_only : tells → AllMoments old new (ChangesLog old.world)
   -- The log goes on by at most as many segments as there are lines.
@@ -76,7 +82,8 @@ pub record RunsLines {T E : Type 0} (tells : Type 0) (old new : History) (before
   pub above : tells → AllMoments old new (SameAbove (before.log.end.seg + length lines) old.world)
 
 -- The replies to lines over a map were appended: at `Ok` to all of them, and at an `Err` to a prefix.
-pub record HasReplied {T E : Type 0} (shape : Shape) (pairs : Pairs) (lines : List Line) (before now : List Reply) (result : Result T E) : Type 0 where
+pub record HasReplied {T E : Type 0} (shape : Shape) (pairs : Pairs) (lines : List Line)
+    (before now : List Reply) (result : Result T E) : Type 0 where
   pub count : ℕ
   pub within : count ≤ length lines
   pub all : OnOk result (count ≡ length lines)

@@ -10,8 +10,8 @@ use Rattle.pm_model.specs.declared.line.Line.{Line}
 use Rattle.pm_model.specs.Eval.{Pairs, after_all}
 use Rattle.pm_core.specs.LogAlone.{IsHeld}
 
--- An engine that runs: its store's shape, its map, where its log ends, and the numbers of the accepted lines whose records were
--- handed to the log.
+-- An engine that runs: its store's shape, its map, where its log ends, and the numbers of the
+-- accepted lines whose records were handed to the log.
 pub record Running : Type 0 where
   pub shape : Shape
   pub map : Pairs
@@ -27,16 +27,18 @@ abbrev pub HeldAfterPrefix : Shape → Shape → Pairs → List Line → List Fr
 HeldAfterPrefix wanted shape start lines frames =
     (count : ℕ) × (count ≤ length lines) × IsHeld wanted frames shape (after_all shape (take count lines) start)
 
--- The engine has done these lines since it had this map. Its log is open, and each prefix of it that a crash may leave holds the
--- map after a prefix of the lines.
-pub record HasDone (wanted : Shape) (start : Pairs) (done : List Line) (engine : Running) (world : World) : Type 0 where
+-- The engine has done these lines since it had this map. Its log is open, and each prefix of it
+-- that a crash may leave holds the map after a prefix of the lines.
+pub record HasDone (wanted : Shape) (start : Pairs) (done : List Line) (engine : Running)
+    (world : World) : Type 0 where
   pub written : Written
   pub log : IsWritten world 1 (place 1 0) engine.log.end written
   pub is_open : LogIsOpen engine.log written
   pub held : IsHeld wanted (frames_of written) engine.shape engine.map
   pub map : engine.map ≡ after_all engine.shape done start
   pub some : 0 < length (frames_of written)
-  pub before : (n : ℕ) → length written.lasting ≤ n → HeldAfterPrefix wanted engine.shape start done (take n (frames_of written))
+  pub before : (n : ℕ) → length written.lasting ≤ n
+      → HeldAfterPrefix wanted engine.shape start done (take n (frames_of written))
   pub quiet : IsQuietBut world engine.log.end.seg
 
 -- between two batches: whatever a crash leaves holds the engine's map
@@ -60,7 +62,8 @@ abbrev pub HasDoneWithin : Shape → Pairs → List Line → ℕ → Running →
 HasDoneWithin wanted start done count before engine world =
     HasDone wanted start done engine world × (engine.log.end.seg ≤ before.log.end.seg + count)
 
--- the engine is at rest, its log is in the same segment or in one of the next so many, and nothing of its log is pending
+-- the engine is at rest, its log is in the same segment or in one of the next so many, and nothing
+-- of its log is pending
 pub record IsAtRestWithin (wanted : Shape) (count : ℕ) (before engine : Running) (world : World) : Type 0 where
   pub stands : IsAtRest wanted engine world
   pub rises : engine.log.end.seg ≤ before.log.end.seg + count

@@ -56,26 +56,33 @@ ReplaysPut false shape line before now = put_replayed shape line before ≡ None
 
 -- the first frame was replayed, or it holds no shape
 abbrev pub AppliesFirst : Bool → Replay → Replay → Option Record → Type 0
-AppliesFirst true old new found = (is_restart found ≡ true) × (new.shape ≡ shape_in old.shape found) × (new.map ≡ old.map) × (new.has_begun ≡ true)
+AppliesFirst true old new found = (is_restart found ≡ true) × (new.shape ≡ shape_in old.shape found)
+    × (new.map ≡ old.map) × (new.has_begun ≡ true)
 AppliesFirst false old new found = is_restart found ≡ false
 
 -- a further frame was replayed, or it can't be
 abbrev pub AppliesMore : Bool → Replay → Replay → Option Record → Type 0
-AppliesMore true old new found = (replayed old.shape found old.map ≡ Some new.map) × (new.shape ≡ old.shape) × (new.has_begun ≡ true)
+AppliesMore true old new found = (replayed old.shape found old.map ≡ Some new.map)
+    × (new.shape ≡ old.shape) × (new.has_begun ≡ true)
 AppliesMore false old new found = replayed old.shape found old.map ≡ None
 
--- a frame was replayed, or it can't stand there: the first one has to hold the shape, and each other one is applied to the map
+-- a frame was replayed, or it can't stand there: the first one has to hold the shape, and each
+-- other one is applied to the map
 abbrev pub AppliesFrame : Bool → Replay → Replay → Option Record → Type 0
 AppliesFrame can old new found =
-    (old.has_begun ≡ false → AppliesFirst can old new found) × (old.has_begun ≡ true → AppliesMore can old new found)
+    (old.has_begun ≡ false → AppliesFirst can old new found)
+        × (old.has_begun ≡ true → AppliesMore can old new found)
 
 -- the frame that stands next was replayed, or can't stand there, or none stands there
 abbrev pub ReplaysNext : ReplayStep → Scanned → Scanned → Replay → Replay → World → Type 0
 ReplaysNext replay_step.Frame scan later old new world =
-    (frame : Frame) × (frame_ahead scan world ≡ Some frame) × Advances scan later (Some frame) × AppliesFrame true old new (record_in frame)
+    (frame : Frame) × (frame_ahead scan world ≡ Some frame) × Advances scan later (Some frame)
+        × AppliesFrame true old new (record_in frame)
 ReplaysNext replay_step.Bad scan later old new world =
-    (frame : Frame) × (frame_ahead scan world ≡ Some frame) × Advances scan later (Some frame) × AppliesFrame false old new (record_in frame)
-ReplaysNext replay_step.End scan later old new world = (frame_ahead scan world ≡ None) × Advances scan later None × (new ≡ old)
+    (frame : Frame) × (frame_ahead scan world ≡ Some frame) × Advances scan later (Some frame)
+        × AppliesFrame false old new (record_in frame)
+ReplaysNext replay_step.End scan later old new world = (frame_ahead scan world ≡ None)
+    × Advances scan later None × (new ≡ old)
 
 -- the second place is after the first one, where a frame was replayed
 abbrev pub IsAfterPlace : ReplayStep → Place → Place → Type 0
@@ -117,7 +124,8 @@ LogHoldsNothing wanted world = (shape : Shape) (pairs : Pairs)
 
 -- a store isn't opened where its shape differs from the wanted one, or its log can't be replayed
 abbrev pub CanNotOpen : Shape → World → Type 0
-CanNotOpen wanted world = ((field : Field) × (shape_fault wanted world ≡ Some field)) ⊎ LogHoldsNothing wanted world
+CanNotOpen wanted world = ((field : Field) × (shape_fault wanted world ≡ Some field))
+    ⊎ LogHoldsNothing wanted world
 
 -- The record at this place is bad, so that the log can't be replayed, and nothing was changed.
 pub record IsBadStore (wanted : Shape) (at : Place) (old now : World) : Type 0 where
@@ -125,7 +133,8 @@ pub record IsBadStore (wanted : Shape) (at : Place) (old now : World) : Type 0 w
   pub unsound : LogHoldsNothing wanted old
   pub same : now ≡ old
 
--- what is written to the log at opening, from where it ends on: the tail is cut and forced, and a RESTART is appended
+-- what is written to the log at opening, from where it ends on: the tail is cut and forced, and a
+-- RESTART is appended
 abbrev pub opening_steps : Place → Shape → List Step
 opening_steps end shape = cut_steps ++ append_steps (fresh_log 1 end shape.segment_bytes) (restart_frame shape)
 
@@ -146,8 +155,10 @@ pub record OpensWith (wanted : Shape) (old now : World) (engine : Running) : Typ
   pub frames : List Frame
   pub log : IsLogFrom all_frames (contents old.log) (place 1 0) frames
   pub held : IsHeld wanted frames engine.shape engine.map
-  pub end : engine.log ≡ grown (fresh_log 1 (after_frames (place 1 0) frames) engine.shape.segment_bytes) (restart_frame engine.shape)
-  pub steps : now ≡ world_after (opening_steps (after_frames (place 1 0) frames) engine.shape) (after_frames (place 1 0) frames) old
+  pub end : engine.log ≡ grown (fresh_log 1 (after_frames (place 1 0) frames) engine.shape.segment_bytes)
+      (restart_frame engine.shape)
+  pub steps : now ≡ world_after (opening_steps (after_frames (place 1 0) frames) engine.shape)
+      (after_frames (place 1 0) frames) old
   pub there : EndsThere engine.log now
 
 -- A sound store, whose log ended in this segment, was opened: the engine is at rest, and the log is in the same

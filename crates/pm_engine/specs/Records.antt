@@ -38,4 +38,5 @@ line_frames line = frames_of_record (record_of_line line)
 abbrev pub logged : Shape → List Line → Pairs → List Frame
 logged shape [] pairs = []
 logged shape (line ∷ lines) pairs =
-    (if is_accepted shape line pairs then line_frames line else []) ++ logged shape lines (after shape line pairs)
+    (if is_accepted shape line pairs then line_frames line else [])
+        ++ logged shape lines (after shape line pairs)

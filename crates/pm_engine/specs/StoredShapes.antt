@@ -21,8 +21,8 @@ stored_shape wanted world = shape_in wanted
 unfoldable pub shape_fault : Shape → World → Option Field
 shape_fault wanted world = first_difference_of (stored_shape wanted world) wanted
 
--- The fault of an opening says how the store's shape compares with the wanted one: it names the field that differs, and a record
--- is bad only where none differs.
+-- The fault of an opening says how the store's shape compares with the wanted one: it names the
+-- field that differs, and a record is bad only where none differs.
 abbrev pub ComparesShape : Shape → World → OpenFault → Type 0
 ComparesShape wanted world (opening.Shape field) = shape_fault wanted world ≡ Some field
 ComparesShape wanted world (opening.Store Failed) = Unit {0}

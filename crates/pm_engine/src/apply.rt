@@ -10,8 +10,8 @@ use pm_records::{LogRecord, PUT, decode};
 use pm_types::{Key, Shape, Value};
 use std::alloc::{AllocError, Global};
 
-/// Applies a record to the map, and answers whether it could be: its payload is in its kind's grammar, and it is no put that meets
-/// a full partition.
+/// Applies a record to the map, and answers whether it could be: its payload is in its kind's
+/// grammar, and it is no put that meets a full partition.
 pub fn apply(
     alloc: Global,
     shape: Shape,

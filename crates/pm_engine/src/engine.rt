@@ -35,7 +35,8 @@ use std::marker::Model;
 
 /// A store that is open: its map in memory, and its log, to which each accepted line is appended.
 ///
-/// After an error no call but `into_order` is made on it: the store on the disk is then as a crash would leave it.
+/// After an error no call but `into_order` is made on it: the store on the disk is then as a crash
+/// would leave it.
 #[derive(Drop)]
 pub struct Engine {
     shape: Shape,
@@ -81,9 +82,11 @@ impl Engine {
         }
     }
 
-    /// Runs a batch of lines, of which the first has the number `first`, appends their replies, and forces the log.
+    /// Runs a batch of lines, of which the first has the number `first`, appends their replies, and
+    /// forces the log.
     ///
-    /// `Failed` and `Memory` leave a prefix of the lines of the batch done, no line in part, and a prefix of their replies appended.
+    /// `Failed` and `Memory` leave a prefix of the lines of the batch done, no line in part, and a
+    /// prefix of their replies appended.
     pub fn batch<H: Host>(
         &mut self,
         alloc: Global,
@@ -112,8 +115,8 @@ impl Engine {
         Ok(())
     }
 
-    /// Forces the log up to its end, which is the last thing that is done with a store. It takes no memory, so that no other
-    /// error than `Failed` comes.
+    /// Forces the log up to its end, which is the last thing that is done with a store. It takes no
+    /// memory, so that no other error than `Failed` comes.
     pub fn close<H: Host>(&mut self, host: &mut H) -> Result<(), StoreFault>
         requires usable { IsUsable (H.state host.old) }
         ensures same { self.new ≡ self.old }
@@ -137,8 +140,8 @@ impl Engine {
         Ok(self.force(host)?)
     }
 
-    /// The numbers of the accepted lines whose records were handed to the log, in the order in which they were, once nothing
-    /// more is done.
+    /// The numbers of the accepted lines whose records were handed to the log, in the order in
+    /// which they were, once nothing more is done.
     pub fn into_order(self) -> Vec<u32>
         ensures { result.items ≡ self.order }
     {
@@ -226,8 +229,8 @@ fn run_lines<H: Host>(
     Ok(())
 }
 
-// Answers a line from the map, and makes the payload of its record and room for its number. Where memory runs out the map is
-// as it was.
+// Answers a line from the map, and makes the payload of its record and room for its number. Where
+// memory runs out the map is as it was.
 fn prepare(
     alloc: Global,
     shape: Shape,

@@ -35,13 +35,14 @@ use pm_types::{OpenFault, Place, Shape, StoreFault};
 use std::alloc::Global;
 
 impl Engine {
-    /// Opens the store: compares its shape with the wanted one, reads its log from the first segment on, replays its records,
-    /// cuts what is after the log's end, and appends a RESTART with the store's shape. A store that is empty takes the wanted
-    /// shape.
+    /// Opens the store: compares its shape with the wanted one, reads its log from the first
+    /// segment on, replays its records, cuts what is after the log's end, and appends a RESTART
+    /// with the store's shape. A store that is empty takes the wanted shape.
     ///
-    /// `Shape` comes exactly where the store has a shape and it differs, unless a call failed or memory ran out: it names the
-    /// first field that does. `BadRecord` comes where the first frame is no RESTART, where a frame's payload is in no grammar,
-    /// and where a put meets a full partition: it names the frame's place. After both nothing was changed. After `Failed` and
+    /// `Shape` comes exactly where the store has a shape and it differs, unless a call failed or
+    /// memory ran out: it names the first field that does. `BadRecord` comes where the first frame
+    /// is no RESTART, where a frame's payload is in no grammar, and where a put meets a full
+    /// partition: it names the frame's place. After both nothing was changed. After `Failed` and
     /// `Memory` the store holds what it held.
     pub fn open_store<H: Host>(
         alloc: Global,

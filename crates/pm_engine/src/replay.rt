@@ -48,8 +48,8 @@ impl Replay {
         }
     }
 
-    /// Replays a frame, and answers whether it can stand there: the first has to hold the store's shape, and each other one is
-    /// applied to the map.
+    /// Replays a frame, and answers whether it can stand there: the first has to hold the store's
+    /// shape, and each other one is applied to the map.
     pub fn frame(&mut self, alloc: Global, kind: u8, payload: &[u8]) -> Result<bool, AllocError>
         requires shape { IsShape self.old.shape }
         ensures applies { IfOk result

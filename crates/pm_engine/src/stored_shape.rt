@@ -17,8 +17,8 @@ use pm_segments::Scan;
 use pm_types::{OpenFault, Place, Shape, StoreFault};
 use std::alloc::Global;
 
-/// Compares the shape that the store has with the wanted one. `Shape` names the first field that differs. A store without a
-/// shape has none that differs.
+/// Compares the shape that the store has with the wanted one. `Shape` names the first field that
+/// differs. A store without a shape has none that differs.
 pub(crate) fn compare_shape<H: Host>(
     alloc: Global,
     host: &mut H,

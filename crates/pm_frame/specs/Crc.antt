@@ -1,6 +1,7 @@
--- CRC-32: what is left when the bytes, read as one long polynomial over two elements, are divided by a fixed one.
--- The lowest bit of each byte comes first, and polynomials are written so that this bit is the highest power.
--- The register begins with ones alone, and its bits are flipped at the end (IEEE 802.3, and RFC 1952 for gzip).
+-- CRC-32: what is left when the bytes, read as one long polynomial over two elements, are divided
+-- by a fixed one. The lowest bit of each byte comes first, and polynomials are written so that this
+-- bit is the highest power. The register begins with ones alone, and its bits are flipped at the
+-- end (IEEE 802.3, and RFC 1952 for gzip).
 use Rattle.std.specs.Prelude.{ℕ, zero, suc, ◌/◌, ◌%◌, ◌-◌, ◌^◌, List, fold, if◌then◌else◌, ◌==◌, bit_xor}
 use Rattle.std.specs.Int.{w32, bit_not}
 

@@ -8,8 +8,9 @@
 --       17     n  payload
 --   17 + n     4  CRC-32 of all bytes before
 --
--- A frame ends at an offset of at most 67,108,843, and one of kind 6, a SEAL, of at most 67,108,864. Since a frame names its
--- own place, bytes of another place or of an older log are no frame here.
+-- A frame ends at an offset of at most 67,108,843, and one of kind 6, a SEAL, of at most
+-- 67,108,864. Since a frame names its own place, bytes of another place or of an older log are no
+-- frame here.
 use Rattle.std.specs.Prelude.{ℕ, ◌+◌, ◌^◌, ◌<◌, ◌≤◌, Bool, ◌&&◌, nat_eq, nat_lt, nat_le, ◌==◌}
 use Rattle.std.specs.Prelude.{if◌then◌else◌, List, ◌∷◌, ◌++◌, length, slice_index, slice_range, Option}
 use Rattle.std.specs.Prelude.{Some, None}
@@ -32,7 +33,8 @@ frame_len frame = length frame.payload + FRAME_EXTRA
 
 -- what stands before the payload
 unfoldable pub head_bytes : ℕ → Place → ℕ → List ℕ
-head_bytes kind place payload_len = kind ∷ (to_le_bytes w64 place.seg ++ (to_le_bytes w32 place.off ++ to_le_bytes w32 payload_len))
+head_bytes kind place payload_len =
+    kind ∷ (to_le_bytes w64 place.seg ++ (to_le_bytes w32 place.off ++ to_le_bytes w32 payload_len))
 
 -- what the sum is taken of
 unfoldable pub summed_bytes : Place → Frame → List ℕ

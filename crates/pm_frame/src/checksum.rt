@@ -19,8 +19,9 @@ pub fn sum(bytes: &[u8]) -> u32
     !after_bytes(register, rest)
 }
 
-// The register after eight bytes. All of them are shifted out at once: each is looked up in the table for its distance
-// from the end, and since the division is linear, the parts add up without carries.
+// The register after eight bytes. All of them are shifted out at once: each is looked up in the
+// table for its distance from the end, and since the division is linear, the parts add up without
+// carries.
 fn after_block(register: u32, block: &[u8; 8]) -> u32
     ensures { result ≡ fold with_byte register block.now }
 {

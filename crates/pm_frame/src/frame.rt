@@ -22,8 +22,9 @@ pub struct FrameView<'a> {
 
 /// The frame of this place that stands at the front of the bytes. Bytes of anything may follow it.
 ///
-/// `None` comes exactly where there is none: the bytes end too early, the kind or the length is none of a frame here, the
-/// frame names another place, or its sum is wrong. The sum is taken only where all else is right.
+/// `None` comes exactly where there is none: the bytes end too early, the kind or the length is
+/// none of a frame here, the frame names another place, or its sum is wrong. The sum is taken only
+/// where all else is right.
 pub fn read_frame(bytes: &[u8], place: Place) -> Option<FrameView<'_>>
     ensures frame { frame_in result ≡ frame_at place bytes.now }
     ensures len { IfSome result (λ view. view.len ≡ frame_len (frame_of view)) }

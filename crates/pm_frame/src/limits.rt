@@ -8,8 +8,8 @@ pub const HEAD_LEN: usize = 17;
 pub(crate) const SUM_LEN: usize = 4;
 /// The bytes that a frame has beside its payload.
 pub const FRAME_EXTRA: usize = HEAD_LEN + SUM_LEN;
-/// The longest payload, in bytes: an empty segment of the smallest size, 65,536 bytes, has room for its frame and for a
-/// SEAL after it.
+/// The longest payload, in bytes: an empty segment of the smallest size, 65,536 bytes, has room for
+/// its frame and for a SEAL after it.
 pub const PAYLOAD_MAX: usize = 65_494;
 /// The longest frame, in bytes. Whoever builds or reads frames keeps a buffer of this length.
 pub const FRAME_MAX: usize = PAYLOAD_MAX + FRAME_EXTRA;

@@ -85,7 +85,8 @@ out_for numbers w lease =
     if is_among numbers (holder_of w) then Some (record { word = unpacked w; lease = lease }) else None
 
 -- what a seat's view says is so, and no other seat has its numbers
-pub record IsView (workers : ℕ) (frames : ℕ → PageFrame) (words : List ℕ) (seats : ℕ → ℕ) (i : ℕ) (v : View) : Type 0 where
+pub record IsView (workers : ℕ) (frames : ℕ → PageFrame) (words : List ℕ) (seats : ℕ → ℕ) (i : ℕ)
+    (v : View) : Type 0 where
   pub staff : (n : ℕ) → Has v n → v.workers ≡ workers
   pub few : v.numbers.upto ≤ workers
   pub mine : (n : ℕ) → Has v n → seats n ≡ i
@@ -123,7 +124,8 @@ pub record IsLawful (workers : ℕ) (ranges : List Range) (s : State (Option Lea
   pub each_frame : (f : ℕ) → f < length s.words
       → IsPageFrame workers (frame_range ranges f) f (slice_index s.words f) (get_elem? s.homes f) (frames f)
   -- a seat with a number knows where the frames lie
-  pub began : (i : ℕ) (v : View) → get_elem? s.views i ≡ some v → (n : ℕ) → Has v n → map (λ y. y.range) v.leases ≡ ranges
+  pub began : (i : ℕ) (v : View) → get_elem? s.views i ≡ some v → (n : ℕ) → Has v n
+      → map (λ y. y.range) v.leases ≡ ranges
   pub each_view : (i : ℕ) (v : View) → get_elem? s.views i ≡ some v
       → IsView workers frames s.words seats i v
   -- each number belongs to a seat, and so to just one

@@ -1,5 +1,5 @@
--- The checkpoint in force: its start marker is the valid one of the highest number, and it is ended where the slot of its number
--- in the file of end markers has the same bytes.
+-- The checkpoint in force: its start marker is the valid one of the highest number, and it is ended
+-- where the slot of its number in the file of end markers has the same bytes.
 use Rattle.std.specs.Prelude.{ℕ, Bool, true, false, nat_eq, nat_lt, if◌then◌else◌, List, Option, Some, None}
 use Rattle.std.specs.Cmp.Lexicographic.{pointwise}
 use Rattle.pm_types.specs.declared.place.Place.{Place}

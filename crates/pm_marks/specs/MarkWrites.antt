@@ -21,9 +21,11 @@ mark_forced file mark world = marks_forced file (mark_written file mark world)
 
 -- the mark isn't written yet, or written, or forced
 abbrev pub WritesMarkSoFar : MarkFile → Mark → World → World → Type 0
-WritesMarkSoFar file mark old now = (now ≡ old) ⊎ ((now ≡ mark_written file mark old) ⊎ (now ≡ mark_forced file mark old))
+WritesMarkSoFar file mark old now = (now ≡ old)
+    ⊎ ((now ≡ mark_written file mark old) ⊎ (now ≡ mark_forced file mark old))
 
 -- At `Ok` the mark is written and forced, and at each moment it was written so far.
-pub record WritesMark {T E : Type 0} (old new : History) (result : Result T E) (file : MarkFile) (mark : Mark) : Type 0 where
+pub record WritesMark {T E : Type 0} (old new : History) (result : Result T E) (file : MarkFile)
+    (mark : Mark) : Type 0 where
   pub forced : OnOk result (new.world ≡ mark_forced file mark old.world)
   pub moments : AllMoments old new (WritesMarkSoFar file mark old.world)

@@ -13,17 +13,21 @@ ghost use Rattle.pm_marks.specs.MarkWrites.{mark_change};
 /// bytes; and each mark that stands so is valid.
 pub fn a_mark_decides_its_slot()
     ensures fits { (slot : ℕ) (file : List ℕ) (mark : Mark) → mark_at slot file ≡ Some mark → IsMark mark }
-    ensures slot { (slot : ℕ) (file : List ℕ) (mark : Mark) → mark_at slot file ≡ Some mark → slot ≡ slot_of mark.number }
+    ensures slot { (slot : ℕ) (file : List ℕ) (mark : Mark) → mark_at slot file ≡ Some mark
+        → slot ≡ slot_of mark.number }
     ensures bytes { (slot : ℕ) (file : List ℕ) (mark : Mark) → mark_at slot file ≡ Some mark
         → bytes_in_slot slot file ≡ slot_bytes mark }
     ensures read { (file : List ℕ) (mark : Mark) → IsMark mark
-        → bytes_in_slot (slot_of mark.number) file ≡ slot_bytes mark → mark_at (slot_of mark.number) file ≡ Some mark }
+        → bytes_in_slot (slot_of mark.number) file ≡ slot_bytes mark
+            → mark_at (slot_of mark.number) file ≡ Some mark }
 {}
 
 /// Zeros are no slot, and a slot that isn't there in full is none.
 pub fn zeros_are_no_slot()
-    ensures zeros { (slot : ℕ) (file : List ℕ) → bytes_in_slot slot file ≡ replicate SLOT_LEN 0 → mark_at slot file ≡ None }
-    ensures short { (slot : ℕ) (file : List ℕ) → length file < slot_at slot + SLOT_LEN → mark_at slot file ≡ None }
+    ensures zeros { (slot : ℕ) (file : List ℕ) → bytes_in_slot slot file ≡ replicate SLOT_LEN 0
+        → mark_at slot file ≡ None }
+    ensures short { (slot : ℕ) (file : List ℕ) → length file < slot_at slot + SLOT_LEN
+        → mark_at slot file ≡ None }
 {}
 
 /// A mark that is written is valid in its slot, and the other slot reads as before where it was there in

@@ -55,7 +55,8 @@ pub fn read_marks<H: Host>(host: &mut H) -> Result<Marks, Failed>
 pub fn write_start<H: Host>(host: &mut H, mark: &Mark) -> Result<(), Failed>
     requires usable { IsUsable (H.Device.state host.old) }
     requires mark { IsMark mark.now }
-    ensures writes { H.Device.tells → WritesMark (H.Device.history host.old) (H.Device.history host.new) result marker.Start mark.now }
+    ensures writes { H.Device.tells
+        → WritesMark (H.Device.history host.old) (H.Device.history host.new) result marker.Start mark.now }
     ensures cause { HasCause (H.Device.state host.old) (H.Device.state host.new) result }
 {
     write_mark(host, MarkFile::Start, mark)
@@ -66,7 +67,8 @@ pub fn write_start<H: Host>(host: &mut H, mark: &Mark) -> Result<(), Failed>
 pub fn write_end<H: Host>(host: &mut H, mark: &Mark) -> Result<(), Failed>
     requires usable { IsUsable (H.Device.state host.old) }
     requires mark { IsMark mark.now }
-    ensures writes { H.Device.tells → WritesMark (H.Device.history host.old) (H.Device.history host.new) result marker.End mark.now }
+    ensures writes { H.Device.tells
+        → WritesMark (H.Device.history host.old) (H.Device.history host.new) result marker.End mark.now }
     ensures cause { HasCause (H.Device.state host.old) (H.Device.state host.new) result }
 {
     write_mark(host, MarkFile::End, mark)
@@ -121,7 +123,8 @@ fn has_end<H: Host>(host: &mut H, mark: &Mark) -> Result<bool, Failed>
 // Writes a mark to its slot and forces the file.
 fn write_mark<H: Host>(host: &mut H, file: MarkFile, mark: &Mark) -> Result<(), Failed>
     requires usable { IsUsable (H.Device.state host.old) }
-    ensures writes { H.Device.tells → WritesMark (H.Device.history host.old) (H.Device.history host.new) result file mark.now }
+    ensures writes { H.Device.tells
+        → WritesMark (H.Device.history host.old) (H.Device.history host.new) result file mark.now }
     ensures cause { HasCause (H.Device.state host.old) (H.Device.state host.new) result }
 {
     host.write_mark(file, slot_of(mark.number), &slot_bytes(mark))?;

@@ -75,8 +75,8 @@ pub record HasCounts (max_rows : ℕ) (page : List ℕ) : Type 0 where
 abbrev pub AllBelow : ℕ → List ℕ → Type 0
 AllBelow pages page = (slot : MetaSlot) → IsPageSlot slot → field_of page slot < pages
 
--- the number may stand in this slot of a meta page: an index is below the page count, no index that is there is at a new
--- page count or above it, and no count is past its limit
+-- the number may stand in this slot of a meta page: an index is below the page count, no index that
+-- is there is at a new page count or above it, and no count is past its limit
 abbrev pub IsInBounds : ℕ → List ℕ → MetaSlot → ℕ → Type 0
 IsInBounds max_rows page (Root cache) index = index < field_of page Pages
 IsInBounds max_rows page (Bucket bucket) index = index < field_of page Pages

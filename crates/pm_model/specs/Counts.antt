@@ -12,7 +12,8 @@ count_of counts part = slice_index counts.rows part
 -- the counts are those of these keys
 pub record AreCountsOf (counts : RowCounts) (keys : List CacheKey) : Type 0 where
   pub partitions : ArePartitions counts.partitions
-  pub each : (part : ℕ) → part < counts.partitions → count_of counts part ≡ rows_among counts.partitions part keys
+  pub each : (part : ℕ) → part < counts.partitions
+      → count_of counts part ≡ rows_among counts.partitions part keys
 
 -- where rows are counted, the counts are those of these keys
 abbrev pub AreKept : Option RowCounts → List CacheKey → Type 0

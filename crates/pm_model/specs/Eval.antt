@@ -28,7 +28,8 @@ cache_key cache key = record { cache = cache; key = key }
 
 -- a key of a cache is stored as the pair of both
 abbrev pub coded_cache_key : Coded CacheKey
-coded_cache_key = code_by (ℕ × List ℕ) (coded× coded_ℕ (coded_list coded_ℕ)) (λ at. (at.cache, at.key)) (λ pair. cache_key pair.0 pair.1) (λ _. refl)
+coded_cache_key = code_by (ℕ × List ℕ) (coded× coded_ℕ (coded_list coded_ℕ)) (λ at. (at.cache, at.key))
+    (λ pair. cache_key pair.0 pair.1) (λ _. refl)
 
 -- the map: from a cache and a key to a value
 abbrev pub Pairs : Type 0
@@ -58,11 +59,13 @@ rows_of partitions part pairs = rows_among partitions part (map.keys pairs)
 -- whether a key is new, and its partition has as many rows as it may have
 abbrev pub is_full : Shape → CacheKey → Pairs → Bool
 is_full shape at pairs =
-    not (map.contains_key pairs at) && nat_le shape.max_rows (rows_of shape.partitions (part_of at.key shape.partitions) pairs)
+    not (map.contains_key pairs at) && nat_le shape.max_rows
+        (rows_of shape.partitions (part_of at.key shape.partitions) pairs)
 
 -- the pairs of a cache among entries
 abbrev pub pairs_among : ℕ → List (CacheKey × List ℕ) → List (List ℕ × List ℕ)
-pairs_among cache entries = list.map (λ entry. (entry.0.key, entry.1)) (filter (λ entry. entry.0.cache == cache) entries)
+pairs_among cache entries =
+    list.map (λ entry. (entry.0.key, entry.1)) (filter (λ entry. entry.0.cache == cache) entries)
 
 -- the pairs of a cache by rising key
 abbrev pub pairs_of : ℕ → Pairs → List (List ℕ × List ℕ)
@@ -70,7 +73,8 @@ pairs_of cache pairs = pairs_among cache (map.entries pairs)
 
 -- the reply to a line
 abbrev pub reply_to : Shape → Line → Pairs → Reply
-reply_to shape (Good (Put cache key value)) pairs = if is_full shape (cache_key cache key) pairs then Full else Done
+reply_to shape (Good (Put cache key value)) pairs =
+    if is_full shape (cache_key cache key) pairs then Full else Done
 reply_to shape (Good (Get cache key)) pairs = found (map.get pairs (cache_key cache key))
 reply_to shape (Good (Remove cache key)) pairs = Was (map.contains_key pairs (cache_key cache key))
 reply_to shape (Good (Scan cache)) pairs = reply.Pairs (pairs_of cache pairs)
@@ -104,7 +108,8 @@ is_accepted shape Long pairs = false
 -- the replies to lines, one for each, each over the map that the lines before it left
 abbrev pub replies_to : Shape → List Line → Pairs → List Reply
 replies_to shape [] pairs = []
-replies_to shape (line ∷ lines) pairs = reply_to shape line pairs ∷ replies_to shape lines (after shape line pairs)
+replies_to shape (line ∷ lines) pairs =
+    reply_to shape line pairs ∷ replies_to shape lines (after shape line pairs)
 
 -- the map after lines
 abbrev pub after_all : Shape → List Line → Pairs → Pairs

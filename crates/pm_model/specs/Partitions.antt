@@ -1,4 +1,5 @@
--- The partition of a key: its hash by FNV-1a with 32 bits, modulo the number of partitions. The cache's number doesn't enter.
+-- The partition of a key: its hash by FNV-1a with 32 bits, modulo the number of partitions. The
+-- cache's number doesn't enter.
 use Rattle.std.specs.Prelude.{ℕ, ◌*◌, ◌%◌, ◌^◌, ◌≤◌, List, fold, bit_xor}
 use Rattle.pm_types.specs.declared.limits.TheConstants.{PARTITIONS_MAX}
 

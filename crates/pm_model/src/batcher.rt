@@ -15,8 +15,8 @@ use std::alloc::Global;
 
 /// A store that runs lines, a batch at a time.
 ///
-/// A new one has run no lines, is open and tells no fault. After an error it isn't open any more: no further call is
-/// made on it.
+/// A new one has run no lines, is open and tells no fault. After an error it isn't open any more:
+/// no further call is made on it.
 pub trait Batcher {
     /// The shape of its store.
     ghost shape: { Self → Shape };

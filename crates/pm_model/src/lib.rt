@@ -1,4 +1,5 @@
-//! Lines of a script as values, what each answers and changes, a plain map that answers them, and who runs them in batches.
+//! Lines of a script as values, what each answers and changes, a plain map that answers them, and
+//! who runs them in batches.
 #![tactic(auto)]
 
 mod batcher;

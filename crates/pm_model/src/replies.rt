@@ -11,8 +11,8 @@ use std::marker::Model;
 
 /// A list of replies with room for more.
 ///
-/// All memory is taken when it is made: for each reply also that of a value, so that an operation that has begun is
-/// answered without taking memory.
+/// All memory is taken when it is made: for each reply also that of a value, so that an operation
+/// that has begun is answered without taking memory.
 #[derive(Drop)]
 pub struct Replies {
     replies: Vec<Reply>,

@@ -15,14 +15,11 @@ use Rattle.pm_pages.specs.Passes.{Passes, PassesAsMeta, PassesAt}
 use Rattle.pm_pages.specs.WellFormed.{AllPass}
 use Rattle.pm_pages.specs.Paged.{Paged, PassesIn, SamePartition}
 use Rattle.pm_pages.specs.Edits.{EditsPages}
+use Rattle.pm_pages.specs.StoredPages.{IsStoredPage}
 use Rattle.pm_pages.specs.SparePages.{SetsNumber, TakesPage, GivesPage}
 use Rattle.pm_pages.specs.SpareChains.{HasSpare}
 use Rattle.pm_pages.proofs.ChainWalks.{stands, walk_none, walk_on, times_here}
 use Rattle.pm_pages.proofs.SpareSteps.{number_by, moves_take}
-
--- page i is there and passes its check
-abbrev pub PassesThere : Paged → ℕ → Type 0
-PassesThere p i = (page : List ℕ) × (p.pages i ≡ Some page) × PassesIn p i page
 
 -- the same bytes pass in a partition of the same shape and number
 pub passes_same : (a b : Paged) → SamePartition a b → (i : ℕ) (page : List ℕ) → PassesIn a i page → PassesIn b i page
@@ -30,19 +27,19 @@ passes_same a b same i page h =
     subst (λ (q : ℕ × ℕ × ℕ). PassesAt q.0 q.1 q.2 i page) {x = (a.page_size, a.max_rows, a.part)} {y = (b.page_size, b.max_rows, b.part)} (λ z. (sym same.page_size z, sym same.max_rows z, sym same.part z)) h
 
 -- a page that wasn't changed passes still
-pub there_still : (a b : Paged) → SamePartition a b → (i : ℕ) → b.pages i ≡ a.pages i → PassesThere a i → PassesThere b i
+pub there_still : (a b : Paged) → SamePartition a b → (i : ℕ) → b.pages i ≡ a.pages i → IsStoredPage a i → IsStoredPage b i
 there_still a b same i e there = (there.0, e ∙ there.1, passes_same a b same i there.0 there.2)
 
 -- a page that is there has one content
-pub there_is : (p : Paged) (i : ℕ) (page : List ℕ) → p.pages i ≡ Some page → PassesThere p i → PassesIn p i page
+pub there_is : (p : Paged) (i : ℕ) (page : List ℕ) → p.pages i ≡ Some page → IsStoredPage p i → PassesIn p i page
 there_is p i page is there = (let same : there.0 ≡ page = cc (there.1, is) in subst (PassesIn p i) same there.2)
 
 -- the page count is within its limit
-pub count_within : (p : Paged) → PassesThere p 0 → (1 ≤ page_count p.pages) × (page_count p.pages ≤ 2 * p.max_rows + EXTRA_PAGES)
+pub count_within : (p : Paged) → IsStoredPage p 0 → (1 ≤ page_count p.pages) × (page_count p.pages ≤ 2 * p.max_rows + EXTRA_PAGES)
 count_within p meta = (let e = number_by p.pages Pages meta.0 meta.1 in (omega (arith, e, meta.2.stored.counts.some), omega (arith, e, meta.2.stored.counts.pages)))
 
 -- one number of the meta page was set to one that may stand there
-pub meta_sets : (a b : Paged) (slot : MetaSlot) (value : ℕ) → SamePartition a b → (was now : List ℕ) → a.pages 0 ≡ Some was → b.pages 0 ≡ Some now → SetsNumber was now slot value → IsInBounds a.max_rows was slot value → PassesThere a 0 → PassesThere b 0
+pub meta_sets : (a b : Paged) (slot : MetaSlot) (value : ℕ) → SamePartition a b → (was now : List ℕ) → a.pages 0 ≡ Some was → b.pages 0 ≡ Some now → SetsNumber was now slot value → IsInBounds a.max_rows was slot value → IsStoredPage a 0 → IsStoredPage b 0
 meta_sets a b slot value same was now before after sets bounds meta =
     let passes : PassesAsMeta a.page_size a.max_rows (page_id a.part 0) was = there_is a 0 was before meta in
     (now, after, passes_same a b same 0 now (record { size = sets.size ∙ passes.size; stored = sets.stored (page_id a.part 0) a.max_rows passes.stored bounds }))
@@ -61,13 +58,13 @@ no_chain a none = ap length ((λ k. walk (λ j. reuse_next_of (page_at a j)) (pa
 
 -- the first page of a sound chain is below the page count, and so is 0
 pub first_below : (a : Partition) → HasSpare a → 1 ≤ page_count a → number_in a Reuse < page_count a
-first_below a spare some = elim (cases_lt 0 (number_in a Reuse)) [
-  | inl first ↦ stands (λ i. i < page_count a) (reuse_chain a) spare.below (number_in a Reuse) (first_stands a some first)
-  | inr none ↦ omega (arith, none, some)
+first_below a spare counted = elim (cases_lt 0 (number_in a Reuse)) [
+  | inl begins ↦ stands (λ i. i < page_count a) (reuse_chain a) spare.below (number_in a Reuse) (first_stands a counted begins)
+  | inr none ↦ omega (arith, none, counted)
 ]
 
 -- a page was taken, and the limit of the page count allows one more where the chain is empty
-pub meta_taken : (T : Type 0) (a b : Paged) (m i limit : ℕ) → T → TakesPage T a b m i → HasSpare a.pages → limit ≤ 2 * a.max_rows + EXTRA_PAGES → page_count a.pages + 1 ≤ length (reuse_chain a.pages) + limit → PassesThere a 0 → PassesThere b 0
+pub meta_taken : (T : Type 0) (a b : Paged) (m i limit : ℕ) → T → TakesPage T a b m i → HasSpare a.pages → limit ≤ 2 * a.max_rows + EXTRA_PAGES → page_count a.pages + 1 ≤ length (reuse_chain a.pages) + limit → IsStoredPage a 0 → IsStoredPage b 0
 meta_taken T a b m i limit t takes spare small room meta =
     let was = takes.numbers.was in
     let now = takes.numbers.now in
@@ -88,21 +85,21 @@ meta_taken T a b m i limit t takes spare small room meta =
     ]
 
 -- a page of the partition was given back
-pub meta_given : (T : Type 0) (a b : Paged) (i : ℕ) → GivesPage T a b i → i < page_count a.pages → PassesThere a 0 → PassesThere b 0
+pub meta_given : (T : Type 0) (a b : Paged) (i : ℕ) → GivesPage T a b i → i < page_count a.pages → IsStoredPage a 0 → IsStoredPage b 0
 meta_given T a b i gives below meta =
     let was = gives.numbers.was in
     meta_sets a b Reuse i gives.edits.same was gives.numbers.now gives.numbers.before gives.numbers.after gives.numbers.change.1 (omega (arith, below, number_by a.pages Pages was gives.numbers.before)) meta
 
 -- All pages pass still: the meta page, each page that was changed, and each that the partition has besides.
-module _ (T : Type 0) (a c : Paged) (touched : ℕ → Type 0) (m : ℕ) (t : T) (edits : EditsPages T a c touched m) (decide : (j : ℕ) → touched j ⊎ (touched j → ⊥)) (meta : PassesThere c 0)
-    (there : (j : ℕ) → 1 ≤ j → j < page_count c.pages → touched j → PassesThere c j) (added : (j : ℕ) → j < page_count c.pages → (j < page_count a.pages) ⊎ touched j) (shape : Shape) (page_size : shape.page_size ≡ c.page_size) (max_rows : shape.max_rows ≡ c.max_rows) where
+module _ (T : Type 0) (a c : Paged) (touched : ℕ → Type 0) (m : ℕ) (t : T) (edits : EditsPages T a c touched m) (decide : (j : ℕ) → touched j ⊎ (touched j → ⊥)) (meta : IsStoredPage c 0)
+    (there : (j : ℕ) → 1 ≤ j → j < page_count c.pages → touched j → IsStoredPage c j) (added : (j : ℕ) → j < page_count c.pages → (j < page_count a.pages) ⊎ touched j) (shape : Shape) (page_size : shape.page_size ≡ c.page_size) (max_rows : shape.max_rows ≡ c.max_rows) where
   of_shape : (i : ℕ) (page : List ℕ) → PassesIn c i page → PassesAt shape.page_size shape.max_rows c.part i page
   of_shape i page passes = subst (λ (q : ℕ × ℕ). PassesAt q.0 q.1 c.part i page) {x = (c.page_size, c.max_rows)} {y = (shape.page_size, shape.max_rows)} (λ k. (sym page_size k, sym max_rows k)) passes
 
-  pub all_kept : ((i : ℕ) → 1 ≤ i → i < page_count a.pages → PassesThere a i) → AllPass shape c.part c.pages
+  pub all_kept : ((i : ℕ) → 1 ≤ i → i < page_count a.pages → IsStoredPage a i) → AllPass shape c.part c.pages
   all_kept before = record { meta = subst (λ o. IfSome o (PassesAsMeta shape.page_size shape.max_rows (page_id c.part 0))) (sym meta.1) (of_shape 0 meta.0 meta.2); each = each_there }
     where
-      there_now : (i : ℕ) → 1 ≤ i → i < page_count c.pages → PassesThere c i
+      there_now : (i : ℕ) → 1 ≤ i → i < page_count c.pages → IsStoredPage c i
       there_now i some lt = elim (decide i) [
         | inl h ↦ there i some lt h
         | inr out ↦ elim (added i lt) [ inl old ↦ there_still a c edits.same i (edits.others i (inl t) out) (before i some old) | inr h ↦ absurd (out h) ]

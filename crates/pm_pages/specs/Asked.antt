@@ -40,7 +40,8 @@ patch_of (Some entry) = entry.patch
 
 -- every patch is of pages of this size
 abbrev pub HaveSize : ℕ → List Asked → Type 0
-HaveSize size asked = (j : ℕ) (patch : Coverage) → patch_of (entry_of asked j) ≡ Some patch → patch.page_size ≡ size
+HaveSize size asked = (j : ℕ) (patch : Coverage) → patch_of (entry_of asked j) ≡ Some patch
+    → patch.page_size ≡ size
 
 -- page i was asked for, and every other entry is as it was
 pub record RegistersPage (was now : List Asked) (i : ℕ) : Type 0 where

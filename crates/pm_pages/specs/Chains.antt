@@ -36,7 +36,8 @@ reuse_next_of page = if kind_of page == REUSE_KIND then reuse_page.next_of page 
 
 -- the chain of a bucket
 abbrev pub bucket_chain : Partition → ℕ → List ℕ
-bucket_chain pages bucket = walk (λ i. next_of (page_at pages i)) (page_count pages) (number_in pages (Bucket bucket))
+bucket_chain pages bucket =
+    walk (λ i. next_of (page_at pages i)) (page_count pages) (number_in pages (Bucket bucket))
 
 -- the chain of the pages that can be taken anew
 abbrev pub reuse_chain : Partition → List ℕ
@@ -57,7 +58,8 @@ NamesBefore before first (i ∷ chain) = (before i ≡ first) × NamesBefore bef
 
 -- the chain of a bucket has exactly its data pages, each once, and each of them names the one before it
 pub record HasChain (pages : Partition) (bucket : ℕ) : Type 0 where
-  pub exact : IsExactly (page_count pages) (λ i. is_in_bucket bucket (page_at pages i)) (bucket_chain pages bucket)
+  pub exact : IsExactly (page_count pages) (λ i. is_in_bucket bucket (page_at pages i))
+      (bucket_chain pages bucket)
   pub before : NamesBefore (λ i. before_of (page_at pages i)) 0 (bucket_chain pages bucket)
 
 -- the reuse chain has reuse pages alone

@@ -27,20 +27,22 @@ pub record LooksAtPages (T : Type 0) (old new : Paged) (most : ℕ) : Type 0 whe
   pub spare : old.spare ≤ new.spare + most
   pub same : SamePartition old new
 
--- Pages were asked for, at most so many that weren't before, and no others than these were changed. Each byte that
--- changed is covered by its page's patch.
+-- Pages were asked for, at most so many that weren't before, and no others than these were changed.
+-- Each byte that changed is covered by its page's patch.
 pub record EditsPages (T : Type 0) (old new : Paged) (touched : ℕ → Type 0) (most : ℕ) : Type 0 where
   pub others : (j : ℕ) → IsTold T old j → (touched j → ⊥) → new.pages j ≡ old.pages j
   pub known : (j : ℕ) → IsTrue (old.known j) → IsTrue (new.known j)
   pub asked : (j : ℕ) → IsTrue (old.asked j) → IsTrue (new.asked j)
   pub lent : (j : ℕ) → IsTrue (old.lent j) → IsTrue (new.lent j)
   pub covers : (j k : ℕ) → k < old.page_size → CoversByte (old.patch j) k → CoversByte (new.patch j) k
-  pub covered : (j k : ℕ) → k < old.page_size → IsTold T old j → (CoversByte (new.patch j) k → ⊥) → byte_of new j k ≡ byte_of old j k
+  pub covered : (j k : ℕ) → k < old.page_size → IsTold T old j → (CoversByte (new.patch j) k → ⊥)
+      → byte_of new j k ≡ byte_of old j k
   pub spare : old.spare ≤ new.spare + most
   pub same : SamePartition old new
 
 -- the bytes of page i were written, nothing else happened, and the patch notes what changed of them
-pub record RewritesPage (old new : Paged) (i : ℕ) (before after : Coverage) (change : List ℕ → List ℕ → Type 0) : Type 0 where
+pub record RewritesPage (old new : Paged) (i : ℕ) (before after : Coverage)
+    (change : List ℕ → List ℕ → Type 0) : Type 0 where
   pub was : List ℕ
   pub now : List ℕ
   pub is : old.pages i ≡ Some was

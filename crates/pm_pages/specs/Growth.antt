@@ -2,8 +2,8 @@
 use Rattle.std.specs.Prelude.{◌≡◌, ℕ, ◌<◌, List, Some, IsSome}
 use Rattle.pm_pages.specs.Rows.{Partition, page_count}
 
--- Pages appear at the page count and above it, and nothing else happens. Without a meta page the page count is 0: any page
--- but the first may appear.
+-- Pages appear at the page count and above it, and nothing else happens. Without a meta page the
+-- page count is 0: any page but the first may appear.
 pub record GrowsAbove (was now : Partition) : Type 0 where
   pub meta : now 0 ≡ was 0
   pub below : (i : ℕ) → i < page_count was → now i ≡ was i

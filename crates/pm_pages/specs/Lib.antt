@@ -12,8 +12,10 @@ pub mod PlainLaws
 pub mod PlainRooms
 pub mod RowMaps
 pub mod Rows
+pub mod SoundPages
 pub mod SpareChains
 pub mod SparePages
+pub mod StoredPages
 pub mod TreeItems
 pub mod Trees
 pub mod WellFormed

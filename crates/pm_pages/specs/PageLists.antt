@@ -27,7 +27,8 @@ pub record IsReadable (page : List ℕ) : Type 0 where
 abbrev pub MayRead : List ℕ → Type 0
 MayRead page = (page ≡ []) ⊎ IsReadable page
 
--- the first page is a meta page if it is there, and each page below the page count is there and reads as what it says
+-- the first page is a meta page if it is there, and each page below the page count is there and
+-- reads as what it says
 pub record AreReadable (pages : Partition) : Type 0 where
   pub meta : IfSome (pages 0) IsMetaPage
   pub each : (i : ℕ) → i < page_count pages → IsSomeAnd (pages i) IsReadable

@@ -1,4 +1,5 @@
--- What a contract sees of the pages of a partition that are asked for one at a time, and what each call changes.
+-- What a contract sees of the pages of a partition that are asked for one at a time, and what each
+-- call changes.
 --
 -- `T` holds where the store reports the content of pages that weren't read, as one in memory does.
 use Rattle.std.specs.Prelude.{◌≡◌, ◌≢◌, ℕ, ◌+◌, ◌-◌, ◌<◌, ◌≤◌, ◌⊎◌, ◌==◌, if◌then◌else◌, Bool, List}
@@ -26,7 +27,8 @@ pub record Paged : Type 0 where
   -- the pages that were asked for since `ready`, and how many others may be
   pub asked : ℕ → Bool
   pub spare : ℕ
-  -- the pages that were lent to be written since then, and the patch of each of which one was noted or that was made
+  -- the pages that were lent to be written since then, and the patch of each of which one was noted
+  -- or that was made
   pub lent : ℕ → Bool
   pub patch : ℕ → Option Coverage
   -- the count of failed calls on the disk
@@ -184,7 +186,8 @@ pub record IsBadPage (T : Type 0) (p : Paged) (i : ℕ) (id : PageId) : Type 0 w
   pub first : i ≡ 0 → IsTold T p i → IsThere p i
 
 -- a call of the disk failed, or page i is bad
-pub record HasPageCause {R : Type 0} (T : Type 0) (old : Paged) (now : ℕ) (i : ℕ) (result : Result R PageFault) : Type 0 where
+pub record HasPageCause {R : Type 0} (T : Type 0) (old : Paged) (now : ℕ) (i : ℕ)
+    (result : Result R PageFault) : Type 0 where
   pub failed : IsErrOf result Failed → HasRisen old.faults now
   pub bad : (id : PageId) → IsErrOf result (BadPage id) → IsBadPage T old i id
 
@@ -195,6 +198,7 @@ pub record IsAfterGap (T : Type 0) (p : Paged) (i : ℕ) (id : PageId) : Type 0 
   pub absent : IsTold T p (i - 1) → p.pages (i - 1) ≡ None
 
 -- a call of the disk failed, or the page before page i isn't there
-pub record HasGapCause {R : Type 0} (T : Type 0) (old : Paged) (now : ℕ) (i : ℕ) (result : Result R PageFault) : Type 0 where
+pub record HasGapCause {R : Type 0} (T : Type 0) (old : Paged) (now : ℕ) (i : ℕ)
+    (result : Result R PageFault) : Type 0 where
   pub failed : IsErrOf result Failed → HasRisen old.faults now
   pub bad : (id : PageId) → IsErrOf result (BadPage id) → IsAfterGap T old i id

@@ -57,7 +57,8 @@ ArePlain p = IsOrdered p.shape.page_size p.pages.items p.rooms.items p.asked.ite
 
 -- plain pages of which the last `ready` answered Ok
 abbrev pub ArePlainReady : PlainPages → Type 0
-ArePlainReady p = AreReady p.shape.page_size p.pages.items p.rooms.items p.asked.items (vec_capacity p.pages) (vec_capacity p.asked)
+ArePlainReady p = AreReady p.shape.page_size p.pages.items p.rooms.items p.asked.items
+    (vec_capacity p.pages) (vec_capacity p.asked)
 
 -- what no call changes
 pub record KeepsPlain (p q : PlainPages) : Type 0 where

@@ -1,4 +1,5 @@
--- What plain pages keep in order, and the room that they have for pages that may be made until the next `ready`.
+-- What plain pages keep in order, and the room that they have for pages that may be made until the
+-- next `ready`.
 use Rattle.std.specs.Prelude.{◌≡◌, ℕ, ◌+◌, ◌<◌, ◌≤◌, IsTrue, IsSome, List, All, length, replicate}
 use Rattle.pm_types.specs.declared.limits.TheConstants.{OP_PAGES}
 use Rattle.pm_types.specs.PageSizes.{IsPageSize}
@@ -14,7 +15,8 @@ AreZeros size page = page.bytes.items ≡ replicate size 0
 abbrev pub IsOfSize : ℕ → Page → Type 0
 IsOfSize size page = length page.bytes.items ≡ size
 
--- the pages have the store's page size, kept rooms are zeros, and only pages that are there were asked for, not too many
+-- the pages have the store's page size, kept rooms are zeros, and only pages that are there were
+-- asked for, not too many
 pub record IsOrdered (size : ℕ) (pages rooms : List Page) (asked : List Asked) (asked_room : ℕ) : Type 0 where
   pub is_size : IsPageSize size
   pub sized : All (IsOfSize size) pages
@@ -34,7 +36,8 @@ pub record HasRooms (pages rooms asked pages_room : ℕ) : Type 0 where
   pub space : pages + OP_PAGES ≤ pages_room + asked
 
 -- there is room for each page that may still be asked for, and for `OP_PAGES` as long as none was lent
-pub record AreReady (size : ℕ) (pages rooms : List Page) (asked : List Asked) (pages_room asked_room : ℕ) : Type 0 where
+pub record AreReady (size : ℕ) (pages rooms : List Page) (asked : List Asked)
+    (pages_room asked_room : ℕ) : Type 0 where
   pub ordered : IsOrdered size pages rooms asked asked_room
   pub enough : HasRooms (length pages) (length rooms) (length asked) pages_room
   pub idle : NoneIsLent asked → HasRooms (length pages) (length rooms) 0 pages_room

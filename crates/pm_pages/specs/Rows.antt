@@ -60,4 +60,5 @@ rows_on id page = if kind_of page == DATA_KIND then rows_from id 0 (data_page.ro
 
 -- the rows of the partition by page and item
 abbrev pub rows_of : ℕ → Partition → List Row
-rows_of part pages = flat_map (λ i. rows_on (page_id part i) (page_at pages i)) (range_with_len 0 (page_count pages))
+rows_of part pages = flat_map (λ i. rows_on (page_id part i) (page_at pages i))
+    (range_with_len 0 (page_count pages))

@@ -17,8 +17,8 @@ abbrev pub is_added : ℕ → ℕ → ℕ → Bool
 is_added was now i = nat_le was i && nat_lt i now
 
 -- Pages of the reuse chain were taken, or ones after the last: the pages `made`. The pages `given` were given
--- back to it. Every page that was added and isn't of the pages `made` is on the chain, and the page count and the
--- chain's length say together how many were taken and given back.
+-- back to it. Every page that was added and isn't of the pages `made` is on the chain, and the page
+-- count and the chain's length say together how many were taken and given back.
 pub record MovesSpare (old new : Partition) (made given : List ℕ) : Type 0 where
   pub count : page_count old ≤ page_count new
   pub sound : HasSpare old → HasSpare new

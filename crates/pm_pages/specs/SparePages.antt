@@ -1,5 +1,5 @@
--- Pages that are taken for a new use, and pages that are given back: the reuse chain's first page is the next one
--- that is taken, and where the chain is empty the page count rises.
+-- Pages that are taken for a new use, and pages that are given back: the reuse chain's first page
+-- is the next one that is taken, and where the chain is empty the page count rises.
 use Rattle.std.specs.Prelude.{◌≡◌, ◌≢◌, ℕ, ◌+◌, ◌-◌, ◌^◌, ◌<◌, ◌≤◌, ◌⊎◌, List, Some, Result, IsErrOf}
 use Rattle.std.specs.Prelude.{length, replicate}
 use Rattle.pm_types.specs.declared.page_id.PageId.{PageId}
@@ -20,8 +20,8 @@ use Rattle.pm_pages.specs.Edits.{EditsPages, HasMeta}
 abbrev pub IsMetaOr : ℕ → ℕ → Type 0
 IsMetaOr i j = (j ≡ 0) ⊎ (j ≡ i)
 
--- One number of the meta page was set. Where the page passed its check and the number is in bounds, it passes it
--- still.
+-- One number of the meta page was set. Where the page passed its check and the number is in bounds,
+-- it passes it still.
 pub record SetsNumber (was now : List ℕ) (slot : MetaSlot) (value : ℕ) : Type 0 where
   pub here : field_of now slot ≡ value
   pub others : (other : MetaSlot) → IsSlot other → other ≢ slot → field_of now other ≡ field_of was other
@@ -57,8 +57,9 @@ pub record TakesNext (i : ℕ) (was now : List ℕ) : Type 0 where
 abbrev pub Takes : Type 0 → Paged → ℕ → List ℕ → List ℕ → Type 0
 Takes T old i was now = TakesReused T old i was now ⊎ TakesNext i was now
 
--- Page i was taken: it is all zeros, lent to be written, and covered by its patch as a whole. No other page but the
--- meta page was changed. At most so many pages were asked for that weren't before.
+-- Page i was taken: it is all zeros, lent to be written, and covered by its patch as a whole. No
+-- other page but the meta page was changed. At most so many pages were asked for that weren't
+-- before.
 pub record TakesPage (T : Type 0) (old new : Paged) (most i : ℕ) : Type 0 where
   pub some : 1 ≤ i
   pub edits : EditsPages T old new (IsMetaOr i) most
@@ -68,7 +69,8 @@ pub record TakesPage (T : Type 0) (old new : Paged) (most i : ℕ) : Type 0 wher
   pub meta : HasMeta new
   pub numbers : MetaBecomes old new (Takes T old i)
 
--- page i is the first of the reuse chain now, and names the one that was; no other page but the meta page was changed
+-- page i is the first of the reuse chain now, and names the one that was; no other page but the
+-- meta page was changed
 pub record GivesPage (T : Type 0) (old new : Paged) (i : ℕ) : Type 0 where
   pub edits : EditsPages T old new (IsMetaOr i) 1
   pub page : List ℕ
@@ -76,7 +78,8 @@ pub record GivesPage (T : Type 0) (old new : Paged) (i : ℕ) : Type 0 where
   pub size : length page ≡ old.page_size
   pub stored : IsStoredReuse (page_id old.part i) page
   pub meta : HasMeta new
-  pub numbers : MetaBecomes old new (λ was now. (next_of page ≡ field_of was Reuse) × SetsNumber was now Reuse i)
+  pub numbers : MetaBecomes old new
+      (λ was now. (next_of page ≡ field_of was Reuse) × SetsNumber was now Reuse i)
 
 -- page i is at hand and isn't a reuse page
 pub record IsOfOtherUse (p : Paged) (i : ℕ) : Type 0 where
@@ -139,8 +142,8 @@ pub record HasGapBelow (T : Type 0) (p : Paged) (id : PageId) : Type 0 where
   pub is_next : IsTakenNext p index
   pub gap : IsAfterGap T p index id
 
--- a call of the disk failed; or the meta page names no page that can be taken, or the reuse chain's first page is
--- bad, or the page before the one that is taken next isn't there
+-- a call of the disk failed; or the meta page names no page that can be taken, or the reuse chain's
+-- first page is bad, or the page before the one that is taken next isn't there
 pub record HasTakeCause {R : Type 0} (T : Type 0) (old new : Paged) (result : Result R PageFault) : Type 0 where
   pub failed : IsErrOf result Failed → HasRisen old.faults new.faults
   pub bad : (id : PageId) → IsErrOf result (BadPage id)

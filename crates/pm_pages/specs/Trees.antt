@@ -66,7 +66,8 @@ IsWithin items i item = IsKeyWithin items i item.key
 abbrev pub KeepsBounds : List Item → (ℕ → List Item) → Type 0
 KeepsBounds items below_child = (i : ℕ) → i ≤ length items → All (IsWithin items i) (below_child i)
 
--- a tree with so many levels of inner pages; its root has so many items at least, every other page half of what it has room for
+-- a tree with so many levels of inner pages; its root has so many items at least, every other page
+-- half of what it has room for
 abbrev pub IsTree : Partition → ℕ → ℕ → ℕ → Type 0
 IsTree pages zero least at = IsNode LEAF_KIND least (page_at pages at)
 IsTree pages (suc levels) least at =
@@ -87,7 +88,8 @@ first_of (i ∷ indexes) = i
 -- each leaf names the next, and the last one 0
 abbrev pub AreLinked : Partition → List ℕ → Type 0
 AreLinked pages [] = Unit {0}
-AreLinked pages (leaf ∷ leaves) = ((index_of (page_at pages leaf)).link ≡ first_of leaves) × AreLinked pages leaves
+AreLinked pages (leaf ∷ leaves) = ((index_of (page_at pages leaf)).link ≡ first_of leaves)
+    × AreLinked pages leaves
 
 -- the root of a cache's tree, 0 where it has none
 abbrev pub root_of : Partition → ℕ → ℕ
@@ -104,7 +106,8 @@ nodes_of pages cache =
 
 -- each root is that of a tree, whatever its items
 abbrev pub AreTrees : Partition → Type 0
-AreTrees pages = (cache : ℕ) → cache < CACHES → root_of pages cache ≢ 0 → IsSomeTree pages (levels_of pages cache) (root_of pages cache)
+AreTrees pages = (cache : ℕ) → cache < CACHES → root_of pages cache ≢ 0
+    → IsSomeTree pages (levels_of pages cache) (root_of pages cache)
 
 -- the row is of this cache, and this is its item: its key with its name
 pub record IsItemOf (cache : ℕ) (item : Item) (row : Row) : Type 0 where
@@ -128,4 +131,5 @@ pub record IsTreeOf (pages : Partition) (rows : List Row) (cache levels root : �
 -- a cache without rows has no tree, and every other cache a tree that lists its rows
 pub record HasTree (pages : Partition) (rows : List Row) (cache : ℕ) : Type 0 where
   pub none : All (λ row. row.cache ≢ cache) rows → root_of pages cache ≡ 0
-  pub some : Any (λ row. row.cache ≡ cache) rows → IsTreeOf pages rows cache (levels_of pages cache) (root_of pages cache)
+  pub some : Any (λ row. row.cache ≡ cache) rows
+      → IsTreeOf pages rows cache (levels_of pages cache) (root_of pages cache)

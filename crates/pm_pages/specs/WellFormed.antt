@@ -16,7 +16,8 @@ use Rattle.pm_pages.specs.Chains.{bucket_chain, reuse_chain, IsExactly, HasChain
 -- the first page, if it is there, is a meta page; each page below the page count is there and passes its check
 pub record AllPass (shape : Shape) (part : ℕ) (pages : Partition) : Type 0 where
   pub meta : IfSome (pages 0) (PassesAsMeta shape.page_size shape.max_rows (page_id part 0))
-  pub each : (i : ℕ) → i < page_count pages → IsSomeAnd (pages i) (Passes shape.page_size shape.max_rows (page_id part i))
+  pub each : (i : ℕ) → i < page_count pages
+      → IsSomeAnd (pages i) (Passes shape.page_size shape.max_rows (page_id part i))
 
 -- two rows are of different caches or have different keys
 abbrev pub AreDifferent : Row → Row → Type 0

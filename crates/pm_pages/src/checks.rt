@@ -9,8 +9,8 @@ ghost use Rattle.pm_pages.specs.Passes.{Passes, PassesAsMeta, PassesAt};
 
 use pm_types::{PageId, Shape};
 
-/// Whether these bytes may stand as this page of a partition, in a store of this shape: page 0 is a meta page, and
-/// every other page is of one of the kinds, under its own name.
+/// Whether these bytes may stand as this page of a partition, in a store of this shape: page 0 is a
+/// meta page, and every other page is of one of the kinds, under its own name.
 pub fn check_at(page: &[u8], part: u16, index: u32, shape: &Shape) -> bool
     requires { IsPageSize shape.now.page_size }
     ensures { IsTrue result ↔ PassesAt shape.now.page_size shape.now.max_rows part index page.now }
@@ -23,8 +23,8 @@ pub fn check_at(page: &[u8], part: u16, index: u32, shape: &Shape) -> bool
     }
 }
 
-/// Whether these bytes are a page of this name, of a store of this shape: a meta page, a leaf or an inner page with
-/// an item, a data page with a row, or a reuse page, each in its own form.
+/// Whether these bytes are a page of this name, of a store of this shape: a meta page, a leaf or an
+/// inner page with an item, a data page with a row, or a reuse page, each in its own form.
 pub fn check(page: &[u8], id: PageId, shape: &Shape) -> bool
     requires { IsPageSize shape.now.page_size }
     ensures { IsTrue result ↔ Passes shape.now.page_size shape.now.max_rows id page.now }

@@ -14,8 +14,8 @@ use pm_types::ranges::{RANGE_HEAD_LEN, is_delta};
 
 /// Applies a delta's ranges to a page: each range's bytes take the place of the page's own.
 ///
-/// `false` comes exactly where these bytes aren't in the grammar of deltas, or a range ends past the page. The page
-/// is then as it was.
+/// `false` comes exactly where these bytes aren't in the grammar of deltas, or a range ends past
+/// the page. The page is then as it was.
 pub fn apply(ranges: &[u8], page: &mut [u8]) -> bool
     requires { IsPageSize (length page.old) }
     ensures delta { IsTrue result ↔ IsDelta (length page.old) ranges.now }
@@ -43,8 +43,9 @@ pub fn ranges_len(patch: &Patch) -> usize
 
 /// Writes the delta of a page that has this patch.
 ///
-/// Whatever the page was before, if it differed only where the patch covers it, applying the delta to what it was
-/// gives the page. The delta is one that a record may carry, whatever the page's size.
+/// Whatever the page was before, if it differed only where the patch covers it, applying the delta
+/// to what it was gives the page. The delta is one that a record may carry, whatever the page's
+/// size.
 pub fn write_ranges(page: &[u8], patch: &Patch, into: &mut [u8])
     requires part { patch.now.whole ≡ false }
     requires some { 1 ≤ length patch.now.spans }

@@ -6,9 +6,9 @@ ghost use Rattle.pm_pages.specs.Rows.{Partition, rows_of};
 ghost use Rattle.pm_pages.specs.WellFormed.{IsWellFormed};
 ghost use Rattle.pm_pages.specs.Growth.{GrowsAbove, LosesNone};
 
-/// Whatever pages appear at the page count of a partition and above it, the partition is as well formed as before, and
-/// has the same rows. That is so where a well-formed partition with a meta page loses no page, and where a partition
-/// without a meta page gets none.
+/// Whatever pages appear at the page count of a partition and above it, the partition is as well
+/// formed as before, and has the same rows. That is so where a well-formed partition with a meta
+/// page loses no page, and where a partition without a meta page gets none.
 ///
 /// A law on definitions: the function does nothing.
 pub fn growth_changes_nothing()

@@ -1,4 +1,5 @@
-//! The pages of a partition: deltas of pages, pages asked for one at a time, and what a well-formed partition is.
+//! The pages of a partition: deltas of pages, pages asked for one at a time, and what a well-formed
+//! partition is.
 #![tactic(auto)]
 
 pub mod asked;

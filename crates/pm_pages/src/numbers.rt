@@ -60,8 +60,8 @@ pub fn number<P: Pages>(pages: &mut P, slot: MetaSlot) -> Result<u32, PageFault>
     }
 }
 
-/// Sets a number of the meta page, which was asked for before. It fails only where a call on the disk failed, and
-/// changes nothing then.
+/// Sets a number of the meta page, which was asked for before. It fails only where a call on the
+/// disk failed, and changes nothing then.
 pub fn set_number<P: Pages>(pages: &mut P, slot: MetaSlot, value: u32) -> Result<(), PageFault>
     requires ready { P.ready pages.old }
     requires meta { HasMeta (P.seen pages.old) }
@@ -88,7 +88,8 @@ fn set_lent<P: Pages>(pages: &mut P, slot: MetaSlot, value: u32)
     ensures kept { P.kept pages.old pages.new }
     ensures edits { EditsPages P.tells (P.seen pages.old) (P.seen pages.new) (λ j. j ≡ 0) 0 }
     ensures readable { AllReadable (P.seen pages.new) }
-    ensures sets { MetaBecomes (P.seen pages.old) (P.seen pages.new) (λ was now. SetsNumber was now slot value) }
+    ensures sets { MetaBecomes (P.seen pages.old) (P.seen pages.new)
+        (λ was now. SetsNumber was now slot value) }
 {
     let mut patch = Patch::none(pages.page_size());
     put_number(pages, slot, value, &mut patch);

@@ -13,9 +13,9 @@ use pm_types::{PageFault, Patch};
 
 /// The pages of a partition, lent one at a time, over a store of whose content maybe nothing is known.
 ///
-/// Each call has the condition that the last `ready`, which isn't of the trait, answered Ok. A call that asks for a
-/// page has another: fewer than `OP_PAGES` different pages were asked for since then, or this page was among them. A
-/// call that fails, or whose page isn't there, doesn't count.
+/// Each call has the condition that the last `ready`, which isn't of the trait, answered Ok. A call
+/// that asks for a page has another: fewer than `OP_PAGES` different pages were asked for since
+/// then, or this page was among them. A call that fails, or whose page isn't there, doesn't count.
 pub trait Pages {
     /// Whether contracts know the content of pages that weren't read.
     ghost tells: { Type 0 };
@@ -41,8 +41,8 @@ pub trait Pages {
 
     /// The bytes of a page. `None` comes only where page 0 is asked for and the partition has none.
     ///
-    /// `Failed` comes only where a call on the disk failed, and `BadPage`, which names the page, only where it isn't
-    /// there or fails its check. No page is changed, whatever is answered.
+    /// `Failed` comes only where a call on the disk failed, and `BadPage`, which names the page,
+    /// only where it isn't there or fails its check. No page is changed, whatever is answered.
     fn view(&mut self, index: u32) -> Result<Option<&[u8]>, PageFault>
         requires ready { ready self.old }
         requires room { HasRoomFor (seen self.old) index }
@@ -71,10 +71,12 @@ pub trait Pages {
         ensures unchanged { OnErr result (AsksInVain tells (seen self.old) (seen self.new) index) }
         ensures cause { HasPageCause tells (seen self.old) (seen self.new).faults index result };
 
-    /// Makes a page of zeros, new or in place of what it was, which `page_mut` then lends. Its patch is the whole page.
+    /// Makes a page of zeros, new or in place of what it was, which `page_mut` then lends. Its
+    /// patch is the whole page.
     ///
-    /// `Failed` comes only where a call on the disk failed, and `BadPage` only where the page before this one, which
-    /// it names, isn't there. No page is changed then, and none is lent besides.
+    /// `Failed` comes only where a call on the disk failed, and `BadPage` only where the page
+    /// before this one, which it names, isn't there. No page is changed then, and none is lent
+    /// besides.
     fn fresh(&mut self, index: u32) -> Result<(), PageFault>
         requires ready { ready self.old }
         requires room { HasRoomFor (seen self.old) index }

@@ -107,8 +107,8 @@ impl PlainPages {
         }
     }
 
-    /// Makes room for `OP_PAGES` new pages, and begins anew to count the pages that are asked for. No page has a
-    /// patch then.
+    /// Makes room for `OP_PAGES` new pages, and begins anew to count the pages that are asked for.
+    /// No page has a patch then.
     ///
     /// Out of memory leaves the pages as before, and what was asked for and noted.
     pub fn ready(&mut self, alloc: Global) -> Result<(), AllocError>

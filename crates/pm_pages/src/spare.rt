@@ -22,12 +22,13 @@ use pm_meta::{MetaSlot, REUSE_KIND, fresh_reuse, reuse_next};
 use pm_types::head::KIND_AT;
 use pm_types::{PageFault, PageId};
 
-/// Takes a page for a new use, and gives its index: the first one of the reuse chain, or, where that is empty, the
-/// one after the partition's last. It is all zeros and lent, and the caller writes it. The meta page was asked for
-/// before.
+/// Takes a page for a new use, and gives its index: the first one of the reuse chain, or, where
+/// that is empty, the one after the partition's last. It is all zeros and lent, and the caller
+/// writes it. The meta page was asked for before.
 ///
-/// `Failed` comes only where a call on the disk failed. `BadPage` names the meta page where that names no page which
-/// can be taken, the chain's first page where it is bad, or the last page where it isn't there.
+/// `Failed` comes only where a call on the disk failed. `BadPage` names the meta page where that
+/// names no page which can be taken, the chain's first page where it is bad, or the last page where
+/// it isn't there.
 pub fn new_page<P: Pages>(pages: &mut P) -> Result<u32, PageFault>
     requires ready { P.ready pages.old }
     requires meta { HasMeta (P.seen pages.old) }
@@ -168,8 +169,8 @@ fn make_zeros<P: Pages>(pages: &mut P, index: u32) -> Result<(), PageFault>
 
 /// Gives a page back: it becomes the first one of the reuse chain. The meta page was asked for before.
 ///
-/// `Failed` comes only where a call on the disk failed, and `BadPage` only where the page before this one, which it
-/// names, isn't there.
+/// `Failed` comes only where a call on the disk failed, and `BadPage` only where the page before
+/// this one, which it names, isn't there.
 pub fn give_page<P: Pages>(pages: &mut P, index: u32) -> Result<(), PageFault>
     requires ready { P.ready pages.old }
     requires meta { HasMeta (P.seen pages.old) }

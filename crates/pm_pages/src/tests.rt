@@ -81,8 +81,8 @@ const SHAPE: Shape = Shape {
     segment_bytes: 65_536,
 };
 
-// A partition of one cache with the rows of `put 0 a 1` and `put 0 b 2`: the meta page, a data page, the leaf that is
-// the root of the tree, and a reuse page.
+// A partition of one cache with the rows of `put 0 a 1` and `put 0 b 2`: the meta page, a data
+// page, the leaf that is the root of the tree, and a reuse page.
 const PAGES: [&[(u16, &[u8])]; 4] = [
     &[
         (0, b"\x00\x00\x00\x00\x00\x00\x01\x00\x01"),
@@ -256,7 +256,8 @@ fn a_partition_without_a_meta_page_has_no_rows(rt: HostRuntime) -> Result<(), Fa
     Ok(())
 }
 
-// A partition whose tree has an inner page above two leaves, each of six items; all rows stand on one data page.
+// A partition whose tree has an inner page above two leaves, each of six items; all rows stand on
+// one data page.
 fn grown(rt: &impl Abort, alloc: Global, at: (usize, u16, u8)) -> Result<Vec<Page>, Fail> {
     let mut pages = [[0; 1024]; 5];
     let kinds = [1, 4, 2, 2, 3];
@@ -363,7 +364,8 @@ const SOUND: Numbers = Numbers {
 // The row of `put 0 a 1`.
 const ROW: [u8; 6] = [0, 1, 1, 0, b'a', b'1'];
 
-// A meta page with these numbers, a data page with one row, the leaf that is the root of the tree, and a reuse page.
+// A meta page with these numbers, a data page with one row, the leaf that is the root of the tree,
+// and a reuse page.
 fn made(rt: &impl Abort, alloc: Global, numbers: Numbers) -> Result<Vec<Page>, Fail> {
     let mut patch = Patch::none(1024);
     let row = Link::new(PageId::new(0, 1), numbers.item);

@@ -30,11 +30,13 @@ state_after (suc draws) state = state_after_draw (state_after draws state)
 abbrev pub frame_drawn : List ℕ → ℕ → ℕ → ℕ
 frame_drawn stamps state k = state_after k state % length stamps
 
--- the frame is one of so many drawn frames, and of these none has a lesser stamp, or the same and a lesser number
+-- the frame is one of so many drawn frames, and of these none has a lesser stamp, or the same and a
+-- lesser number
 pub record IsOldestDrawn (stamps : List ℕ) (state draws frame : ℕ) : Type 0 where
   pub drawn : (k : ℕ) × (1 ≤ k) × (k ≤ draws) × (frame ≡ frame_drawn stamps state k)
   pub oldest : (k : ℕ) → 1 ≤ k → k ≤ draws
-      → IsNoLater (slice_index stamps frame) frame (slice_index stamps (frame_drawn stamps state k)) (frame_drawn stamps state k)
+      → IsNoLater (slice_index stamps frame) frame (slice_index stamps (frame_drawn stamps state k))
+          (frame_drawn stamps state k)
 
 -- the frame has the next tick as its stamp
 abbrev pub stamped : Drawing → ℕ → Drawing

@@ -1,5 +1,6 @@
--- A tournament: a tree in which each inner node is the lesser of the two below it. Node i stands above nodes 2i and 2i + 1,
--- node 1 is the root, and the nodes from the number of leaves on are the leaves.
+-- A tournament: a tree in which each inner node is the lesser of the two below it. Node i stands
+-- above nodes 2i and 2i + 1, node 1 is the root, and the nodes from the number of leaves on are the
+-- leaves.
 use Rattle.std.specs.Prelude.{◌≡◌, ℕ, ◌+◌, ◌*◌, ◌<◌, ◌≤◌, ◌==◌, ◌&&◌, ◌||◌, Bool, List, length, Option}
 use Rattle.std.specs.Prelude.{Some, None, nat_lt, slice_index_or, if◌then◌else◌}
 use Rattle.pm_policies.specs.declared.tournament.Contender.{Contender}
@@ -24,7 +25,8 @@ winner (Some a) (Some b) = if is_before b a then Some b else Some a
 -- each inner node but perhaps one is the winner of the two below it
 pub record IsTournamentBut (leaves : ℕ) (nodes : List (Option Contender)) (but : ℕ) : Type 0 where
   pub size : length nodes ≡ 2 * leaves
-  pub games : (i : ℕ) → 1 ≤ i → i < leaves → (i ≡ but → ⊥) → node_at nodes i ≡ winner (node_at nodes (2 * i)) (node_at nodes (2 * i + 1))
+  pub games : (i : ℕ) → 1 ≤ i → i < leaves → (i ≡ but → ⊥)
+      → node_at nodes i ≡ winner (node_at nodes (2 * i)) (node_at nodes (2 * i + 1))
 
 -- each inner node is the winner of the two below it
 abbrev pub IsTournament : ℕ → List (Option Contender) → Type 0

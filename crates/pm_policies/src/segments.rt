@@ -39,7 +39,8 @@ impl Model for Segments {
 
     ghost view = { λ s. s.frames.items };
 
-    ghost invariant = { λ s. IsSegments s.frames.items s.probationary.items s.protected.items s.protected_count };
+    ghost invariant = { λ s.
+        IsSegments s.frames.items s.probationary.items s.protected.items s.protected_count };
 }
 
 impl Segments {

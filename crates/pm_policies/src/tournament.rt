@@ -30,7 +30,8 @@ pub(crate) fn without_contenders(alloc: Global, leaves: u32) -> Result<Vec<Node>
 /// A tournament in which all frames take part, with stamp 0.
 pub(crate) fn of_all(alloc: Global, leaves: u32) -> Result<Vec<Node>, AllocError>
     ensures games { IfOk result (λ v. IsTournament leaves v.items) }
-    ensures all { IfOk result (λ v. (i : ℕ) → i < leaves → leaf_at leaves v.items i ≡ Some (record { stamp = 0; frame = i })) }
+    ensures all { IfOk result
+        (λ v. (i : ℕ) → i < leaves → leaf_at leaves v.items i ≡ Some (record { stamp = 0; frame = i })) }
 {
     let mut nodes = without_contenders(alloc, leaves)?;
     enter_all(&mut nodes, leaves);
@@ -77,7 +78,8 @@ pub(crate) fn first(nodes: &[Node]) -> Node
 // An inner node becomes the winner of the two below it.
 fn play(nodes: &mut [Node], at: usize)
     requires { 2 * at + 1 < length nodes.old }
-    ensures { nodes.new ≡ slice_set nodes.old at (winner (node_at nodes.old (2 * at)) (node_at nodes.old (2 * at + 1))) }
+    ensures { nodes.new ≡ slice_set nodes.old at
+        (winner (node_at nodes.old (2 * at)) (node_at nodes.old (2 * at + 1))) }
 {
     nodes[at] = winner_of(nodes[2 * at], nodes[2 * at + 1]);
 }

@@ -1,4 +1,5 @@
--- What the files of a log's segments are: what of the log is lasting, what was written after that, and where its writer stands.
+-- What the files of a log's segments are: what of the log is lasting, what was written after that,
+-- and where its writer stands.
 use Rattle.std.specs.Prelude.{◌≡◌, ◌≢◌, ◌<◌, ◌≤◌, ◌+◌, ℕ, List, [], ◌∷◌, ◌++◌, length, Some, None, true, false}
 use Rattle.pm_types.specs.declared.place.Place.{Place}
 use Rattle.pm_frame.specs.declared.kinds.TheConstants.{LOGICAL, SEAL}
@@ -18,8 +19,8 @@ contents files seg = bytes_of (content (files seg))
 abbrev pub forced_contents : (ℕ → File) → ℕ → List ℕ
 forced_contents files seg = bytes_of (files seg).forced
 
--- Since the last force of a segment no other frame stood at these frames' places, nor one after them. Only the last of them may
--- be a SEAL, and only where there is a next segment.
+-- Since the last force of a segment no other frame stood at these frames' places, nor one after
+-- them. Only the last of them may be a SEAL, and only where there is a next segment.
 abbrev pub OnlyTheseStood : Grammar → ℕ → File → ℕ → List Frame → Type 0
 OnlyTheseStood g seg file off [] = (k : ℕ) → k ≤ length file.since
     → g.frame_at seg off (bytes_of (at_change file k)) ≡ None
@@ -50,8 +51,10 @@ TailIs g log at pending AfterSeal = pending ≡ []
 TailIs g log at pending Cutting = (pending ≡ []) × (length (contents log at.seg) ≡ at.off)
 TailIs g log at pending Ready = Writable g log at pending
 
--- What the segments' files are from a segment on: the log is lasting up to a place, and from there on these frames were written.
-pub record FilesHoldLog (g : Grammar) (log : ℕ → File) (low : ℕ) (at : Place) (pending : List Frame) (tail : Tail) : Type 0 where
+-- What the segments' files are from a segment on: the log is lasting up to a place, and from there
+-- on these frames were written.
+pub record FilesHoldLog (g : Grammar) (log : ℕ → File) (low : ℕ) (at : Place) (pending : List Frame)
+    (tail : Tail) : Type 0 where
   pub reaches : low ≤ at.seg
   pub older : (seg : ℕ) → low ≤ seg → seg < at.seg → (log seg).since ≡ []
   pub below : Lasting (log at.seg) 0 at.off
@@ -61,14 +64,17 @@ pub record FilesHoldLog (g : Grammar) (log : ℕ → File) (low : ℕ) (at : Pla
   pub tail_is : TailIs g log at pending tail
 
 -- these frames stand from a place on up to where the lasting log ends, and are lasting
-pub record HasLasting (g : Grammar) (log : ℕ → File) (low : ℕ) (at from : Place) (frames : List Frame) : Type 0 where
+pub record HasLasting (g : Grammar) (log : ℕ → File) (low : ℕ) (at from : Place)
+    (frames : List Frame) : Type 0 where
   pub kept : low ≤ from.seg
   pub run : HasFrames g (forced_contents log) from frames
   pub to : after_frames from frames ≡ at
   pub goes_on : is_over from frames ≡ false
 
--- Of the log from a place on these frames are lasting, these were written after them, and so much is known of what is after.
-pub record HoldsLog (g : Grammar) (log : ℕ → File) (low : ℕ) (from at : Place) (lasting pending : List Frame) (tail : Tail)
+-- Of the log from a place on these frames are lasting, these were written after them, and so much
+-- is known of what is after.
+pub record HoldsLog (g : Grammar) (log : ℕ → File) (low : ℕ) (from at : Place)
+    (lasting pending : List Frame) (tail : Tail)
     : Type 0 where
   pub files : FilesHoldLog g log low at pending tail
   pub leads : HasLasting g log low at from lasting

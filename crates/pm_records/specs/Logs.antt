@@ -1,8 +1,8 @@
 -- The log: frames, one after the other over the bytes of its segments.
 --
--- Segments are numbered from 1, and a number has 64 bits. A frame lies in one segment. After a SEAL the log goes on at the begin
--- of the next segment; a SEAL in segment 2^64 - 1 ends the log just after itself. Else the log ends at the first place at which
--- no frame stands.
+-- Segments are numbered from 1, and a number has 64 bits. A frame lies in one segment. After a SEAL
+-- the log goes on at the begin of the next segment; a SEAL in segment 2^64 - 1 ends the log just
+-- after itself. Else the log ends at the first place at which no frame stands.
 use Rattle.std.specs.Prelude.{◌≡◌, ◌<◌, ◌+◌, ◌-◌, ◌^◌, ℕ, List, [], ◌∷◌, drop, Option, Some, None}
 use Rattle.std.specs.Prelude.{if◌then◌else◌, ◌==◌, ◌&&◌, ◌||◌, not, Bool, true, false}
 use Rattle.pm_types.specs.declared.place.Place.{Place}
@@ -98,20 +98,25 @@ all_frames = record {
   fits = λ seg off frame. is_frame (place seg off) frame;
 }
 
--- these frames stand one after the other from this place on, in these segments' bytes, and none follows one that ends the log
+-- these frames stand one after the other from this place on, in these segments' bytes, and none
+-- follows one that ends the log
 abbrev pub HasFrames : Grammar → (ℕ → List ℕ) → Place → List Frame → Type 0
 HasFrames g bytes at [] = Unit {0}
 HasFrames g bytes at (frame ∷ frames) =
-    (g.frame_at at.seg at.off (bytes at.seg) ≡ Some frame) × (ends_log at frame ≡ true → frames ≡ []) × HasFrames g bytes (next_place at frame) frames
+    (g.frame_at at.seg at.off (bytes at.seg) ≡ Some frame) × (ends_log at frame ≡ true → frames ≡ [])
+        × HasFrames g bytes (next_place at frame) frames
 
--- These frames are the log from a place on, in these segments' bytes: they stand one after the other, and none after them.
+-- These frames are the log from a place on, in these segments' bytes: they stand one after the
+-- other, and none after them.
 pub record IsLogFrom (g : Grammar) (bytes : ℕ → List ℕ) (from : Place) (frames : List Frame) : Type 0 where
   pub run : HasFrames g bytes from frames
   pub ends : is_over from frames ≡ false
-      → g.frame_at (after_frames from frames).seg (after_frames from frames).off (bytes (after_frames from frames).seg) ≡ None
+      → g.frame_at (after_frames from frames).seg (after_frames from frames).off
+          (bytes (after_frames from frames).seg) ≡ None
 
 -- The same, and no segment above the one in which the log ends has bytes.
-pub record IsLogWithNothingAbove (g : Grammar) (bytes : ℕ → List ℕ) (from : Place) (frames : List Frame) : Type 0 where
+pub record IsLogWithNothingAbove (g : Grammar) (bytes : ℕ → List ℕ) (from : Place)
+    (frames : List Frame) : Type 0 where
   pub log : IsLogFrom g bytes from frames
   pub nothing_above : (seg : ℕ) → (after_frames from frames).seg < seg → bytes seg ≡ []
 

@@ -65,7 +65,8 @@ unfoldable pub payload_of : Record → List ℕ
 payload_of (Logical op cache key value) = logical_head op cache (length key) (length value) ++ (key ++ value)
 payload_of (Snapshot page bytes) = to_le_bytes w64 page.0 ++ bytes
 payload_of (Delta page ranges) = to_le_bytes w64 page.0 ++ ranges
-payload_of (CpBegin number replay) = to_le_bytes w64 number ++ (to_le_bytes w64 replay.seg ++ to_le_bytes w32 replay.off)
+payload_of (CpBegin number replay) =
+    to_le_bytes w64 number ++ (to_le_bytes w64 replay.seg ++ to_le_bytes w32 replay.off)
 payload_of (Restart shape) = shape_bytes shape
 payload_of Seal = []
 
@@ -103,7 +104,8 @@ is_record Seal = true
 unfoldable pub named_logical : List ℕ → Record
 named_logical payload =
     let key_end : ℕ = LOGICAL_HEAD_LEN + slice_index payload 2 in
-    Logical (slice_index payload 0) (slice_index payload 1) (slice_range payload LOGICAL_HEAD_LEN key_end) (drop key_end payload)
+    Logical (slice_index payload 0) (slice_index payload 1) (slice_range payload LOGICAL_HEAD_LEN key_end)
+        (drop key_end payload)
 
 -- the page that a payload begins with
 abbrev pub named_page : List ℕ → PageId
@@ -131,4 +133,5 @@ named_record kind payload =
 unfoldable pub record_of : ℕ → List ℕ → Option Record
 record_of kind payload =
     let found = named_record kind payload in
-    if kind == kind_of found && is_record found && pointwise nat_eq payload (payload_of found) then Some found else None
+    if kind == kind_of found && is_record found && pointwise nat_eq payload
+        (payload_of found) then Some found else None

@@ -1,5 +1,5 @@
-//! What the numbers of records may be, and how long their parts are. On the disk: do not change without a reader for the
-//! old ones.
+//! What the numbers of records may be, and how long their parts are. On the disk: do not change
+//! without a reader for the old ones.
 
 /// The operation that sets a key to a value.
 pub const PUT: u8 = 1;

@@ -9,11 +9,12 @@ use pm_types::{PageId, Place, Shape};
 use std::error::Error;
 use std::fmt;
 
-/// A record of the log. What it has of variable length lies in the payload that it was read from, or is to be written
-/// from.
+/// A record of the log. What it has of variable length lies in the payload that it was read from,
+/// or is to be written from.
 #[derive(Clone, Copy, Debug, PartialEq, Eq)]
 pub enum LogRecord<'a> {
-    /// A change of the map: `PUT` sets the key of this cache to the value, `REMOVE` takes it out and has no value.
+    /// A change of the map: `PUT` sets the key of this cache to the value, `REMOVE` takes it out
+    /// and has no value.
     Logical {
         op: u8,
         cache: u8,

@@ -135,8 +135,8 @@ fn a_snapshot_has_one_of_the_five_page_sizes(rt: HostRuntime) -> Result<(), Fail
     Ok(())
 }
 
-// Where a page's name isn't one, no record of the page is read: the flag is 0 or 2, an item is named, the partition is 64
-// or 258.
+// Where a page's name isn't one, no record of the page is read: the flag is 0 or 2, an item is
+// named, the partition is 64 or 258.
 #[test]
 fn names_that_no_page_has_are_refused(rt: HostRuntime) -> Result<(), Fail> {
     let names: [&[u8]; 5] = [

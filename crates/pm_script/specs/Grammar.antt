@@ -12,8 +12,8 @@
 --     field := `x:` digit digit ..    the bytes that an even number of hexadecimal digits say, of either case, also none
 --            | byte byte*             itself: bytes 0x21 to 0x7E that don't begin with `x:`
 --
--- K stands for 1 to KEY_MAX bytes, V for at most VALUE_MAX. A line of more than LINE_MAX bytes is long, whatever else it
--- has. Every other line is bad.
+-- K stands for 1 to KEY_MAX bytes, V for at most VALUE_MAX. A line of more than LINE_MAX bytes is
+-- long, whatever else it has. Every other line is bad.
 use Rattle.std.specs.Prelude.{◌≡◌, ℕ, ◌+◌, ◌-◌, List, [], ◌∷◌, ◌==◌, if◌then◌else◌, Bool, ◌&&◌, not}
 use Rattle.std.specs.Prelude.{nat_lt, nat_le, length, drop, Option, None, Some, codes, map}
 use Rattle.std.specs.List.{slice_split, list_all, starts_with}
@@ -64,7 +64,8 @@ field_of word =
 -- these bytes, where they are no fewer and no more
 abbrev pub bounded : ℕ → ℕ → Option (List ℕ) → Option (List ℕ)
 bounded least most None = None
-bounded least most (Some bytes) = if nat_le least (length bytes) && nat_le (length bytes) most then Some bytes else None
+bounded least most (Some bytes) =
+    if nat_le least (length bytes) && nat_le (length bytes) most then Some bytes else None
 
 -- the key that a word stands for
 abbrev pub key_of : List ℕ → Option (List ℕ)

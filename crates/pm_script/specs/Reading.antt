@@ -41,7 +41,8 @@ pub record IsReader (buffer : List ℕ) (from to at end bytes lines : ℕ) : Typ
 abbrev pub rest_of : Unread → World → List ℕ
 rest_of unread world = unread.pending ++ world.input
 
--- whether the next item is in hand: a whole line, with its newline, was read already, or the end of the input is known
+-- whether the next item is in hand: a whole line, with its newline, was read already, or the end of
+-- the input is known
 abbrev pub has_next : Unread → Bool
 has_next unread = unread.is_ended || not (is_unbroken unread.pending)
 
@@ -60,7 +61,8 @@ OnlyTakes old new = (n : ℕ) × (new ≡ with_taken n old)
 -- the first newline of the bytes, if they have one
 abbrev pub FindsNewline : List ℕ → Option ℕ → Type 0
 FindsNewline bytes None = is_unbroken bytes ≡ true
-FindsNewline bytes (Some i) = (i < length bytes) × (is_unbroken (take i bytes) ≡ true) × (drop i bytes ≡ 10 ∷ drop (i + 1) bytes)
+FindsNewline bytes (Some i) = (i < length bytes) × (is_unbroken (take i bytes) ≡ true)
+    × (drop i bytes ≡ 10 ∷ drop (i + 1) bytes)
 
 -- the line that goes on is kept, and nothing is counted
 pub record KeepsLine (old new : Unread) : Type 0 where
@@ -134,7 +136,8 @@ pub record IsAtEnd (old new : Unread) (rest now_rest : List ℕ) : Type 0 where
 -- a line is left, and it isn't ended within both limits of a script
 pub record IsOver (unread : Unread) (rest : List ℕ) : Type 0 where
   pub some : 0 < length rest
-  pub over : (unread.lines ≡ LINES_MAX) ⊎ (SCRIPT_BYTES_MAX + length (after_line rest) < unread.bytes + length rest)
+  pub over : (unread.lines ≡ LINES_MAX)
+      ⊎ (SCRIPT_BYTES_MAX + length (after_line rest) < unread.bytes + length rest)
 
 -- what reading on found
 abbrev pub FindsKind : Unread → Unread → List ℕ → List ℕ → ItemKind → Type 0
@@ -175,7 +178,8 @@ pub record IsWithinLine (old now : Unread) (rest now_rest : List ℕ) : Type 0 w
   pub others : after_line now_rest ≡ after_line rest
   pub bytes : now.bytes + length now_rest ≡ old.bytes + length rest
   pub lines : now.lines ≡ old.lines
-  pub started : ((now.line ≡ []) × (now_rest ≡ rest)) ⊎ ((0 < length now.line) × (0 < length rest) × (now.lines < LINES_MAX))
+  pub started : ((now.line ≡ []) × (now_rest ≡ rest))
+      ⊎ ((0 < length now.line) × (0 < length rest) × (now.lines < LINES_MAX))
 
 -- a line is long where it has more bytes than a line may have
 abbrev pub IsKind : List ℕ → ItemKind → Type 0

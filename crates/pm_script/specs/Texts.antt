@@ -12,7 +12,8 @@
 --     BadLine         error line
 --     LongLine        error long
 --
--- A key or a value stands for itself where it is plain, and else as `x:` and two lower-case hexadecimal digits for each byte.
+-- A key or a value stands for itself where it is plain, and else as `x:` and two lower-case
+-- hexadecimal digits for each byte.
 use Rattle.std.specs.Prelude.{◌≡◌, ℕ, ◌<◌, List, ◌++◌, length, codes, true, false, if◌then◌else◌, Some, decimal}
 use Rattle.std.specs.List.{flat_map, All}
 use Rattle.hex.specs.Hex.{encode_lower, IsBytes}
@@ -65,7 +66,8 @@ TellsBytes reply = Unit {0}
 
 -- no two replies have one text, unless they are one
 abbrev pub TextsDiffer : Type 0
-TextsDiffer = (one other : Reply) → TellsBytes one → TellsBytes other → text_of one ≡ text_of other → one ≡ other
+TextsDiffer = (one other : Reply) → TellsBytes one → TellsBytes other → text_of one ≡ text_of other
+    → one ≡ other
 
 -- what was there is still there, with or without more after it
 pub record IsOnto (old new : List ℕ) : Type 0 where

@@ -57,8 +57,8 @@ pub(crate) fn read_value(alloc: Global, word: &[u8]) -> Result<Option<Value>, Al
     }
 }
 
-// Puts the bytes that the digits say at the front of `into`, and says how many they are. Where they are no even number
-// of digits, or say more bytes than there is room for, it says so.
+// Puts the bytes that the digits say at the front of `into`, and says how many they are. Where they
+// are no even number of digits, or say more bytes than there is room for, it says so.
 #[tactic(auto, using(crate::proofs::Digits::many_digits))]
 fn read_digits(digits: &[u8], into: &mut [u8]) -> Option<usize>
     ensures bytes { option_map (λ len. take len into.new) result

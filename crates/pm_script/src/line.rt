@@ -139,7 +139,8 @@ mod tests {
     use super::*;
     use std::test::Fail;
 
-    // Whether the line has this command, with this cache, key and value; where it takes none of them, 0 or no bytes.
+    // Whether the line has this command, with this cache, key and value; where it takes none of
+    // them, 0 or no bytes.
     fn says(line: &Line, command: &str, at: u8, name: &[u8], text: &[u8]) -> bool {
         match line {
             Line::Good(Cmd::Put { cache, key, value }) => {

@@ -20,8 +20,8 @@ pub record LogEnd : Type 0 where
   -- the bytes of all frames that were appended, at most 2^64 - 1
   pub total : ℕ
 
--- The last segment is kept, the end lies within a segment of the longest size, and a segment may have as many bytes as one of a
--- store.
+-- The last segment is kept, the end lies within a segment of the longest size, and a segment may
+-- have as many bytes as one of a store.
 pub record IsLogEnd (log : LogEnd) : Type 0 where
   pub kept : log.first ≤ log.end.seg
   pub within : log.end.off ≤ SEGMENT_END_MAX
@@ -60,8 +60,8 @@ moved log frame = record log {
   total = counted log.total (frame_len frame);
 }
 
--- The log's tail was cut and forced, and only whole frames were written after it; the end isn't after the SEAL of the last
--- segment.
+-- The log's tail was cut and forced, and only whole frames were written after it; the end isn't
+-- after the SEAL of the last segment.
 pub record LogIsOpen (log : LogEnd) (s : Written) : Type 0 where
   pub limits : IsLogEnd log
   pub ready : s.tail ≡ Ready

@@ -100,7 +100,8 @@ Advances old new (Some frame) =
     (new.place ≡ old.next) × (new.next ≡ next_place old.next frame) × (new.is_over ≡ ends_log old.next frame)
 
 -- The next frame was given, none at the log's end, and the scan goes on after it.
-pub record GivesNext (tells : Type 0) (old left : Scanned) (before now : World) (found : Option Frame) : Type 0 where
+pub record GivesNext (tells : Type 0) (old left : Scanned) (before now : World)
+    (found : Option Frame) : Type 0 where
   pub advances : Advances old left found
   pub bound : left.next.off ≤ SEGMENT_END_MAX
   pub stands : tells → found ≡ frame_ahead old before

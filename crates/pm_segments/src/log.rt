@@ -59,8 +59,8 @@ impl Model for Log {
 
 impl Log {
     /// Cuts the last segment at `end` and forces it, and gives the log that ends there. Its segments
-    /// from `first` on are kept, the last one among them, and one may have `segment_bytes` bytes. After `Failed` the segment
-    /// may be cut or not, and what is before `end` is as it was.
+    /// from `first` on are kept, the last one among them, and one may have `segment_bytes` bytes.
+    /// After `Failed` the segment may be cut or not, and what is before `end` is as it was.
     pub fn cut_tail<L: LogFile>(
         dev: &mut L,
         first: u64,
@@ -144,14 +144,16 @@ impl Log {
         requires end { L.tells → EndsThere self.old (L.history dev.old).world }
 
         ensures place { IfOk result (λ place. place ≡ (roomy self.old (length payload.now)).end) }
-        ensures grown { OnOk result (self.new ≡ grown self.old (record { kind = kind; payload = payload.now })) }
+        ensures grown { OnOk result
+            (self.new ≡ grown self.old (record { kind = kind; payload = payload.now })) }
         ensures ends { L.tells → OnOk result (EndsThere self.new (L.history dev.new).world) }
 
         // Which calls were made, in this order, and how far they came.
         ensures steps { L.tells → DoesSteps (L.history dev.old) (L.history dev.new) result
             (steps_of self.new.tried self.old (record { kind = kind; payload = payload.now })) self.old.end }
         ensures reaches { L.tells → Reaches self.new.tried self.old
-            (record { kind = kind; payload = payload.now }) (L.history dev.old).world (L.history dev.new).world }
+            (record { kind = kind; payload = payload.now }) (L.history dev.old).world
+                (L.history dev.new).world }
         ensures failed { OnErr result (self.new
             ≡ failed_append self.new.tried self.old (record { kind = kind; payload = payload.now })) }
         ensures cause { HasCause (L.state dev.old) (L.state dev.new) result }
@@ -241,7 +243,8 @@ impl Log {
         requires room { HasRoom self.old (length payload.now) }
         requires end { L.tells → EndsThere self.old (L.history dev.old).world }
         ensures place { IfOk result (λ place. place ≡ self.old.end) }
-        ensures moved { OnOk result (self.new ≡ moved self.old (record { kind = kind; payload = payload.now })) }
+        ensures moved { OnOk result
+            (self.new ≡ moved self.old (record { kind = kind; payload = payload.now })) }
         ensures unmoved { OnErr result (self.new ≡ tried_log self.old) }
         ensures tried { self.new.tried ≡ true }
         ensures ends { L.tells → OnOk result (EndsThere self.new (L.history dev.new).world) }

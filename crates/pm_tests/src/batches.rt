@@ -14,10 +14,10 @@ const THREE: &[u8] = b"put 0 a 1\nscan 3\nput 0 b 2\n";
 /// The number of the call that forces the last batch of `THREE`.
 const LAST_FORCE: u64 = 14;
 
-// The folder is bound, the configuration and the store's shape are read; the log is read, cut and forced, and the RESTART written;
-// then the whole script is read. The put is
-// written, forced and answered, the scan forced and answered, and the last put written, forced and answered; then the script's
-// end is read. At last the log is forced once more.
+// The folder is bound, the configuration and the store's shape are read; the log is read, cut and
+// forced, and the RESTART written; then the whole script is read. The put is written, forced and
+// answered, the scan forced and answered, and the last put written, forced and answered; then the
+// script's end is read. At last the log is forced once more.
 #[test]
 fn a_batch_is_lasting_before_it_is_answered(rt: HostRuntime) -> Result<(), Fail> {
     // (refused call, lines answered, order, said, lasting bytes of the log)
@@ -63,9 +63,9 @@ fn run_puts(rt: &(impl Abort + AllocGlobal), lines: usize, calls: u64) -> Result
     Ok(())
 }
 
-// Beside the write of each put: eight calls up to the script's first piece, a force and a print for each batch, the read of the
-// script's end, and the last force. 7,168 lines are two pieces, and one read more: a read that gave all that it was asked for
-// ends no batch.
+// Beside the write of each put: eight calls up to the script's first piece, a force and a print for
+// each batch, the read of the script's end, and the last force. 7,168 lines are two pieces, and one
+// read more: a read that gave all that it was asked for ends no batch.
 #[test]
 fn a_batch_has_at_most_1024_lines(rt: HostRuntime) -> Result<(), Fail> {
     for (lines, calls) in [
@@ -83,7 +83,8 @@ fn a_batch_has_at_most_1024_lines(rt: HostRuntime) -> Result<(), Fail> {
 /// Two puts, of ten bytes each.
 const TWO: &[u8] = b"put 0 a 1\nput 0 b 2\n";
 
-/// Runs `TWO` in pieces of this size, where the call of this number, a read, is refused, and looks at what was answered before.
+/// Runs `TWO` in pieces of this size, where the call of this number, a read, is refused, and looks
+/// at what was answered before.
 fn look_before_read(
     rt: &(impl Abort + AllocGlobal),
     piece: usize,
@@ -177,8 +178,8 @@ fn stop_before_last_force(
     Ok(run)
 }
 
-/// Stops a script before the force of its last batch, a put whose frame has so many bytes, and restarts over each crash in
-/// which that frame is torn or damaged.
+/// Stops a script before the force of its last batch, a put whose frame has so many bytes, and
+/// restarts over each crash in which that frame is torn or damaged.
 fn tear(rt: &(impl Abort + AllocGlobal), script: &[u8], frame_len: u64) -> Result<(), Fail> {
     let run = stop_before_last_force(rt, script, frame_len)?;
     let wanted = log_after_restart(rt)?;

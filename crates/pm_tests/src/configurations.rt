@@ -32,8 +32,8 @@ fn run_fresh(rt: &impl AllocGlobal, config: &[u8], script: &[u8]) -> Result<Run,
     run_configured(rt, config, script, MemDisk::empty(rt.alloc()))
 }
 
-/// Looks at a run whose configuration is refused: the folder was bound, the configuration read and the fault printed, and no
-/// other call was made.
+/// Looks at a run whose configuration is refused: the folder was bound, the configuration read and
+/// the fault printed, and no other call was made.
 fn look_at_refused(
     rt: &(impl Abort + AllocGlobal),
     config: &[u8],
@@ -86,8 +86,8 @@ fn a_put_past_the_most_rows_is_refused(rt: HostRuntime) -> Result<(), Fail> {
     Ok(())
 }
 
-/// Looks at a run over the store that another run left, whose configuration asks for another shape: its first field that differs
-/// is named, and the log is as it was.
+/// Looks at a run over the store that another run left, whose configuration asks for another shape:
+/// its first field that differs is named, and the log is as it was.
 fn look_at_differing(
     rt: &(impl Abort + AllocGlobal),
     earlier: &Run,
@@ -133,7 +133,8 @@ fn a_store_keeps_its_shape(rt: HostRuntime) -> Result<(), Fail> {
     Ok(())
 }
 
-/// What is left where a run meets a store of another shape whose second record is bad: the shape is looked at first.
+/// What is left where a run meets a store of another shape whose second record is bad: the shape is
+/// looked at first.
 #[test]
 fn the_shape_is_compared_before_records_are_replayed(rt: HostRuntime) -> Result<(), Fail> {
     let first = run_fresh(&rt, b"{\"max_rows\": 1, \"partitions\": 1}", b"put 0 a 1\n")?;

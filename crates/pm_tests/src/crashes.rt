@@ -6,8 +6,8 @@ use std::ops::Range;
 use std::process::Abort;
 use std::test::Fail;
 
-/// The run's script: twelve lines that are accepted, of which one is a remove, and eleven that are not. Three of these are
-/// scans, each a batch by itself, between four batches of five lines.
+/// The run's script: twelve lines that are accepted, of which one is a remove, and eleven that are
+/// not. Three of these are scans, each a batch by itself, between four batches of five lines.
 const SCRIPT: &[u8] =
     b"put 0 a 1\nget 0 a\nput 0 b 2\nput 0 a 3\nget 0 b\nscan 3\nput 1 a 4\nremove 0 z\nput 0 c 5\nget 1 a\nput 0 b 6\nscan 3\n\
 remove 0 a\nget 0 c\nput 1 a 8\nput 0 c 9\nget 0 d\nscan 3\nput 0 a 10\nget 0 a\nput 0 b 11\nput 1 a 12\nget 1 a\n";
@@ -45,7 +45,8 @@ fn pending_bytes(rt: &impl AllocGlobal, run: &Run) -> Result<u64, Fail> {
     Ok(kept.saturating_sub(lost) as u64)
 }
 
-/// The picks of a crash of this run: one where nothing is pending, and else each first part of the pending bytes besides.
+/// The picks of a crash of this run: one where nothing is pending, and else each first part of the
+/// pending bytes besides.
 fn picks(rt: &impl AllocGlobal, run: &Run) -> Result<Vec<Pick>, Fail> {
     let pending = pending_bytes(rt, run)?;
     if pending == 0 {
@@ -58,8 +59,8 @@ fn picks(rt: &impl AllocGlobal, run: &Run) -> Result<Vec<Pick>, Fail> {
     Ok(picks)
 }
 
-/// How many accepted lines a crash may leave at least and at most: those whose reply was printed, and all that were handed to
-/// the log.
+/// How many accepted lines a crash may leave at least and at most: those whose reply was printed,
+/// and all that were handed to the log.
 #[derive(Clone, Copy)]
 struct Bounds {
     least: usize,
@@ -116,7 +117,8 @@ fn restart_again(
     Ok(picks.len() as u32)
 }
 
-/// Restarts over what this crash left of the script's run, stopped at each call. Answers how many restarts there were.
+/// Restarts over what this crash left of the script's run, stopped at each call. Answers how many
+/// restarts there were.
 fn restart_stopped(
     rt: &(impl Abort + AllocGlobal),
     run: &Run,
@@ -137,8 +139,9 @@ fn restart_stopped(
     panic!(rt; "no restart was done")
 }
 
-/// Whether restarts over a crash with this pick are stopped too, and not only made whole. Of the cuts that is each eleventh,
-/// which falls on another byte of each frame: stopped restarts over each cut would take seven times as long.
+/// Whether restarts over a crash with this pick are stopped too, and not only made whole. Of the
+/// cuts that is each eleventh, which falls on another byte of each frame: stopped restarts over
+/// each cut would take seven times as long.
 fn is_stopped(pick: Pick) -> bool {
     match pick {
         Pick::Cut(count) => count % 11 == 0,
@@ -146,8 +149,8 @@ fn is_stopped(pick: Pick) -> bool {
     }
 }
 
-/// Restarts over each crash of one run, and over some of them with restarts that are stopped at each call. Answers how many
-/// restarts there were.
+/// Restarts over each crash of one run, and over some of them with restarts that are stopped at
+/// each call. Answers how many restarts there were.
 fn crash(rt: &(impl Abort + AllocGlobal), run: &Run) -> Result<u32, Fail> {
     let bounds = bounds_of(run);
     let mut restarts: u32 = 0;
@@ -173,8 +176,8 @@ fn run_stopped(rt: &(impl Abort + AllocGlobal), stop: u64) -> Result<Run, Fail> 
     Ok(run)
 }
 
-/// Restarts over each crash of the script's run, stopped at each of these calls. Answers how many restarts there
-/// were.
+/// Restarts over each crash of the script's run, stopped at each of these calls. Answers how many
+/// restarts there were.
 fn crash_at(rt: &(impl Abort + AllocGlobal), stops: Range<u64>) -> Result<u32, Fail> {
     let mut restarts: u32 = 0;
     for stop in stops {
@@ -190,10 +193,11 @@ fn crash_at(rt: &(impl Abort + AllocGlobal), stops: Range<u64>) -> Result<u32, F
 // answered; the end is read, and the log forced. Where it is stopped at a call, or at none, what is pending
 // then are the bytes of the RESTART and of the records since the last force: 37, 37, 67, 97 and 127 bytes in
 // the first batch, 30, 60 and 90 in the third, 29, 59 and 89 in the fifth, 31, 62 and 93 in the seventh, and
-// none in the 23 other runs. Of p pending bytes there are p + 2 crashes, and else one. Restarts are stopped over
-// three of them and over each eleventh cut, or over the one. A restart makes 12 calls: seven as above, the
-// questions are read, forced and answered, the end is read, and the log forced. So there are p + 2 restarts and
-// (3 + (p - 1) / 11) * 12 * (1 + 3) more of a run with p pending bytes, and 1 + 12 * (1 + 3) of each other one.
+// none in the 23 other runs. Of p pending bytes there are p + 2 crashes, and else one. Restarts are
+// stopped over three of them and over each eleventh cut, or over the one. A restart makes 12 calls:
+// seven as above, the questions are read, forced and answered, the end is read, and the log forced.
+// So there are p + 2 restarts and (3 + (p - 1) / 11) * 12 * (1 + 3) more of a run with p pending
+// bytes, and 1 + 12 * (1 + 3) of each other one.
 
 #[test]
 fn restarts_after_a_crash_up_to_the_first_batch_have_what_was_acknowledged(

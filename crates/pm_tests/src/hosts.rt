@@ -250,8 +250,8 @@ fn unlike_answers<M: Host, F: Host>(
     unlike(alloc, by_memory.as_str(), by_files.as_str(), wanted)
 }
 
-/// The first file that isn't alike after this call. None is looked at after a log write, which may be made with the next
-/// other call on the log.
+/// The first file that isn't alike after this call. None is looked at after a log write, which may
+/// be made with the next other call on the log.
 fn differing_after(
     rt: &(impl AllocGlobal + Files),
     memory: &MemHost,
@@ -293,7 +293,8 @@ fn step<F: Host>(
     }
 }
 
-/// Makes the calls on both up to the first one where something isn't as wanted. Answers its number and what that is.
+/// Makes the calls on both up to the first one where something isn't as wanted. Answers its number
+/// and what that is.
 fn compare<F: Host>(
     rt: &(impl AllocGlobal + Files),
     memory: &mut MemHost,

@@ -1,5 +1,6 @@
-//! Tests that cross crates: the top call over a host in memory, both hosts call by call, the log over small segments, and
-//! callers that are proved against the contracts of pages and of page locks alone.
+//! Tests that cross crates: the top call over a host in memory, both hosts call by call, the log
+//! over small segments, and callers that are proved against the contracts of pages and of page
+//! locks alone.
 #![tactic(auto)]
 
 #[cfg(test)]

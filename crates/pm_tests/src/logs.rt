@@ -137,7 +137,8 @@ fn append_sevens(
     Ok(log.append(host, LOGICAL, &sevens(rt, len)?)?)
 }
 
-/// Appends a record with so many bytes of payload after a frame of 65,000 bytes, and looks for its frame at this place.
+/// Appends a record with so many bytes of payload after a frame of 65,000 bytes, and looks for its
+/// frame at this place.
 fn append_after(
     rt: &(impl Abort + AllocGlobal),
     host: &mut MemHost,
@@ -157,8 +158,8 @@ fn append_after(
     Ok(log)
 }
 
-/// Scans from `END` on, and looks for a frame at this place with so many bytes of payload: after a SEAL in the next segment,
-/// and after it none. Answers where the scan ended.
+/// Scans from `END` on, and looks for a frame at this place with so many bytes of payload: after a
+/// SEAL in the next segment, and after it none. Answers where the scan ended.
 fn scan_after(
     rt: &(impl Abort + AllocGlobal),
     host: &mut MemHost,
@@ -198,7 +199,8 @@ fn a_frame_stands_where_a_seal_still_fits_after_it(rt: HostRuntime) -> Result<()
     Ok(())
 }
 
-/// Looks for a first segment that ends with a SEAL, and for these bytes as the second one, in what a crash leaves.
+/// Looks for a first segment that ends with a SEAL, and for these bytes as the second one, in what
+/// a crash leaves.
 fn look_at_rolled(
     rt: &(impl Abort + AllocGlobal),
     host: &MemHost,
@@ -211,7 +213,8 @@ fn look_at_rolled(
     Ok(())
 }
 
-// This one has 516. The SEAL is lasting, and so is the next segment, which is empty: the frame itself is pending.
+// This one has 516. The SEAL is lasting, and so is the next segment, which is empty: the frame
+// itself is pending.
 #[test]
 fn a_longer_frame_begins_the_next_segment_after_a_seal(rt: HostRuntime) -> Result<(), Fail> {
     let mut host = empty_host(&rt)?;
@@ -250,7 +253,8 @@ fn scan_all(rt: &impl AllocGlobal, host: &mut MemHost) -> Result<(Place, u32), F
     Ok((scan.place(), frames))
 }
 
-/// Where the log ends after so many records, where a scan of it ends, how many frames it gives, and how many calls that takes.
+/// Where the log ends after so many records, where a scan of it ends, how many frames it gives, and
+/// how many calls that takes.
 fn scan_over(
     rt: &impl AllocGlobal,
     segment_bytes: u32,

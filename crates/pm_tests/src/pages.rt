@@ -1,4 +1,5 @@
-//! Callers that are generic over the pages of a partition, and pages of which only those that a table names are known.
+//! Callers that are generic over the pages of a partition, and pages of which only those that a
+//! table names are known.
 mod callers;
 mod edits;
 mod meta_edits;

@@ -86,7 +86,8 @@ fn a_payload_outside_its_grammar_is_refused(rt: HostRuntime) -> Result<(), Fail>
     let cases = [
         (LOGICAL, b"".as_slice()),
         (LOGICAL, &[1]),
-        // No such operation, no such cache, no key, a key that isn't whole, a value that goes on, a remove with a value.
+        // No such operation, no such cache, no key, a key that isn't whole, a value that goes on, a
+        // remove with a value.
         (LOGICAL, &[3, 0, 1, 1, 0, 0, 0, b'a', b'1']),
         (LOGICAL, &[1, 16, 1, 1, 0, 0, 0, b'a', b'1']),
         (LOGICAL, &[1, 0, 0, 1, 0, 0, 0, b'1']),
@@ -130,7 +131,8 @@ fn a_put_that_meets_a_full_partition_is_refused(rt: HostRuntime) -> Result<(), F
     refuse(&rt, ONE_ROW_ASKED, &log, b"fault record 1:67\n")
 }
 
-/// Runs over a store whose log has a RESTART and then bytes that are no frame, and looks for a RESTART in their place.
+/// Runs over a store whose log has a RESTART and then bytes that are no frame, and looks for a
+/// RESTART in their place.
 fn look_at_end(rt: &(impl Abort + AllocGlobal), log: &[u8]) -> Result<(), Fail> {
     let run = run_over(rt, b"get 0 a\n", disk_of(rt, log)?)?;
     assert_eq!(rt; run.report.status, 0, "{log:?}");

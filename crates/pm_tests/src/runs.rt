@@ -12,8 +12,9 @@ use std::test::Fail;
 /// The file of the log's first segment.
 pub const SEGMENT: &str = "wal-0000000000000001.seg";
 
-/// The frame of the RESTART that a run appends to an empty log: the store has pages of 4,096 bytes, 4 partitions of at most
-/// 400,000 rows, files of version 1 and segments of 64 MiB. Its sum is that of Python's zlib.
+/// The frame of the RESTART that a run appends to an empty log: the store has pages of 4,096 bytes,
+/// 4 partitions of at most 400,000 rows, files of version 1 and segments of 64 MiB. Its sum is that
+/// of Python's zlib.
 pub const FIRST_FRAME: [u8; 37] = [
     5, 1, 0, 0, 0, 0, 0, 0, 0, 0, 0, 0, 0, 16, 0, 0, 0, 0, 16, 0, 0, 4, 0, 1, 0, 128, 26, 6, 0, 0,
     0, 0, 4, 109, 233, 95, 111,
@@ -189,8 +190,8 @@ pub fn disk_of(rt: &impl AllocGlobal, log: &[u8]) -> Result<MemDisk, Fail> {
     disk_with(rt, SEGMENT, log)
 }
 
-/// Looks at what a run did whose call of this number was refused: what it reported, what it said, and that it made no call
-/// more.
+/// Looks at what a run did whose call of this number was refused: what it reported, what it said,
+/// and that it made no call more.
 pub fn look_at_refused(
     rt: &impl Abort,
     run: &Run,

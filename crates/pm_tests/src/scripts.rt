@@ -8,7 +8,8 @@ use pm_disk_mem::{MemDisk, MemHost};
 use std::process::Abort;
 use std::test::Fail;
 
-/// A host over an empty disk that gives this input in pieces of this size, and refuses the calls of these numbers.
+/// A host over an empty disk that gives this input in pieces of this size, and refuses the calls of
+/// these numbers.
 fn host_of(
     rt: &impl AllocGlobal,
     input: &[u8],
@@ -211,9 +212,9 @@ fn other_words_are_refused(rt: HostRuntime) -> Result<(), Fail> {
     Ok(())
 }
 
-// The folder is bound, the configuration and the store's shape are read; the log is read, cut and forced, and the RESTART written.
-// Each line is read, written if it is a put,
-// forced and answered; then the script's end is read; at last the log is forced once more.
+// The folder is bound, the configuration and the store's shape are read; the log is read, cut and
+// forced, and the RESTART written. Each line is read, written if it is a put, forced and answered;
+// then the script's end is read; at last the log is forced once more.
 #[test]
 fn after_a_refused_call_none_is_made(rt: HostRuntime) -> Result<(), Fail> {
     let script = b"put 0 a 1\nput 0 b 2\nget 0 a\n";
@@ -255,7 +256,8 @@ fn empty_lines(rt: &impl AllocGlobal, count: usize) -> Result<Vec<u8>, Fail> {
     Ok(vec![in rt.alloc(); b'\n'; count]?)
 }
 
-/// Runs so many empty lines, of which the first 4,000,000 are answered, and looks for this status and for how the replies end.
+/// Runs so many empty lines, of which the first 4,000,000 are answered, and looks for this status
+/// and for how the replies end.
 fn run_to_the_limit(
     rt: &(impl Abort + AllocGlobal),
     lines: usize,

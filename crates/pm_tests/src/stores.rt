@@ -65,7 +65,8 @@ fn an_empty_script_leaves_a_restart_and_nothing_pending(rt: HostRuntime) -> Resu
     Ok(())
 }
 
-/// Runs a script over a disk, and looks for so many bytes of the log, none of them pending. Answers the disk that it leaves.
+/// Runs a script over a disk, and looks for so many bytes of the log, none of them pending. Answers
+/// the disk that it leaves.
 fn run_to_length(
     rt: &(impl Abort + AllocGlobal),
     script: &[u8],
@@ -101,8 +102,8 @@ fn told_by(rt: &(impl Abort + AllocGlobal), log: &[u8]) -> Result<Run, Fail> {
     Ok(run)
 }
 
-/// Looks at what is answered over a log that has these whole frames at its begin, and at the log that is left: a RESTART stands
-/// after them.
+/// Looks at what is answered over a log that has these whole frames at its begin, and at the log
+/// that is left: a RESTART stands after them.
 fn look_at(rt: &(impl Abort + AllocGlobal), log: &[u8], frames: &[u8]) -> Result<(), Fail> {
     let run = told_by(rt, log)?;
     let whole = frames.len();
@@ -118,7 +119,8 @@ fn look_at(rt: &(impl Abort + AllocGlobal), log: &[u8], frames: &[u8]) -> Result
     Ok(())
 }
 
-/// How many bytes the frames have that stand whole within so many bytes of a log: a RESTART of 37 bytes, and a put of 30.
+/// How many bytes the frames have that stand whole within so many bytes of a log: a RESTART of 37
+/// bytes, and a put of 30.
 fn whole_within(count: usize) -> usize {
     match count {
         0..=36 => 0,

@@ -30,17 +30,18 @@ use Rattle.pm_tree.specs.Divisions.{KeepsNumbers, PutsPages, IsFullLeaf}
 use Rattle.pm_tree.specs.Grown.{IsParent, IsParentAt, child_item, Grows, Forks, TakesChild}
 use Rattle.pm_tree.specs.PutCauses.{IsPutFaultAfter, HasPutCause, Lifts}
 use Rattle.pm_pages.specs.SpareChains.{MovesSpare}
-use Rattle.pm_tree.proofs.SpareRoom.{can_take_less, can_take_looked}
+use Rattle.pm_pages.proofs.SpareRoom.{can_take_less, can_take_looked}
 use Rattle.pm_tree.proofs.LeafChanges.{held_node, changes_one}
 use Rattle.pm_tree.proofs.Divided.{numbers_looked, numbers_then, added_looked}
 use Rattle.pm_btpage.specs.Stored.{IsLink}
 use Rattle.pm_tree.proofs.LeafSteps.{puts_pages}
-use Rattle.pm_tree.specs.Stored.{IsStored}
+use Rattle.pm_pages.specs.StoredPages.{IsStored}
 use Rattle.pm_tree.specs.StoredPuts.{KeepsPage}
-use Rattle.pm_tree.proofs.StoredMeta.{keeps_looked}
-use Rattle.pm_tree.proofs.StoredNodes.{insert_stored, child_word, stored_two, stored_looked, forks_stored}
+use Rattle.pm_pages.proofs.StoredMeta.{keeps_looked}
+use Rattle.pm_tree.proofs.StoredNodes.{insert_stored, child_word, stored_two, forks_stored}
+use Rattle.pm_pages.proofs.StoredPages.{stored_looked}
 use Rattle.pm_tree.proofs.Told.{below_count, count_there, is_inner}
-use Rattle.pm_tree.proofs.Descents.{pages_told, number_told}
+use Rattle.pm_pages.proofs.ToldPages.{pages_told, number_told}
 use Rattle.pm_tree.proofs.ForkSteps.{inner_says}
 use Rattle.pm_tree.proofs.Ascents.{child_tree, child_once, get_here, kept_up, grown_up, forked_up}
 

@@ -1,6 +1,6 @@
 -- One step of a descent.
 use Rattle.std.proofs.Common.{◌≡◌, ◌≢◌, ℕ, zero, suc, ◌+◌, ◌-◌, ◌<◌, List, ◌∷◌, ◌++◌, sym, ap, subst, ◌∙◌, inl, inr, arith}
-use Rattle.std.specs.Prelude.{Option, Some, Result}
+use Rattle.std.specs.Prelude.{Option, Result}
 use Rattle.pm_types.specs.Ids.{page_id}
 use Rattle.pm_types.specs.declared.page_id.PageId.{PageId}
 use Rattle.pm_types.specs.declared.fault.PageFault.{PageFault}
@@ -10,32 +10,18 @@ use Rattle.pm_tree.specs.declared.steps.Step.TheVariants.{Word, Child, Other}
 use Rattle.std.proofs.lemmas.List.{append-nil}
 use Rattle.pm_btpage.specs.declared.layout.TheConstants.{LEAF_KIND, INNER_KIND}
 use Rattle.pm_btpage.specs.IndexPages.{Item, items_of, index_of}
-use Rattle.pm_meta.specs.declared.slots.MetaSlot.{MetaSlot}
 use Rattle.pm_meta.specs.declared.slots.MetaSlot.TheVariants.{Pages}
-use Rattle.pm_pages.specs.Rows.{Partition, page_at, number_in, number_of, kind_of}
+use Rattle.pm_pages.specs.Rows.{Partition, page_at, kind_of}
 use Rattle.pm_pages.specs.Trees.{child_of, items_below, index_in, IsTree}
 use Rattle.pm_pages.specs.Paged.{Paged, IsInHand}
 use Rattle.pm_pages.specs.Edits.{LooksAtPages, IsNumberIn}
-use Rattle.pm_pages.proofs.PageReads.{page_at-below}
-use Rattle.pm_pages.specs.Rows.{bytes_of}
 use Rattle.pm_tree.specs.Maps.{get_in}
 use Rattle.pm_tree.specs.Steps.{IsChildFor, IsPath, IsLook, NamesNoNode, HasLookCause}
 use Rattle.pm_tree.specs.Indexes.{AnswersFrom, IsIndex}
 use Rattle.pm_tree.specs.Nodes.{first_entry, nodes_in, items_under, Each, IsTreeIn}
 use Rattle.pm_tree.proofs.Decoded.{kid, kid_is, tree_to, tree_from, items_same}
 use Rattle.pm_tree.proofs.Seams.{Seam, seam, get_seam, each_right}
-
--- what the pages say of the partition's numbers
-pub number_told : (p : Paged) (slot : MetaSlot) (n : ℕ) → IsNumberIn p slot n → number_in p.pages slot ≡ n
-number_told p slot n is = ap (λ o. number_of o slot) is.in_hand.page ∙ sym is.is
-
--- the bytes of a page below the page count that is at hand
-pub page_told : (p : Paged) (count at : ℕ) (page : List ℕ) → IsNumberIn p Pages count → at < count → p.pages at ≡ Some page → page_at p.pages at ≡ page
-page_told p count at page number lt is = page_at-below p.pages at (omega (arith, lt, number_told p Pages count number)) ∙ ap bytes_of is
-
--- a look changes nothing where the store reports its pages
-pub pages_told : (T : Type 0) (a b : Paged) (m : ℕ) → T → LooksAtPages T a b m → b.pages ≡ a.pages
-pages_told T a b m t looks = λ k j. looks.pages j (inl t) k
+use Rattle.pm_pages.proofs.ToldPages.{page_told, pages_told}
 
 pub child_tree_in : (pages : Partition) (levels least at : ℕ) (key : List ℕ) (i : ℕ) → IsTree pages (suc levels) least at → IsChildFor (items_of (page_at pages at)) key i
     → Seam (items_under (nodes_in pages) levels) (first_entry (index_of (page_at pages at)).link) (items_of (page_at pages at)) key i

@@ -26,7 +26,7 @@ use Rattle.pm_tree.proofs.NodeEdits.{node_stays}
 use Rattle.pm_pages.proofs.SpareMoves.{moves_on}
 use Rattle.pm_pages.proofs.SpareSteps.{zeros_at, moves_page, moves_take}
 use Rattle.pm_tree.proofs.NodeKinds.{node_kind}
-use Rattle.pm_tree.proofs.StoredMeta.{keeps_taken, keeps_on, keeps_looked}
+use Rattle.pm_pages.proofs.StoredMeta.{keeps_taken, keeps_on, keeps_looked}
 
 -- the number that a meta page has
 pub number_is : (p : Paged) (slot : MetaSlot) (n : ℕ) (was : List ℕ) → IsNumberIn p slot n → p.pages 0 ≡ Some was → n ≡ field_of was slot
@@ -102,11 +102,11 @@ taken_other T a b n i at page takes in_hand index below meta e = elim takes.numb
 
 blank_leaf : (id : PageId) (first : Option PageId) → (blank id first).leaf ≡ is_leaf_blank first
 blank_leaf id None = refl
-blank_leaf id (Some first) = refl
+blank_leaf id (Some child) = refl
 
 pub blank_items : (id : PageId) (first : Option PageId) → (blank id first).items ≡ []
 blank_items id None = refl
-blank_items id (Some first) = refl
+blank_items id (Some child) = refl
 
 -- the new page takes the items
 pub takes_tail : (a c : Paged) (at right : ℕ) (page : List ℕ) (id : PageId) (first : Option PageId) (start end : ℕ) → 1 ≤ right → c.page_size ≡ a.page_size → CanDivide a at page first start end → IsNode c right (blank id first) → TakesEdit c right page (Tail start)

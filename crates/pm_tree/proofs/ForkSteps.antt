@@ -26,8 +26,8 @@ use Rattle.pm_tree.specs.Divisions.{KeepsNumbers, CanDivide, Divides}
 use Rattle.pm_tree.specs.Grown.{IsParentAt, child_item, Grows, Forks}
 use Rattle.pm_pages.specs.SpareChains.{MovesSpare}
 use Rattle.pm_pages.proofs.SpareMoves.{moves_on}
-use Rattle.pm_tree.specs.Stored.{KeepsMeta}
-use Rattle.pm_tree.proofs.StoredMeta.{keeps_on}
+use Rattle.pm_pages.specs.StoredPages.{KeepsMeta}
+use Rattle.pm_pages.proofs.StoredMeta.{keeps_on}
 use Rattle.pm_pages.proofs.SpareSteps.{moves_page}
 use Rattle.pm_tree.proofs.NodeKinds.{node_kind}
 use Rattle.pm_tree.proofs.NodeEdits.{node_stays}

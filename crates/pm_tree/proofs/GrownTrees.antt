@@ -17,21 +17,22 @@ use Rattle.pm_tree.specs.Puts.{IsKept, PutsFor, half_of}
 use Rattle.pm_tree.specs.Divisions.{PutsPages}
 use Rattle.pm_tree.specs.Nodes.{nodes_in}
 use Rattle.pm_tree.specs.Indexes.{IsIndex}
-use Rattle.pm_tree.specs.Sound.{PassesAll, IsSound, CanTake, MayTake}
+use Rattle.pm_pages.specs.SoundPages.{PassesAll, IsSound, CanTake, MayTake}
 use Rattle.pm_tree.specs.SoundPuts.{MayTakeChild, MayGrow, HasSparePages, MayPutBelow}
 use Rattle.pm_pages.proofs.EditedPages.{some_bytes}
 use Rattle.pm_tree.proofs.Decoded.{tree_to, nodes_same}
 use Rattle.pm_tree.proofs.Frames.{used}
 use Rattle.pm_tree.proofs.Told.{page_is}
 use Rattle.pm_pages.proofs.SpareSteps.{number_by}
-use Rattle.pm_tree.proofs.Descents.{pages_told}
-use Rattle.pm_tree.proofs.SoundLooks.{meta_passes}
-use Rattle.pm_tree.proofs.SoundPages.{sound_all, sound_reads, used_within}
+use Rattle.pm_pages.proofs.ToldPages.{pages_told}
+use Rattle.pm_pages.proofs.PassingLooks.{meta_passes}
+use Rattle.pm_pages.proofs.SoundPages.{sound_all, sound_reads}
+use Rattle.pm_tree.proofs.SoundPages.{used_within}
 use Rattle.pm_tree.proofs.TallTrees.{tall_has_items}
 use Rattle.pm_tree.proofs.IndexPuts.{tall_height}
 use Rattle.pm_tree.proofs.Climbs.{below_count_of}
 use Rattle.pm_tree.proofs.SoundTrees.{tree_looked, tree_of_child, index_tree}
-use Rattle.pm_tree.proofs.SpareRoom.{can_take_less, can_take_looked, may_take}
+use Rattle.pm_pages.proofs.SpareRoom.{can_take_less, can_take_looked, may_take}
 use Rattle.pm_tree.proofs.PartedKeys.{place_for_part}
 
 -- one of two ways

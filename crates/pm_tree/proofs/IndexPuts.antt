@@ -34,14 +34,15 @@ use Rattle.pm_pages.proofs.SpareMoves.{moves_then}
 use Rattle.pm_tree.proofs.Decoded.{leaves_same, nodes_same, items_same, tree_to, tree_from}
 use Rattle.pm_pages.proofs.ChainWalks.{times-append, times_here}
 use Rattle.pm_tree.proofs.Frames.{used}
-use Rattle.pm_tree.specs.Sound.{CanTake}
-use Rattle.pm_tree.proofs.SpareRoom.{can_take_less, can_take_after, can_take_looked}
+use Rattle.pm_pages.specs.SoundPages.{CanTake}
+use Rattle.pm_pages.proofs.SpareRoom.{can_take_less, can_take_after, can_take_looked}
 use Rattle.pm_tree.proofs.LeafChanges.{held_node}
 use Rattle.pm_btpage.specs.Stored.{IsLink}
-use Rattle.pm_tree.proofs.StoredNodes.{IsStoredNode, stored_root, stored_looked}
+use Rattle.pm_tree.proofs.StoredNodes.{IsStoredNode, stored_root}
+use Rattle.pm_pages.proofs.StoredPages.{stored_looked}
 use Rattle.pm_tree.proofs.LeafPuts.{PutsRoot, root_kept, root_grown, root_planted}
 use Rattle.pm_tree.proofs.Told.{node_away_count, below_count, link_is, items_are, half_is, is_leaf, is_inner}
-use Rattle.pm_tree.proofs.Descents.{number_told}
+use Rattle.pm_pages.proofs.ToldPages.{number_told}
 
 pub linked_to : (pages : Partition) (leaves : List ℕ) → AreLinked pages leaves → AreLinkedTo (nodes_in pages) leaves 0
 linked_to pages [] linked = tt
@@ -173,11 +174,11 @@ module _ (T : Type 0) (a b : Paged) (cache root : ℕ) (key : List ℕ) (word m 
       let makes = makes_top.makes in
       let top = makes.top in
       let top_in : top < page_count c.pages = below_count c top makes.meta makes.below in
-      let says = with_items (blank (page_id b.part top) (Some makes_top.first)) (record { key = part.from; word = makes_top.second.0 } ∷ []) in
+      let says = with_items (blank (page_id b.part top) (Some makes_top.lower)) (record { key = part.from; word = makes_top.upper.0 } ∷ []) in
       let half_here : half_of c.page_size ≡ half_of a.page_size = ap half_of (makes.edits.same.page_size ∙ changes.edits.same.page_size) in
       let rows : entries (nodes_in c.pages top) ≡ row root (record { from = Some part.from; child = part.right } ∷ []) =
       (λ z. first_entry (link_is c top says top_in makes.node z) ∷ map entry (items_are c top says top_in makes.node z))
-      ∙ (λ z. record { from = None; child = makes_top.first_is z } ∷ record { from = Some part.from; child = makes_top.second_is z } ∷ []) in
+      ∙ (λ z. record { from = None; child = makes_top.lower_is z } ∷ record { from = Some part.from; child = makes_top.upper_is z } ∷ []) in
       let put = to_given (top ∷ p.2.made) (suc levels) top c (root_grown (nodes_in a.pages) (nodes_in b.pages) (nodes_in c.pages) p.2.made levels 1 (half_of a.page_size) root top key word (record { from = Some part.from; child = part.right }) tree_a linked_a p.2.puts
       (makes.spare t) (is_inner c top says top_in makes.node refl) (half_is c top says top_in makes.node ∙ half_here) (omega (arith, ap length (items_are c top says top_in makes.node))) rows
       (λ j ne not_spare. node_away_root j ne not_spare)) in

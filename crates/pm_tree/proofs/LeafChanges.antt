@@ -33,8 +33,8 @@ use Rattle.pm_tree.proofs.NodeKinds.{node_kind}
 use Rattle.pm_tree.proofs.Divided.{node_edited, meta_stays, numbers_stay, numbers_then, numbers_looked, number_back, count_of, added_looked}
 use Rattle.pm_tree.proofs.Told.{below_count, counts_rise}
 use Rattle.pm_btpage.specs.Stored.{IsLink}
-use Rattle.pm_tree.specs.Stored.{IsStored, KeepsStored}
-use Rattle.pm_tree.proofs.StoredMeta.{keeps_on, keeps_looked}
+use Rattle.pm_pages.specs.StoredPages.{IsStored, KeepsStored}
+use Rattle.pm_pages.proofs.StoredMeta.{keeps_on, keeps_looked}
 use Rattle.pm_tree.proofs.StoredNodes.{IsStoredNode, stored_one, stored_two, halves_stored}
 use Rattle.pm_tree.proofs.LeafSteps.{puts_pages, leaf_kept, leaf_parted, Halves, left_half, right_half}
 

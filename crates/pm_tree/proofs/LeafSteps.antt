@@ -17,9 +17,9 @@ use Rattle.pm_tree.specs.Nodes.{nodes_in, nodes_under, IsFrom, IsUpTo, IsTreeIn,
 use Rattle.pm_tree.specs.Puts.{IsSpare, PutsAs, PutsFor}
 use Rattle.pm_tree.specs.Edits.{IsNode}
 use Rattle.pm_tree.specs.Divisions.{KeepsNumbers, PutsPages}
-use Rattle.pm_tree.specs.Stored.{KeepsStored}
+use Rattle.pm_pages.specs.StoredPages.{KeepsStored}
 use Rattle.pm_pages.specs.SpareChains.{MovesSpare}
-use Rattle.pm_tree.proofs.SpareRoom.{can_take_after}
+use Rattle.pm_pages.proofs.SpareRoom.{can_take_after}
 use Rattle.pm_tree.proofs.KeyOrder.{below_then, not_below_itself}
 use Rattle.pm_pages.proofs.SpareSteps.{moves_page}
 use Rattle.pm_tree.proofs.NodeKinds.{node_kind}

@@ -27,8 +27,6 @@ pub mod SoundLooks
 pub mod SoundPages
 pub mod SoundPuts
 pub mod SoundTrees
-pub mod SpareRoom
-pub mod StoredMeta
 pub mod StoredNodes
 pub mod StoredPuts
 pub mod TallTrees

@@ -17,7 +17,7 @@ use Rattle.pm_tree.proofs.NodeEdits.{node_stays}
 use Rattle.pm_pages.proofs.SpareMoves.{moves_on}
 use Rattle.pm_pages.proofs.SpareSteps.{moves_pages}
 use Rattle.pm_tree.proofs.NodeKinds.{node_kind}
-use Rattle.pm_tree.proofs.StoredMeta.{keeps_on}
+use Rattle.pm_pages.proofs.StoredMeta.{keeps_on}
 use Rattle.pm_tree.proofs.Divided.{node_edited, meta_stays, numbers_then, numbers_stay, number_back, count_of}
 
 -- a change that the other page's leaves possible

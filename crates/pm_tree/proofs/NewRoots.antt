@@ -22,7 +22,7 @@ use Rattle.pm_pages.proofs.SpareMoves.{moves_on}
 use Rattle.pm_pages.proofs.SpareSteps.{zeros_at, moves_page, moves_number, moves_take}
 use Rattle.pm_tree.proofs.NodeKinds.{node_kind}
 use Rattle.pm_pages.proofs.PassingPages.{meta_sets}
-use Rattle.pm_tree.proofs.StoredMeta.{keeps_taken, keeps_on}
+use Rattle.pm_pages.proofs.StoredMeta.{keeps_taken, keeps_on}
 use Rattle.pm_tree.proofs.Divided.{number_is, number_now, node_edited, meta_stays, numbers_taken, numbers_then, numbers_stay, number_back, below_taken, spare_taken, blank_items, count_of, added_taken}
 use Rattle.pm_tree.proofs.LeafChanges.{capacity_bounds}
 
@@ -45,7 +45,7 @@ takes_first c top word key id first some long node =
 
 one_item : (id : PageId) (first : Option PageId) (x : Item) → with_items (blank id first) (with_item (blank id first).items 0 x) ≡ with_items (blank id first) (x ∷ [])
 one_item id None x = refl
-one_item id (Some first) x = refl
+one_item id (Some child) x = refl
 
 -- a number was set, of the root of a cache
 module _ (T : Type 0) (c d : Paged) (cache top : ℕ) (edits : EditsPages T c d (λ j. j ≡ 0) 0) (meta : HasMeta c) (sets : MetaBecomes c d (λ was now. SetsNumber was now (Root cache) top)) where

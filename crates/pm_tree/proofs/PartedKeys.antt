@@ -20,7 +20,8 @@ use Rattle.pm_tree.specs.Steps.{IsChildFor}
 use Rattle.pm_tree.specs.Places.{IsPlaceIn}
 use Rattle.pm_tree.specs.Puts.{flat, row, half_of, PutsIn, PutsFor}
 use Rattle.pm_tree.specs.Grown.{IsParent}
-use Rattle.pm_tree.specs.Sound.{IsSound, HasTree}
+use Rattle.pm_pages.specs.SoundPages.{IsSound}
+use Rattle.pm_tree.specs.Sound.{HasTree}
 use Rattle.pm_tree.proofs.KeyOrder.{below_then, key_cases}
 use Rattle.pm_tree.proofs.MapLists.{keys_left, keys_right, keys_at, keys_put}
 use Rattle.pm_tree.proofs.Decoded.{lower, upper, kid, kid_is, lower_first, lower_is, upper_is, upper_none, at_index}
@@ -29,7 +30,8 @@ use Rattle.pm_tree.proofs.Frames.{used}
 use Rattle.pm_tree.proofs.Told.{below_count, page_is}
 use Rattle.pm_tree.proofs.LeafChanges.{capacity_bounds}
 use Rattle.pm_tree.proofs.Ascents.{child_tree, child_once, child_apart}
-use Rattle.pm_tree.proofs.SoundPages.{sound_reads, used_within}
+use Rattle.pm_pages.proofs.SoundPages.{sound_reads}
+use Rattle.pm_tree.proofs.SoundPages.{used_within}
 
 -- every page of these has room for an item at least by half
 abbrev pub AreWide : (ℕ → Node) → List ℕ → Type 0

@@ -13,9 +13,10 @@ use Rattle.pm_tree.specs.Maps.{get_in}
 use Rattle.pm_tree.specs.Steps.{IsChildFor}
 use Rattle.pm_tree.specs.Indexes.{AnswersFrom, IsIndex, as_link, link_in}
 use Rattle.pm_tree.specs.Places.{IsPlaceIn, IsPlace, HasGap}
-use Rattle.pm_tree.specs.Sound.{PassesAll}
+use Rattle.pm_pages.specs.SoundPages.{PassesAll}
 use Rattle.pm_tree.specs.declared.places.Place.TheVariants as place
-use Rattle.pm_tree.proofs.Descents.{pages_told, at_page, answers_leaf, answers_child}
+use Rattle.pm_pages.proofs.ToldPages.{pages_told}
+use Rattle.pm_tree.proofs.Descents.{at_page, answers_leaf, answers_child}
 use Rattle.pm_tree.proofs.MapLists.{get_between}
 use Rattle.pm_tree.proofs.SoundLooks.{answers_are_nodes}
 

@@ -17,7 +17,7 @@ use Rattle.pm_tree.specs.Puts.{half_of}
 use Rattle.pm_tree.specs.Steps.{IsNoNode}
 use Rattle.pm_tree.specs.declared.places.Place.TheVariants.{Below, Other}
 use Rattle.pm_tree.proofs.Decoded.{nodes_same, tree_to}
-use Rattle.pm_tree.proofs.Descents.{number_told, pages_told}
+use Rattle.pm_pages.proofs.ToldPages.{number_told, pages_told}
 use Rattle.pm_tree.proofs.Frames.{root_stands, used}
 use Rattle.pm_tree.proofs.LeafChanges.{capacity_bounds}
 use Rattle.pm_tree.proofs.Told.{below_count, page_is}

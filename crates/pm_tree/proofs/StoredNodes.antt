@@ -13,17 +13,18 @@ use Rattle.pm_meta.specs.declared.layout.TheConstants.{EXTRA_PAGES}
 use Rattle.pm_meta.specs.declared.slots.MetaSlot.TheVariants.{Pages}
 use Rattle.pm_pages.specs.Rows.{page_count, number_of, kind_of}
 use Rattle.pm_pages.specs.Paged.{Paged, PassesIn}
-use Rattle.pm_pages.specs.Edits.{LooksAtPages, EditsPages}
-use Rattle.pm_pages.proofs.PassingPages.{there_still, count_within, all_kept}
+use Rattle.pm_pages.specs.Edits.{EditsPages}
+use Rattle.pm_pages.proofs.PassingPages.{there_still}
 use Rattle.pm_pages.specs.Trees.{index_in}
 use Rattle.pm_tree.specs.declared.put.Part.{Part}
 use Rattle.pm_tree.specs.Puts.{half_of}
 use Rattle.pm_tree.specs.Grown.{child_item, Forks}
 use Rattle.pm_tree.specs.Roots.{MakesTop}
 use Rattle.pm_tree.specs.Edits.{blank, IsNode}
-use Rattle.pm_tree.specs.Sound.{PassesAll, CanTake}
-use Rattle.pm_tree.specs.Stored.{IsStored, IsStoredPage, KeepsMeta}
-use Rattle.pm_tree.proofs.SoundLooks.{page_passes, page_there, passes_looked}
+use Rattle.pm_pages.specs.SoundPages.{CanTake}
+use Rattle.pm_pages.specs.StoredPages.{IsStored, IsStoredPage, KeepsMeta}
+use Rattle.pm_pages.proofs.PassingLooks.{page_passes}
+use Rattle.pm_pages.proofs.StoredPages.{meta_there, count_small, all_stored}
 
 -- what a page of a tree says as it may stand in its file
 pub record IsStoredNode (part at : ℕ) (says : IndexPage) : Type 0 where
@@ -85,38 +86,11 @@ page_of_node p (suc i) says small some lt node stored =
       },
     )
 
--- the page count of a partition that a store may have is small
-pub meta_there : (p : Paged) → PassesAll p → 1 ≤ page_count p.pages → IsStoredPage p 0
-meta_there p all some = (let page = page_there p 0 all (omega (arith, some)) in (page.0, page.1, page_passes p 0 page.0 all (omega (arith, some)) page.1))
-
-pub count_small : (p : Paged) → p.max_rows ≤ 400000 → IsStoredPage p 0 → page_count p.pages < 2 ^ 32
-count_small p rows meta = omega (arith, rows, (count_within p meta).1)
-
 -- a page of a tree in a partition whose pages pass
 pub stored_node : (p : Paged) (at : ℕ) (says : IndexPage) → IsStored p → 1 ≤ at → at < page_count p.pages → IsNode p at says → IsStoredNode p.part at says
 stored_node p at says stored some lt node =
     let meta = meta_there p stored.all (omega (arith, lt)) in
     node_of_page p at says stored.part some (omega (arith, lt, count_small p stored.rows meta)) node (page_passes p at node.page stored.all lt node.in_hand.page)
-
--- every page that was changed passes, and so does each that the partition has besides: all pass still
-pub all_stored : (T : Type 0) (a c : Paged) (touched : ℕ → Type 0) (m : ℕ) → T → EditsPages T a c touched m → ((j : ℕ) → touched j ⊎ (touched j → ⊥)) → IsStoredPage c 0
-    → (c.part < 2 ^ 16 → (j : ℕ) → 1 ≤ j → j < 2 ^ 32 → touched j → IsStoredPage c j) → ((j : ℕ) → j < page_count c.pages → (j < page_count a.pages) ⊎ touched j) → IsStored a → IsStored c
-all_stored T a c touched m t edits decide meta there added stored =
-    let part : c.part < 2 ^ 16 = omega (arith, stored.part, edits.same.part) in
-    let rows : c.max_rows ≤ 400000 = omega (arith, stored.rows, edits.same.max_rows) in
-    let size = stored.all.page_size ∙ sym edits.same.page_size in
-    let most = stored.all.max_rows ∙ sym edits.same.max_rows in
-    record {
-      all = record {
-        shape = stored.all.shape;
-        page_size = size;
-        max_rows = most;
-        pass = all_kept T a c touched m t edits decide meta (λ j some lt h. there part j some (omega (arith, lt, count_small c rows meta)) h) added stored.all.shape size most
-            (λ j some lt. (let page = page_there a j stored.all lt in (page.0, page.1, page_passes a j page.0 stored.all lt page.1)));
-      };
-      rows = rows;
-      part = part;
-    }
 
 -- the words of items with another one, and of items in two parts
 pub words_with : (part i : ℕ) (leaf : Bool) (items : List Item) (x : Item) → IsWord leaf part x.word → All (λ (item : Item). IsWord leaf part item.word) items → All (λ (item : Item). IsWord leaf part item.word) (with_item items i x)
@@ -244,23 +218,20 @@ leaf_root part top key word link = record {
   words = All-cons (λ (item : Item). IsLink part item.word) (record { key = key; word = word }) [] link (All-nil (λ (item : Item). IsLink part item.word));
 }
 
-pub inner_root : (part top : ℕ) (first second : PageId) (key : List ℕ) → IsChild part first.0 → IsChild part second.0 → IsStoredNode part top (with_items (blank (page_id part top) (Some first)) (record { key = key; word = second.0 } ∷ []))
-inner_root part top first second key is_first is_second = record {
+pub inner_root : (part top : ℕ) (lower upper : PageId) (key : List ℕ) → IsChild part lower.0 → IsChild part upper.0
+    → IsStoredNode part top (with_items (blank (page_id part top) (Some lower)) (record { key = key; word = upper.0 } ∷ []))
+inner_root part top lower upper key is_lower is_upper = record {
   own = refl;
   some = omega arith;
-  first = λ e. is_first;
-  words = All-cons (λ (item : Item). IsChild part item.word) (record { key = key; word = second.0 }) [] is_second (All-nil (λ (item : Item). IsChild part item.word));
+  first = λ e. is_lower;
+  words = All-cons (λ (item : Item). IsChild part item.word) (record { key = key; word = upper.0 }) [] is_upper (All-nil (λ (item : Item). IsChild part item.word));
 }
 
 pub top_root : (T : Type 0) (a c : Paged) (cache root : ℕ) (part : Part) → root ≢ 0 → 1 ≤ part.right → a.part < 2 ^ 16 → (makes : MakesTop T a c cache root part)
-    → IsStoredNode a.part makes.makes.top (with_items (blank (page_id a.part makes.makes.top) (Some makes.first)) (record { key = part.from; word = makes.second.0 } ∷ []))
+    → IsStoredNode a.part makes.makes.top (with_items (blank (page_id a.part makes.makes.top) (Some makes.lower)) (record { key = part.from; word = makes.upper.0 } ∷ []))
 top_root T a c cache root part some right small makes =
-    let first : index_in (page_id a.part root).0 ≡ root = ap (λ (id : PageId). index_in id.0) (sym makes.first_name) ∙ makes.first_is in
-    let second : index_in (page_id a.part part.right).0 ≡ part.right = ap (λ (id : PageId). index_in id.0) (sym makes.second_name) ∙ makes.second_is in
-    inner_root a.part makes.makes.top makes.first makes.second part.from
-    (subst (λ (id : PageId). IsChild a.part id.0) (sym makes.first_name) (child_name a.part root small (omega (arith, some)) (omega (arith, first))))
-    (subst (λ (id : PageId). IsChild a.part id.0) (sym makes.second_name) (child_name a.part part.right small right (omega (arith, second))))
-
--- pages that were only looked at
-pub stored_looked : (T : Type 0) (a b : Paged) (m : ℕ) → T → LooksAtPages T a b m → IsStored a → IsStored b
-stored_looked T a b m t looks stored = record { all = passes_looked T a b m t looks stored.all; rows = omega (arith, stored.rows, looks.same.max_rows); part = omega (arith, stored.part, looks.same.part) }
+    let first : index_in (page_id a.part root).0 ≡ root = ap (λ (id : PageId). index_in id.0) (sym makes.lower_name) ∙ makes.lower_is in
+    let second : index_in (page_id a.part part.right).0 ≡ part.right = ap (λ (id : PageId). index_in id.0) (sym makes.upper_name) ∙ makes.upper_is in
+    inner_root a.part makes.makes.top makes.lower makes.upper part.from
+    (subst (λ (id : PageId). IsChild a.part id.0) (sym makes.lower_name) (child_name a.part root small (omega (arith, some)) (omega (arith, first))))
+    (subst (λ (id : PageId). IsChild a.part id.0) (sym makes.upper_name) (child_name a.part part.right small right (omega (arith, second))))

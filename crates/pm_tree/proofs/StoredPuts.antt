@@ -12,7 +12,7 @@ use Rattle.pm_pages.specs.Edits.{HasMeta}
 use Rattle.pm_pages.specs.WellFormed.{AllPass}
 use Rattle.pm_tree.specs.Indexes.{IsIndex}
 use Rattle.pm_tree.specs.Roots.{PutsRootPages}
-use Rattle.pm_tree.specs.Sound.{PassesAll}
+use Rattle.pm_pages.specs.SoundPages.{PassesAll}
 use Rattle.pm_tree.specs.SoundPuts.{HasSparePages}
 use Rattle.pm_tree.specs.StoredPuts.{HasKey}
 use Rattle.pm_tree.proofs.GrownTrees.{can_take_spare}

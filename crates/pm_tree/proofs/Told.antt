@@ -15,7 +15,7 @@ use Rattle.pm_tree.specs.Nodes.{nodes_in, node_of}
 use Rattle.pm_tree.specs.Puts.{IsSpare}
 use Rattle.pm_tree.specs.Edits.{IsNode}
 use Rattle.pm_tree.specs.Divisions.{KeepsNumbers}
-use Rattle.pm_tree.proofs.Descents.{number_told}
+use Rattle.pm_pages.proofs.ToldPages.{number_told}
 
 -- the meta page has a page count
 pub count_there : (p : Paged) → HasMeta p → (n : ℕ) × IsNumberIn p Pages n

@@ -14,22 +14,24 @@ use Rattle.pm_pages.specs.Edits.{EditsPages, HasMeta, IsNumberIn}
 use Rattle.pm_tree.specs.Nodes.{nodes_in}
 use Rattle.pm_tree.specs.Puts.{IsSpare}
 use Rattle.pm_pages.specs.SpareChains.{MovesSpare}
-use Rattle.pm_tree.specs.Sound.{CanTake}
-use Rattle.pm_tree.specs.Stored.{KeepsStored, KeepsMeta}
+use Rattle.pm_pages.specs.SoundPages.{CanTake}
+use Rattle.pm_pages.specs.StoredPages.{KeepsStored, KeepsMeta}
 use Rattle.pm_tree.specs.Edits.{blank, IsNode}
 use Rattle.pm_tree.specs.Places.{HasGap}
 
 -- the page count didn't fall, and every number but that and the reuse chain's first page is as it was
 pub record KeepsNumbers (old new : Paged) : Type 0 where
   pub count : (n : ℕ) → IsNumberIn old Pages n → (m : ℕ) × IsNumberIn new Pages m × (n ≤ m)
-  pub others : (slot : MetaSlot) → IsSlot slot → slot ≢ Reuse → slot ≢ Pages → (n : ℕ) → IsNumberIn old slot n → IsNumberIn new slot n
+  pub others : (slot : MetaSlot) → IsSlot slot → slot ≢ Reuse → slot ≢ Pages → (n : ℕ)
+      → IsNumberIn old slot n → IsNumberIn new slot n
 
 -- a page without a first child is a leaf
 abbrev pub is_leaf_blank : Option PageId → Bool
 is_leaf_blank None = true
-is_leaf_blank (Some first) = false
+is_leaf_blank (Some child) = false
 
--- page `at`, with these bytes, can be divided: its items from one on go into a new page, those up to another stay
+-- page `at`, with these bytes, can be divided: its items from one on go into a new page, those up
+-- to another stay
 pub record CanDivide (p : Paged) (at : ℕ) (page : List ℕ) (first : Option PageId) (start end : ℕ) : Type 0 where
   pub some : 1 ≤ at
   pub below : (n : ℕ) → IsNumberIn p Pages n → at < n
@@ -41,13 +43,15 @@ pub record CanDivide (p : Paged) (at : ℕ) (page : List ℕ) (first : Option Pa
   pub end_in : end ≤ length (items_of page)
 
 -- the page was divided, and page `right` is the new one
-pub record Divides (T : Type 0) (old new : Paged) (at : ℕ) (page : List ℕ) (first : Option PageId) (start end right : ℕ) : Type 0 where
+pub record Divides (T : Type 0) (old new : Paged) (at : ℕ) (page : List ℕ) (first : Option PageId)
+    (start end right : ℕ) : Type 0 where
   pub some : 1 ≤ right
   pub below : (n : ℕ) → IsNumberIn new Pages n → right < n
   pub other : right ≢ at
   pub edits : EditsPages T old new (λ j. (j ≡ 0) ⊎ (j ≡ right) ⊎ (j ≡ at)) 1
   pub left_is : IsNode new at (with_items (index_of page) (take end (items_of page)))
-  pub right_is : IsNode new right (with_items (blank (page_id old.part right) first) (drop start (items_of page)))
+  pub right_is : IsNode new right
+      (with_items (blank (page_id old.part right) first) (drop start (items_of page)))
   pub meta : HasMeta new
   pub numbers : KeepsNumbers old new
   pub spare : T → IsSpare (nodes_in old.pages right)
@@ -56,8 +60,8 @@ pub record Divides (T : Type 0) (old new : Paged) (at : ℕ) (page : List ℕ) (
   pub meta_passes : T → KeepsMeta old new
 
 -- What a put changed, whatever the pages say: at most so many were asked for that weren't before, and no others
--- changed than were asked for. At most so many were taken, and where this was given pages that pass their checks do so
--- still.
+-- changed than were asked for. At most so many were taken, and where this was given pages that pass
+-- their checks do so still.
 pub record PutsPages (T : Type 0) (old new : Paged) (most : ℕ) (given : Type 0) : Type 0 where
   pub edits : EditsPages T old new (λ j. IsTrue (new.asked j)) most
   pub meta : HasMeta new
@@ -72,7 +76,9 @@ pub record PartsLeaf (T : Type 0) (old new : Paged) (at : ℕ) (page : List ℕ)
   pub other : right ≢ at
   pub edits : EditsPages T old new (λ j. (j ≡ 0) ⊎ (j ≡ right) ⊎ (j ≡ at)) 1
   pub left_is : IsNode new at (with_link (with_items (index_of page) (take cut (items_of page))) right)
-  pub right_is : IsNode new right (with_link (with_items (empty_leaf (page_id old.part right)) (drop cut (items_of page))) (index_of page).link)
+  pub right_is : IsNode new right
+      (with_link (with_items (empty_leaf (page_id old.part right)) (drop cut (items_of page)))
+      (index_of page).link)
   pub meta : HasMeta new
   pub numbers : KeepsNumbers old new
   pub spare : T → IsSpare (nodes_in old.pages right)

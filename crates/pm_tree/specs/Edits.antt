@@ -17,19 +17,23 @@ pub record IsNode (p : Paged) (i : ℕ) (says : IndexPage) : Type 0 where
   pub size : length page ≡ p.page_size
   pub is : index_of page ≡ says
 
--- a page that says this can take the change: a word's item is there; an item has room and stands in its order; only a
--- leaf has a next leaf; and items of another page of the same kind are written on a page without items
+-- a page that says this can take the change: a word's item is there; an item has room and stands in
+-- its order; only a leaf has a next leaf; and items of another page of the same kind are written on
+-- a page without items
 abbrev pub CanEdit : ℕ → IndexPage → List ℕ → Edit → Type 0
 CanEdit size page bytes (Word i word) = i < length page.items
-CanEdit size page bytes (Insert i word) = (length page.items < capacity_of size) × HasKeyLength bytes × IsBetween page.items bytes i
+CanEdit size page bytes (Insert i word) = (length page.items < capacity_of size) × HasKeyLength bytes
+    × IsBetween page.items bytes i
 CanEdit size page bytes (Next next) = page.leaf ≡ true
 CanEdit size page bytes (Cut at) = at ≤ length page.items
-CanEdit size page bytes (Tail at) = IsIndexPage bytes × (page.leaf ≡ (index_of bytes).leaf) × (length bytes ≡ size) × (page.items ≡ []) × (at ≤ length (items_of bytes))
+CanEdit size page bytes (Tail at) = IsIndexPage bytes × (page.leaf ≡ (index_of bytes).leaf)
+    × (length bytes ≡ size) × (page.items ≡ []) × (at ≤ length (items_of bytes))
 
 -- what the page says then
 abbrev pub edited : IndexPage → List ℕ → Edit → IndexPage
 edited page bytes (Word i word) = with_items page (with_word page.items i word)
-edited page bytes (Insert i word) = with_items page (with_item page.items i (record { key = bytes; word = word }))
+edited page bytes (Insert i word) =
+    with_items page (with_item page.items i (record { key = bytes; word = word }))
 edited page bytes (Next next) = with_link page next
 edited page bytes (Cut at) = with_items page (take at page.items)
 edited page bytes (Tail at) = with_items page (drop at (items_of bytes))
@@ -60,4 +64,4 @@ pub record EditsNodeAt (old new : Paged) (i : ℕ) (bytes : List ℕ) (edit : Ed
 -- a page without items: a leaf without a next one, or an inner page with this first child
 abbrev pub blank : PageId → Option PageId → IndexPage
 blank id None = empty_leaf id
-blank id (Some first) = empty_inner id first
+blank id (Some child) = empty_inner id child

@@ -19,7 +19,7 @@ use Rattle.pm_tree.specs.Puts.{IsSpare, half_of}
 use Rattle.pm_pages.specs.SpareChains.{MovesSpare}
 use Rattle.pm_tree.specs.Edits.{IsNode}
 use Rattle.pm_tree.specs.Divisions.{KeepsNumbers}
-use Rattle.pm_tree.specs.Stored.{KeepsMeta}
+use Rattle.pm_pages.specs.StoredPages.{KeepsMeta}
 
 -- an inner page, whose keys before place i are below the key, and those from it on above
 pub record IsParent (page key : List ℕ) (i : ℕ) : Type 0 where
@@ -62,8 +62,8 @@ pub record Grows (T : Type 0) (old new : Paged) (at i : ℕ) (part : Part) : Typ
   pub after : IsNode new at (with_items says (with_item says.items i (child_item old.part part)))
   pub edits : EditsPages T old new (λ j. j ≡ at) 0
 
--- The inner page was divided as it took the new child: one item went up, those before it stayed, and those after it
--- are in a new page, whose first child is that item's.
+-- The inner page was divided as it took the new child: one item went up, those before it stayed,
+-- and those after it are in a new page, whose first child is that item's.
 pub record Forks (T : Type 0) (old new : Paged) (at i : ℕ) (part forked : Part) : Type 0 where
   pub says : IndexPage
   pub before : IsNode old at says
@@ -75,7 +75,8 @@ pub record Forks (T : Type 0) (old new : Paged) (at i : ℕ) (part forked : Part
   pub high : List Item
   pub whole : with_item says.items i (child_item old.part part) ≡ low ++ (middle ∷ high)
   pub left_is : IsNode new at (with_items says low)
-  pub right_is : IsNode new forked.right (record { id = page_id old.part forked.right; leaf = false; link = middle.word; items = high })
+  pub right_is : IsNode new forked.right
+      (record { id = page_id old.part forked.right; leaf = false; link = middle.word; items = high })
   pub from : forked.from ≡ middle.key
   pub levels : forked.levels ≡ part.levels + 1
   pub full : half_of old.page_size ≤ length low

@@ -9,5 +9,6 @@ use Rattle.pm_tree.specs.Indexes.{IsIndex}
 
 -- an index of `LEVELS_MAX` levels has so many items at least, at any page size
 abbrev pub TallHasItems : ℕ → Type 0
-TallHasItems many = (pages : Partition) (root : ℕ) (nodes : List ℕ) (items : List Item) → ((i : ℕ) → 1 ≤ times i nodes → IsPageSize (length (page_at pages i)))
+TallHasItems many = (pages : Partition) (root : ℕ) (nodes : List ℕ) (items : List Item)
+    → ((i : ℕ) → 1 ≤ times i nodes → IsPageSize (length (page_at pages i)))
     → IsIndex pages root LEVELS_MAX nodes items → many ≤ length items

@@ -12,5 +12,4 @@ pub mod Roots
 pub mod Sound
 pub mod SoundPuts
 pub mod Steps
-pub mod Stored
 pub mod StoredPuts

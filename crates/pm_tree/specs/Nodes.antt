@@ -19,7 +19,8 @@ pub record Node : Type 0 where
   pub half : ℕ
 
 abbrev pub node_of : List ℕ → Node
-node_of page = record { kind = kind_of page; link = (index_of page).link; items = items_of page; half = capacity_of (length page) / 2 }
+node_of page = record { kind = kind_of page; link = (index_of page).link; items = items_of page;
+    half = capacity_of (length page) / 2 }
 
 abbrev pub nodes_in : Partition → (ℕ → Node)
 nodes_in pages i = node_of (page_at pages i)
@@ -68,7 +69,8 @@ end_before (e ∷ es) end = e.from
 -- the keys below each child lie within its bounds
 abbrev pub AreBounded : (ℕ → List Item) → List Entry → Option (List ℕ) → Type 0
 AreBounded f [] end = Unit {0}
-AreBounded f (e ∷ es) end = Keys (IsFrom e.from) (f e.child) × Keys (IsUpTo (end_before es end)) (f e.child) × AreBounded f es end
+AreBounded f (e ∷ es) end = Keys (IsFrom e.from) (f e.child)
+    × Keys (IsUpTo (end_before es end)) (f e.child) × AreBounded f es end
 
 abbrev pub Each : (ℕ → Type 0) → List Entry → Type 0
 Each P [] = Unit {0}

@@ -25,15 +25,20 @@ pub record IsSpare (node : Node) : Type 0 where
 abbrev pub row : ℕ → List Entry → List Entry
 row at rest = record { from = None; child = at } ∷ rest
 
--- A put into a tree of so many levels at page `at`: it became a row of trees, whose items are those of the put. The
--- pages `made` are new in it. No page of another tree changed.
-pub record PutsTree (old new : ℕ → Node) (made : List ℕ) (levels least at : ℕ) (key : List ℕ) (word : ℕ) (rest : List Entry) : Type 0 where
+-- A put into a tree of so many levels at page `at`: it became a row of trees, whose items are those
+-- of the put. The pages `made` are new in it. No page of another tree changed.
+pub record PutsTree (old new : ℕ → Node) (made : List ℕ) (levels least at : ℕ) (key : List ℕ) (word : ℕ)
+    (rest : List Entry) : Type 0 where
   pub trees : Each (IsTreeIn new levels least) (row at rest)
   pub bounds : AreBounded (items_under new levels) (row at rest) None
   pub items : flat (items_under new levels) (row at rest) ≡ put_in (items_under old levels at) key word
-  pub linked : (after : ℕ) → AreLinkedTo old (leaves_under old levels at) after → AreLinkedTo new (flat (leaves_under new levels) (row at rest)) after
-  pub first : (after : ℕ) → first_or (flat (leaves_under new levels) (row at rest)) after ≡ first_or (leaves_under old levels at) after
-  pub nodes : (j : ℕ) → times j (flat (nodes_under new levels) (row at rest)) ≡ times j (nodes_under old levels at) + times j made
+  pub linked : (after : ℕ) → AreLinkedTo old (leaves_under old levels at) after
+      → AreLinkedTo new (flat (leaves_under new levels) (row at rest)) after
+  pub first : (after : ℕ)
+      → first_or (flat (leaves_under new levels) (row at rest)) after
+      ≡ first_or (leaves_under old levels at) after
+  pub nodes : (j : ℕ) → times j (flat (nodes_under new levels) (row at rest))
+      ≡ times j (nodes_under old levels at) + times j made
   pub others : (j : ℕ) → (IsSpare (old j) → ⊥) → times j (nodes_under old levels at) ≡ 0 → new j ≡ old j
   pub spare : (j : ℕ) → 1 ≤ times j made → IsSpare (old j)
   pub once : (j : ℕ) → times j made ≤ 1
@@ -50,13 +55,16 @@ pub record IsMiddle (size cut : ℕ) : Type 0 where
 
 -- The same, over the pages of a partition: besides the tree's pages and the new ones no page changed but the
 -- meta page, and the new ones were taken from the reuse chain or follow the last page.
-pub record PutsIn (old new : Partition) (levels least at : ℕ) (key : List ℕ) (word : ℕ) (rest : List Entry) : Type 0 where
+pub record PutsIn (old new : Partition) (levels least at : ℕ) (key : List ℕ) (word : ℕ)
+    (rest : List Entry) : Type 0 where
   pub made : List ℕ
   pub puts : PutsTree (nodes_in old) (nodes_in new) made levels least at key word rest
-  pub others : (j : ℕ) → j ≢ 0 → times j (nodes_under (nodes_in old) levels at) ≡ 0 → times j made ≡ 0 → new j ≡ old j
+  pub others : (j : ℕ) → j ≢ 0 → times j (nodes_under (nodes_in old) levels at) ≡ 0 → times j made ≡ 0
+      → new j ≡ old j
   pub moves : MovesSpare old new made []
 
--- what is said of a put's answer: the tree has the key's item, or a page to its right took a half, from a key on
+-- what is said of a put's answer: the tree has the key's item, or a page to its right took a half,
+-- from a key on
 abbrev pub PutsAs : Partition → Partition → ℕ → ℕ → ℕ → ℕ → List ℕ → ℕ → Put → Type 0
 PutsAs old new half levels least at key word (Kept was) =
     (was ≡ get_in (items_under (nodes_in old) levels at) key) × PutsIn old new levels least at key word []
@@ -65,9 +73,11 @@ PutsAs old new half levels least at key word (Split part) =
     × PutsIn old new levels half at key word (record { from = Some part.from; child = part.right } ∷ [])
 
 -- a put at page `at` is that of the tree there, if it has fewer levels than so many and each page once
-pub record PutsFor (old new : Partition) (half limit at : ℕ) (key : List ℕ) (word : ℕ) (put : Put) : Type 0 where
+pub record PutsFor (old new : Partition) (half limit at : ℕ) (key : List ℕ) (word : ℕ)
+    (put : Put) : Type 0 where
   pub each : (levels : ℕ) → levels < limit → (least : ℕ) → IsTreeIn (nodes_in old) levels least at
-      → ((j : ℕ) → times j (nodes_under (nodes_in old) levels at) ≤ 1) → PutsAs old new half levels least at key word put
+      → ((j : ℕ) → times j (nodes_under (nodes_in old) levels at) ≤ 1)
+          → PutsAs old new half levels least at key word put
 
 -- the page has the tree still
 abbrev pub IsKept : Put → Type 0

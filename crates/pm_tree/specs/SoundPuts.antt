@@ -12,7 +12,8 @@ use Rattle.pm_tree.specs.Grown.{IsParent}
 use Rattle.pm_tree.specs.Indexes.{AnswersFrom, IsIndex}
 use Rattle.pm_pages.specs.SpareChains.{HasSpare}
 use Rattle.pm_tree.specs.declared.heights.TheConstants.{TALL_ROWS}
-use Rattle.pm_tree.specs.Sound.{PassesAll, CanTake, MayTake, HasTree}
+use Rattle.pm_pages.specs.SoundPages.{PassesAll, CanTake, MayTake}
+use Rattle.pm_tree.specs.Sound.{HasTree}
 
 -- page `at` is there and has a place for the new child, and a page can be taken
 pub record MayTakeChild (T : Type 0) (p : Paged) (at i : ℕ) (part : Part) : Type 0 where
@@ -40,15 +41,16 @@ pub record MayGrow (T : Type 0) (p : Paged) (levels at : ℕ) : Type 0 where
 abbrev pub MayPut : Type 0 → Paged → ℕ → ℕ → List ℕ → Type 0
 MayPut T p levels at key = FindsKey T p levels at key ⊎ MayGrow T p levels at
 
--- A partition whose pages pass their checks, in which so many more pages can be taken: those of the reuse chain, and
--- those after the last up to the most that a partition may have.
+-- A partition whose pages pass their checks, in which so many more pages can be taken: those of the
+-- reuse chain, and those after the last up to the most that a partition may have.
 pub record HasSparePages (p : Paged) (more : ℕ) : Type 0 where
   pub all : PassesAll p
   pub spare : HasSpare p.pages
   pub rows : p.max_rows ≤ ROWS_MAX
   pub room : page_count p.pages + more ≤ length (reuse_chain p.pages) + (2 * p.max_rows + EXTRA_PAGES)
 
--- at a root stands an index of fewer items than its height allows, and as many pages can be taken as are asked for
+-- at a root stands an index of fewer items than its height allows, and as many pages can be taken
+-- as are asked for
 pub record MayPutBelow (T : Type 0) (p : Paged) (root : ℕ) : Type 0 where
   pub told : T
   pub limit : ℕ

@@ -17,8 +17,8 @@ use Rattle.pm_tree.specs.Maps.{get_in}
 use Rattle.pm_tree.specs.declared.steps.Step.{Step}
 use Rattle.pm_tree.specs.declared.steps.Step.TheVariants.{Word, Child, Other}
 
--- the keys of the first i items are not above the key, and those of the others are: child i is the one below which
--- the key stands
+-- the keys of the first i items are not above the key, and those of the others are: child i is the
+-- one below which the key stands
 pub record IsChildFor (items : List Item) (key : List ℕ) (i : ℕ) : Type 0 where
   pub in_range : i ≤ length items
   pub upto : (j : ℕ) → j < i → IsBelow key (key_in items j) → ⊥
@@ -73,8 +73,8 @@ pub record HasChild (p : Paged) (from at : ℕ) : Type 0 where
   pub in_range : number ≤ length (items_of page)
   pub is : at ≡ child_of page number
 
--- Pages that are at hand lead from the root of a cache's tree to page `at`, through so many inner pages, the last of
--- which is page `from`. The root is named by the meta page, which is page 0.
+-- Pages that are at hand lead from the root of a cache's tree to page `at`, through so many inner
+-- pages, the last of which is page `from`. The root is named by the meta page, which is page 0.
 abbrev pub IsPath : Paged → ℕ → ℕ → ℕ → ℕ → Type 0
 IsPath p cache zero from at = (from ≡ 0) × IsNumberIn p (Root cache) at
 IsPath p cache (suc n) from at = HasChild p from at × (before : ℕ) × IsPath p cache n before from
@@ -85,7 +85,8 @@ pub record IsOfNoTree (p : Paged) (i : ℕ) : Type 0 where
   pub in_hand : IsInHand p i page
   pub kind : IsNoNode page
 
--- a page on the way from a root names no page of the tree: 0, one at the page count or past it, or one of another kind
+-- a page on the way from a root names no page of the tree: 0, one at the page count or past it, or
+-- one of another kind
 pub record NamesNoNode (p : Paged) (cache : ℕ) (id : PageId) : Type 0 where
   pub levels : ℕ
   pub from : ℕ
@@ -102,7 +103,8 @@ pub record IsTooDeep (p : Paged) (cache : ℕ) (id : PageId) : Type 0 where
   pub path : IsPath p cache LEVELS_MAX from at
 
 -- a call of the disk failed, a page is bad, or a page on the way from a root names a wrong page
-pub record HasLookCause {R : Type 0} (T : Type 0) (old new : Paged) (cache : ℕ) (result : Result R PageFault) : Type 0 where
+pub record HasLookCause {R : Type 0} (T : Type 0) (old new : Paged) (cache : ℕ)
+    (result : Result R PageFault) : Type 0 where
   pub failed : IsErrOf result Failed → HasRisen old.faults new.faults
   pub bad : (id : PageId) → IsErrOf result (BadPage id)
       → ((i : ℕ) × IsBadPage T old i id) ⊎ NamesNoNode new cache id ⊎ IsTooDeep new cache id

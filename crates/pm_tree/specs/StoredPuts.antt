@@ -9,9 +9,9 @@ use Rattle.pm_pages.specs.Paged.{Paged}
 use Rattle.pm_tree.specs.declared.put.Put.{Put}
 use Rattle.pm_tree.specs.Puts.{IsKept}
 use Rattle.pm_tree.specs.Indexes.{IsIndex, link_in}
-use Rattle.pm_tree.specs.Sound.{PassesAll}
+use Rattle.pm_pages.specs.SoundPages.{PassesAll}
 use Rattle.pm_tree.specs.SoundPuts.{HasSparePages}
-use Rattle.pm_tree.specs.Stored.{IsStored}
+use Rattle.pm_pages.specs.StoredPages.{IsStored}
 
 -- A put at a key that was there: the page has the tree still, and where this was given pages that pass their
 -- checks do so still.

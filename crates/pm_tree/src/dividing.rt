@@ -5,15 +5,16 @@ ghost use Rattle.pm_btpage.specs.IndexPages.{IsIndexPage};
 ghost use Rattle.pm_pages.specs.Paged.{AllReadable, IsInHand};
 ghost use Rattle.pm_pages.specs.Edits.{LooksAtPages, HasMeta, HasDiskCause};
 ghost use Rattle.pm_pages.specs.SparePages.{HasTakeCause};
-ghost use Rattle.pm_tree.specs.Sound.{NoBadPage, MayTake};
+ghost use Rattle.pm_pages.specs.SoundPages.{NoBadPage, MayTake};
 ghost use Rattle.pm_tree.specs.Divisions.{CanDivide, Divides};
 
 use crate::edits::{Edit, make_edit, write_blank};
 use pm_pages::{Pages, new_page};
 use pm_types::{PAGE_SIZE_MAX, PageFault, PageId};
 
-/// Divides a page: its items from `start` on go into a new page of the same kind, whose index is given, and those up
-/// to `end` stay. A new inner page has this first child, and a new leaf no next one.
+/// Divides a page: its items from `start` on go into a new page of the same kind, whose index is
+/// given, and those up to `end` stay. A new inner page has this first child, and a new leaf no next
+/// one.
 ///
 /// An error has a cause as in `pm_pages::new_page`.
 pub fn divide<P: Pages>(
@@ -102,7 +103,8 @@ fn divide_copied<P: Pages>(
     requires page { CanDivide (P.seen pages.old) at copy.now first start end }
     ensures kept { P.kept pages.old pages.new }
     ensures readable { AllReadable (P.seen pages.new) }
-    ensures divides { IfOk result (Divides P.tells (P.seen pages.old) (P.seen pages.new) at copy.now first start end) }
+    ensures divides { IfOk result
+        (Divides P.tells (P.seen pages.old) (P.seen pages.new) at copy.now first start end) }
     ensures cause { HasTakeCause P.tells (P.seen pages.old) (P.seen pages.new) result }
     ensures sound { MayTake P.tells (P.seen pages.old) → NoBadPage result }
 {

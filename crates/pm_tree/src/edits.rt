@@ -102,7 +102,8 @@ pub fn write_blank<P: Pages>(pages: &mut P, index: u32, first: Option<PageId>)
     requires ready { P.ready pages.old }
     requires some { 1 ≤ index }
     requires lent { IsLent (P.seen pages.old) index }
-    requires covered { (k : ℕ) → k < (P.seen pages.old).page_size → CoversByte ((P.seen pages.old).patch index) k }
+    requires covered { (k : ℕ) → k < (P.seen pages.old).page_size
+        → CoversByte ((P.seen pages.old).patch index) k }
     requires readable { AllReadable (P.seen pages.old) }
     ensures kept { P.kept pages.old pages.new }
     ensures edits { EditsPages P.tells (P.seen pages.old) (P.seen pages.new) (λ j. j ≡ index) 0 }

@@ -58,7 +58,8 @@ pub fn is_above(page: &[u8], i: u16, key: &[u8]) -> bool
 pub fn is_before(page: &[u8], i: u16, key: &[u8]) -> bool
     requires page { IsIndexPage page.now }
     requires item { i ≤ length (items_of page.now) }
-    ensures { IsTrue result ↔ ((j : ℕ) → i ≤ j → j < length (items_of page.now) → IsBelow key.now (key_in (items_of page.now) j)) }
+    ensures { IsTrue result
+        ↔ ((j : ℕ) → i ≤ j → j < length (items_of page.now) → IsBelow key.now (key_in (items_of page.now) j)) }
 {
     i == count(page) || is_below(key, key_at(page, i))
 }

@@ -11,7 +11,7 @@ ghost use Rattle.pm_pages.specs.Trees.{root_of};
 ghost use Rattle.pm_pages.specs.Paged.{HasRoomFor, AllReadable, HasPageCause};
 ghost use Rattle.pm_pages.specs.Edits.{LooksAtPages, HasMeta, IsNumberIn};
 ghost use Rattle.pm_tree.specs.Steps.{IsLook, HasLookCause};
-ghost use Rattle.pm_tree.specs.Sound.{PassesAll, NoBadPage};
+ghost use Rattle.pm_pages.specs.SoundPages.{PassesAll, NoBadPage};
 ghost use Rattle.pm_tree.specs.Indexes.{AnswersFrom, IsIndex, as_link, link_in};
 
 use crate::steps::{Step, step_on};
@@ -21,9 +21,10 @@ use pm_types::{Link, PageFault, PageId};
 
 /// The link of a key in a cache's index, if it is there.
 ///
-/// `Failed` comes only where a call on the disk failed. `BadPage` names a page that is bad, or the page on the way
-/// from the root that names a wrong one: none, one that isn't of the partition or of no tree, or one more level than
-/// a tree may have. Of a tree whose pages pass their checks none is bad. No page is changed.
+/// `Failed` comes only where a call on the disk failed. `BadPage` names a page that is bad, or the
+/// page on the way from the root that names a wrong one: none, one that isn't of the partition or
+/// of no tree, or one more level than a tree may have. Of a tree whose pages pass their checks none
+/// is bad. No page is changed.
 pub fn tree_get<P: Pages>(pages: &mut P, cache: u8, key: &[u8]) -> Result<Option<Link>, PageFault>
     requires ready { P.ready pages.old }
     requires room { 9 ≤ (P.seen pages.old).spare }
@@ -66,7 +67,8 @@ fn descend<P: Pages>(
     ensures kept { P.kept pages.old pages.new }
     ensures looks { LooksAtPages P.tells (P.seen pages.old) (P.seen pages.new) 8 }
     ensures readable { AllReadable (P.seen pages.new) }
-    ensures gets { P.tells → (word : Option ℕ) → AnswersFrom (P.seen pages.old).pages key.now LEVELS_MAX root word
+    ensures gets { P.tells → (word : Option ℕ)
+        → AnswersFrom (P.seen pages.old).pages key.now LEVELS_MAX root word
         → IfOk result (λ link. link ≡ option_map as_link word) }
     ensures cause { HasLookCause P.tells (P.seen pages.old) (P.seen pages.new) cache result }
     ensures sound { P.tells → PassesAll (P.seen pages.old) → (word : Option ℕ)

@@ -7,7 +7,7 @@ ghost use Rattle.pm_pages.specs.Trees.{index_in};
 ghost use Rattle.pm_pages.specs.Paged.{AllReadable};
 ghost use Rattle.pm_pages.specs.Edits.{HasMeta, HasDiskCause};
 ghost use Rattle.pm_pages.specs.SparePages.{HasTakeCause};
-ghost use Rattle.pm_tree.specs.Sound.{NoBadPage, MayTake};
+ghost use Rattle.pm_pages.specs.SoundPages.{NoBadPage, MayTake};
 ghost use Rattle.pm_tree.specs.Puts.{half_of};
 ghost use Rattle.pm_tree.specs.Grown.{IsParentAt, Grows, Forks, TakesChild};
 ghost use Rattle.pm_tree.specs.declared.put.Put.TheVariants.{Kept, Split};
@@ -27,7 +27,8 @@ pub fn add_child<P: Pages>(pages: &mut P, at: u32, i: u16, part: &Part) -> Resul
     requires meta { HasMeta (P.seen pages.old) }
     requires readable { AllReadable (P.seen pages.old) }
     requires parent { IsParentAt (P.seen pages.old) at part.now.from i }
-    requires space { (page : List ℕ) → (P.seen pages.old).pages at ≡ Some page → length (items_of page) < capacity_of (length page) }
+    requires space { (page : List ℕ) → (P.seen pages.old).pages at ≡ Some page
+        → length (items_of page) < capacity_of (length page) }
     ensures kept { P.kept pages.old pages.new }
     ensures readable { AllReadable (P.seen pages.new) }
     ensures grows { OnOk result (Grows P.tells (P.seen pages.old) (P.seen pages.new) at i part.now) }
@@ -44,7 +45,8 @@ pub fn fork<P: Pages>(pages: &mut P, at: u32, i: u16, part: Part) -> Result<Part
     requires room { 1 ≤ (P.seen pages.old).spare }
     requires readable { AllReadable (P.seen pages.old) }
     requires parent { IsParentAt (P.seen pages.old) at part.from i }
-    requires full { (page : List ℕ) → (P.seen pages.old).pages at ≡ Some page → capacity_of (length page) ≤ length (items_of page) }
+    requires full { (page : List ℕ) → (P.seen pages.old).pages at ≡ Some page
+        → capacity_of (length page) ≤ length (items_of page) }
     requires levels { part.levels < 8 }
     ensures kept { P.kept pages.old pages.new }
     ensures readable { AllReadable (P.seen pages.new) }
@@ -69,7 +71,8 @@ fn fork_middle<P: Pages>(pages: &mut P, at: u32, i: u16, part: Part) -> Result<P
     requires room { 1 ≤ (P.seen pages.old).spare }
     requires readable { AllReadable (P.seen pages.old) }
     requires parent { IsParentAt (P.seen pages.old) at part.from i }
-    requires full { (page : List ℕ) → (P.seen pages.old).pages at ≡ Some page → capacity_of (length page) ≤ length (items_of page) }
+    requires full { (page : List ℕ) → (P.seen pages.old).pages at ≡ Some page
+        → capacity_of (length page) ≤ length (items_of page) }
     requires half { i ≡ half_of (P.seen pages.old).page_size }
     requires levels { part.levels < 8 }
     ensures kept { P.kept pages.old pages.new }
@@ -96,7 +99,8 @@ fn fork_left<P: Pages>(
     requires room { 1 ≤ (P.seen pages.old).spare }
     requires readable { AllReadable (P.seen pages.old) }
     requires parent { IsParentAt (P.seen pages.old) at part.from i }
-    requires full { (page : List ℕ) → (P.seen pages.old).pages at ≡ Some page → capacity_of (length page) ≤ length (items_of page) }
+    requires full { (page : List ℕ) → (P.seen pages.old).pages at ≡ Some page
+        → capacity_of (length page) ≤ length (items_of page) }
     requires half { half ≡ half_of (P.seen pages.old).page_size }
     requires side { i < half }
     requires levels { part.levels < 8 }
@@ -126,7 +130,8 @@ fn fork_right<P: Pages>(
     requires room { 1 ≤ (P.seen pages.old).spare }
     requires readable { AllReadable (P.seen pages.old) }
     requires parent { IsParentAt (P.seen pages.old) at part.from i }
-    requires full { (page : List ℕ) → (P.seen pages.old).pages at ≡ Some page → capacity_of (length page) ≤ length (items_of page) }
+    requires full { (page : List ℕ) → (P.seen pages.old).pages at ≡ Some page
+        → capacity_of (length page) ≤ length (items_of page) }
     requires half { half ≡ half_of (P.seen pages.old).page_size }
     requires side { half < i }
     requires levels { part.levels < 8 }

@@ -9,7 +9,7 @@ ghost use Rattle.pm_pages.specs.Paged.{AllReadable, IsInHand};
 ghost use Rattle.pm_pages.specs.Edits.{LooksAtPages, HasMeta, IsNumberIn, HasDiskCause};
 ghost use Rattle.pm_pages.specs.SparePages.{HasTakeCause};
 ghost use Rattle.pm_tree.specs.declared.edits.Edit.TheVariants.{Next, Insert};
-ghost use Rattle.pm_tree.specs.Sound.{NoBadPage, MayTake};
+ghost use Rattle.pm_pages.specs.SoundPages.{NoBadPage, MayTake};
 ghost use Rattle.pm_tree.specs.Edits.{TakesEdit};
 ghost use Rattle.pm_tree.specs.Divisions.{CanDivide, LinksLeaves, PartsLeaf, PutsPages, IsFullLeaf};
 ghost use Rattle.pm_tree.specs.Puts.{PutsFor, HasLevels, half_of, IsMiddle};
@@ -31,7 +31,8 @@ use pm_types::PageFault;
 pub fn item_at<P: Pages>(pages: &mut P, at: u32, i: u16) -> Result<(Separator, u64), PageFault>
     requires ready { P.ready pages.old }
     requires readable { AllReadable (P.seen pages.old) }
-    requires page { (page : List ℕ) × IsInHand (P.seen pages.old) at page × IsIndexPage page × (i < length (items_of page)) }
+    requires page { (page : List ℕ) × IsInHand (P.seen pages.old) at page × IsIndexPage page
+        × (i < length (items_of page)) }
     ensures kept { P.kept pages.old pages.new }
     ensures looks { LooksAtPages P.tells (P.seen pages.old) (P.seen pages.new) 0 }
     ensures readable { AllReadable (P.seen pages.new) }
@@ -57,7 +58,8 @@ fn item_on(page: &[u8], i: u16) -> (Separator, u64)
 fn next_of<P: Pages>(pages: &mut P, at: u32) -> Result<u32, PageFault>
     requires ready { P.ready pages.old }
     requires readable { AllReadable (P.seen pages.old) }
-    requires page { (page : List ℕ) × IsInHand (P.seen pages.old) at page × IsIndexPage page × ((index_of page).leaf ≡ true) }
+    requires page { (page : List ℕ) × IsInHand (P.seen pages.old) at page × IsIndexPage page
+        × ((index_of page).leaf ≡ true) }
     ensures kept { P.kept pages.old pages.new }
     ensures looks { LooksAtPages P.tells (P.seen pages.old) (P.seen pages.new) 0 }
     ensures readable { AllReadable (P.seen pages.new) }
@@ -126,7 +128,8 @@ pub fn set_item<P: Pages>(
     ensures changes { OnOk result (PutsPages P.tells (P.seen pages.old) (P.seen pages.new) 0
         (IsLink (P.seen pages.old).part word)) }
     ensures puts { IfOk result (λ put. P.tells → (limit : ℕ)
-        → PutsFor (P.seen pages.old).pages (P.seen pages.new).pages (half_of (P.seen pages.old).page_size) limit at key.now word put) }
+        → PutsFor (P.seen pages.old).pages (P.seen pages.new).pages
+            (half_of (P.seen pages.old).page_size) limit at key.now word put) }
     ensures keeps { IfOk result (λ put. P.tells → KeepsPage (P.seen pages.old) (P.seen pages.new)
         (IsLink (P.seen pages.old).part word) put) }
     ensures levels { IfOk result (HasLevels 1) }
@@ -155,7 +158,8 @@ pub fn add_item<P: Pages>(
     ensures changes { OnOk result (PutsPages P.tells (P.seen pages.old) (P.seen pages.new) 0
         (IsLink (P.seen pages.old).part word)) }
     ensures puts { IfOk result (λ put. P.tells → (limit : ℕ)
-        → PutsFor (P.seen pages.old).pages (P.seen pages.new).pages (half_of (P.seen pages.old).page_size) limit at key.now word put) }
+        → PutsFor (P.seen pages.old).pages (P.seen pages.new).pages
+            (half_of (P.seen pages.old).page_size) limit at key.now word put) }
     ensures levels { IfOk result (HasLevels 1) }
     ensures cause { HasDiskCause (P.seen pages.old) (P.seen pages.new).faults result }
 {
@@ -182,7 +186,8 @@ pub fn split_leaf<P: Pages>(
     ensures changes { OnOk result (PutsPages P.tells (P.seen pages.old) (P.seen pages.new) 1
         (IsLink (P.seen pages.old).part word)) }
     ensures puts { IfOk result (λ put. P.tells → (limit : ℕ)
-        → PutsFor (P.seen pages.old).pages (P.seen pages.new).pages (half_of (P.seen pages.old).page_size) limit at key.now word put) }
+        → PutsFor (P.seen pages.old).pages (P.seen pages.new).pages
+            (half_of (P.seen pages.old).page_size) limit at key.now word put) }
     ensures levels { IfOk result (HasLevels 1) }
     ensures cause { HasTakeCause P.tells (P.seen pages.old) (P.seen pages.new) result }
     ensures sound { MayTake P.tells (P.seen pages.old) → NoBadPage result }
@@ -217,7 +222,8 @@ fn split_left<P: Pages>(
     ensures changes { OnOk result (PutsPages P.tells (P.seen pages.old) (P.seen pages.new) 1
         (IsLink (P.seen pages.old).part word)) }
     ensures puts { IfOk result (λ put. P.tells → (limit : ℕ)
-        → PutsFor (P.seen pages.old).pages (P.seen pages.new).pages (half_of (P.seen pages.old).page_size) limit at key.now word put) }
+        → PutsFor (P.seen pages.old).pages (P.seen pages.new).pages
+            (half_of (P.seen pages.old).page_size) limit at key.now word put) }
     ensures levels { IfOk result (HasLevels 1) }
     ensures cause { HasTakeCause P.tells (P.seen pages.old) (P.seen pages.new) result }
     ensures sound { MayTake P.tells (P.seen pages.old) → NoBadPage result }
@@ -250,7 +256,8 @@ fn split_right<P: Pages>(
     ensures changes { OnOk result (PutsPages P.tells (P.seen pages.old) (P.seen pages.new) 1
         (IsLink (P.seen pages.old).part word)) }
     ensures puts { IfOk result (λ put. P.tells → (limit : ℕ)
-        → PutsFor (P.seen pages.old).pages (P.seen pages.new).pages (half_of (P.seen pages.old).page_size) limit at key.now word put) }
+        → PutsFor (P.seen pages.old).pages (P.seen pages.new).pages
+            (half_of (P.seen pages.old).page_size) limit at key.now word put) }
     ensures levels { IfOk result (HasLevels 1) }
     ensures cause { HasTakeCause P.tells (P.seen pages.old) (P.seen pages.new) result }
     ensures sound { MayTake P.tells (P.seen pages.old) → NoBadPage result }

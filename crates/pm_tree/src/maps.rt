@@ -8,8 +8,10 @@ ghost use Rattle.pm_tree.specs.Maps.{get_in, put_in};
 ///
 /// A law on definitions: the function does nothing.
 pub fn puts_are_a_maps()
-    ensures here { (items : List Item) (key : List ℕ) (word : ℕ) → get_in (put_in items key word) key ≡ Some word }
+    ensures here { (items : List Item) (key : List ℕ) (word : ℕ)
+        → get_in (put_in items key word) key ≡ Some word }
     ensures others { (items : List Item) (key other : List ℕ) (word : ℕ) → other ≢ key
         → get_in (put_in items key word) other ≡ get_in items other }
-    ensures rising { (items : List Item) (key : List ℕ) (word : ℕ) → IsRising items → IsRising (put_in items key word) }
+    ensures rising { (items : List Item) (key : List ℕ) (word : ℕ) → IsRising items
+        → IsRising (put_in items key word) }
 {}

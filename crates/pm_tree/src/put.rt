@@ -14,7 +14,7 @@ ghost use Rattle.pm_tree.specs.Divisions.{PutsPages};
 ghost use Rattle.pm_tree.specs.Puts.{PutsFor, IsKept, HasLevels, half_of};
 ghost use Rattle.pm_tree.specs.Indexes.{AnswersFrom};
 ghost use Rattle.pm_tree.specs.StoredPuts.{KeepsPage};
-ghost use Rattle.pm_tree.specs.Sound.{NoBadPage, MayTake};
+ghost use Rattle.pm_pages.specs.SoundPages.{NoBadPage, MayTake};
 ghost use Rattle.pm_tree.specs.SoundPuts.{MayPut, MayTakeChild};
 ghost use Rattle.pm_tree.specs.declared.put.Part.{Part};
 ghost use Rattle.pm_tree.specs.declared.put.Put.TheVariants.{Split};
@@ -73,7 +73,8 @@ pub fn put_at<P: Pages>(
     ensures changes { OnOk result (PutsPages P.tells (P.seen pages.old) (P.seen pages.new) (2 * levels)
         (IsLink (P.seen pages.old).part word)) }
     ensures puts { IfOk result (λ put. P.tells
-        → PutsFor (P.seen pages.old).pages (P.seen pages.new).pages (half_of (P.seen pages.old).page_size) levels at key.now word put) }
+        → PutsFor (P.seen pages.old).pages (P.seen pages.new).pages
+            (half_of (P.seen pages.old).page_size) levels at key.now word put) }
     ensures levels { IfOk result (HasLevels levels) }
     ensures cause { HasPutCause P.tells (P.seen pages.old) (P.seen pages.new) cache result }
     ensures keeps { P.tells → (held : ℕ)
@@ -156,7 +157,8 @@ fn take_with_room<P: Pages>(pages: &mut P, at: u32, i: u16, part: &Part) -> Resu
     requires readable { AllReadable (P.seen pages.old) }
     requires parent { IsParentAt (P.seen pages.old) at part.now.from i }
     requires right { 1 ≤ part.now.right }
-    requires space { (page : List ℕ) → (P.seen pages.old).pages at ≡ Some page → length (items_of page) < capacity_of (length page) }
+    requires space { (page : List ℕ) → (P.seen pages.old).pages at ≡ Some page
+        → length (items_of page) < capacity_of (length page) }
     ensures kept { P.kept pages.old pages.new }
     ensures readable { AllReadable (P.seen pages.new) }
     ensures changes { OnOk result (PutsPages P.tells (P.seen pages.old) (P.seen pages.new) 1 (Unit {0})) }
@@ -175,7 +177,8 @@ fn take_without_room<P: Pages>(pages: &mut P, at: u32, i: u16, part: Part) -> Re
     requires room { 1 ≤ (P.seen pages.old).spare }
     requires readable { AllReadable (P.seen pages.old) }
     requires parent { IsParentAt (P.seen pages.old) at part.from i }
-    requires full { (page : List ℕ) → (P.seen pages.old).pages at ≡ Some page → capacity_of (length page) ≤ length (items_of page) }
+    requires full { (page : List ℕ) → (P.seen pages.old).pages at ≡ Some page
+        → capacity_of (length page) ≤ length (items_of page) }
     requires levels { part.levels < 8 }
     requires right { 1 ≤ part.right }
     ensures kept { P.kept pages.old pages.new }

@@ -14,9 +14,9 @@ ghost use Rattle.pm_pages.specs.Edits.{HasMeta, IsNumberIn};
 ghost use Rattle.pm_pages.specs.SparePages.{HasTakeCause};
 ghost use Rattle.pm_types.specs.declared.page_id.Link.{Link};
 ghost use Rattle.pm_tree.specs.Indexes.{IsIndex, link_in};
-ghost use Rattle.pm_tree.specs.Sound.{PassesAll, NoBadPage, MayTake};
+ghost use Rattle.pm_pages.specs.SoundPages.{PassesAll, NoBadPage, MayTake};
 ghost use Rattle.pm_tree.specs.SoundPuts.{HasSparePages, MayPutBelow};
-ghost use Rattle.pm_tree.specs.Stored.{IsStored};
+ghost use Rattle.pm_pages.specs.StoredPages.{IsStored};
 ghost use Rattle.pm_tree.specs.StoredPuts.{MayPutKey};
 ghost use Rattle.pm_tree.specs.Roots.{MakesRoot, MakesTop, PutsIndex, PutsRootPages, HasGrowCause};
 ghost use Rattle.pm_tree.specs.Roots.{HasTreePutCause};
@@ -29,14 +29,16 @@ use pm_meta::MetaSlot;
 use pm_pages::{LEVELS_MAX, Pages, new_page, number, set_number};
 use pm_types::{Link, PageFault, PageId};
 
-/// Puts a link at a key of a cache's index, and gives the one that the key had. The meta page was asked for before.
+/// Puts a link at a key of a cache's index, and gives the one that the key had. The meta page was
+/// asked for before.
 ///
 /// `Failed` comes only where a call on the disk failed. `BadPage` names a page that is bad, or that names a
 /// wrong one: on the way from the root, the meta page where it names no page that can be taken, a page without
 /// a place for a child that was divided; or the root of a tree that has as many levels as it may have. Where
-/// the key is there in a tree whose pages pass their checks none is bad; and where it isn't there, none is bad if 17
-/// more pages can be taken. Then, after `Ok`, all pages pass their checks still, where the link names a row of a page of
-/// this partition. After an error the pages that were asked for may be half changed.
+/// the key is there in a tree whose pages pass their checks none is bad; and where it isn't there,
+/// none is bad if 17 more pages can be taken. Then, after `Ok`, all pages pass their checks still,
+/// where the link names a row of a page of this partition. After an error the pages that were asked
+/// for may be half changed.
 pub fn tree_put<P: Pages>(
     pages: &mut P,
     cache: u8,
@@ -160,7 +162,9 @@ fn grow<P: Pages>(
     requires levels { part.levels < 8 }
     ensures kept { P.kept pages.old pages.new }
     ensures readable { AllReadable (P.seen pages.new) }
-    ensures grows { IfOk result (λ was. (was ≡ None) × (part.levels < 7) × MakesTop P.tells (P.seen pages.old) (P.seen pages.new) cache root part) }
+    ensures grows { IfOk result
+        (λ was. (was ≡ None) × (part.levels < 7)
+        × MakesTop P.tells (P.seen pages.old) (P.seen pages.new) cache root part) }
     ensures cause { HasGrowCause P.tells (P.seen pages.old) (P.seen pages.new) root part.levels result }
     ensures sound { part.levels < 7 → MayTake P.tells (P.seen pages.old) → NoBadPage result }
 {
@@ -189,7 +193,8 @@ fn make_root<P: Pages>(
     requires readable { AllReadable (P.seen pages.old) }
     ensures kept { P.kept pages.old pages.new }
     ensures readable { AllReadable (P.seen pages.new) }
-    ensures makes { OnOk result (MakesRoot P.tells (P.seen pages.old) (P.seen pages.new) cache first key.now word) }
+    ensures makes { OnOk result
+        (MakesRoot P.tells (P.seen pages.old) (P.seen pages.new) cache first key.now word) }
     ensures cause { HasTakeCause P.tells (P.seen pages.old) (P.seen pages.new) result }
     ensures sound { MayTake P.tells (P.seen pages.old) → NoBadPage result }
 {

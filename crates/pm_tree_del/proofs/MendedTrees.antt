@@ -29,7 +29,7 @@ use Rattle.pm_tree.proofs.Ascents.{key_here}
 use Rattle.pm_tree.proofs.ForkSteps.{inner_says}
 use Rattle.pm_tree.proofs.LeafChanges.{capacity_bounds}
 use Rattle.pm_tree.proofs.Told.{meta_spare, past_spare, node_away_count, page_is}
-use Rattle.pm_tree.proofs.Descents.{number_told}
+use Rattle.pm_pages.proofs.ToldPages.{number_told}
 use Rattle.pm_tree_del.specs.declared.pairs.Pair.{Pair}
 use Rattle.pm_tree_del.specs.Neighbours.{joined_items, with_key, AreApart, HasPlaceFor, AreNeighbours, Merges, Shares}
 use Rattle.pm_tree_del.specs.Pairs.{IsPairOf, MayMend}

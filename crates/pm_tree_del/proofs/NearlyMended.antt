@@ -16,7 +16,7 @@ use Rattle.pm_pages.specs.Paged.{Paged}
 use Rattle.pm_pages.specs.Edits.{EditsPages, IsNumberIn}
 use Rattle.pm_pages.proofs.PassingPages.{there_still, there_is, passes_same, meta_sets}
 use Rattle.pm_pages.proofs.SpareSteps.{number_by}
-use Rattle.pm_tree.proofs.Descents.{number_told}
+use Rattle.pm_pages.proofs.ToldPages.{number_told}
 use Rattle.pm_tree_del.specs.declared.pairs.Pair.{Pair}
 use Rattle.pm_tree_del.specs.declared.mends.Mend.{Mend}
 use Rattle.pm_tree_del.specs.declared.mends.Mend.TheVariants.{Merged, Shared, Wrong}

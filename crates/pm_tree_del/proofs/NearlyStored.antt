@@ -11,8 +11,9 @@ use Rattle.pm_pages.specs.Rows.{page_count, number_of, kind_of}
 use Rattle.pm_pages.specs.Paged.{Paged, PassesIn, SamePartition}
 use Rattle.pm_pages.specs.Edits.{LooksAtPages, EditsPages}
 use Rattle.pm_pages.proofs.PassingPages.{passes_same, there_still}
-use Rattle.pm_tree.specs.Stored.{IsStoredPage}
-use Rattle.pm_tree.proofs.StoredNodes.{part_in, count_small, all_left, all_right}
+use Rattle.pm_pages.specs.StoredPages.{IsStoredPage}
+use Rattle.pm_tree.proofs.StoredNodes.{part_in, all_left, all_right}
+use Rattle.pm_pages.proofs.StoredPages.{count_small}
 use Rattle.pm_tree_del.specs.Neighbours.{joined_items, joined_link, joined, with_key}
 use Rattle.pm_tree_del.specs.Stored.{IsNamedIndex, IsNearlyStored, AreNearlyStored}
 

@@ -27,7 +27,7 @@ use Rattle.pm_pages.proofs.ChainWalks.{times-append, times_here}
 use Rattle.pm_tree.proofs.Frames.{root_stands, used, tree_stays, items_stay, leaves_stay, nodes_stay, links_stay, leaves_few}
 use Rattle.pm_tree.proofs.IndexPuts.{linked_to, linked_from, number_there}
 use Rattle.pm_tree.proofs.Told.{node_away_count, page_is}
-use Rattle.pm_tree.proofs.Descents.{number_told}
+use Rattle.pm_pages.proofs.ToldPages.{number_told}
 use Rattle.pm_tree.proofs.LeafChanges.{capacity_bounds}
 use Rattle.pm_tree_del.specs.declared.remove.Removal.TheVariants.{Absent, Kept, Small}
 use Rattle.pm_tree_del.specs.Maps.{remove_in}

@@ -24,7 +24,7 @@ use Rattle.pm_tree.proofs.Frames.{root_stands}
 use Rattle.pm_tree.proofs.MapLists.{get_found}
 use Rattle.pm_tree.proofs.Seams.{flat_joined, each_right}
 use Rattle.pm_tree.proofs.Told.{below_count, meta_spare, node_away_count, page_is, half_is, leaf_kind}
-use Rattle.pm_tree.proofs.Descents.{number_told}
+use Rattle.pm_pages.proofs.ToldPages.{number_told}
 use Rattle.pm_tree_del.specs.declared.mends.Mend.{Mend}
 use Rattle.pm_tree_del.specs.declared.mends.Mend.TheVariants.{Merged, Shared, Wrong}
 use Rattle.pm_tree_del.specs.Maps.{remove_in}
@@ -34,7 +34,7 @@ use Rattle.pm_tree_del.specs.Pairs.{HasPair, IsPairOf, MayMend}
 use Rattle.pm_tree_del.specs.Items.{TakesOutAt}
 use Rattle.pm_tree_del.specs.Mending.{IsWritten, MendsChild}
 use Rattle.pm_tree_del.specs.Causes.{as_removal}
-use Rattle.pm_tree.specs.Sound.{IsSound}
+use Rattle.pm_pages.specs.SoundPages.{IsSound}
 use Rattle.pm_tree_del.specs.Sound.{CanBeMended}
 use Rattle.pm_tree_del.specs.Removes.{RemovesTree, RemovesIn, RemovesAs, RemovesFor}
 use Rattle.pm_tree_del.proofs.EditedItems.{length_without}
@@ -44,7 +44,7 @@ use Rattle.pm_tree_del.proofs.RowSwaps.{RowSwap, swap_then}
 use Rattle.pm_tree_del.proofs.ParentTrees.{EachAt, LacksAt, each_at_to, at_same, row_removed, items_removed, trees_removed, others_removed, parent_removes}
 use Rattle.pm_tree_del.proofs.MendedNodes.{leaf_says, reads_left, reads_right}
 use Rattle.pm_tree_del.proofs.MendedTrees.{RowMended, may_of, left_index, right_index, wide_row, neighbours, shared_row, merged_row}
-use Rattle.pm_tree.proofs.SoundPages.{sound_reads, reads_now}
+use Rattle.pm_pages.proofs.SoundPages.{sound_reads, reads_now}
 use Rattle.pm_tree_del.proofs.GivenPages.{gives_then, gives_none}
 
 -- an item was taken out of a leaf

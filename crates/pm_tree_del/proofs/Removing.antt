@@ -21,7 +21,7 @@ use Rattle.pm_tree.specs.declared.places.Place.TheVariants.{Below}
 use Rattle.pm_tree.specs.Places.{HasGap}
 use Rattle.pm_tree.proofs.MapLists.{get_between}
 use Rattle.pm_tree.proofs.Divided.{number_is, number_now, number_stays, meta_stays}
-use Rattle.pm_tree.proofs.Descents.{pages_told, number_told}
+use Rattle.pm_pages.proofs.ToldPages.{pages_told, number_told}
 use Rattle.pm_tree.proofs.Told.{below_count, page_is}
 use Rattle.pm_tree_del.specs.declared.remove.Removal.{Removal}
 use Rattle.pm_tree_del.specs.declared.remove.Removal.TheVariants.{Absent, Kept, Small}
@@ -32,10 +32,11 @@ use Rattle.pm_tree_del.specs.Pairs.{MayMend}
 use Rattle.pm_tree_del.specs.Mending.{IsOfFamily, IsWritten, MendsChild, HasMendCause}
 use Rattle.pm_tree_del.specs.Causes.{KeepsNumbers, RemovesPages, IsRemoveFaultAfter, HasRemoveCause, as_removal, Lifts}
 use Rattle.pm_tree_del.specs.Removes.{RemovesIn, RemovesAs, RemovesFor}
-use Rattle.pm_tree.specs.Sound.{IsSound, HasTree}
+use Rattle.pm_pages.specs.SoundPages.{IsSound}
+use Rattle.pm_tree.specs.Sound.{HasTree}
 use Rattle.pm_tree_del.specs.Sound.{CanBeMended}
 use Rattle.pm_tree_del.proofs.RemovedTrees.{child_tree, child_once, get_here, kept_up, can_be_mended, mended_as}
-use Rattle.pm_tree.proofs.SoundPages.{sound_edited, sound_looked}
+use Rattle.pm_pages.proofs.SoundPages.{sound_edited, sound_looked}
 use Rattle.pm_tree_del.specs.Stored.{AreNearlyStored}
 use Rattle.pm_tree_del.proofs.NearlyStored.{nearly_looked}
 use Rattle.pm_tree_del.proofs.NearlyMended.{mended_nearly}

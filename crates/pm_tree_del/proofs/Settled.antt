@@ -23,7 +23,7 @@ use Rattle.pm_meta.specs.MetaPages.{IsStoredMeta, IsStoredReuse}
 use Rattle.pm_tree.specs.Indexes.{IsIndex}
 use Rattle.pm_pages.proofs.PassingPages.{count_within}
 use Rattle.pm_tree.proofs.Told.{count_there}
-use Rattle.pm_tree.proofs.Descents.{number_told, pages_told}
+use Rattle.pm_pages.proofs.ToldPages.{number_told, pages_told}
 use Rattle.pm_tree_del.proofs.NearlyStored.{nearly_looked}
 use Rattle.pm_tree_del.proofs.NearlyMended.{root_nearly}
 use Rattle.pm_tree.proofs.Divided.{number_is, number_now}

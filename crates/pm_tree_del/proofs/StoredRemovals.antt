@@ -1,25 +1,23 @@
 -- The pages of a partition pass their checks still after a removal from an index.
 use Rattle.std.proofs.Common.{◌≡◌, ℕ, zero, suc, ◌^◌, ◌<◌, ◌≤◌, List, length, sym, ap, subst, ◌∙◌, inl, inr, arith}
-use Rattle.std.specs.Prelude.{Option, Some, IfSome, IsSomeAnd, Result, Ok, Err, IfOk, OnOk}
+use Rattle.std.specs.Prelude.{Option, Some, Result, Ok, Err, IfOk, OnOk}
 use Rattle.std.proofs.lemmas.Bool.{cases_lt}
 use Rattle.pm_types.specs.PageSizes.{IsPageSize}
-use Rattle.pm_types.specs.declared.shape.Shape.{Shape}
-use Rattle.pm_types.specs.Ids.{page_id}
 use Rattle.pm_types.specs.declared.page_id.Link.{Link}
 use Rattle.pm_btpage.specs.IndexPages.{Item, items_of, index_of, capacity_of}
 use Rattle.pm_btpage.specs.Stored.{NamesPagesOf}
 use Rattle.pm_pages.specs.Rows.{bytes_of, page_at, page_count, kind_of}
 use Rattle.pm_pages.specs.Chains.{times}
 use Rattle.pm_pages.specs.Trees.{root_of}
-use Rattle.pm_pages.specs.Passes.{Passes, PassesAsMeta, PassesAt}
-use Rattle.pm_pages.specs.WellFormed.{AllPass}
-use Rattle.pm_pages.specs.Paged.{Paged, PassesIn}
+use Rattle.pm_pages.specs.Paged.{Paged}
 use Rattle.pm_pages.proofs.PageReads.{page_at-below}
-use Rattle.pm_pages.proofs.PassingPages.{PassesThere, there_still, count_within}
+use Rattle.pm_pages.specs.StoredPages.{IsStoredPage}
+use Rattle.pm_pages.proofs.PassingPages.{there_still, count_within}
+use Rattle.pm_pages.proofs.StoredPages.{all_there, meta_there, count_small}
 use Rattle.pm_tree.specs.Indexes.{IsIndex}
 use Rattle.pm_tree.specs.Nodes.{nodes_in}
 use Rattle.pm_tree.specs.Puts.{IsSpare}
-use Rattle.pm_tree.specs.Sound.{PassesAll}
+use Rattle.pm_pages.specs.SoundPages.{PassesAll}
 use Rattle.pm_tree.proofs.Decoded.{nodes_same, tree_to}
 use Rattle.pm_tree.proofs.Frames.{used}
 use Rattle.pm_tree.proofs.LeafChanges.{capacity_bounds}
@@ -28,8 +26,8 @@ use Rattle.pm_meta.specs.declared.slots.MetaSlot.{MetaSlot}
 use Rattle.pm_meta.specs.declared.slots.MetaSlot.TheVariants.{Pages}
 use Rattle.pm_pages.specs.Edits.{IsNumberIn}
 use Rattle.pm_pages.proofs.SpareSteps.{number_by}
-use Rattle.pm_tree.proofs.SoundLooks.{meta_passes, page_passes, page_there}
-use Rattle.pm_tree.proofs.StoredNodes.{part_in, meta_there, count_small}
+use Rattle.pm_pages.proofs.PassingLooks.{meta_passes, page_passes, page_there}
+use Rattle.pm_tree.proofs.StoredNodes.{part_in}
 use Rattle.pm_tree.proofs.Told.{past_spare}
 use Rattle.pm_tree_del.specs.Maps.{remove_in}
 use Rattle.pm_tree_del.specs.Roots.{RemovesIndex, RemovesRootPages}
@@ -54,7 +52,7 @@ pub count_some : {slot : MetaSlot} {n : ℕ} (p : Paged) → IsNumberIn p slot n
 count_some p number all = (let passes = meta_passes p all number.meta number.in_hand.page in omega (arith, number_by p.pages Pages number.meta number.in_hand.page, passes.stored.counts.some))
 
 -- an index page with an item passes
-named_passes : (p : Paged) (i : ℕ) (page : List ℕ) → p.part < 2 ^ 16 → 1 ≤ i → i < 2 ^ 32 → p.pages i ≡ Some page → IsNamedIndex p i page → 1 ≤ length (items_of page) → PassesThere p i
+named_passes : (p : Paged) (i : ℕ) (page : List ℕ) → p.part < 2 ^ 16 → 1 ≤ i → i < 2 ^ 32 → p.pages i ≡ Some page → IsNamedIndex p i page → 1 ≤ length (items_of page) → IsStoredPage p i
 named_passes p zero page part some lt here named items = absurd (omega (arith, some))
 named_passes p (suc i) page part some lt here named items = (
   page,
@@ -94,17 +92,6 @@ module _ (d : Paged) (near : AreNearlyStored d) where
   index_some root (suc levels) nodes items index j there =
       let tree = tree_to d.pages levels 1 root index.tree in
       page_some (nodes_in d.pages) levels 1 root j (omega arith) (λ k more. wide k (used (nodes_in d.pages) levels 1 root k tree more)) tree (subst (λ u. 1 ≤ times j u) (index.nodes_are ∙ sym (nodes_same d.pages levels root)) there)
-
--- all pages of a partition pass as those of a store of this shape
-all_there : (c : Paged) (shape : Shape) → shape.page_size ≡ c.page_size → shape.max_rows ≡ c.max_rows → PassesThere c 0 → ((i : ℕ) → 1 ≤ i → i < page_count c.pages → PassesThere c i) → AllPass shape c.part c.pages
-all_there c shape page_size max_rows meta there = record { meta = subst (λ o. IfSome o (PassesAsMeta shape.page_size shape.max_rows (page_id c.part 0))) (sym meta.1) (of_shape 0 meta.0 meta.2); each = each_there }
-  where
-    of_shape : (i : ℕ) (page : List ℕ) → PassesIn c i page → PassesAt shape.page_size shape.max_rows c.part i page
-    of_shape i page passes = subst (λ (q : ℕ × ℕ). PassesAt q.0 q.1 c.part i page) {x = (c.page_size, c.max_rows)} {y = (shape.page_size, shape.max_rows)} (λ k. (sym page_size k, sym max_rows k)) passes
-
-    each_there : (i : ℕ) → i < page_count c.pages → IsSomeAnd (c.pages i) (Passes shape.page_size shape.max_rows (page_id c.part i))
-    each_there zero lt = subst (λ o. IsSomeAnd o (Passes shape.page_size shape.max_rows (page_id c.part 0))) (sym meta.1) (let q = of_shape 0 meta.0 meta.2 in record { size = q.size; kind = inl q.stored })
-    each_there (suc i) lt = (let h = there (suc i) (omega arith) lt in subst (λ o. IsSomeAnd o (Passes shape.page_size shape.max_rows (page_id c.part (suc i)))) (sym h.1) (of_shape (suc i) h.0 h.2))
 
 -- all pages pass after a removal
 pub passes_removed : (T : Type 0) (a d : Paged) (cache m : ℕ) (nodes : List ℕ) (items : List Item) (key : List ℕ) (was : Option Link) → T → a.part < 2 ^ 16 → a.max_rows ≤ 400000 → 1 ≤ page_count a.pages → RemovesRootPages T a d cache m → RemovesIndex a.pages d.pages cache nodes items key was → PassesAll a → PassesAll d

@@ -13,7 +13,7 @@ use Rattle.pm_tree.specs.Steps.{NamesNoNode, IsTooDeep}
 use Rattle.pm_tree_del.specs.declared.remove.Removal.{Removal}
 use Rattle.pm_tree_del.specs.declared.remove.Removal.TheVariants.{Absent, Kept, Small}
 use Rattle.pm_tree_del.specs.Mending.{MendsChild, HasNoPair}
-use Rattle.pm_tree.specs.Sound.{IsSound}
+use Rattle.pm_pages.specs.SoundPages.{IsSound}
 use Rattle.pm_tree_del.specs.Stored.{AreNearlyStored}
 
 -- every number of the meta page is as it was but the reuse chain's first page

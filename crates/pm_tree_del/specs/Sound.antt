@@ -13,8 +13,8 @@ pub record StandSo (p : Paged) (at : ℕ) (pair : Pair) : Type 0 where
       → length parent ≡ p.page_size → length left ≡ p.page_size → length right ≡ p.page_size
       → AreNeighbours parent left right pair.place
 
--- page `at` is an inner page with two children at least, and child i, which has this index, and the one beside it
--- can be mended
+-- page `at` is an inner page with two children at least, and child i, which has this index, and the
+-- one beside it can be mended
 pub record CanBeMended (p : Paged) (count at i child : ℕ) : Type 0 where
   pub below : at < page_count p.pages
   pub has : (page : List ℕ) → p.pages at ≡ Some page → HasPair page i

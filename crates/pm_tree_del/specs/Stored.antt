@@ -6,7 +6,7 @@ use Rattle.pm_btpage.specs.IndexPages.{index_of, IsIndexPage}
 use Rattle.pm_btpage.specs.Stored.{NamesPagesOf}
 use Rattle.pm_pages.specs.Rows.{page_count}
 use Rattle.pm_pages.specs.Paged.{Paged, PassesIn}
-use Rattle.pm_tree.specs.Stored.{IsStoredPage}
+use Rattle.pm_pages.specs.StoredPages.{IsStoredPage}
 
 -- an index page under its own name, with names of pages of its partition, and with items or without
 pub record IsNamedIndex (p : Paged) (i : ℕ) (page : List ℕ) : Type 0 where

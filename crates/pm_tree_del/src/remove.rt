@@ -8,9 +8,10 @@ ghost use Rattle.pm_tree.specs.Steps.{IsPath};
 ghost use Rattle.pm_tree.specs.Puts.{half_of};
 ghost use Rattle.pm_tree.specs.Places.{IsPlaceIn};
 ghost use Rattle.pm_tree.specs.declared.places.Place.TheVariants.{Held};
-ghost use Rattle.pm_tree.specs.Sound.{NoBadPage};
+ghost use Rattle.pm_pages.specs.SoundPages.{NoBadPage};
 ghost use Rattle.pm_tree_del.specs.declared.remove.Removal.TheVariants.{Small};
-ghost use Rattle.pm_tree.specs.Sound.{IsSound, HasTree};
+ghost use Rattle.pm_pages.specs.SoundPages.{IsSound};
+ghost use Rattle.pm_tree.specs.Sound.{HasTree};
 ghost use Rattle.pm_tree_del.specs.Sound.{CanBeMended};
 ghost use Rattle.pm_tree_del.specs.Items.{HasItemAt};
 ghost use Rattle.pm_tree_del.specs.Removes.{RemovesFor};
@@ -132,7 +133,8 @@ fn lift<P: Pages>(
     ensures lifts { IfOk result (Lifts P.tells (P.seen pages.old) (P.seen pages.new) count at i child removal) }
     ensures cause { (cache : ℕ) → HasRemoveCause P.tells (P.seen pages.old) (P.seen pages.new) cache result }
     ensures sound { P.tells → IsSound (P.seen pages.old)
-        → ((was : ℕ) → removal ≡ Small was → CanBeMended (P.seen pages.old) count at i child) → NoBadPage result }
+        → ((was : ℕ) → removal ≡ Small was → CanBeMended (P.seen pages.old) count at i child)
+            → NoBadPage result }
 {
     match removal {
         Removal::Absent => Ok(Removal::Absent),

@@ -8,10 +8,10 @@ ghost use Rattle.pm_pages.specs.Trees.{root_of};
 ghost use Rattle.pm_pages.specs.Paged.{AllReadable};
 ghost use Rattle.pm_pages.specs.Edits.{HasMeta, IsNumberIn};
 ghost use Rattle.pm_tree.specs.Indexes.{IsIndex};
-ghost use Rattle.pm_tree.specs.Sound.{PassesAll, NoBadPage};
+ghost use Rattle.pm_pages.specs.SoundPages.{PassesAll, NoBadPage};
 ghost use Rattle.pm_tree.specs.Nodes.{nodes_in, IsTreeIn};
 ghost use Rattle.pm_tree_del.specs.Causes.{IsHeld, HasRemoveCause};
-ghost use Rattle.pm_tree.specs.Sound.{IsSound};
+ghost use Rattle.pm_pages.specs.SoundPages.{IsSound};
 ghost use Rattle.pm_tree_del.specs.Roots.{RemovesRootPages, ReplacesRoot, Settles, RemovesIndex, HasGiveCause};
 
 use crate::remove::{Removal, remove_at};
@@ -28,9 +28,9 @@ use pm_types::{Link, PageFault, PageId};
 ///
 /// `Failed` comes only where a call on the disk failed. `BadPage` names a page that is bad, or that names a
 /// wrong one: on the way from the root, or below a page whose children are to be mended and don't stand in
-/// their order; or the page before one that is given back, where it isn't there. In a tree whose pages pass their
-/// checks none is bad, and after `Ok` they pass them still. After an error the pages that were asked for may be half
-/// changed.
+/// their order; or the page before one that is given back, where it isn't there. In a tree whose
+/// pages pass their checks none is bad, and after `Ok` they pass them still. After an error the
+/// pages that were asked for may be half changed.
 pub fn tree_remove<P: Pages>(
     pages: &mut P,
     cache: u8,

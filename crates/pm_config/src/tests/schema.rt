@@ -1,4 +1,5 @@
-//! The schema that an editor completes `config.json` from names the fields, limits and defaults of the constants.
+//! The schema that an editor completes `config.json` from names the fields, limits and defaults of
+//! the constants.
 
 use crate::policy::kind_of_name;
 use crate::{

@@ -15,7 +15,8 @@ use pm_meta::{BUCKETS, MetaSlot, REUSE_KIND};
 use pm_types::Page;
 use std::alloc::{AllocError, Global};
 
-/// Whether the chain of a bucket has exactly its data pages, each once, and each of them names the one before it.
+/// Whether the chain of a bucket has exactly its data pages, each once, and each of them names the
+/// one before it.
 pub fn has_chain(alloc: Global, pages: &[Page], bucket: u8) -> Result<bool, AllocError>
     requires readable { AreReadable (pages_in pages.now) }
     requires bucket { bucket < BUCKETS }

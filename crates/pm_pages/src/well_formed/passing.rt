@@ -11,8 +11,8 @@ use crate::checks::{check, check_meta};
 use crate::well_formed::listed::page_count;
 use pm_types::{Page, PageId, Shape};
 
-/// Whether the first page, if it is there, is a meta page that passes its check, and each page below the page count is
-/// there and passes its own.
+/// Whether the first page, if it is there, is a meta page that passes its check, and each page
+/// below the page count is there and passes its own.
 pub fn all_pass(shape: &Shape, part: u16, pages: &[Page]) -> bool
     requires { IsPageSize shape.now.page_size }
     ensures pass { IsTrue result ↔ AllPass shape.now part (pages_in pages.now) }

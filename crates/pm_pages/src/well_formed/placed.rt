@@ -78,7 +78,8 @@ pub fn levels_from(pages: &[Page], limit: u8, at: u32) -> u8
     1 + levels_from(pages, limit - 1, child(root, 0))
 }
 
-/// Whether each page but the first stands once, in a tree, in the chain of a bucket or in that of the reuse pages.
+/// Whether each page but the first stands once, in a tree, in the chain of a bucket or in that of
+/// the reuse pages.
 pub fn each_once(alloc: Global, pages: &[Page]) -> Result<bool, AllocError>
     requires readable { AreReadable (pages_in pages.now) }
     requires trees { AreTrees (pages_in pages.now) }

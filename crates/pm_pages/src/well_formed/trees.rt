@@ -35,7 +35,8 @@ pub fn is_tree(pages: &[Page], levels: u8, least: u16, at: u32) -> bool
     true
 }
 
-// Whether the keys of all items below a page, which is a tree, are within the bounds of a child of an inner page.
+// Whether the keys of all items below a page, which is a tree, are within the bounds of a child of
+// an inner page.
 fn is_within(pages: &[Page], inner: &[u8], i: u16, levels: u8, at: u32) -> bool
     requires readable { AreReadable (pages_in pages.now) }
     requires page { IsIndexPage inner.now }

@@ -29,13 +29,14 @@ pub fn set_on_plain(
     requires within { at < (plain_seen pages.old).page_size }
     ensures kept { KeepsPlain pages.old pages.new }
     ensures ready { ArePlainReady pages.new }
-    ensures sets { OnOk result (SetsTwoBytes (Unit {0}) (plain_seen pages.old) (plain_seen pages.new) first second at 7) }
+    ensures sets { OnOk result
+        (SetsTwoBytes (Unit {0}) (plain_seen pages.old) (plain_seen pages.new) first second at 7) }
 {
     set_byte_twice(pages, first, second, at, 7)
 }
 
-/// Sets a byte of two pages of a table, one after the other, whether or not they are held. A fault of the first edit or
-/// of the second is passed on.
+/// Sets a byte of two pages of a table, one after the other, whether or not they are held. A fault
+/// of the first edit or of the second is passed on.
 pub fn set_on_table(
     pages: &mut TablePages,
     first: u32,
@@ -50,13 +51,15 @@ pub fn set_on_table(
     requires within { at < (table_seen pages.old).page_size }
     ensures kept { KeepsTable pages.old pages.new }
     ensures ready { IsTableReady pages.new }
-    ensures sets { OnOk result (SetsTwoBytes ⊥ (table_seen pages.old) (table_seen pages.new) first second at 7) }
+    ensures sets { OnOk result
+        (SetsTwoBytes ⊥ (table_seen pages.old) (table_seen pages.new) first second at 7) }
     ensures cause { HasTwoCauses ⊥ (table_seen pages.old) (table_seen pages.new).faults first second result }
 {
     set_byte_twice(pages, first, second, at, 7)
 }
 
-/// Looks twice for a key on pages of which only those that are held are known: the calls are safe whatever they hold.
+/// Looks twice for a key on pages of which only those that are held are known: the calls are safe
+/// whatever they hold.
 pub fn find_twice(pages: &mut TablePages, cache: u8, key: &[u8]) -> Result<Option<Found>, PageFault>
     requires ready { IsTableReady pages.old }
     requires room { 4 ≤ (table_seen pages.old).spare }

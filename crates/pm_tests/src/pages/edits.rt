@@ -45,7 +45,8 @@ fn note_byte<P: Pages>(pages: &mut P, index: u32, at: u16)
     requires lent { IsTrue ((P.seen pages.old).lent index) }
     requires within { at < (P.seen pages.old).page_size }
     ensures kept { P.kept pages.old pages.new }
-    ensures notes { (patch : Coverage) × Covers patch at × NotesPatch P.tells (P.seen pages.old) (P.seen pages.new) index patch }
+    ensures notes { (patch : Coverage) × Covers patch at
+        × NotesPatch P.tells (P.seen pages.old) (P.seen pages.new) index patch }
 {
     let mut patch = Patch::none(pages.page_size());
     patch.add(at, 1);

@@ -9,8 +9,8 @@ ghost use Rattle.pm_tests.specs.Table.{table_seen, IsTableReady};
 use pm_pages::{Pages, PlainPages};
 use pm_types::{PageFault, Patch};
 
-/// Pages that are held in memory under their names, without being asked for, and no others: every read of another
-/// page fails. Nothing is known of the content of a page that isn't held.
+/// Pages that are held in memory under their names, without being asked for, and no others: every
+/// read of another page fails. Nothing is known of the content of a page that isn't held.
 #[derive(Drop)]
 pub struct TablePages {
     plain: PlainPages,

@@ -65,7 +65,8 @@ fn a_page_after_a_gap_is_not_made(rt: HostRuntime) -> Result<(), Fail> {
 
 // A table that holds page 0, which is of zeros. No page was asked for.
 fn table(rt: &impl Abort, alloc: Global) -> Result<TablePages, Fail>
-    ensures { IfOk result (λ made. IsTableReady made × ((table_seen made).spare ≡ 32) × ((table_seen made).page_size ≡ 1024)
+    ensures { IfOk result
+        (λ made. IsTableReady made × ((table_seen made).spare ≡ 32) × ((table_seen made).page_size ≡ 1024)
         × ((i : ℕ) → IsTold ⊥ (table_seen made) i → IsThere (table_seen made) i)) }
 {
     let mut pages = PlainPages::new(alloc, &SHAPE, 2)?;
@@ -83,9 +84,9 @@ fn a_fault_of_the_second_edit_is_passed_on(rt: HostRuntime) -> Result<(), Fail> 
     Ok(())
 }
 
-// The pages of partition 2 of a store with four. Cache 0 has 84 rows and a tree of three levels: 14 leaves, pages 1 to
-// 14, below the inner pages 15 and 16, below 17. Cache 1 has two rows on one leaf, page 20. The data pages 18 and 19 have
-// 43 rows each, so they are of one bucket.
+// The pages of partition 2 of a store with four. Cache 0 has 84 rows and a tree of three levels: 14
+// leaves, pages 1 to 14, below the inner pages 15 and 16, below 17. Cache 1 has two rows on one
+// leaf, page 20. The data pages 18 and 19 have 43 rows each, so they are of one bucket.
 type Pages21 = [[u8; 1024]; 21];
 
 // Lays bytes over those of a page from an offset on.

@@ -173,8 +173,8 @@ fn step_agrees(
     }
 }
 
-// Makes step i, and says whether pages and map agreed and, after each 2,000 steps, do so on all keys, and whether
-// the pages are a tree after each `every` steps.
+// Makes step i, and says whether pages and map agreed and, after each 2,000 steps, do so on all
+// keys, and whether the pages are a tree after each `every` steps.
 fn step_holds(
     alloc: Global,
     shape: &Shape,

@@ -1,6 +1,6 @@
 use Rattle.pm_tree.proofs.Divided.{before_cut, divided}
-use Rattle.pm_tree.proofs.SpareRoom.{take_not_bad}
-use Rattle.pm_tree.proofs.SoundPages.{no_bad_passed}
+use Rattle.pm_pages.proofs.SpareRoom.{take_not_bad}
+use Rattle.pm_pages.proofs.SoundPages.{no_bad_passed}
 use Rattle.std.proofs.lemmas.Result.{err_from_is_err_and}
 use Rattle.pm_tree.proofs.dividing.divide_copied.Goals as goal
 

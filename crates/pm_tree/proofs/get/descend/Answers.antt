@@ -9,7 +9,8 @@ use Rattle.pm_tree.specs.Indexes.{as_link, AnswersFrom}
 use Rattle.pm_tree.specs.declared.steps.Step.TheVariants.{Word, Child, Other}
 use Rattle.pm_tree.proofs.Descents.{path_looked, word_answers, child_answers, path_child, names_no_node}
 use Rattle.std.proofs.lemmas.Result.{err_from_is_err_and}
-use Rattle.pm_tree.proofs.SoundLooks.{bad_passed, answers_not_bad, answers_are_nodes, answers_end}
+use Rattle.pm_pages.proofs.PassingLooks.{bad_passed}
+use Rattle.pm_tree.proofs.SoundLooks.{answers_not_bad, answers_are_nodes, answers_end}
 use Rattle.pm_tree.proofs.get.descend.Goals as goal
 
 pub returns-in-Word-clause-gets : goal.returns-in-Word-clause-gets

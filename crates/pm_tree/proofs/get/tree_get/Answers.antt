@@ -6,8 +6,9 @@ use Rattle.pm_pages.specs.Trees.{root_of}
 use Rattle.pm_pages.specs.Rows.{Partition}
 use Rattle.pm_tree.specs.Indexes.{IsIndex}
 use Rattle.pm_tree.specs.Maps.{get_in}
-use Rattle.pm_tree.proofs.Descents.{number_told, pages_told, index_answers, look_cause_before}
-use Rattle.pm_tree.proofs.SoundLooks.{passes_looked}
+use Rattle.pm_pages.proofs.ToldPages.{number_told, pages_told}
+use Rattle.pm_tree.proofs.Descents.{index_answers, look_cause_before}
+use Rattle.pm_pages.proofs.PassingLooks.{passes_looked}
 use Rattle.pm_tree.proofs.get.tree_get.Goals as goal
 
 pub returns-else-root-eq0-clause-gets : goal.returns-else-root-eq0-clause-gets

@@ -11,8 +11,8 @@ use Rattle.pm_tree.specs.Grown.{Forks}
 use Rattle.pm_tree.proofs.Divided.{can_looked, divides_looked}
 use Rattle.pm_tree.proofs.LinkedLeaves.{cause_passed, disk_passed}
 use Rattle.pm_tree.proofs.ForkSteps.{can_fork, half_in, right_forks, takes_high}
-use Rattle.pm_tree.proofs.SpareRoom.{may_take_looked}
-use Rattle.pm_tree.proofs.SoundPages.{no_bad_passed}
+use Rattle.pm_pages.proofs.SpareRoom.{may_take_looked}
+use Rattle.pm_pages.proofs.SoundPages.{no_bad_passed}
 use Rattle.pm_tree.proofs.inner.fork_right.Goals as goal
 
 pub item_at-requires-clause-page : goal.item_at-requires-clause-page

@@ -5,8 +5,8 @@ use Rattle.std.proofs.lemmas.Result.{err_from_is_err_and}
 use Rattle.pm_pages.proofs.TakenPages.{cause_looked}
 use Rattle.pm_tree.proofs.Divided.{can_looked, divides_looked}
 use Rattle.pm_tree.proofs.LinkedLeaves.{takes_next, parts_leaf, cause_passed}
-use Rattle.pm_tree.proofs.SpareRoom.{may_take_looked}
-use Rattle.pm_tree.proofs.SoundPages.{no_bad_passed}
+use Rattle.pm_pages.proofs.SpareRoom.{may_take_looked}
+use Rattle.pm_pages.proofs.SoundPages.{no_bad_passed}
 use Rattle.pm_tree.proofs.leaves.part_leaf.Goals as goal
 
 pub divide-requires-clause-page : goal.divide-requires-clause-page

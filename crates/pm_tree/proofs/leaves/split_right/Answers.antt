@@ -6,8 +6,8 @@ use Rattle.pm_tree.specs.Puts.{half_of, PutsFor, HasLevels}
 use Rattle.pm_tree.proofs.Divided.{can_looked}
 use Rattle.pm_tree.proofs.LinkedLeaves.{cause_passed, disk_passed}
 use Rattle.pm_tree.proofs.LeafChanges.{cut_below, can_part, parts_looked, right_changes, right_puts, takes_right}
-use Rattle.pm_tree.proofs.SpareRoom.{may_take_looked}
-use Rattle.pm_tree.proofs.SoundPages.{no_bad_passed}
+use Rattle.pm_pages.proofs.SpareRoom.{may_take_looked}
+use Rattle.pm_pages.proofs.SoundPages.{no_bad_passed}
 use Rattle.pm_tree.proofs.leaves.split_right.Goals as goal
 
 pub item_at-requires-clause-page : goal.item_at-requires-clause-page

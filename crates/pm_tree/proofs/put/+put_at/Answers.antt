@@ -11,12 +11,14 @@ use Rattle.pm_tree.specs.Puts.{HasLevels, PutsFor, half_of}
 use Rattle.pm_tree.specs.Steps.{IsPath}
 use Rattle.pm_tree.proofs.Descents.{path_looked}
 use Rattle.pm_btpage.specs.Stored.{IsLink}
-use Rattle.pm_tree.proofs.StoredNodes.{stored_looked}
+use Rattle.pm_pages.proofs.StoredPages.{stored_looked}
 use Rattle.pm_tree.proofs.Climbs.{page_after, page_then, changes_looked, changes_then, link_then, below_count_of, below_after, at_place, full_leaf, path_below, puts_looked, lift_step, levels_more, names_no_place, put_cause_take, put_cause_disk, put_cause_page, put_cause_after, put_cause_passed}
-use Rattle.pm_tree.proofs.SoundLooks.{bad_passed, passes_looked, answers_not_bad, answers_end}
-use Rattle.pm_tree.proofs.SoundPages.{sound_not_bad, node_within}
+use Rattle.pm_pages.proofs.PassingLooks.{bad_passed, passes_looked}
+use Rattle.pm_tree.proofs.SoundLooks.{answers_not_bad, answers_end}
+use Rattle.pm_pages.proofs.SoundPages.{sound_not_bad}
+use Rattle.pm_tree.proofs.SoundPages.{node_within}
 use Rattle.pm_tree.proofs.SoundTrees.{tree_looked, not_other}
-use Rattle.pm_tree.proofs.SpareRoom.{may_take, can_take_looked}
+use Rattle.pm_pages.proofs.SpareRoom.{may_take, can_take_looked}
 use Rattle.pm_tree.proofs.GrownTrees.{either, kept_takes, grow_below, takes_place}
 use Rattle.pm_tree.proofs.SoundPuts.{no_gap, child_has, place_is_node}
 use Rattle.pm_tree.proofs.put.+put_at.Goals as goal

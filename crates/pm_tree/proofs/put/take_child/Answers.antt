@@ -7,9 +7,9 @@ use Rattle.pm_pages.proofs.EditedPages.{edits_looked, looks_at_none}
 use Rattle.pm_tree.specs.declared.fits.Fit.TheVariants.{Room, Full, Wrong}
 use Rattle.pm_tree.specs.Grown.{IsFitIn, IsParent, IsParentAt}
 use Rattle.pm_tree.proofs.Told.{below_count}
-use Rattle.pm_tree.proofs.SoundLooks.{bad_passed}
-use Rattle.pm_tree.proofs.SoundPages.{sound_not_bad}
-use Rattle.pm_tree.proofs.SpareRoom.{may_take_looked}
+use Rattle.pm_pages.proofs.PassingLooks.{bad_passed}
+use Rattle.pm_pages.proofs.SoundPages.{sound_not_bad}
+use Rattle.pm_pages.proofs.SpareRoom.{may_take_looked}
 use Rattle.pm_tree.proofs.Divided.{numbers_looked}
 use Rattle.pm_tree.proofs.Climbs.{changes_looked, looked_then, below_after, parent_of, takes_looked, put_cause_take, put_cause_page, put_cause_after, put_cause_passed}
 use Rattle.pm_tree.proofs.put.take_child.Goals as goal

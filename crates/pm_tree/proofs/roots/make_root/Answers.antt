@@ -1,7 +1,7 @@
 use Rattle.std.proofs.lemmas.Result.{on_ok_weaker}
 use Rattle.pm_tree.proofs.NewRoots.{takes_first, makes_root}
-use Rattle.pm_tree.proofs.SpareRoom.{take_not_bad}
-use Rattle.pm_tree.proofs.SoundPages.{no_bad_passed}
+use Rattle.pm_pages.proofs.SpareRoom.{take_not_bad}
+use Rattle.pm_pages.proofs.SoundPages.{no_bad_passed}
 use Rattle.std.proofs.lemmas.Result.{err_from_is_err_and}
 use Rattle.pm_tree.proofs.roots.make_root.Goals as goal
 

@@ -4,7 +4,7 @@ use Rattle.pm_pages.proofs.EditedPages.{looks_at_none}
 use Rattle.pm_btpage.specs.Stored.{IsLink}
 use Rattle.pm_tree.proofs.StoredNodes.{leaf_root}
 use Rattle.pm_tree.proofs.LinkedLeaves.{cause_passed}
-use Rattle.pm_tree.proofs.SoundPages.{no_bad_passed}
+use Rattle.pm_pages.proofs.SoundPages.{no_bad_passed}
 use Rattle.pm_tree.proofs.Climbs.{changes_looked, put_cause_take}
 use Rattle.pm_tree.proofs.IndexPuts.{plants_index, changes_root, tree_cause}
 use Rattle.pm_tree.proofs.roots.plant.Goals as goal

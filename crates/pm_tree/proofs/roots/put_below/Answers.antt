@@ -11,9 +11,11 @@ use Rattle.pm_tree.specs.Roots.{PutsIndex}
 use Rattle.pm_tree.proofs.Climbs.{changes_looked, link_then, puts_looked, put_cause_disk, put_cause_after, put_cause_passed}
 use Rattle.pm_tree.proofs.IndexPuts.{keeps_height, grows_height, changes_root, changes_same_root, tree_cause, grow_cause}
 use Rattle.pm_btpage.specs.Stored.{IsLink}
-use Rattle.pm_tree.proofs.StoredNodes.{top_root, stored_looked}
-use Rattle.pm_tree.proofs.Descents.{pages_told, index_answers}
-use Rattle.pm_tree.proofs.SoundLooks.{bad_passed, passes_looked}
+use Rattle.pm_tree.proofs.StoredNodes.{top_root}
+use Rattle.pm_pages.proofs.StoredPages.{stored_looked}
+use Rattle.pm_pages.proofs.ToldPages.{pages_told}
+use Rattle.pm_tree.proofs.Descents.{index_answers}
+use Rattle.pm_pages.proofs.PassingLooks.{bad_passed, passes_looked}
 use Rattle.pm_tree.proofs.SoundPuts.{held_word}
 use Rattle.pm_tree.proofs.GrownTrees.{may_grow_root, may_put_looked, may_take_root, not_tall}
 use Rattle.pm_tree.proofs.roots.put_below.Goals as goal

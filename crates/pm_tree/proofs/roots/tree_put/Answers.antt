@@ -6,15 +6,15 @@ use Rattle.pm_pages.specs.Rows.{Partition}
 use Rattle.pm_pages.specs.Trees.{root_of}
 use Rattle.pm_tree.specs.Indexes.{IsIndex}
 use Rattle.pm_tree.specs.Roots.{PutsIndex}
-use Rattle.pm_tree.proofs.Descents.{number_told, pages_told}
+use Rattle.pm_pages.proofs.ToldPages.{number_told, pages_told}
 use Rattle.pm_tree.proofs.Climbs.{put_cause_disk, put_cause_passed}
 use Rattle.pm_tree.proofs.IndexPuts.{root_changes_looked, tree_cause, tree_cause_looked}
-use Rattle.pm_tree.proofs.SoundLooks.{bad_passed, passes_looked}
+use Rattle.pm_pages.proofs.PassingLooks.{bad_passed, passes_looked}
 use Rattle.pm_tree.proofs.SoundPuts.{none_held}
-use Rattle.pm_tree.proofs.SpareRoom.{may_take, may_take_looked}
+use Rattle.pm_pages.proofs.SpareRoom.{may_take, may_take_looked}
 use Rattle.pm_tree.proofs.GrownTrees.{can_take_spare, limit_small, may_put_below, may_put_looked}
 use Rattle.pm_btpage.specs.Stored.{IsLink}
-use Rattle.pm_tree.proofs.StoredNodes.{stored_looked}
+use Rattle.pm_pages.proofs.StoredPages.{stored_looked}
 use Rattle.pm_tree.proofs.StoredPuts.{on_ok_both, passes_room, no_key}
 use Rattle.pm_tree.proofs.roots.tree_put.Goals as goal
 

@@ -4,7 +4,7 @@ use Rattle.pm_types.specs.Ids.{page_id}
 use Rattle.pm_tree_del.specs.Pairs.{IsPairIn}
 use Rattle.pm_tree_del.proofs.WrittenPages.{mend_cause_looked, no_pair_cause, child_mended}
 use Rattle.std.proofs.lemmas.Result.{err_from_is_err_and}
-use Rattle.pm_tree.proofs.SoundPages.{sound_looked, sound_not_bad, no_bad_passed}
+use Rattle.pm_pages.proofs.SoundPages.{sound_looked, sound_not_bad, no_bad_passed}
 use Rattle.pm_tree_del.proofs.SoundRemovals.{stand_looked}
 use Rattle.pm_tree_del.proofs.mending.mend_child.Goals as goal
 

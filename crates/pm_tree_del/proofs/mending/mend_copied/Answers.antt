@@ -5,8 +5,8 @@ use Rattle.pm_tree_del.specs.declared.mends.Mend.TheVariants.{Merged, Shared, Wr
 use Rattle.pm_tree_del.specs.Neighbours.{IsMend}
 use Rattle.pm_tree_del.proofs.WrittenPages.{pair_of_copy, mend_cause_gap, mend_cause_disk, mend_cause_passed, no_pair_cause}
 use Rattle.pm_meta.specs.declared.slots.MetaSlot.TheVariants.{Pages}
-use Rattle.pm_tree.proofs.Descents.{number_told}
-use Rattle.pm_tree.proofs.SoundPages.{sound_no_gap, no_bad_passed}
+use Rattle.pm_pages.proofs.ToldPages.{number_told}
+use Rattle.pm_pages.proofs.SoundPages.{sound_no_gap, no_bad_passed}
 use Rattle.pm_tree_del.proofs.mending.mend_copied.Goals as goal
 
 pub returns-in_err-write_merged-in-Merged-clause-cause : goal.returns-in_err-write_merged-in-Merged-clause-cause

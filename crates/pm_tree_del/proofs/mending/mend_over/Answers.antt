@@ -4,9 +4,9 @@ use Rattle.std.proofs.Common.{◌+◌, sym, ◌∙◌, arith}
 use Rattle.std.proofs.lemmas.Result.{err_from_is_err_and}
 use Rattle.pm_meta.specs.declared.slots.MetaSlot.TheVariants.{Pages}
 use Rattle.pm_pages.proofs.EditedPages.{looks_then}
-use Rattle.pm_tree.proofs.Descents.{number_told}
+use Rattle.pm_pages.proofs.ToldPages.{number_told}
 use Rattle.pm_tree_del.proofs.WrittenPages.{can_looked}
-use Rattle.pm_tree.proofs.SoundPages.{sound_looked, sound_not_bad, no_bad_passed}
+use Rattle.pm_pages.proofs.SoundPages.{sound_looked, sound_not_bad, no_bad_passed}
 use Rattle.pm_tree_del.proofs.SoundRemovals.{stand_looked}
 use Rattle.pm_tree_del.proofs.mending.mend_over.Goals as goal
 

@@ -13,7 +13,8 @@ use Rattle.pm_tree.proofs.Descents.{path_looked}
 use Rattle.pm_tree.proofs.Climbs.{below_count_of, at_place, path_below, names_no_place}
 use Rattle.pm_tree_del.proofs.Removing.{changes_looked, changes_then, changes_more, removes_looked, absent_removes, lift_step, remove_cause_disk, remove_cause_page, remove_cause_after, remove_cause_passed}
 use Rattle.pm_tree_del.proofs.Removing.{mendable_if}
-use Rattle.pm_tree.proofs.SoundPages.{sound_looked, sound_not_bad, node_within, no_bad_passed}
+use Rattle.pm_pages.proofs.SoundPages.{sound_looked, sound_not_bad, no_bad_passed}
+use Rattle.pm_tree.proofs.SoundPages.{node_within}
 use Rattle.pm_tree.proofs.SoundTrees.{tree_looked, not_other, tree_of_child}
 use Rattle.pm_tree_del.proofs.remove.+remove_at.Goals as goal
 

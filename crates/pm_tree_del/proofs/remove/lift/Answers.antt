@@ -5,7 +5,7 @@ use Rattle.pm_tree_del.specs.declared.remove.Removal.{Removal}
 use Rattle.pm_tree_del.specs.declared.remove.Removal.TheVariants.{Absent, Kept}
 use Rattle.pm_tree_del.specs.Causes.{Lifts}
 use Rattle.pm_tree_del.proofs.Removing.{changes_looked, changes_more, changes_mended, remove_cause_mend, remove_cause_passed}
-use Rattle.pm_tree.proofs.SoundPages.{no_bad_passed}
+use Rattle.pm_pages.proofs.SoundPages.{no_bad_passed}
 use Rattle.pm_tree_del.proofs.remove.lift.Goals as goal
 
 pub returns-in-Absent-clause-changes : goal.returns-in-Absent-clause-changes

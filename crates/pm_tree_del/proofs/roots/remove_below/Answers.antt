@@ -9,7 +9,7 @@ use Rattle.pm_tree_del.specs.Removes.{RemovesFor}
 use Rattle.pm_tree_del.proofs.Removing.{changes_looked, changes_then, removes_looked, remove_cause_disk, remove_cause_after, remove_cause_passed}
 use Rattle.pm_tree_del.proofs.Settled.{root_changed, root_then}
 use Rattle.pm_tree_del.proofs.IndexCalls.{absent_height, kept_height, settled_height}
-use Rattle.pm_tree.proofs.SoundPages.{sound_looked, no_bad_passed}
+use Rattle.pm_pages.proofs.SoundPages.{sound_looked, no_bad_passed}
 use Rattle.pm_tree.proofs.SoundTrees.{tree_looked, index_tree}
 use Rattle.pm_tree_del.proofs.SoundRemovals.{small_tree}
 use Rattle.pm_tree_del.proofs.roots.remove_below.Goals as goal

@@ -8,10 +8,11 @@ use Rattle.pm_tree_del.specs.Roots.{IsTopIn}
 use Rattle.pm_tree_del.proofs.Settled.{root_looked, changes_replaced, settles_full, settles_empty, settles_only, cause_given, cause_named, root_no_node}
 use Rattle.std.proofs.lemmas.Result.{err_from_is_err_and}
 use Rattle.pm_pages.proofs.TakenPages.{meta_looked}
-use Rattle.pm_tree.proofs.SoundPages.{sound_looked, sound_not_bad, sound_no_gap, node_within, no_bad_passed}
+use Rattle.pm_pages.proofs.SoundPages.{sound_looked, sound_not_bad, sound_no_gap, no_bad_passed}
+use Rattle.pm_tree.proofs.SoundPages.{node_within}
 use Rattle.pm_tree.proofs.SoundTrees.{tree_seen, node_kind}
 use Rattle.pm_tree_del.proofs.SoundRemovals.{only_within}
-use Rattle.pm_tree.proofs.Descents.{number_told}
+use Rattle.pm_pages.proofs.ToldPages.{number_told}
 use Rattle.pm_tree_del.proofs.roots.settle.Goals.{then-child-eq0-via-then-child-eq0, then-child-eq0-via-else-child-eq0+then-child-count}
 use Rattle.pm_tree_del.proofs.roots.settle.Goals as goal
 

@@ -7,9 +7,9 @@ use Rattle.pm_pages.specs.Edits.{IsNumberIn}
 use Rattle.pm_pages.proofs.EditedPages.{edits_looked, looks_at_none}
 use Rattle.pm_tree_del.proofs.Removing.{remove_cause_page, remove_cause_after, remove_cause_passed}
 use Rattle.pm_tree_del.proofs.Settled.{root_looked, root_then, index_looked, none_looked, zero_looked, meta_of}
-use Rattle.pm_tree.proofs.SoundLooks.{meta_not_bad, passes_looked}
+use Rattle.pm_pages.proofs.PassingLooks.{meta_not_bad, passes_looked}
 use Rattle.pm_tree_del.proofs.StoredRemovals.{if_ok_both, count_some, passes_removed}
-use Rattle.pm_tree.proofs.SoundPages.{sound_all, sound_looked, no_bad_passed}
+use Rattle.pm_pages.proofs.SoundPages.{sound_all, sound_looked, no_bad_passed}
 use Rattle.pm_tree.proofs.SoundTrees.{index_seen}
 use Rattle.pm_tree_del.proofs.roots.tree_remove.Goals as goal
 

@@ -1,25 +1,26 @@
 -- How many pages can be taken still after a change.
-use Rattle.std.proofs.Common.{◌≡◌, ℕ, suc, ◌+◌, ◌-◌, ◌^◌, ◌<◌, ◌≤◌, ◌⊎◌, List, [], ◌∷◌, length, sym, ap, ◌∙◌, inl, inr, arith}
+use Rattle.std.proofs.Common.{◌≡◌, ℕ, ◌+◌, ◌-◌, ◌^◌, ◌<◌, ◌≤◌, ◌⊎◌, List, [], length, sym, ap, ◌∙◌, inl, inr, arith}
 use Rattle.std.specs.Prelude.{Some, IsTrue, Result, IsErrOf}
 use Rattle.pm_types.specs.declared.page_id.PageId.{PageId}
 use Rattle.pm_types.specs.declared.fault.PageFault.{PageFault}
 use Rattle.pm_types.specs.declared.fault.PageFault.TheVariants.{BadPage}
 use Rattle.pm_meta.specs.declared.layout.TheConstants.{REUSE_KIND}
 use Rattle.pm_pages.specs.Rows.{Partition, bytes_of, number_in, page_at, page_count, kind_of}
-use Rattle.pm_pages.specs.Chains.{times, walk, reuse_next_of, reuse_chain}
+use Rattle.pm_pages.specs.Chains.{reuse_chain}
 use Rattle.pm_pages.specs.Paged.{Paged, IsThere}
 use Rattle.pm_pages.specs.Edits.{LooksAtPages, EditsPages}
 use Rattle.pm_pages.specs.SparePages.{NamesNoSpare, HasTakeCause}
 use Rattle.pm_pages.proofs.EditedPages.{edits_looked}
 use Rattle.pm_meta.specs.MetaPages.{field_of}
 use Rattle.pm_meta.specs.declared.slots.MetaSlot.TheVariants.{Reuse, Pages}
-use Rattle.pm_tree.specs.Sound.{NoBadPage, CanTake, MayTake}
+use Rattle.pm_pages.specs.SoundPages.{NoBadPage, CanTake, MayTake}
 use Rattle.pm_pages.specs.SpareChains.{MovesSpare}
 use Rattle.pm_pages.proofs.SpareSteps.{number_by, moves_look}
-use Rattle.pm_tree.proofs.SoundPages.{sound_grown, sound_not_bad, sound_no_gap_upto}
-use Rattle.pm_pages.proofs.ChainWalks.{stands, walk_none, walk_on, times_here}
+use Rattle.pm_pages.proofs.SoundPages.{sound_grown, sound_not_bad, sound_no_gap_upto}
+use Rattle.pm_pages.proofs.ChainWalks.{stands}
+use Rattle.pm_pages.proofs.PassingPages.{first_stands, no_chain}
 use Rattle.pm_pages.proofs.PageReads.{page_at-below}
-use Rattle.pm_tree.proofs.Descents.{pages_told}
+use Rattle.pm_pages.proofs.ToldPages.{pages_told}
 
 pub can_take_less : (limit : ℕ) (p : Paged) (n m : ℕ) → m ≤ n → CanTake limit p n → CanTake limit p m
 can_take_less limit p n m le can = record { sound = can.sound; spare = can.spare; some = can.some; room = omega (arith, can.room, le) }
@@ -40,18 +41,6 @@ can_take_looked T a b m t looks limit left can =
 
 pub may_take_looked : (T : Type 0) (a b : Paged) (m : ℕ) → LooksAtPages T a b m → MayTake T a → MayTake T b
 may_take_looked T a b m looks may = record { told = may.told; limit = may.limit; small = may.small; take = can_take_looked T a b m may.told looks may.limit 1 may.take }
-
--- a chain's first page stands on it
-first_stands : (a : Partition) → 1 ≤ page_count a → 1 ≤ number_in a Reuse → 1 ≤ times (number_in a Reuse) (reuse_chain a)
-first_stands a counted first =
-    let f : ℕ → ℕ = λ j. reuse_next_of (page_at a j) in
-    let size : page_count a ≡ suc (page_count a - 1) = omega (arith, counted) in
-    let on : reuse_chain a ≡ number_in a Reuse ∷ walk (λ j. reuse_next_of (page_at a j)) (page_count a - 1) (reuse_next_of (page_at a (number_in a Reuse))) =
-    (λ k. walk (λ j. reuse_next_of (page_at a j)) (size k) (number_in a Reuse)) ∙ walk_on (λ j. reuse_next_of (page_at a j)) (page_count a - 1) (number_in a Reuse) (λ e. omega (arith, e, first)) in
-    omega (arith, ap (λ t. times (number_in a Reuse) t) on, times_here (number_in a Reuse) (walk (λ j. reuse_next_of (page_at a j)) (page_count a - 1) (reuse_next_of (page_at a (number_in a Reuse)))))
-
-no_chain : (a : Partition) → number_in a Reuse ≡ 0 → length (reuse_chain a) ≡ 0
-no_chain a none = ap length ((λ k. walk (λ j. reuse_next_of (page_at a j)) (page_count a) (none k)) ∙ walk_none (λ j. reuse_next_of (page_at a j)) (page_count a))
 
 -- the meta page names a page that can be taken
 names_spare : (T : Type 0) (a b : Paged) (m : ℕ) (id : PageId) → MayTake T a → LooksAtPages T a b m → NamesNoSpare b id → ⊥

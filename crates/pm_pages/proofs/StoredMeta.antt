@@ -4,8 +4,8 @@ use Rattle.pm_pages.specs.Paged.{Paged}
 use Rattle.pm_pages.specs.Edits.{LooksAtPages, EditsPages}
 use Rattle.pm_pages.specs.SparePages.{TakesPage}
 use Rattle.pm_pages.proofs.PassingPages.{there_still, meta_taken}
-use Rattle.pm_tree.specs.Stored.{KeepsMeta}
-use Rattle.pm_tree.proofs.SpareRoom.{can_take_looked}
+use Rattle.pm_pages.specs.StoredPages.{KeepsMeta}
+use Rattle.pm_pages.proofs.SpareRoom.{can_take_looked}
 
 -- a page was taken
 pub keeps_taken : (T : Type 0) (a b : Paged) (m i : ℕ) → T → TakesPage T a b m i → KeepsMeta a b

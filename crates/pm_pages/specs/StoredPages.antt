@@ -3,7 +3,7 @@ use Rattle.std.specs.Prelude.{◌≡◌, ℕ, ◌+◌, ◌*◌, ◌^◌, ◌<◌
 use Rattle.pm_types.specs.declared.limits.TheConstants.{ROWS_MAX}
 use Rattle.pm_meta.specs.declared.layout.TheConstants.{EXTRA_PAGES}
 use Rattle.pm_pages.specs.Paged.{Paged, PassesIn}
-use Rattle.pm_tree.specs.Sound.{PassesAll, CanTake}
+use Rattle.pm_pages.specs.SoundPages.{PassesAll, CanTake}
 
 -- a partition whose pages pass their checks, of a number and with as many rows as a store may have
 pub record IsStored (p : Paged) : Type 0 where
@@ -11,7 +11,8 @@ pub record IsStored (p : Paged) : Type 0 where
   pub rows : p.max_rows ≤ ROWS_MAX
   pub part : p.part < 2 ^ 16
 
--- Where so many pages can be taken within the limit of the page count, pages that pass their checks do so still.
+-- Where so many pages can be taken within the limit of the page count, pages that pass their checks
+-- do so still.
 abbrev pub KeepsStored : Paged → Paged → ℕ → Type 0
 KeepsStored old new most = (limit : ℕ) → limit ≤ 2 * old.max_rows + EXTRA_PAGES → CanTake limit old most
     → IsStored old → IsStored new
@@ -20,7 +21,8 @@ KeepsStored old new most = (limit : ℕ) → limit ≤ 2 * old.max_rows + EXTRA_
 abbrev pub IsStoredPage : Paged → ℕ → Type 0
 IsStoredPage p i = (page : List ℕ) × (p.pages i ≡ Some page) × PassesIn p i page
 
--- Where a page can be taken within the limit of the page count, a meta page that passes its check does so still.
+-- Where a page can be taken within the limit of the page count, a meta page that passes its check
+-- does so still.
 abbrev pub KeepsMeta : Paged → Paged → Type 0
 KeepsMeta old new = (limit : ℕ) → limit ≤ 2 * old.max_rows + EXTRA_PAGES → CanTake limit old 1
     → IsStoredPage old 0 → IsStoredPage new 0
