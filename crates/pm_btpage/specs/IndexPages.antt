@@ -49,8 +49,10 @@ key_len_at page i = slice_index page (offset_of i)
 
 -- an item of the page
 abbrev pub item_at : List ℕ → ℕ → Item
-item_at page i = record { key = bytes_at page (offset_of i + 1) (key_len_at page i);
-    word = u64_at page (offset_of i + WORD_IN_ITEM) }
+item_at page i = record {
+  key = bytes_at page (offset_of i + 1) (key_len_at page i);
+  word = u64_at page (offset_of i + WORD_IN_ITEM);
+}
 
 -- the items of the page
 abbrev pub items_of : List ℕ → List Item

@@ -77,21 +77,33 @@ shape_of values =
     followed_by (number_of Partitions 1 PARTITIONS_MAX PARTITIONS_DEFAULT values) (λ partitions.
     followed_by (number_of MaxRows 1 ROWS_MAX MAX_ROWS_DEFAULT values) (λ max_rows.
     followed_by (number_of SegmentBytes SEGMENT_BYTES_MIN SEGMENT_BYTES_MAX SEGMENT_BYTES_DEFAULT values)
-        (λ segment_bytes.
-    Ok (record { page_size = page_size; partitions = partitions; version = LAST_VERSION;
-        max_rows = max_rows; segment_bytes = segment_bytes })))))
+    (λ segment_bytes.
+    Ok (record {
+      page_size = page_size;
+      partitions = partitions;
+      version = LAST_VERSION;
+      max_rows = max_rows;
+      segment_bytes = segment_bytes;
+    })))))
 
 abbrev pub run_of : Shape → Values → Result Config ConfigFault
 run_of shape values =
     followed_by (number_of Workers 1 WORKERS_MAX WORKERS_DEFAULT values) (λ workers.
     followed_by (number_of Frames (FRAMES_PER_WORKER * workers) FRAMES_MAX FRAMES_DEFAULT values) (λ frames.
     followed_by (number_of BufferPages
-        (BUFFER_PAGES_PER_WORKER * workers) BUFFER_PAGES_MAX BUFFER_PAGES_DEFAULT values) (λ buffer_pages.
+    (BUFFER_PAGES_PER_WORKER * workers) BUFFER_PAGES_MAX BUFFER_PAGES_DEFAULT values) (λ buffer_pages.
     followed_by (number_of CheckpointBytes CHECKPOINT_BYTES_MIN CHECKPOINT_BYTES_MAX CHECKPOINT_BYTES_DEFAULT values) (λ checkpoint_bytes.
     followed_by (number_of DirtyPercent 1 DIRTY_PERCENT_MAX DIRTY_PERCENT_DEFAULT values) (λ dirty_percent.
     followed_by (tested Policy (λ _. true) (policy_of (values Policy))) (λ policy.
-    Ok (record { shape = shape; workers = workers; frames = frames; buffer_pages = buffer_pages;
-        checkpoint_bytes = checkpoint_bytes; dirty_percent = dirty_percent; policy = policy })))))))
+    Ok (record {
+      shape = shape;
+      workers = workers;
+      frames = frames;
+      buffer_pages = buffer_pages;
+      checkpoint_bytes = checkpoint_bytes;
+      dirty_percent = dirty_percent;
+      policy = policy;
+    })))))))
 
 abbrev pub config_by : Values → Result Config ConfigFault
 config_by values = followed_by (shape_of values) (λ shape. run_of shape values)
@@ -110,8 +122,13 @@ config_in (Some members) =
 abbrev pub default_config : Config
 default_config =
     record {
-      shape = record { page_size = PAGE_SIZE_DEFAULT; partitions = PARTITIONS_DEFAULT;
-          version = LAST_VERSION; max_rows = MAX_ROWS_DEFAULT; segment_bytes = SEGMENT_BYTES_DEFAULT };
+      shape = record {
+        page_size = PAGE_SIZE_DEFAULT;
+        partitions = PARTITIONS_DEFAULT;
+        version = LAST_VERSION;
+        max_rows = MAX_ROWS_DEFAULT;
+        segment_bytes = SEGMENT_BYTES_DEFAULT;
+      };
       workers = WORKERS_DEFAULT;
       frames = FRAMES_DEFAULT;
       buffer_pages = BUFFER_PAGES_DEFAULT;

@@ -36,7 +36,7 @@ abbrev pub page_in_file : ℕ → Option (List ℕ) → Partition
 page_in_file page_size file index =
     let from : ℕ = index * page_size in
     if nat_le (from + page_size) (length (bytes_of file)) then Some
-        (slice_range (bytes_of file) from (from + page_size)) else None
+    (slice_range (bytes_of file) from (from + page_size)) else None
 
 -- the frames' records, none where one is in no grammar
 abbrev pub records_in : List Frame → Option (List Record)

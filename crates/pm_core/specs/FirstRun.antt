@@ -68,7 +68,7 @@ log_goes_on shape = OnLog (Append (page_frame shape)) ∷ OnLog (Append (begin_f
 abbrev pub checkpoint_made : Shape → List DiskStep
 checkpoint_made shape =
     WriteStart (first_mark shape) (first_rebuilt shape) ∷ ForceStart ∷ WritePage first_id []
-        (first_page shape.page_size)
+    (first_page shape.page_size)
     ∷ ForcePages 0 ∷ WriteEnd (first_mark shape) ∷ ForceEnd ∷ []
 
 -- the log's first segment is dropped, and a byte is said

@@ -78,8 +78,10 @@ next_state ForceStart s world = record s { now = soon_or s.soon s.now; soon = No
 next_state (WritePage page gap bytes) s world = s
 next_state (ForcePages part) s world = s
 next_state (WriteEnd mark) s world =
-    record s { soon = Some (record { checkpoint = Ended mark; rebuilt = no_pages });
-        files = forced_pages s world }
+    record s {
+      soon = Some (record { checkpoint = Ended mark; rebuilt = no_pages });
+      files = forced_pages s world;
+    }
 next_state ForceEnd s world = record s { now = soon_or s.soon s.now; soon = None }
 next_state (Say bytes) s world = s
 
@@ -90,7 +92,7 @@ next_world (WriteStart mark rebuilt) s world = mark_written mark_file.Start mark
 next_world ForceStart s world = starts_forced world
 next_world (WritePage page gap bytes) s world =
     pages_changed (part_of_id page)
-        (gapped (pages_in world (part_of_id page)) (page_at page (length bytes)) gap bytes) world
+    (gapped (pages_in world (part_of_id page)) (page_at page (length bytes)) gap bytes) world
 next_world (ForcePages part) s world = pages_forced part world
 next_world (WriteEnd mark) s world = mark_written mark_file.End mark world
 next_world ForceEnd s world = ends_forced world
@@ -129,7 +131,7 @@ CanLog (ForceSegment seg) s = seg < s.low
 abbrev pub OthersStay : Mark → File → Type 0
 OthersStay mark file = (slot : ℕ) → slot ≢ slot_of mark.number
     → mark_at slot (bytes_of (changed (mark_change (content file) mark) (content file)))
-        ≡ mark_at slot (bytes_of (content file))
+    ≡ mark_at slot (bytes_of (content file))
 
 -- The next checkpoint's start marker may be written: no checkpoint runs, the lasting log leads from
 -- the from place over the begin place, where its CP_BEGIN stands, to its end, and with the marker

@@ -73,7 +73,7 @@ soon_checkpoint (Some view) = Some view.checkpoint
 abbrev pub MarksLeave : File → File → View → Option View → Type 0
 MarksLeave starts ends now soon =
     (st en : Option (List ℕ)) → Leaves starts st → IsTrueOf mark_at starts st → Leaves ends en
-        → IsTrueOf mark_at ends en
+    → IsTrueOf mark_at ends en
     → (view : View) × IsViewOf now soon view × MarksSay view.checkpoint (bytes_of st) (bytes_of en)
 
 -- The pages that the log rebuilds are in the lasting log: its frames from the from place on lead to its end.
@@ -115,10 +115,10 @@ page_high size index = index * size + size
 pub record PagesStand (size : ℕ) (files rebuilt : Partitions) (pages : ℕ → File) : Type 0 where
   pub kept : (part index : ℕ) (bytes : List ℕ) → rebuilt part index ≡ None → files part index ≡ Some bytes
       → Lasting (pages part) (page_low size index) (page_high size index)
-          × (page_in_file size (pages part).forced index ≡ Some bytes)
+      × (page_in_file size (pages part).forced index ≡ Some bytes)
   pub absent : (part index : ℕ) → rebuilt part index ≡ None → files part index ≡ None
       → ((k : ℕ) → k ≤ length (pages part).since
-          → length (bytes_of (at_change (pages part) k)) < page_high size index)
+      → length (bytes_of (at_change (pages part) k)) < page_high size index)
       ⊎ IsSome (laid_over rebuilt files part 0)
 
 -- With this view in force the disk is sound and holds the state's map.

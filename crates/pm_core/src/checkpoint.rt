@@ -61,7 +61,7 @@ impl Idle {
         ensures begun { IfOk result (λ begun. begun ≡ record { mark = mark; set = set; left = set.pages }) }
         ensures steps { H.Device.tells → (s : State) (rebuilt : Partitions)
             → MakesSteps (H.Device.history host.old) (H.Device.history host.new) result
-                (begin_steps mark rebuilt) s }
+            (begin_steps mark rebuilt) s }
         ensures cause { HasCause (H.Device.state host.old) (H.Device.state host.new) result }
     {
         write_start(host, &mark)?;
@@ -122,7 +122,7 @@ impl Begun {
             (λ ended. ended ≡ record { mark = self.mark; room = length self.set.pages + self.set.spare }) }
         ensures steps { H.Device.tells → (s : State)
             → MakesSteps (H.Device.history host.old) (H.Device.history host.new) result
-                (finish_steps self.mark self.set.pages) s }
+            (finish_steps self.mark self.set.pages) s }
         ensures cause { HasCause (H.Device.state host.old) (H.Device.state host.new) result }
     {
         force_parts(host, &self.pages)?;

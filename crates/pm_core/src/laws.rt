@@ -57,7 +57,7 @@ pub fn junk_pages_change_no_map()
         → (holds : HoldsWith wanted checkpoint image shape pairs)
         → ((part : ℕ) → part < shape.partitions
         → Grows (base_of checkpoint holds.rebuilt image.pages part)
-            (base_of checkpoint holds.rebuilt files part))
+        (base_of checkpoint holds.rebuilt files part))
         → HoldsWith wanted checkpoint (record image { pages = files }) shape pairs }
 {}
 
@@ -67,7 +67,7 @@ pub fn a_page_is_its_last_snapshot_with_its_deltas()
     ensures page { (shape : Shape) (records : List Record) (pages : Partitions) (part index : ℕ)
         → part < shape.partitions
         → rebuilt_from shape records ≡ Some pages
-            → pages part index ≡ fold (after_record part index) None records }
+        → pages part index ≡ fold (after_record part index) None records }
     ensures restart { (before records : List Record) (shape : Shape)
         → since_restart (before ++ Restart shape ∷ records) ≡ since_restart records }
 {}
@@ -85,7 +85,7 @@ pub fn a_crash_leaves_a_prefix()
         → LeavesAll (worlds (take k steps) (start_state wanted world shape pairs can.sound) world) image
         → IsTrueImage (worlds (take k steps) (start_state wanted world shape pairs can.sound) world) image
         → KeepsPrefix wanted shape pairs
-            (appended (states steps (start_state wanted world shape pairs can.sound) world))
+        (appended (states steps (start_state wanted world shape pairs can.sound) world))
         (length (states (take k steps) (start_state wanted world shape pairs can.sound) world).order) image }
     ensures said { (wanted : Shape) (told : List ℕ → ℕ) (world : World) (shape : Shape) (pairs : Pairs)
         → (can : CanBegin wanted told world shape pairs) → (steps : List DiskStep)
@@ -108,28 +108,28 @@ pub fn a_round_leaves_a_prefix()
         → (mid : State) → mid ≡ states steps (start_state wanted world shape pairs can.sound) world
         → (now : World) → now ≡ worlds steps (start_state wanted world shape pairs can.sound) world
         → (logged : List Step) (paged : List PageStep) → CanAll told (on_log logged) mid now
-            → CanAll told (on_pages paged) mid now
+        → CanAll told (on_pages paged) mid now
         → (j k : ℕ) (image : Image)
         → LeavesAll (joined now (worlds (take j (on_log logged)) mid now)
-            (worlds (take k (on_pages paged)) mid now)) image
+        (worlds (take k (on_pages paged)) mid now)) image
         → IsTrueImage (joined now (worlds (take j (on_log logged)) mid now)
-            (worlds (take k (on_pages paged)) mid now)) image
+        (worlds (take k (on_pages paged)) mid now)) image
         → KeepsPrefix wanted shape pairs (appended (states (on_log logged) mid now))
         (length (states (take j (on_log logged)) mid now).order) image }
     ensures here { (wanted : Shape) (told : List ℕ → ℕ) (s : State) (world : World) (logged : List Step)
         (paged : List PageStep)
         → Stands wanted told s world → CanAll told (on_log logged) s world
-            → CanAll told (on_pages paged) s world → (j k : ℕ) (image : Image)
+        → CanAll told (on_pages paged) s world → (j k : ℕ) (image : Image)
         → LeavesAll (joined world (worlds (take j (on_log logged)) s world)
-            (worlds (take k (on_pages paged)) s world)) image
+        (worlds (take k (on_pages paged)) s world)) image
         → IsTrueImage (joined world (worlds (take j (on_log logged)) s world)
-            (worlds (take k (on_pages paged)) s world)) image
+        (worlds (take k (on_pages paged)) s world)) image
         → KeepsPrefix wanted s.shape s.first (appended (states (on_log logged) s world))
         (length (states (take j (on_log logged)) s world).order) image }
     ensures after { (wanted : Shape) (told : List ℕ → ℕ) (s : State) (world : World) (logged : List Step)
         (paged : List PageStep)
         → Stands wanted told s world → CanAll told (on_log logged) s world
-            → CanAll told (on_pages paged) s world
+        → CanAll told (on_pages paged) s world
         → Stands wanted told (states (on_log logged) s world)
         (joined world (worlds (on_log logged) s world) (worlds (on_pages paged) s world)) }
 {}
@@ -142,7 +142,7 @@ pub fn a_disk_stands_for_its_state()
         → Stands wanted told (start_state wanted world shape pairs can.sound) world }
     ensures later { (wanted : Shape) (told : List ℕ → ℕ) (s : State) (world : World) (steps : List DiskStep)
         → Stands wanted told s world → CanAll told steps s world
-            → Stands wanted told (states steps s world) (worlds steps s world) }
+        → Stands wanted told (states steps s world) (worlds steps s world) }
 {}
 
 /// The crash law of one call. Where a disk is as a state says, and a call makes steps that meet
@@ -164,7 +164,7 @@ pub fn a_checkpoint_meets_its_guards()
     ensures finish { (wanted : Shape) (told : List ℕ → ℕ) (mark : Mark) (pages : List PageId) (s : State)
         (world : World)
         → Stands wanted told s world → CanFinish mark pages s world
-            → CanAll told (finish_steps mark pages) s world }
+        → CanAll told (finish_steps mark pages) s world }
 {}
 
 /// There are sound stores with a checkpoint in force, of each shape that a store may have: one with
@@ -172,10 +172,10 @@ pub fn a_checkpoint_meets_its_guards()
 pub fn stores_with_a_checkpoint_are_sound()
     ensures ended { (wanted shape : Shape) → IsShape shape
         → (image : Image) × (mark : Mark) × (in_force image ≡ Ended mark)
-            × SoundImage wanted image shape empty }
+        × SoundImage wanted image shape empty }
     ensures started { (wanted shape : Shape) → IsShape shape
         → (image : Image) × (mark : Mark) × (in_force image ≡ Started mark)
-            × SoundImage wanted image shape empty }
+        × SoundImage wanted image shape empty }
 {}
 
 /// There is a run that meets its guards, from a folder without files: the log is begun and goes on in its
@@ -187,7 +187,7 @@ pub fn a_run_meets_its_guards()
         → CanAll length (first_run shape) (start_state shape empty_world shape empty can.sound) empty_world }
     ensures ends { (shape : Shape) → IsShape shape → (can : CanBegin shape length empty_world shape empty)
         → (states (first_run shape)
-            (start_state shape empty_world shape empty can.sound) empty_world).now.checkpoint
+        (start_state shape empty_world shape empty can.sound) empty_world).now.checkpoint
         ≡ Ended (first_mark shape) }
 {}
 
@@ -196,7 +196,7 @@ pub fn a_run_meets_its_guards()
 pub fn a_marker_leaves_the_other()
     ensures { (mark : Mark) (file : File) → ((slot : ℕ) → slot < 2
         → (slot_at slot + SLOT_LEN ≤ length (bytes_of (content file)))
-            ⊎ (length (bytes_of (content file)) ≤ slot_at slot))
+        ⊎ (length (bytes_of (content file)) ≤ slot_at slot))
         → OthersStay mark file }
 {}
 

@@ -111,8 +111,15 @@ with_taken n world = record world { input = drop n world.input }
 
 -- a disk without a file, and a console on which nothing was said and that has no input
 abbrev pub empty_world : World
-empty_world = record { log = λ _. absent; pages = λ _. absent; starts = absent; ends = absent;
-    config = []; said = []; input = [] }
+empty_world = record {
+  log = λ _. absent;
+  pages = λ _. absent;
+  starts = absent;
+  ends = absent;
+  config = [];
+  said = [];
+  input = [];
+}
 
 -- the segments of one world, the partitions' files of another, and all else of a third
 abbrev pub joined : World → World → World → World

@@ -46,8 +46,12 @@ with_left contents number (Some bytes) = with_content contents number bytes
 
 -- the store as an image of the disk
 abbrev pub image_of : Store → Image
-image_of store = record { log = content_at store.log; pages = content_at store.pages;
-    starts = store.starts; ends = store.ends }
+image_of store = record {
+  log = content_at store.log;
+  pages = content_at store.pages;
+  starts = store.starts;
+  ends = store.ends;
+}
 
 -- what a file of the store has, none where it is absent
 abbrev pub file_in : Store → StoreFile → Option (List ℕ)

@@ -7,5 +7,10 @@ use Rattle.pm_disk_mem.specs.declared.parts.DiskParts.{DiskParts}
 -- the store of these files and of this configuration
 abbrev pub store_of : DiskParts → Option (List ℕ) → Store
 store_of parts config =
-    record { log = parts.log; pages = parts.pages; starts = bytes_in parts.starts;
-    ends = bytes_in parts.ends; config = config }
+    record {
+      log = parts.log;
+      pages = parts.pages;
+      starts = bytes_in parts.starts;
+      ends = bytes_in parts.ends;
+      config = config;
+    }

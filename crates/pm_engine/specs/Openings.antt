@@ -71,16 +71,16 @@ AppliesMore false old new found = replayed old.shape found old.map ≡ None
 abbrev pub AppliesFrame : Bool → Replay → Replay → Option Record → Type 0
 AppliesFrame can old new found =
     (old.has_begun ≡ false → AppliesFirst can old new found)
-        × (old.has_begun ≡ true → AppliesMore can old new found)
+    × (old.has_begun ≡ true → AppliesMore can old new found)
 
 -- the frame that stands next was replayed, or can't stand there, or none stands there
 abbrev pub ReplaysNext : ReplayStep → Scanned → Scanned → Replay → Replay → World → Type 0
 ReplaysNext replay_step.Frame scan later old new world =
     (frame : Frame) × (frame_ahead scan world ≡ Some frame) × Advances scan later (Some frame)
-        × AppliesFrame true old new (record_in frame)
+    × AppliesFrame true old new (record_in frame)
 ReplaysNext replay_step.Bad scan later old new world =
     (frame : Frame) × (frame_ahead scan world ≡ Some frame) × Advances scan later (Some frame)
-        × AppliesFrame false old new (record_in frame)
+    × AppliesFrame false old new (record_in frame)
 ReplaysNext replay_step.End scan later old new world = (frame_ahead scan world ≡ None)
     × Advances scan later None × (new ≡ old)
 

@@ -39,4 +39,4 @@ abbrev pub logged : Shape → List Line → Pairs → List Frame
 logged shape [] pairs = []
 logged shape (line ∷ lines) pairs =
     (if is_accepted shape line pairs then line_frames line else [])
-        ++ logged shape lines (after shape line pairs)
+    ++ logged shape lines (after shape line pairs)

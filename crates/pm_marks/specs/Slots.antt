@@ -99,7 +99,7 @@ unfoldable pub mark_in : ℕ → List ℕ → Option Mark
 mark_in slot bytes =
     let mark = named_mark bytes in
     if is_mark mark && slot_of mark.number == slot && pointwise nat_eq bytes
-        (slot_bytes mark) then Some mark else None
+    (slot_bytes mark) then Some mark else None
 
 -- the bytes of a slot of a marker file; fewer where the file ends before the slot does
 abbrev pub bytes_in_slot : ℕ → List ℕ → List ℕ

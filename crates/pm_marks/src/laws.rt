@@ -19,7 +19,7 @@ pub fn a_mark_decides_its_slot()
         → bytes_in_slot slot file ≡ slot_bytes mark }
     ensures read { (file : List ℕ) (mark : Mark) → IsMark mark
         → bytes_in_slot (slot_of mark.number) file ≡ slot_bytes mark
-            → mark_at (slot_of mark.number) file ≡ Some mark }
+        → mark_at (slot_of mark.number) file ≡ Some mark }
 {}
 
 /// Zeros are no slot, and a slot that isn't there in full is none.

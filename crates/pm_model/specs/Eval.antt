@@ -60,7 +60,7 @@ rows_of partitions part pairs = rows_among partitions part (map.keys pairs)
 abbrev pub is_full : Shape → CacheKey → Pairs → Bool
 is_full shape at pairs =
     not (map.contains_key pairs at) && nat_le shape.max_rows
-        (rows_of shape.partitions (part_of at.key shape.partitions) pairs)
+    (rows_of shape.partitions (part_of at.key shape.partitions) pairs)
 
 -- the pairs of a cache among entries
 abbrev pub pairs_among : ℕ → List (CacheKey × List ℕ) → List (List ℕ × List ℕ)

@@ -86,7 +86,7 @@ abbrev pub AreAccepted : Shape → List ℕ → ℕ → List Line → Pairs → 
 AreAccepted shape [] from lines pairs = Unit {0}
 AreAccepted shape (number ∷ numbers) from lines pairs =
     (is_accepted shape (line_at from lines number) pairs ≡ true)
-        × AreAccepted shape numbers from lines (after shape (line_at from lines number) pairs)
+    × AreAccepted shape numbers from lines (after shape (line_at from lines number) pairs)
 
 -- the rows of a partition, as a map
 abbrev pub part_rows : Shape → ℕ → Pairs → Pairs
@@ -110,7 +110,7 @@ reply_in shape from lines pairs order number line =
     (if is_barrier line
     then after_numbers shape (below number order) from lines pairs
     else after_numbers shape (below number (numbers_of shape part from lines order)) from lines
-        (part_rows shape part pairs))
+    (part_rows shape part pairs))
 
 -- the replies to some of the lines, of which the first has this number, each by itself
 abbrev pub replies_in : Shape → ℕ → List Line → Pairs → List ℕ → ℕ → List Line → List Reply

@@ -27,7 +27,7 @@ pub fn orders_have_accepted_lines_once()
     ensures rises { (shape : Shape) (from : ℕ) (lines : List Line) (pairs : Pairs) (order : List ℕ)
         → IsOrderOf shape from lines pairs order
         → AllPairs (λ a b. part_of_line shape (line_at from lines a)
-            ≡ part_of_line shape (line_at from lines b) → a < b) order }
+        ≡ part_of_line shape (line_at from lines b) → a < b) order }
 {}
 
 /// The first numbers of an order are an order, and what they leave of a partition's rows is what a
@@ -73,7 +73,7 @@ pub fn a_batch_needs_prefixes_alone()
     ensures { (shape : Shape) (from : ℕ) (lines : List Line) (pairs : Pairs) (order : List ℕ)
         → length lines ≤ BATCH_LINES_MAX → All (λ line. is_barrier line ≡ false) lines
         → ((part : ℕ) → IsPrefix (numbers_of shape part from lines order)
-            (numbers_of shape part from lines (accepted shape from lines pairs)))
+        (numbers_of shape part from lines (accepted shape from lines pairs)))
         → IsOrderOf shape from lines pairs order }
 {}
 
@@ -84,7 +84,7 @@ pub fn a_line_depends_on_its_partition()
         → reply_to shape line (part_rows shape (part_of_line shape line) pairs) ≡ reply_to shape line pairs }
     ensures accepted { (shape : Shape) (line : Line) (pairs : Pairs)
         → is_accepted shape line (part_rows shape (part_of_line shape line) pairs)
-            ≡ is_accepted shape line pairs }
+        ≡ is_accepted shape line pairs }
     ensures change { (shape : Shape) (line : Line) (pairs : Pairs)
         → part_rows shape (part_of_line shape line) (after shape line pairs)
         ≡ after shape line (part_rows shape (part_of_line shape line) pairs) }
@@ -107,7 +107,7 @@ pub fn orders_leave_the_scripts_map()
     ensures before { (shape : Shape) (from : ℕ) (lines : List Line) (pairs : Pairs) (order : List ℕ) (count : ℕ)
         → IsOrderOf shape from lines pairs order → HasAccepted shape from lines pairs count order
         → after_numbers shape (below (from + count) order) from lines pairs
-            ≡ after_all shape (take count lines) pairs }
+        ≡ after_all shape (take count lines) pairs }
 {}
 
 /// Replies that are found partition by partition, in an order that has the accepted ones among the
@@ -118,12 +118,12 @@ pub fn replies_are_the_scripts()
         (count : ℕ)
         → IsOrderOf shape from lines pairs order → HasAccepted shape from lines pairs count order
         → replies_in shape from lines pairs order from (take count lines)
-            ≡ replies_to shape (take count lines) pairs }
+        ≡ replies_to shape (take count lines) pairs }
     ensures by_worker { (shape : Shape) (done : List Line) (line : Line) (pairs : Pairs)
         → is_barrier line ≡ false
         → reply_to shape line
-            (after_all shape (lines_of shape (part_of_line shape line) done)
-            (part_rows shape (part_of_line shape line) pairs))
+        (after_all shape (lines_of shape (part_of_line shape line) done)
+        (part_rows shape (part_of_line shape line) pairs))
         ≡ reply_to shape line (after_all shape done pairs) }
 {}
 
@@ -131,13 +131,13 @@ pub fn replies_are_the_scripts()
 pub fn acknowledged_by_number_or_by_count()
     ensures counted { (shape : Shape) (from : ℕ) (lines : List Line) (pairs : Pairs) (told tried count : ℕ)
         → All (Contains (take count (accepted shape from (take tried lines) pairs)))
-            (accepted shape from (take told lines) pairs)
+        (accepted shape from (take told lines) pairs)
         → length (accepted shape from (take told lines) pairs) ≤ count }
     ensures named { (shape : Shape) (from : ℕ) (lines : List Line) (pairs : Pairs) (told tried count : ℕ)
         → count ≤ length (accepted shape from (take tried lines) pairs)
         → length (accepted shape from (take told lines) pairs) ≤ count
         → All (Contains (take count (accepted shape from (take tried lines) pairs)))
-            (accepted shape from (take told lines) pairs) }
+        (accepted shape from (take told lines) pairs) }
 {}
 
 /// A scan or a checkpoint parts an order: the numbers below its own stand in front of the others.
@@ -153,5 +153,5 @@ pub fn two_lines_may_be_swapped()
     ensures { (shape : Shape) (pairs : Pairs) (a b : Line) → is_accepted shape a pairs ≡ true
         → is_accepted shape b (after shape a pairs) ≡ true
         → (part_of_line shape a == part_of_line shape b) ≡ false
-            → IsOrderOf shape 1 (a ∷ b ∷ []) pairs (2 ∷ 1 ∷ []) }
+        → IsOrderOf shape 1 (a ∷ b ∷ []) pairs (2 ∷ 1 ∷ []) }
 {}

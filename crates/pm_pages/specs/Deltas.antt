@@ -11,7 +11,7 @@ use Rattle.pm_types.specs.DeltaRanges.{applied}
 abbrev pub range_bytes : List ℕ → Span → List ℕ
 range_bytes page span =
     to_le_bytes w16 span.start
-        ++ (to_le_bytes w16 (span.end - span.start) ++ slice_range page span.start span.end)
+    ++ (to_le_bytes w16 (span.end - span.start) ++ slice_range page span.start span.end)
 
 -- these ranges of a page, one after the other
 abbrev pub ranges_bytes : List ℕ → List Span → List ℕ

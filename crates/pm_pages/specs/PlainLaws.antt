@@ -23,8 +23,12 @@ pub kept_refl : (p : PlainPages) → KeepsPlain p p
 kept_refl p = record { shape = refl; part = refl; ready = λ is. is }
 
 pub kept_then : (p q r : PlainPages) → KeepsPlain p q → KeepsPlain q r → KeepsPlain p r
-kept_then p q r x y = record { shape = y.shape ∙ x.shape; part = y.part
-    ∙ x.part; ready = λ is. y.ready (x.ready is) }
+kept_then p q r x y = record {
+  shape = y.shape ∙ x.shape;
+  part = y.part
+      ∙ x.part;
+  ready = λ is. y.ready (x.ready is);
+}
 
 -- the pages, with one of them replaced
 pub pages_in-set : (pages : List Page) (i j : ℕ) (page : Page) → i < length pages
@@ -32,17 +36,17 @@ pub pages_in-set : (pages : List Page) (i j : ℕ) (page : Page) → i < length 
 pages_in-set pages i j page lt = elim (cases_eq j i) [
   | inl same ↦
       let here : slice_get (set pages i page) i ≡ Some page =
-          slice_get-get_or (set pages i page) i page (omega (arith, length-set pages i page))
-          ∙ ap Some (get_or-set_same pages i page page lt) in
+      slice_get-get_or (set pages i page) i page (omega (arith, length-set pages i page))
+      ∙ ap Some (get_or-set_same pages i page page lt) in
       simp (eq-eqb j i same)
-          (ap (λ k. pages_in (set pages i page) k) same ∙ ap (option_map (λ (p : Page). p.bytes.items)) here)
+      (ap (λ k. pages_in (set pages i page) k) same ∙ ap (option_map (λ (p : Page). p.bytes.items)) here)
   | inr away ↦ simp (ne_eqb j i away)
       (ap (option_map (λ (p : Page). p.bytes.items)) (elim (cases_lt j (length pages)) [
-    | inl lt' ↦ slice_get-get_or (set pages i page) j page (omega (arith, length-set pages i page))
-        ∙ ap Some (get_or-set_other pages i j page page away) ∙ sym (slice_get-get_or pages j page lt')
-    | inr le ↦ slice_get_past (set pages i page) j (omega (arith, length-set pages i page))
-        ∙ sym (slice_get_past pages j le)
-  ]))
+        | inl lt' ↦ slice_get-get_or (set pages i page) j page (omega (arith, length-set pages i page))
+            ∙ ap Some (get_or-set_other pages i j page page away) ∙ sym (slice_get-get_or pages j page lt')
+        | inr le ↦ slice_get_past (set pages i page) j (omega (arith, length-set pages i page))
+            ∙ sym (slice_get_past pages j le)
+      ]))
 ]
 
 -- the bytes of a page that was filled anew
@@ -96,7 +100,7 @@ writes_found : (p : PlainPages) (i : ℕ) (bytes : List ℕ) (o : Option Page) �
 writes_found p i bytes None is lt sized long = absurd (not_none p.pages.items i lt is)
 writes_found p i bytes (Some page) is lt sized long =
     let same = filled page.bytes bytes
-        (long ∙ sym (size_of p.pages.items i p.shape.page_size page is lt sized)) in
+    (long ∙ sym (size_of p.pages.items i p.shape.page_size page is lt sized)) in
     record {
       pages = λ j. pages_in-set p.pages.items i j (refilled page bytes) lt
           ∙ ap (λ (w : List ℕ). with_page (pages_in p.pages.items) i w j) same;
@@ -113,19 +117,19 @@ pub writes : (p : PlainPages) (i : ℕ) (bytes : List ℕ) → ArePlainReady p �
     → WritesPage (plain_seen p) (plain_seen (plain_written p i bytes)) i bytes
 writes p i bytes ready lent long =
     writes_found p i bytes (slice_get p.pages.items i) refl
-        (ready.ordered.there i (lent_asked (entry_of p.asked.items i) lent)) ready.ordered.sized long
+    (ready.ordered.there i (lent_asked (entry_of p.asked.items i) lent)) ready.ordered.sized long
 
 ready_found : (size : ℕ) (v : Vec Page Global) (i : ℕ) (o : Option Page) (bytes : List ℕ)
     (rooms : List Page) (asked : List Asked) (asked_room : ℕ) → slice_get v.items i ≡ o
     → i < length v.items → length bytes ≡ size
     → AreReady size v.items rooms asked (vec_capacity v) asked_room
-        → AreReady size (pages_with v i o bytes).items rooms asked
-        (vec_capacity (pages_with v i o bytes)) asked_room
+    → AreReady size (pages_with v i o bytes).items rooms asked
+    (vec_capacity (pages_with v i o bytes)) asked_room
 ready_found size v i None bytes rooms asked asked_room is lt long ready = ready
 ready_found size v i (Some page) bytes rooms asked asked_room is lt long ready =
     let same = filled page.bytes bytes (long ∙ sym (size_of v.items i size page is lt ready.ordered.sized)) in
     ready_set size v.items rooms asked (vec_capacity v) asked_room i (refilled page bytes) ready
-        (ap length same ∙ long)
+    (ap length same ∙ long)
 
 pub kept_written : (p : PlainPages) (i : ℕ) (bytes : List ℕ) → ArePlainReady p
     → IsTrue ((plain_seen p).lent i) → length bytes ≡ (plain_seen p).page_size

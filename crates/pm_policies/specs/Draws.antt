@@ -36,7 +36,7 @@ pub record IsOldestDrawn (stamps : List ℕ) (state draws frame : ℕ) : Type 0 
   pub drawn : (k : ℕ) × (1 ≤ k) × (k ≤ draws) × (frame ≡ frame_drawn stamps state k)
   pub oldest : (k : ℕ) → 1 ≤ k → k ≤ draws
       → IsNoLater (slice_index stamps frame) frame (slice_index stamps (frame_drawn stamps state k))
-          (frame_drawn stamps state k)
+      (frame_drawn stamps state k)
 
 -- the frame has the next tick as its stamp
 abbrev pub stamped : Drawing → ℕ → Drawing

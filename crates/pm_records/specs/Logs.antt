@@ -104,7 +104,7 @@ abbrev pub HasFrames : Grammar → (ℕ → List ℕ) → Place → List Frame �
 HasFrames g bytes at [] = Unit {0}
 HasFrames g bytes at (frame ∷ frames) =
     (g.frame_at at.seg at.off (bytes at.seg) ≡ Some frame) × (ends_log at frame ≡ true → frames ≡ [])
-        × HasFrames g bytes (next_place at frame) frames
+    × HasFrames g bytes (next_place at frame) frames
 
 -- These frames are the log from a place on, in these segments' bytes: they stand one after the
 -- other, and none after them.
@@ -112,7 +112,7 @@ pub record IsLogFrom (g : Grammar) (bytes : ℕ → List ℕ) (from : Place) (fr
   pub run : HasFrames g bytes from frames
   pub ends : is_over from frames ≡ false
       → g.frame_at (after_frames from frames).seg (after_frames from frames).off
-          (bytes (after_frames from frames).seg) ≡ None
+      (bytes (after_frames from frames).seg) ≡ None
 
 -- The same, and no segment above the one in which the log ends has bytes.
 pub record IsLogWithNothingAbove (g : Grammar) (bytes : ℕ → List ℕ) (from : Place)

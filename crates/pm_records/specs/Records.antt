@@ -105,7 +105,7 @@ unfoldable pub named_logical : List ℕ → Record
 named_logical payload =
     let key_end : ℕ = LOGICAL_HEAD_LEN + slice_index payload 2 in
     Logical (slice_index payload 0) (slice_index payload 1) (slice_range payload LOGICAL_HEAD_LEN key_end)
-        (drop key_end payload)
+    (drop key_end payload)
 
 -- the page that a payload begins with
 abbrev pub named_page : List ℕ → PageId
@@ -134,4 +134,4 @@ unfoldable pub record_of : ℕ → List ℕ → Option Record
 record_of kind payload =
     let found = named_record kind payload in
     if kind == kind_of found && is_record found && pointwise nat_eq payload
-        (payload_of found) then Some found else None
+    (payload_of found) then Some found else None

@@ -153,7 +153,7 @@ impl Log {
             (steps_of self.new.tried self.old (record { kind = kind; payload = payload.now })) self.old.end }
         ensures reaches { L.tells → Reaches self.new.tried self.old
             (record { kind = kind; payload = payload.now }) (L.history dev.old).world
-                (L.history dev.new).world }
+            (L.history dev.new).world }
         ensures failed { OnErr result (self.new
             ≡ failed_append self.new.tried self.old (record { kind = kind; payload = payload.now })) }
         ensures cause { HasCause (L.state dev.old) (L.state dev.new) result }

@@ -16,8 +16,11 @@ pub kept_refl : (t : TablePages) → KeepsTable t t
 kept_refl t = record { plain = plain.kept_refl t.plain; later = omega arith; ready = λ is. is }
 
 pub kept_then : (s t u : TablePages) → KeepsTable s t → KeepsTable t u → KeepsTable s u
-kept_then s t u x y = record { plain = plain.kept_then s.plain t.plain u.plain x.plain y.plain;
-    later = (let a = x.later in let b = y.later in omega (arith, a, b)); ready = λ is. y.ready (x.ready is) }
+kept_then s t u x y = record {
+  plain = plain.kept_then s.plain t.plain u.plain x.plain y.plain;
+  later = (let a = x.later in let b = y.later in omega (arith, a, b));
+  ready = λ is. y.ready (x.ready is);
+}
 
 some_held : (o : Option (List ℕ)) → IsSome o → IsTrue (is_held o)
 some_held None some = absurd (cc some)
@@ -38,8 +41,12 @@ held_writes p q i faults bytes there x = record {
   lent = x.lent;
   patches = x.patches;
   spare = x.spare;
-  same = record { page_size = x.same.page_size; max_rows = x.same.max_rows; part = x.same.part;
-      faults = omega arith };
+  same = record {
+    page_size = x.same.page_size;
+    max_rows = x.same.max_rows;
+    part = x.same.part;
+    faults = omega arith;
+  };
 }
 
 there : (t : TablePages) (i : ℕ) → IsTableReady t → IsTrue ((table_seen t).lent i)
@@ -53,7 +60,7 @@ pub writes : (t : TablePages) (i : ℕ) (bytes : List ℕ) → IsTableReady t �
     → WritesPage (table_seen t) (table_seen (table_written t i bytes)) i bytes
 writes t i bytes ready lent long =
     held_writes (plain_seen t.plain) (plain_seen (plain_written t.plain i bytes)) i t.faults bytes
-        (there t i ready lent) (plain.writes t.plain i bytes ready lent long)
+    (there t i ready lent) (plain.writes t.plain i bytes ready lent long)
 
 pub kept_written : (t : TablePages) (i : ℕ) (bytes : List ℕ) → IsTableReady t
     → IsTrue ((table_seen t).lent i) → length bytes ≡ (table_seen t).page_size

@@ -18,7 +18,7 @@ abbrev pub begun : List Reply → List ℕ → ℕ
 begun [] bytes = 0
 begun (reply ∷ replies) bytes =
     if starts_with nat_eq bytes (take 1 (text_of reply)) then 1 + begun replies
-        (drop (length (text_of reply)) bytes) else 0
+    (drop (length (text_of reply)) bytes) else 0
 
 -- the numbers of the accepted lines that have the first byte of their reply among the bytes said
 -- since the run began
@@ -26,7 +26,7 @@ abbrev pub acknowledged : World → Shape → Pairs → World → List ℕ
 acknowledged old shape pairs now =
     let script = script_of old.input in
     accepted shape 1 (take
-        (begun (replies_to shape script pairs) (drop (length old.said) now.said)) script) pairs
+    (begun (replies_to shape script pairs) (drop (length old.said) now.said)) script) pairs
 
 -- What a crash left is sound, and holds the map of the start after the lines of a prefix of the
 -- order, which has each one that was acknowledged. Its log ends at most in this segment.

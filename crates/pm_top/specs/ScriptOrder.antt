@@ -91,7 +91,7 @@ abbrev pub acknowledged_count : World → Shape → Pairs → World → ℕ
 acknowledged_count old shape pairs now =
     let script = script_of old.input in
     length (accepted shape 1
-        (take (begun (replies_to shape script pairs) (drop (length old.said) now.said)) script) pairs)
+    (take (begun (replies_to shape script pairs) (drop (length old.said) now.said)) script) pairs)
 
 -- What a crash left is sound, and holds the map of the start after the first of the lines in the
 -- order, with each one that was acknowledged.

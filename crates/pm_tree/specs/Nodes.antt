@@ -19,8 +19,12 @@ pub record Node : Type 0 where
   pub half : ℕ
 
 abbrev pub node_of : List ℕ → Node
-node_of page = record { kind = kind_of page; link = (index_of page).link; items = items_of page;
-    half = capacity_of (length page) / 2 }
+node_of page = record {
+  kind = kind_of page;
+  link = (index_of page).link;
+  items = items_of page;
+  half = capacity_of (length page) / 2;
+}
 
 abbrev pub nodes_in : Partition → (ℕ → Node)
 nodes_in pages i = node_of (page_at pages i)

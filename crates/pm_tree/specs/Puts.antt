@@ -77,7 +77,7 @@ pub record PutsFor (old new : Partition) (half limit at : ℕ) (key : List ℕ) 
     (put : Put) : Type 0 where
   pub each : (levels : ℕ) → levels < limit → (least : ℕ) → IsTreeIn (nodes_in old) levels least at
       → ((j : ℕ) → times j (nodes_under (nodes_in old) levels at) ≤ 1)
-          → PutsAs old new half levels least at key word put
+      → PutsAs old new half levels least at key word put
 
 -- the page has the tree still
 abbrev pub IsKept : Put → Type 0

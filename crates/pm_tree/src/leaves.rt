@@ -129,7 +129,7 @@ pub fn set_item<P: Pages>(
         (IsLink (P.seen pages.old).part word)) }
     ensures puts { IfOk result (λ put. P.tells → (limit : ℕ)
         → PutsFor (P.seen pages.old).pages (P.seen pages.new).pages
-            (half_of (P.seen pages.old).page_size) limit at key.now word put) }
+        (half_of (P.seen pages.old).page_size) limit at key.now word put) }
     ensures keeps { IfOk result (λ put. P.tells → KeepsPage (P.seen pages.old) (P.seen pages.new)
         (IsLink (P.seen pages.old).part word) put) }
     ensures levels { IfOk result (HasLevels 1) }
@@ -159,7 +159,7 @@ pub fn add_item<P: Pages>(
         (IsLink (P.seen pages.old).part word)) }
     ensures puts { IfOk result (λ put. P.tells → (limit : ℕ)
         → PutsFor (P.seen pages.old).pages (P.seen pages.new).pages
-            (half_of (P.seen pages.old).page_size) limit at key.now word put) }
+        (half_of (P.seen pages.old).page_size) limit at key.now word put) }
     ensures levels { IfOk result (HasLevels 1) }
     ensures cause { HasDiskCause (P.seen pages.old) (P.seen pages.new).faults result }
 {
@@ -187,7 +187,7 @@ pub fn split_leaf<P: Pages>(
         (IsLink (P.seen pages.old).part word)) }
     ensures puts { IfOk result (λ put. P.tells → (limit : ℕ)
         → PutsFor (P.seen pages.old).pages (P.seen pages.new).pages
-            (half_of (P.seen pages.old).page_size) limit at key.now word put) }
+        (half_of (P.seen pages.old).page_size) limit at key.now word put) }
     ensures levels { IfOk result (HasLevels 1) }
     ensures cause { HasTakeCause P.tells (P.seen pages.old) (P.seen pages.new) result }
     ensures sound { MayTake P.tells (P.seen pages.old) → NoBadPage result }
@@ -223,7 +223,7 @@ fn split_left<P: Pages>(
         (IsLink (P.seen pages.old).part word)) }
     ensures puts { IfOk result (λ put. P.tells → (limit : ℕ)
         → PutsFor (P.seen pages.old).pages (P.seen pages.new).pages
-            (half_of (P.seen pages.old).page_size) limit at key.now word put) }
+        (half_of (P.seen pages.old).page_size) limit at key.now word put) }
     ensures levels { IfOk result (HasLevels 1) }
     ensures cause { HasTakeCause P.tells (P.seen pages.old) (P.seen pages.new) result }
     ensures sound { MayTake P.tells (P.seen pages.old) → NoBadPage result }
@@ -257,7 +257,7 @@ fn split_right<P: Pages>(
         (IsLink (P.seen pages.old).part word)) }
     ensures puts { IfOk result (λ put. P.tells → (limit : ℕ)
         → PutsFor (P.seen pages.old).pages (P.seen pages.new).pages
-            (half_of (P.seen pages.old).page_size) limit at key.now word put) }
+        (half_of (P.seen pages.old).page_size) limit at key.now word put) }
     ensures levels { IfOk result (HasLevels 1) }
     ensures cause { HasTakeCause P.tells (P.seen pages.old) (P.seen pages.new) result }
     ensures sound { MayTake P.tells (P.seen pages.old) → NoBadPage result }

@@ -74,7 +74,7 @@ pub fn put_at<P: Pages>(
         (IsLink (P.seen pages.old).part word)) }
     ensures puts { IfOk result (λ put. P.tells
         → PutsFor (P.seen pages.old).pages (P.seen pages.new).pages
-            (half_of (P.seen pages.old).page_size) levels at key.now word put) }
+        (half_of (P.seen pages.old).page_size) levels at key.now word put) }
     ensures levels { IfOk result (HasLevels levels) }
     ensures cause { HasPutCause P.tells (P.seen pages.old) (P.seen pages.new) cache result }
     ensures keeps { P.tells → (held : ℕ)

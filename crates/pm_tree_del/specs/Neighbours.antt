@@ -58,7 +58,7 @@ pub record AreNeighbours (parent left right : List ℕ) (place : ℕ) : Type 0 w
   pub apart : AreApart (index_of left).leaf (items_of left) (items_of right) (key_in (items_of parent) place)
   pub within : (k : ℕ) → 0 < k → k
       < length (joined_items (index_of left).leaf (index_of left) (index_of right)
-          (key_in (items_of parent) place))
+      (key_in (items_of parent) place))
       → HasPlaceFor (items_of parent) place
       (key_in (joined_items (index_of left).leaf (index_of left) (index_of right)
       (key_in (items_of parent) place)) k)

@@ -134,7 +134,7 @@ fn lift<P: Pages>(
     ensures cause { (cache : ℕ) → HasRemoveCause P.tells (P.seen pages.old) (P.seen pages.new) cache result }
     ensures sound { P.tells → IsSound (P.seen pages.old)
         → ((was : ℕ) → removal ≡ Small was → CanBeMended (P.seen pages.old) count at i child)
-            → NoBadPage result }
+        → NoBadPage result }
 {
     match removal {
         Removal::Absent => Ok(Removal::Absent),
