@@ -1,0 +1,9 @@
+pub mod FreedRoom
+pub mod Looks
+pub mod NewMeta
+pub mod PartCauses
+pub mod ReadOn
+pub mod Relinked
+pub mod SpotReads
+pub mod Swaps
+pub mod WrittenRows

@@ -1,0 +1,80 @@
+use Rattle.std.proofs.Common.{◌≡◌, ◌∙◌, ap, subst, length, sym, arith}
+use Rattle.std.proofs.lemmas.Result.{on_ok_weaker, err_from_is_err_and}
+use Rattle.pm_types.specs.Ids.{page_id, link}
+use Rattle.pm_types.specs.declared.page_id.Link.{Link}
+use Rattle.pm_free.specs.Placed.{HasRowAt}
+use Rattle.pm_free.proofs.ChainCauses.{cause_passed, cause_after, cause_looked}
+use Rattle.pm_pages.proofs.TakenPages.{meta_looked}
+use Rattle.pm_part.specs.Changes.{IsWayIn, ChangesPages}
+use Rattle.pm_part.specs.declared.overwriting.Way.TheVariants.{InPlace, SamePage}
+use Rattle.pm_part.proofs.SpotReads.{item_looked, row_at_link}
+use Rattle.pm_part.proofs.Swaps.{pages_then, pages_looked, pages_rows, on_ok_from}
+use Rattle.pm_part.proofs.overwriting.overwrite.Goals as goal
+
+pub write_over-requires-clause-alike : goal.write_over-requires-clause-alike
+write_over-requires-clause-alike g c =
+    subst (IsWayIn (g.P.Pages.seen c.find_way.new.pages) c.args.spot.at c.args.spot.item (length c.args.row.now)) {y = InPlace} c.in-InPlace.is c.in_ok-find_way.ensures.way
+
+pub write_over-requires-clause-item : goal.write_over-requires-clause-item
+write_over-requires-clause-item g c =
+    item_looked g.P.Pages.tells (g.P.Pages.seen c.args.pages.now) (g.P.Pages.seen c.find_way.new.pages) 0 c.args.spot.at c.args.spot.item c.requires.meta c.requires.item c.find_way.ensures.looks
+
+pub swap-requires-clause-fits : goal.swap-requires-clause-fits
+swap-requires-clause-fits g c =
+    subst (IsWayIn (g.P.Pages.seen c.find_way.new.pages) c.args.spot.at c.args.spot.item (length c.args.row.now)) {y = SamePage} c.in-SamePage.is c.in_ok-find_way.ensures.way
+
+pub swap-requires-clause-item : goal.swap-requires-clause-item
+swap-requires-clause-item g c =
+    item_looked g.P.Pages.tells (g.P.Pages.seen c.args.pages.now) (g.P.Pages.seen c.find_way.new.pages) 0 c.args.spot.at c.args.spot.item c.requires.meta c.requires.item c.find_way.ensures.looks
+
+pub returns-in-SamePage-clause-changes : goal.returns-in-SamePage-clause-changes
+returns-in-SamePage-clause-changes g c =
+    let T = g.P.Pages.tells in
+    let a = g.P.Pages.seen c.args.pages.now in
+    let b = g.P.Pages.seen c.find_way.new.pages in
+    let d = g.P.Pages.seen c.swap.new.pages in
+    let meta = meta_looked T a b 0 c.find_way.ensures.looks c.requires.meta in
+    on_ok_weaker c.swap.result (λ ch. pages_then T a b d 0 3 7 (omega arith) (pages_looked T a b 0 meta c.find_way.ensures.looks) ch) c.swap.ensures.changes
+
+pub returns-in-SamePage-clause-cause : goal.returns-in-SamePage-clause-cause
+returns-in-SamePage-clause-cause g c =
+    cause_looked g.P.Pages.tells (g.P.Pages.seen c.args.pages.now) (g.P.Pages.seen c.find_way.new.pages) (g.P.Pages.seen c.swap.new.pages) 0 c.swap.result c.find_way.ensures.looks c.swap.ensures.cause
+
+pub take_out-requires-clause-row : goal.take_out-requires-clause-row
+take_out-requires-clause-row g c =
+    let T = g.P.Pages.tells in
+    let a = g.P.Pages.seen c.args.pages.now in
+    let b = g.P.Pages.seen c.find_way.new.pages in
+    let item = item_looked T a b 0 c.args.spot.at c.args.spot.item c.requires.meta c.requires.item c.find_way.ensures.looks in
+    row_at_link b c.args.spot.at c.args.spot.item c.link-link.result (c.link-link.ensures ∙ ap (λ p. link (page_id p c.args.spot.at) c.args.spot.item) (c.part.ensures ∙ sym c.find_way.ensures.looks.same.part)) (omega arith) (omega arith) (omega arith) item
+
+pub returns-in_ok-take_out-in-Moved-clause-changes : goal.returns-in_ok-take_out-in-Moved-clause-changes
+returns-in_ok-take_out-in-Moved-clause-changes g c =
+    let T = g.P.Pages.tells in
+    let a = g.P.Pages.seen c.args.pages.now in
+    let b = g.P.Pages.seen c.find_way.new.pages in
+    let d = g.P.Pages.seen c.take_out.new.pages in
+    let e = g.P.Pages.seen c.place.new.pages in
+    let meta = meta_looked T a b 0 c.find_way.ensures.looks c.requires.meta in
+    let first = pages_then T a b d 0 3 3 (omega arith) (pages_looked T a b 0 meta c.find_way.ensures.looks) (pages_rows T b d 3 _ c.in_ok-take_out-in-Moved.ensures.takes) in
+    on_ok_from c.place.result _ _ (λ at_link rows. pages_then T a d e 3 4 7 (omega arith) first (pages_rows T d e 4 _ rows)) c.place.ensures.places
+
+pub returns-in_ok-take_out-in-Moved-clause-cause : goal.returns-in_ok-take_out-in-Moved-clause-cause
+returns-in_ok-take_out-in-Moved-clause-cause g c =
+    let T = g.P.Pages.tells in
+    let a = g.P.Pages.seen c.args.pages.now in
+    let b = g.P.Pages.seen c.find_way.new.pages in
+    let d = g.P.Pages.seen c.take_out.new.pages in
+    let e = g.P.Pages.seen c.place.new.pages in
+    let meta = meta_looked T a b 0 c.find_way.ensures.looks c.requires.meta in
+    let first = pages_then T a b d 0 3 3 (omega arith) (pages_looked T a b 0 meta c.find_way.ensures.looks) (pages_rows T b d 3 _ c.in_ok-take_out-in-Moved.ensures.takes) in
+    cause_after T a d e 3 c.place.result first.edits c.place.ensures.cause
+
+pub returns-in_err-take_out-in-Moved-clause-cause : goal.returns-in_err-take_out-in-Moved-clause-cause
+returns-in_err-take_out-in-Moved-clause-cause g c =
+    let T = g.P.Pages.tells in
+    let a = g.P.Pages.seen c.args.pages.now in
+    let b = g.P.Pages.seen c.find_way.new.pages in
+    let d = g.P.Pages.seen c.take_out.new.pages in
+    let p = err_from_is_err_and c.from_residual-in_err-take_out-in-Moved.result c.from_residual-in_err-take_out-in-Moved.ensures.1 in
+    cause_passed T a d c.take_out.result c.from_residual-in_err-take_out-in-Moved.result c.in_err-take_out-in-Moved.field-0.0 p.0 c.in_err-take_out-in-Moved.was p.1 p.2 (cause_looked T a b d 0 c.take_out.result c.find_way.ensures.looks c.take_out.ensures.cause)

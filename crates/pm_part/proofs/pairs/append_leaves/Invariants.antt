@@ -1,0 +1,10 @@
+use Rattle.pm_pages.specs.Paged.{AllReadable}
+use Rattle.pm_part.specs.Reads.{ReadsPages}
+use Rattle.pm_part.proofs.pairs.append_leaves.Given as goal
+
+abbrev pub invariant-leaves : goal.invariant-leaves
+invariant-leaves g l = record {
+  kept : g.P.Pages.kept l.fn.pages l.pages;
+  reads : ReadsPages g.P.Pages.tells (g.P.Pages.seen l.fn.pages) (g.P.Pages.seen l.pages);
+  readable : AllReadable (g.P.Pages.seen l.pages);
+}

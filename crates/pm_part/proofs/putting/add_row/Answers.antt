@@ -1,0 +1,51 @@
+use Rattle.std.proofs.Common.{arith}
+use Rattle.std.proofs.lemmas.Result.{on_ok_weaker, err_from_is_err_and}
+use Rattle.pm_part.proofs.PartCauses.{cause_passed, cause_after, cause_chain, cause_put, cause_disk}
+use Rattle.pm_part.proofs.Swaps.{pages_then, pages_rows, pages_put, pages_meta, meta_edited}
+use Rattle.pm_part.proofs.putting.add_row.Goals as goal
+
+pub returns-in_err-link-clause-cause : goal.returns-in_err-link-clause-cause
+returns-in_err-link-clause-cause g c =
+    let T = g.P.Pages.tells in
+    let a = g.P.Pages.seen c.args.pages.now in
+    let b = g.P.Pages.seen c.place.new.pages in
+    let p = err_from_is_err_and c.from_residual.result c.from_residual.ensures.1 in
+    cause_passed T a b c.args.cache c.place.result c.from_residual.result c.in_err-link.field-0.0 p.0 c.in_err-link.was p.1 p.2 (cause_chain T a b c.args.cache c.place.result c.place.ensures.cause)
+
+pub returns-in_err-tree_put-clause-cause : goal.returns-in_err-tree_put-clause-cause
+returns-in_err-tree_put-clause-cause g c =
+    let T = g.P.Pages.tells in
+    let a = g.P.Pages.seen c.args.pages.now in
+    let b = g.P.Pages.seen c.place.new.pages in
+    let d = g.P.Pages.seen c.tree_put.new.pages in
+    let p = err_from_is_err_and c.from_residual-in_err-tree_put.result c.from_residual-in_err-tree_put.ensures.1 in
+    cause_passed T a d c.args.cache c.tree_put.result c.from_residual-in_err-tree_put.result c.in_err-tree_put.field-0.0 p.0 c.in_err-tree_put.was p.1 p.2
+    (cause_after T a b d 4 c.args.cache c.tree_put.result c.in_ok-link.ensures.places.edits (cause_put T b d c.args.cache c.tree_put.result c.tree_put.ensures.cause))
+
+pub returns-in_err-tree_put-clause-kept : goal.returns-in_err-tree_put-clause-kept
+returns-in_err-tree_put-clause-kept g c = g.met.P.Pages.kept_then c.args.pages.now c.place.new.pages c.tree_put.new.pages c.place.ensures.kept c.tree_put.ensures.kept
+
+pub returns-clause-kept : goal.returns-clause-kept
+returns-clause-kept g c = g.met.P.Pages.kept_then c.args.pages.now c.tree_put.new.pages c.set_number.new.pages (g.met.P.Pages.kept_then c.args.pages.now c.place.new.pages c.tree_put.new.pages c.place.ensures.kept c.tree_put.ensures.kept) c.set_number.ensures.kept
+
+pub returns-clause-changes : goal.returns-clause-changes
+returns-clause-changes g c =
+    let T = g.P.Pages.tells in
+    let a = g.P.Pages.seen c.args.pages.now in
+    let b = g.P.Pages.seen c.place.new.pages in
+    let d = g.P.Pages.seen c.tree_put.new.pages in
+    let e = g.P.Pages.seen c.set_number.new.pages in
+    let x = pages_put T b d c.args.cache 17 c.in_ok-tree_put.ensures.changes in
+    on_ok_weaker c.set_number.result (λ sets. pages_then T a d e 21 0 21 (omega arith)
+    (pages_then T a b d 4 17 21 (omega arith) (pages_rows T a b 4 _ c.in_ok-link.ensures.places) x)
+    (pages_meta T d e 0 (meta_edited T d e 0 x.meta c.set_number.ensures.edits sets) c.set_number.ensures.edits)) c.set_number.ensures.sets
+
+pub returns-clause-cause : goal.returns-clause-cause
+returns-clause-cause g c =
+    let T = g.P.Pages.tells in
+    let a = g.P.Pages.seen c.args.pages.now in
+    let b = g.P.Pages.seen c.place.new.pages in
+    let d = g.P.Pages.seen c.tree_put.new.pages in
+    let e = g.P.Pages.seen c.set_number.new.pages in
+    let x = pages_then T a b d 4 17 21 (omega arith) (pages_rows T a b 4 _ c.in_ok-link.ensures.places) (pages_put T b d c.args.cache 17 c.in_ok-tree_put.ensures.changes) in
+    cause_after T a d e 21 c.args.cache c.set_number.result x.edits (cause_disk T d e c.args.cache c.set_number.result c.set_number.ensures.cause)

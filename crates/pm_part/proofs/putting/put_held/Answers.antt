@@ -1,0 +1,33 @@
+use Rattle.std.proofs.Common.{arith}
+use Rattle.std.proofs.lemmas.Result.{err_from_is_err_and}
+use Rattle.pm_pages.proofs.TakenPages.{meta_looked}
+use Rattle.pm_part.proofs.PartCauses.{cause_passed, cause_looked}
+use Rattle.pm_part.proofs.Swaps.{pages_then, pages_looked}
+use Rattle.pm_part.proofs.putting.put_held.Goals as goal
+
+pub replace_row-requires-clause-meta : goal.replace_row-requires-clause-meta
+replace_row-requires-clause-meta g c = meta_looked g.P.Pages.tells (g.P.Pages.seen c.args.pages.now) (g.P.Pages.seen c.find_row.new.pages) 1 c.find_row.ensures.looks c.requires.entry.meta
+
+pub returns-in_err-replace_row-clause-cause : goal.returns-in_err-replace_row-clause-cause
+returns-in_err-replace_row-clause-cause g c =
+    let T = g.P.Pages.tells in
+    let a = g.P.Pages.seen c.args.pages.now in
+    let b = g.P.Pages.seen c.find_row.new.pages in
+    let d = g.P.Pages.seen c.replace_row.new.pages in
+    let p = err_from_is_err_and c.from_residual-in_err-replace_row.result c.from_residual-in_err-replace_row.ensures.1 in
+    cause_passed T a d c.args.cache c.replace_row.result c.from_residual-in_err-replace_row.result c.in_err-replace_row.field-0.0 p.0 c.in_err-replace_row.was p.1 p.2 (cause_looked T a b d 1 c.args.cache c.replace_row.result c.find_row.ensures.looks c.replace_row.ensures.cause)
+
+pub returns-in_err-replace_row-clause-kept : goal.returns-in_err-replace_row-clause-kept
+returns-in_err-replace_row-clause-kept g c = g.met.P.Pages.kept_then c.args.pages.now c.find_row.new.pages c.replace_row.new.pages c.find_row.ensures.kept c.replace_row.ensures.kept
+
+pub returns-clause-kept : goal.returns-clause-kept
+returns-clause-kept g c = g.met.P.Pages.kept_then c.args.pages.now c.find_row.new.pages c.replace_row.new.pages c.find_row.ensures.kept c.replace_row.ensures.kept
+
+pub returns-clause-changes : goal.returns-clause-changes
+returns-clause-changes g c =
+    let T = g.P.Pages.tells in
+    let a = g.P.Pages.seen c.args.pages.now in
+    let b = g.P.Pages.seen c.find_row.new.pages in
+    let d = g.P.Pages.seen c.replace_row.new.pages in
+    let meta = meta_looked T a b 1 c.find_row.ensures.looks c.requires.entry.meta in
+    pages_then T a b d 1 15 16 (omega arith) (pages_looked T a b 1 meta c.find_row.ensures.looks) c.in_ok-replace_row.ensures.changes

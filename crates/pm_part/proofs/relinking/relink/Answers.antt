@@ -1,0 +1,55 @@
+use Rattle.std.proofs.Common.{◌≢◌, refl, arith}
+use Rattle.std.specs.Prelude.{Some}
+use Rattle.std.proofs.lemmas.Result.{on_ok_weaker}
+use Rattle.pm_meta.specs.declared.slots.MetaSlot.TheVariants.{Pages}
+use Rattle.pm_pages.proofs.TakenPages.{number_looked}
+use Rattle.pm_tree.specs.declared.put.Put.TheVariants.{Kept}
+use Rattle.pm_pages.proofs.EditedPages.{looks_then}
+use Rattle.pm_tree.proofs.Climbs.{link_then, puts_looked}
+use Rattle.pm_free.proofs.PlacedPages.{both_ok}
+use Rattle.pm_part.proofs.Relinked.{root_before, relinks}
+use Rattle.pm_part.proofs.PartCauses.{cause_looked}
+use Rattle.pm_part.proofs.relinking.relink.Goals as goal
+
+pub relink_at-requires-clause-count : goal.relink_at-requires-clause-count
+relink_at-requires-clause-count g c = number_looked g.P.Pages.tells (g.P.Pages.seen c.number.new.pages) (g.P.Pages.seen c.number-2.new.pages) 0 Pages c.in_ok-count.count c.number-2.ensures.looks c.in_ok-count.ensures.number
+
+pub relink_at-requires-clause-path : goal.relink_at-requires-clause-path
+relink_at-requires-clause-path g c = (refl, c.in_ok-root.ensures.number)
+
+pub returns-clause-changes : goal.returns-clause-changes
+returns-clause-changes g c =
+    let T = g.P.Pages.tells in
+    let a = g.P.Pages.seen c.args.pages.now in
+    let b = g.P.Pages.seen c.number.new.pages in
+    let d = g.P.Pages.seen c.number-2.new.pages in
+    let e = g.P.Pages.seen c.relink_at.new.pages in
+    let looks = looks_then T a b d 0 0 c.number.ensures.looks c.number-2.ensures.looks in
+    on_ok_weaker c.relink_at.result (λ ch. link_then T a d e 0 8 8 c.args.link.0 (omega arith) c.requires.meta looks ch) c.relink_at.ensures.changes
+
+pub returns-clause-links : goal.returns-clause-links
+returns-clause-links g c =
+    let T = g.P.Pages.tells in
+    let a = g.P.Pages.seen c.args.pages.now in
+    let b = g.P.Pages.seen c.number.new.pages in
+    let d = g.P.Pages.seen c.number-2.new.pages in
+    let e = g.P.Pages.seen c.relink_at.new.pages in
+    let looks = looks_then T a b d 0 0 c.number.ensures.looks c.number-2.ensures.looks in
+    let root = c.in_ok-root.root in
+    on_ok_weaker c.relink_at.result (λ all t height nodes items index.
+    let h = all.1.1 t in
+    let some : root ≢ 0 = λ z. omega (arith, z, all.0) in
+    let number = root_before T a d root c.args.cache looks c.requires.meta c.in_ok-root.ensures.number in
+    let puts = puts_looked T a d e 0 8 root c.args.key.now c.args.link.0 (Kept (Some h.0)) t looks h.1 in
+    let changes = link_then T a d e 0 8 8 c.args.link.0 (omega arith) c.requires.meta looks all.1.0 in
+    relinks T a e c.args.cache root c.args.key.now c.args.link.0 h.0 t c.requires.meta c.requires.cache number some changes puts height nodes items index)
+    (both_ok c.relink_at.result _ _ c.relink_at.ensures.some (both_ok c.relink_at.result _ _ c.relink_at.ensures.changes c.relink_at.ensures.links))
+
+pub returns-clause-cause : goal.returns-clause-cause
+returns-clause-cause g c =
+    let T = g.P.Pages.tells in
+    let a = g.P.Pages.seen c.args.pages.now in
+    let b = g.P.Pages.seen c.number.new.pages in
+    let d = g.P.Pages.seen c.number-2.new.pages in
+    let looks = looks_then T a b d 0 0 c.number.ensures.looks c.number-2.ensures.looks in
+    cause_looked T a d (g.P.Pages.seen c.relink_at.new.pages) 0 c.args.cache c.relink_at.result looks c.relink_at.ensures.cause

@@ -1,0 +1,32 @@
+use Rattle.std.proofs.Common.{ℕ, None, Some, refl, sym, subst, inl, inr}
+use Rattle.std.specs.Prelude.{IfSome, IfNone}
+use Rattle.pm_meta.specs.declared.slots.MetaSlot.TheVariants.{Pages}
+use Rattle.pm_pages.specs.Edits.{IsNumberIn}
+use Rattle.pm_pages.proofs.EditedPages.{looks_then}
+use Rattle.pm_part.specs.Spots.{LeadsTo, LeadsNowhere}
+use Rattle.pm_part.proofs.SpotReads.{wrong_link, names_no_row}
+use Rattle.pm_part.proofs.spots.reply_value.Goals as goal
+
+pub returns-in-None-clause-cause : goal.returns-in-None-clause-cause
+returns-in-None-clause-cause g c =
+    let T = g.P.Pages.tells in
+    let a = g.P.Pages.seen c.args.pages.now in
+    let b = g.P.Pages.seen c.find_spot.new.pages in
+    let spot = subst (λ o. (count : ℕ) × IsNumberIn b Pages count × IfSome o (LeadsTo c.link.result b.part count) × IfNone o (LeadsNowhere c.link.result b.part count)) {y = None} c.in-None.is c.in_ok-find_spot.ensures.spot in
+    wrong_link T a b 0 c.args.cache c.args.key.now c.args.entry c.part.result c.new.result _ c.find_spot.ensures.looks c.requires.entry
+    (inl (spot.0, spot.1, subst (λ l. LeadsNowhere l b.part spot.0) c.link.ensures spot.3)) c.part.ensures c.new.ensures refl
+
+pub returns-then-not-branch-clause-cause : goal.returns-then-not-branch-clause-cause
+returns-then-not-branch-clause-cause g c =
+    let T = g.P.Pages.tells in
+    let a = g.P.Pages.seen c.args.pages.now in
+    let b = g.P.Pages.seen c.find_spot.new.pages in
+    let d = g.P.Pages.seen c.push_at.new.pages in
+    let spot = subst (λ o. (count : ℕ) × IsNumberIn b Pages count × IfSome o (LeadsTo c.link.result b.part count) × IfNone o (LeadsNowhere c.link.result b.part count)) {y = Some c.in-Some.spot} c.in-Some.is c.in_ok-find_spot.ensures.spot in
+    let looks = looks_then T a b d 0 1 c.find_spot.ensures.looks c.push_at.ensures.looks in
+    let leads = subst (λ l. LeadsTo l d.part spot.0 c.in-Some.spot) c.link.ensures (subst (λ n. LeadsTo c.link.result n spot.0 c.in-Some.spot) (λ k. sym c.push_at.ensures.looks.same.part k) spot.2) in
+    wrong_link T a d 1 c.args.cache c.args.key.now c.args.entry c.part-then-not-branch.result c.new-then-not-branch.result _ looks c.requires.entry
+    (names_no_row d c.args.entry c.in-Some.spot c.args.cache spot.0 c.args.key.now leads ((c.in_ok-push_at-in-Some.ensures.not c.if-not-branch.true).0)) c.part-then-not-branch.ensures c.new-then-not-branch.ensures refl
+
+pub returns-else-not-branch-clause-kept : goal.returns-else-not-branch-clause-kept
+returns-else-not-branch-clause-kept g c = g.met.P.Pages.kept_then c.args.pages.now c.find_spot.new.pages c.push_at.new.pages c.find_spot.ensures.kept c.push_at.ensures.kept

@@ -1,0 +1,30 @@
+-- The commands of a partition.
+use Rattle.std.specs.Prelude.{◌≡◌, ℕ, ◌<◌, [], ◌∷◌}
+use Rattle.pm_types.specs.declared.limits.TheConstants.{CACHES}
+use Rattle.pm_types.specs.declared.shape.Shape.{Shape}
+use Rattle.pm_model.specs.declared.line.Cmd.{Cmd}
+use Rattle.pm_model.specs.declared.line.Cmd.TheVariants.{Put, Get, Remove, Scan, Checkpoint}
+use Rattle.pm_model.specs.declared.reply.Reply.{Reply}
+use Rattle.pm_model.specs.Partitions.{part_of}
+use Rattle.pm_model.specs.ReplyLists.{ReplyList, with_replies}
+
+-- the command is a put, get or removal of a key of this partition, in a store of this shape
+abbrev pub IsPartCmd : Shape → ℕ → Cmd → Type 0
+IsPartCmd shape part (Put cache key value) = (cache < CACHES) × (part_of key shape.partitions ≡ part)
+IsPartCmd shape part (Get cache key) = (cache < CACHES) × (part_of key shape.partitions ≡ part)
+IsPartCmd shape part (Remove cache key) = (cache < CACHES) × (part_of key shape.partitions ≡ part)
+IsPartCmd shape part (Scan cache) = ⊥
+IsPartCmd shape part Checkpoint = ⊥
+
+-- the cache of a command; a checkpoint has none
+abbrev pub cache_of : Cmd → ℕ
+cache_of (Put cache key value) = cache
+cache_of (Get cache key) = cache
+cache_of (Remove cache key) = cache
+cache_of (Scan cache) = cache
+cache_of Checkpoint = 0
+
+-- one reply was appended
+pub record AppendsReply (was now : ReplyList) : Type 0 where
+  pub reply : Reply
+  pub appended : now ≡ with_replies (reply ∷ []) was

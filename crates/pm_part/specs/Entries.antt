@@ -1,0 +1,27 @@
+-- What the index of a cache says of a key, as it was found on the way from the root.
+use Rattle.std.specs.Prelude.{◌≡◌, ℕ, ◌<◌, List, Option, None, Some}
+use Rattle.pm_meta.specs.declared.slots.MetaSlot.TheVariants.{Pages}
+use Rattle.pm_pages.specs.Paged.{Paged}
+use Rattle.pm_pages.specs.Edits.{HasMeta, IsNumberIn}
+use Rattle.pm_tree.specs.Steps.{IsPath}
+use Rattle.pm_tree.specs.Places.{IsPlaceIn}
+use Rattle.pm_tree.specs.declared.places.Place.TheVariants.{Held}
+use Rattle.pm_part.specs.declared.entries.Entry.{Entry}
+
+-- pages that are at hand lead from the root of a cache's tree to page `at`
+pub record IsReached (p : Paged) (cache at : ℕ) : Type 0 where
+  pub levels : ℕ
+  pub from : ℕ
+  pub path : IsPath p cache levels from at
+
+-- this is the item of a key in a leaf of the cache's tree, which is at hand
+pub record IsEntryIn (p : Paged) (cache : ℕ) (key : List ℕ) (entry : Entry) : Type 0 where
+  pub meta : HasMeta p
+  pub reached : IsReached p cache entry.leaf
+  pub below : (n : ℕ) → IsNumberIn p Pages n → entry.leaf < n
+  pub place : IsPlaceIn p entry.leaf key (Held entry.item entry.word)
+
+-- the word of an item, if there is one
+abbrev pub word_of : Option Entry → Option ℕ
+word_of None = None
+word_of (Some entry) = Some entry.word

@@ -1,0 +1,17 @@
+//! A partition: puts, gets and removals of its rows by cache and key, and the pairs of a cache.
+#![tactic(auto)]
+
+mod entries;
+mod overwriting;
+mod pairs;
+mod part;
+mod putting;
+mod relinking;
+mod removing;
+mod rows;
+mod spots;
+#[cfg(test)]
+mod tests;
+
+pub use part::Part;
+pub use rows::ROW_MAX;

@@ -1,0 +1,195 @@
+//! One partition of a store.
+
+ghost use Rattle.std.specs.Prelude.{◌≡◌, ℕ, ◌^◌, ◌-◌, ◌<◌, ◌≤◌, [], ◌∷◌, OnOk, OnErr, IsErrOf, IsTrue};
+ghost use Rattle.pm_types.specs.declared.limits.TheConstants.{CACHES, OP_PAGES, ROWS_MAX};
+ghost use Rattle.pm_types.specs.declared.limits.TheConstants.{PARTITIONS_MAX};
+ghost use Rattle.pm_types.specs.Keys.{HasKeyLength, HasValueLength};
+ghost use Rattle.pm_types.specs.Shapes.{IsShape};
+ghost use Rattle.pm_model.specs.ReplyLists.{with_replies};
+ghost use Rattle.pm_model.specs.declared.reply.Reply.{Reply};
+ghost use Rattle.pm_pages.specs.Paged.{AllReadable, NoneLent};
+ghost use Rattle.pm_pages.specs.Edits.{EditsPages};
+ghost use Rattle.pm_types.specs.Counts.{HasRisen};
+ghost use Rattle.pm_types.specs.declared.fault.StoreFault.TheVariants as StoreFault;
+ghost use Rattle.pm_part.specs.Reads.{ReadsPages};
+ghost use Rattle.pm_part.specs.Commands.{IsPartCmd, cache_of, AppendsReply};
+ghost use Rattle.pm_part.specs.Faults.{HasPartCause};
+
+use crate::entries::find_entry;
+use crate::pairs::append_pairs;
+use crate::putting::put;
+use crate::removing::remove;
+use crate::spots::reply_value;
+use pm_model::{Cmd, PairList, Replies, Reply};
+use pm_pages::Pages;
+use pm_types::{PageFault, Shape, StoreFault};
+use std::alloc::Global;
+
+/// A partition of a store of some shape: how its rows are put, found and removed, whatever its
+/// pages stand on.
+#[derive(Clone, Copy, Debug, PartialEq, Eq, Drop)]
+pub struct Part {
+    shape: Shape,
+    part: u16,
+    ghost some_rows: { 1 ≤ shape.max_rows },
+    ghost few_rows: { shape.max_rows ≤ ROWS_MAX },
+    ghost few_partitions: { shape.partitions ≤ PARTITIONS_MAX },
+    ghost is_part: { part < shape.partitions },
+}
+
+impl Part {
+    /// The partition with this number.
+    pub fn new(shape: Shape, part: u16) -> Part
+        requires shape { IsShape shape }
+        requires part { part < shape.partitions }
+        ensures shape { result.shape ≡ shape }
+        ensures part { result.part ≡ part }
+    {
+        Part { shape, part }
+    }
+
+    /// The partition's number.
+    pub fn number(&self) -> u16
+        ensures { result ≡ self.now.part }
+    {
+        self.part
+    }
+
+    /// Does a put, get or remove of this partition, and appends its reply. No memory is taken.
+    pub fn run<P: Pages>(
+        &self,
+        cmd: &Cmd,
+        pages: &mut P,
+        replies: &mut Replies,
+    ) -> Result<(), PageFault>
+        requires ready { P.ready pages.old }
+        requires room { OP_PAGES ≤ (P.seen pages.old).spare }
+        requires cmd { IsPartCmd self.now.shape self.now.part cmd.now }
+        requires readable { AllReadable (P.seen pages.old) }
+        requires spare { 0 < replies.old.spare }
+        ensures kept { P.kept pages.old pages.new }
+        ensures readable { AllReadable (P.seen pages.new) }
+        ensures changes { OnOk result (EditsPages P.tells (P.seen pages.old) (P.seen pages.new)
+            (λ j. IsTrue ((P.seen pages.new).asked j)) OP_PAGES) }
+        ensures replied { OnOk result (AppendsReply replies.old replies.new) }
+        ensures unchanged { OnErr result (replies.new ≡ replies.old) }
+        ensures cause { HasPartCause P.tells (P.seen pages.old) (P.seen pages.new) (cache_of cmd.now) result }
+    {
+        match cmd {
+            Cmd::Put { cache, key, value } => {
+                let max_rows = self.shape.max_rows;
+                run_put(pages, max_rows, *cache, key.bytes(), value.bytes(), replies)
+            }
+            Cmd::Get { cache, key } => run_get(pages, *cache, key.bytes(), replies),
+            Cmd::Remove { cache, key } => run_remove(pages, *cache, key.bytes(), replies),
+            Cmd::Scan { .. } => Ok(()),
+            Cmd::Checkpoint => Ok(()),
+        }
+    }
+
+    /// Appends the pairs of a cache in this partition, by rising key. The pages are asked for one
+    /// after the other, and each is given up before the next.
+    pub fn pairs<P: Pages>(
+        &self,
+        alloc: Global,
+        cache: u8,
+        pages: &mut P,
+        into: &mut PairList,
+    ) -> Result<(), StoreFault>
+        requires ready { P.ready pages.old }
+        requires none_lent { NoneLent (P.seen pages.old) }
+        requires cache { cache < CACHES }
+        requires readable { AllReadable (P.seen pages.old) }
+        ensures kept { P.kept pages.old pages.new }
+        ensures reads { ReadsPages P.tells (P.seen pages.old) (P.seen pages.new) }
+        ensures readable { AllReadable (P.seen pages.new) }
+        ensures failed { IsErrOf result StoreFault.Failed
+            → HasRisen (P.seen pages.old).faults (P.seen pages.new).faults }
+    {
+        append_pairs(alloc, cache, pages, &mut into.pairs)
+    }
+}
+
+fn run_put<P: Pages>(
+    pages: &mut P,
+    max_rows: u32,
+    cache: u8,
+    key: &[u8],
+    value: &[u8],
+    replies: &mut Replies,
+) -> Result<(), PageFault>
+    requires ready { P.ready pages.old }
+    requires room { 32 ≤ (P.seen pages.old).spare }
+    requires cache { cache < CACHES }
+    requires key { HasKeyLength key.now }
+    requires value { HasValueLength value.now }
+    requires most { max_rows < 2 ^ 32 - 1 }
+    requires readable { AllReadable (P.seen pages.old) }
+    requires spare { 0 < replies.old.spare }
+    ensures kept { P.kept pages.old pages.new }
+    ensures readable { AllReadable (P.seen pages.new) }
+    ensures changes { OnOk result (EditsPages P.tells (P.seen pages.old) (P.seen pages.new)
+        (λ j. IsTrue ((P.seen pages.new).asked j)) 32) }
+    ensures replied { OnOk result (AppendsReply replies.old replies.new) }
+    ensures unchanged { OnErr result (replies.new ≡ replies.old) }
+    ensures cause { HasPartCause P.tells (P.seen pages.old) (P.seen pages.new) cache result }
+{
+    if put(pages, max_rows, cache, key, value)? {
+        replies.push(Reply::Done);
+    } else {
+        replies.push(Reply::Full);
+    }
+    Ok(())
+}
+
+fn run_get<P: Pages>(
+    pages: &mut P,
+    cache: u8,
+    key: &[u8],
+    replies: &mut Replies,
+) -> Result<(), PageFault>
+    requires ready { P.ready pages.old }
+    requires room { 32 ≤ (P.seen pages.old).spare }
+    requires cache { cache < CACHES }
+    requires readable { AllReadable (P.seen pages.old) }
+    requires spare { 0 < replies.old.spare }
+    ensures kept { P.kept pages.old pages.new }
+    ensures readable { AllReadable (P.seen pages.new) }
+    ensures changes { OnOk result (EditsPages P.tells (P.seen pages.old) (P.seen pages.new)
+        (λ j. IsTrue ((P.seen pages.new).asked j)) 32) }
+    ensures replied { OnOk result (AppendsReply replies.old replies.new) }
+    ensures unchanged { OnErr result (replies.new ≡ replies.old) }
+    ensures cause { HasPartCause P.tells (P.seen pages.old) (P.seen pages.new) cache result }
+{
+    match find_entry(pages, cache, key)? {
+        None => {
+            replies.push(Reply::Absent);
+            Ok(())
+        }
+        Some(entry) => reply_value(pages, entry, cache, key, replies),
+    }
+}
+
+fn run_remove<P: Pages>(
+    pages: &mut P,
+    cache: u8,
+    key: &[u8],
+    replies: &mut Replies,
+) -> Result<(), PageFault>
+    requires ready { P.ready pages.old }
+    requires room { 32 ≤ (P.seen pages.old).spare }
+    requires cache { cache < CACHES }
+    requires readable { AllReadable (P.seen pages.old) }
+    requires spare { 0 < replies.old.spare }
+    ensures kept { P.kept pages.old pages.new }
+    ensures readable { AllReadable (P.seen pages.new) }
+    ensures changes { OnOk result (EditsPages P.tells (P.seen pages.old) (P.seen pages.new)
+        (λ j. IsTrue ((P.seen pages.new).asked j)) 32) }
+    ensures replied { OnOk result (AppendsReply replies.old replies.new) }
+    ensures unchanged { OnErr result (replies.new ≡ replies.old) }
+    ensures cause { HasPartCause P.tells (P.seen pages.old) (P.seen pages.new) cache result }
+{
+    let was = remove(pages, cache, key)?;
+    replies.push(Reply::Was(was));
+    Ok(())
+}

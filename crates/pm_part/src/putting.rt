@@ -1,0 +1,276 @@
+//! Puts.
+
+ghost use Rattle.std.specs.Prelude.{◌≡◌, ◌≢◌, ℕ, ◌+◌, ◌-◌, ◌^◌, ◌<◌};
+ghost use Rattle.std.specs.Prelude.{◌≤◌, List, IfOk, OnOk, IsTrue, IfSome, IsSomeAnd, length};
+ghost use Rattle.pm_types.specs.declared.limits.TheConstants.{CACHES};
+ghost use Rattle.pm_types.specs.Keys.{HasKeyLength, HasValueLength};
+ghost use Rattle.pm_data.specs.Rows.{IsRow};
+ghost use Rattle.pm_pages.specs.PageLists.{ReadsAt};
+ghost use Rattle.pm_pages.specs.Paged.{HasRoomFor, AllReadable, IsLent, IsWhole, WritesPage};
+ghost use Rattle.pm_pages.specs.Edits.{EditsPages, HasMeta, HasDiskCause};
+ghost use Rattle.pm_part.specs.Entries.{IsEntryIn};
+ghost use Rattle.pm_part.specs.Spots.{HasRowIn};
+ghost use Rattle.pm_part.specs.Changes.{ChangesPages};
+ghost use Rattle.pm_part.specs.NewMeta.{IsNewMeta};
+ghost use Rattle.pm_part.specs.Faults.{HasPartCause};
+
+use crate::entries::{Entry, find_entry};
+use crate::overwriting::overwrite;
+use crate::relinking::relink;
+use crate::rows::{ROW_MAX, write_row};
+use crate::spots::{Spot, find_row};
+use pm_free::place;
+use pm_meta::{MetaSlot, fresh};
+use pm_pages::{Pages, find_number, set_number};
+use pm_tree::tree_put;
+use pm_types::{PageFault, PageId};
+
+/// Sets the value of a key of a cache. `false` comes where the key is new and the partition has as
+/// many rows as it may have; nothing is changed then.
+pub fn put<P: Pages>(
+    pages: &mut P,
+    max_rows: u32,
+    cache: u8,
+    key: &[u8],
+    value: &[u8],
+) -> Result<bool, PageFault>
+    requires ready { P.ready pages.old }
+    requires room { 32 ≤ (P.seen pages.old).spare }
+    requires cache { cache < CACHES }
+    requires key { HasKeyLength key.now }
+    requires value { HasValueLength value.now }
+    requires most { max_rows < 2 ^ 32 - 1 }
+    requires readable { AllReadable (P.seen pages.old) }
+    ensures kept { P.kept pages.old pages.new }
+    ensures readable { AllReadable (P.seen pages.new) }
+    ensures changes { OnOk result (EditsPages P.tells (P.seen pages.old) (P.seen pages.new)
+        (λ j. IsTrue ((P.seen pages.new).asked j)) 32) }
+    ensures cause { HasPartCause P.tells (P.seen pages.old) (P.seen pages.new) cache result }
+{
+    let mut room = [0; ROW_MAX];
+    let len = write_row(&mut room, cache, key, value);
+    put_row(pages, max_rows, cache, key, &room[..len])
+}
+
+fn put_row<P: Pages>(
+    pages: &mut P,
+    max_rows: u32,
+    cache: u8,
+    key: &[u8],
+    row: &[u8],
+) -> Result<bool, PageFault>
+    requires ready { P.ready pages.old }
+    requires room { 32 ≤ (P.seen pages.old).spare }
+    requires cache { cache < CACHES }
+    requires key { HasKeyLength key.now }
+    requires row { IsRow row.now }
+    requires most { max_rows < 2 ^ 32 - 1 }
+    requires readable { AllReadable (P.seen pages.old) }
+    ensures kept { P.kept pages.old pages.new }
+    ensures readable { AllReadable (P.seen pages.new) }
+    ensures changes { OnOk result (EditsPages P.tells (P.seen pages.old) (P.seen pages.new)
+        (λ j. IsTrue ((P.seen pages.new).asked j)) 32) }
+    ensures cause { HasPartCause P.tells (P.seen pages.old) (P.seen pages.new) cache result }
+{
+    match find_entry(pages, cache, key)? {
+        None => put_new(pages, max_rows, cache, key, row),
+        Some(entry) => put_held(pages, entry, cache, key, row),
+    }
+}
+
+// Puts a row of a key that is there, of which this is the entry.
+fn put_held<P: Pages>(
+    pages: &mut P,
+    entry: Entry,
+    cache: u8,
+    key: &[u8],
+    row: &[u8],
+) -> Result<bool, PageFault>
+    requires ready { P.ready pages.old }
+    requires room { 16 ≤ (P.seen pages.old).spare }
+    requires cache { cache < CACHES }
+    requires row { IsRow row.now }
+    requires entry { IsEntryIn (P.seen pages.old) cache key.now entry }
+    requires readable { AllReadable (P.seen pages.old) }
+    ensures kept { P.kept pages.old pages.new }
+    ensures readable { AllReadable (P.seen pages.new) }
+    ensures changes { OnOk result (ChangesPages P.tells (P.seen pages.old) (P.seen pages.new) 16) }
+    ensures cause { HasPartCause P.tells (P.seen pages.old) (P.seen pages.new) cache result }
+{
+    let spot = find_row(pages, entry, cache, key)?;
+    replace_row(pages, cache, key, spot, row)?;
+    Ok(true)
+}
+
+// Puts a row in the place of that which its key has. The leaf is changed only where the row's name
+// is another.
+fn replace_row<P: Pages>(
+    pages: &mut P,
+    cache: u8,
+    key: &[u8],
+    spot: Spot,
+    row: &[u8],
+) -> Result<(), PageFault>
+    requires ready { P.ready pages.old }
+    requires meta { HasMeta (P.seen pages.old) }
+    requires room { 15 ≤ (P.seen pages.old).spare }
+    requires cache { cache < CACHES }
+    requires row { IsRow row.now }
+    requires has { HasRowIn (P.seen pages.old) spot cache key.now }
+    requires readable { AllReadable (P.seen pages.old) }
+    ensures kept { P.kept pages.old pages.new }
+    ensures readable { AllReadable (P.seen pages.new) }
+    ensures changes { OnOk result (ChangesPages P.tells (P.seen pages.old) (P.seen pages.new) 15) }
+    ensures cause { HasPartCause P.tells (P.seen pages.old) (P.seen pages.new) cache result }
+{
+    let old = spot.link(pages.part());
+    let link = overwrite(pages, spot, row)?;
+    if link == old {
+        return Ok(());
+    }
+    relink(pages, cache, key, link)
+}
+
+// Puts a row of a new key. The first row of a partition makes its meta page.
+fn put_new<P: Pages>(
+    pages: &mut P,
+    max_rows: u32,
+    cache: u8,
+    key: &[u8],
+    row: &[u8],
+) -> Result<bool, PageFault>
+    requires ready { P.ready pages.old }
+    requires room { 23 ≤ (P.seen pages.old).spare }
+    requires cache { cache < CACHES }
+    requires key { HasKeyLength key.now }
+    requires row { IsRow row.now }
+    requires most { max_rows < 2 ^ 32 - 1 }
+    requires readable { AllReadable (P.seen pages.old) }
+    ensures kept { P.kept pages.old pages.new }
+    ensures readable { AllReadable (P.seen pages.new) }
+    ensures changes { OnOk result (EditsPages P.tells (P.seen pages.old) (P.seen pages.new)
+        (λ j. IsTrue ((P.seen pages.new).asked j)) 23) }
+    ensures cause { HasPartCause P.tells (P.seen pages.old) (P.seen pages.new) cache result }
+{
+    match find_number(pages, MetaSlot::Rows)? {
+        None => put_first(pages, cache, key, row),
+        Some(rows) => put_next(pages, max_rows, rows, cache, key, row),
+    }
+}
+
+// Puts the first row of a partition, which has no meta page.
+fn put_first<P: Pages>(pages: &mut P, cache: u8, key: &[u8], row: &[u8]) -> Result<bool, PageFault>
+    requires ready { P.ready pages.old }
+    requires room { 22 ≤ (P.seen pages.old).spare }
+    requires cache { cache < CACHES }
+    requires key { HasKeyLength key.now }
+    requires row { IsRow row.now }
+    requires readable { AllReadable (P.seen pages.old) }
+    ensures kept { P.kept pages.old pages.new }
+    ensures readable { AllReadable (P.seen pages.new) }
+    ensures changes { OnOk result (ChangesPages P.tells (P.seen pages.old) (P.seen pages.new) 22) }
+    ensures cause { HasPartCause P.tells (P.seen pages.old) (P.seen pages.new) cache result }
+{
+    make_meta(pages)?;
+    add_row(pages, 0, cache, key, row)?;
+    Ok(true)
+}
+
+// Puts a row of a new key into a partition that has so many rows, unless it has as many as it may
+// have.
+fn put_next<P: Pages>(
+    pages: &mut P,
+    max_rows: u32,
+    rows: u32,
+    cache: u8,
+    key: &[u8],
+    row: &[u8],
+) -> Result<bool, PageFault>
+    requires ready { P.ready pages.old }
+    requires meta { HasMeta (P.seen pages.old) }
+    requires room { 21 ≤ (P.seen pages.old).spare }
+    requires cache { cache < CACHES }
+    requires key { HasKeyLength key.now }
+    requires row { IsRow row.now }
+    requires most { max_rows < 2 ^ 32 - 1 }
+    requires readable { AllReadable (P.seen pages.old) }
+    ensures kept { P.kept pages.old pages.new }
+    ensures readable { AllReadable (P.seen pages.new) }
+    ensures changes { OnOk result (ChangesPages P.tells (P.seen pages.old) (P.seen pages.new) 21) }
+    ensures cause { HasPartCause P.tells (P.seen pages.old) (P.seen pages.new) cache result }
+{
+    if rows >= max_rows {
+        return Ok(false);
+    }
+    add_row(pages, rows, cache, key, row)?;
+    Ok(true)
+}
+
+// Adds a row to a partition that has so many.
+fn add_row<P: Pages>(
+    pages: &mut P,
+    rows: u32,
+    cache: u8,
+    key: &[u8],
+    row: &[u8],
+) -> Result<(), PageFault>
+    requires ready { P.ready pages.old }
+    requires meta { HasMeta (P.seen pages.old) }
+    requires room { 21 ≤ (P.seen pages.old).spare }
+    requires cache { cache < CACHES }
+    requires key { HasKeyLength key.now }
+    requires row { IsRow row.now }
+    requires few { rows < 2 ^ 32 - 1 }
+    requires readable { AllReadable (P.seen pages.old) }
+    ensures kept { P.kept pages.old pages.new }
+    ensures readable { AllReadable (P.seen pages.new) }
+    ensures changes { OnOk result (ChangesPages P.tells (P.seen pages.old) (P.seen pages.new) 21) }
+    ensures cause { HasPartCause P.tells (P.seen pages.old) (P.seen pages.new) cache result }
+{
+    let link = place(pages, row)?;
+    tree_put(pages, cache, key, link)?;
+    set_number(pages, MetaSlot::Rows, rows + 1)
+}
+
+// Makes the meta page of a partition that has none.
+fn make_meta<P: Pages>(pages: &mut P) -> Result<(), PageFault>
+    requires ready { P.ready pages.old }
+    requires room { HasRoomFor (P.seen pages.old) 0 }
+    requires readable { AllReadable (P.seen pages.old) }
+    ensures kept { P.kept pages.old pages.new }
+    ensures readable { AllReadable (P.seen pages.new) }
+    ensures meta { OnOk result (HasMeta (P.seen pages.new)) }
+    ensures edits { OnOk result (EditsPages P.tells (P.seen pages.old) (P.seen pages.new) (λ j. j ≡ 0) 1) }
+    ensures cause { HasDiskCause (P.seen pages.old) (P.seen pages.new).faults result }
+{
+    pages.fresh(0)?;
+    write_meta(pages);
+    Ok(())
+}
+
+fn write_meta<P: Pages>(pages: &mut P)
+    requires ready { P.ready pages.old }
+    requires lent { IsLent (P.seen pages.old) 0 }
+    requires whole { IsSomeAnd ((P.seen pages.old).patch 0) (IsWhole (P.seen pages.old).page_size) }
+    requires others { (j : ℕ) → j ≢ 0 → IsTrue ((P.seen pages.old).known j)
+        → IfSome ((P.seen pages.old).pages j) (ReadsAt j) }
+    ensures kept { P.kept pages.old pages.new }
+    ensures readable { AllReadable (P.seen pages.new) }
+    ensures meta { HasMeta (P.seen pages.new) }
+    ensures edits { EditsPages P.tells (P.seen pages.old) (P.seen pages.new) (λ j. j ≡ 0) 0 }
+{
+    let id = PageId::new(pages.part(), 0);
+    put_meta(pages, id);
+}
+
+fn put_meta<P: Pages>(pages: &mut P, id: PageId)
+    requires ready { P.ready pages.old }
+    requires lent { IsLent (P.seen pages.old) 0 }
+    ensures kept { P.kept pages.old pages.new }
+    ensures writes { (page : List ℕ) × WritesPage (P.seen pages.old) (P.seen pages.new) 0 page
+        × IsNewMeta id page × (length page ≡ (P.seen pages.old).page_size) }
+{
+    let _size = pages.page_size();
+    let page = pages.page_mut(0);
+    fresh(page, id);
+}
