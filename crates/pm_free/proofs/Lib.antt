@@ -3,10 +3,12 @@ pub mod Changed
 pub mod EditedData
 pub mod Neighbours
 pub mod NewPages
+pub mod Passing
 pub mod PlacedPages
 pub mod PlacedRows
 pub mod Relinked
 pub mod RowLists
 pub mod Runs
 pub mod Settled
+pub mod SoundChains
 pub mod Views
