@@ -11,4 +11,7 @@ pub mod RowLists
 pub mod Runs
 pub mod Settled
 pub mod SoundChains
+pub mod SoundRows
+pub mod SpareRows
+pub mod StoredRows
 pub mod Views
