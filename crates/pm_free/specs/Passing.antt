@@ -3,8 +3,8 @@ use Rattle.std.specs.Prelude.{◌≡◌, ℕ, List, Some}
 use Rattle.pm_pages.specs.Rows.{Partition}
 use Rattle.pm_pages.specs.Passes.{PassesAt}
 
--- page i is there and passes its check, in a store with pages of this size and so many rows in a partition at
--- most
+-- page i is there and passes its check, in a store with pages of this size and so many rows in a
+-- partition at most
 abbrev pub IsStoredAt : ℕ → ℕ → ℕ → Partition → ℕ → Type 0
 IsStoredAt page_size max_rows part pages i =
     (page : List ℕ) × (pages i ≡ Some page) × PassesAt page_size max_rows part i page

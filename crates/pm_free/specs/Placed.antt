@@ -124,8 +124,9 @@ pub record IsFilledIn (p : Paged) (i : ℕ) (row : List ℕ) (item : ℕ) : Type
   pub first : item ≡ 0
   pub says : data_of page ≡ with_rows (empty_page (page_id p.part i)) (Some row ∷ [])
 
--- The store reports its pages, which are sound; the partition has a page, and its chains are right. Where no
--- bucket has pages of those whose pages have room for a row of this length, a page can be taken.
+-- The store reports its pages, which are sound; the partition has a page, and its chains are right.
+-- Where no bucket has pages of those whose pages have room for a row of this length, a page can be
+-- taken.
 pub record MayPlace (T : Type 0) (p : Paged) (len : ℕ) : Type 0 where
   pub told : T
   pub sound : IsSound p
@@ -133,9 +134,9 @@ pub record MayPlace (T : Type 0) (p : Paged) (len : ℕ) : Type 0 where
   pub chains : HasChains p.pages
   pub take : HasNoneBelow p.page_size p.pages len BUCKETS → MayTake T p
 
--- At most so many pages were asked for that weren't before, and no others changed than were asked for.
--- Sound pages are sound still, and at most so many of those that can be taken were taken. Where the store
--- reports its pages, the partition changed so.
+-- At most so many pages were asked for that weren't before, and no others changed than were asked
+-- for. Sound pages are sound still, and at most so many of those that can be taken were taken. Where
+-- the store reports its pages, the partition changed so.
 pub record ChangesRows (T : Type 0) (old new : Paged) (most more : ℕ)
     (change : Partition → Partition → Type 0) : Type 0 where
   pub edits : EditsPages T old new (λ j. IsTrue (new.asked j)) most

@@ -11,8 +11,8 @@ use Rattle.pm_free.specs.Chained.{AreChained}
 abbrev pub IsDataOrZero : Partition → ℕ → Type 0
 IsDataOrZero pages i = i ≢ 0 → kind_of (page_at pages i) ≡ DATA_KIND
 
--- The store reports its pages, each of which is sound. The chain of each bucket has exactly the pages of that
--- bucket, as `home` says which one is a page's, and these are data pages.
+-- The store reports its pages, each of which is sound. The chain of each bucket has exactly the pages
+-- of that bucket, as `home` says which one is a page's, and these are data pages.
 pub record HasSoundChains (T : Type 0) (p : Paged) (home : ℕ → ℕ) : Type 0 where
   pub told : T
   pub sound : IsSound p
@@ -25,4 +25,5 @@ KeepsSound T old new = T → IsSound old → IsSound new
 
 -- all but so many of the pages that can be taken can be taken still
 abbrev pub LeavesSpare : Type 0 → Paged → Paged → ℕ → Type 0
-LeavesSpare T old new most = T → (limit left : ℕ) → CanTake limit old (most + left) → CanTake limit new left
+LeavesSpare T old new most =
+    T → (limit left : ℕ) → CanTake limit old (most + left) → CanTake limit new left

@@ -23,11 +23,12 @@ use pm_types::{Link, PageFault, PageId};
 /// Places a row on the first page of the lowest bucket that has pages, of those whose pages surely have
 /// room, or else on a new page, and gives its link. The meta page was asked for before.
 ///
-/// `Failed` comes only where a call on the disk failed. `BadPage` names a page that names a wrong neighbour
-/// or first page of a chain, a page so named that is bad, or, where a new page is needed, what `new_page`
-/// names; it never comes of sound pages in chains that are right, of which one can be taken if it is needed.
-/// After an error the pages that were asked for may be half changed. After `Ok` sound pages are sound, at most
-/// one page fewer can be taken, and pages that passed their checks pass them, where a page could be taken.
+/// `Failed` comes only where a call on the disk failed. `BadPage` names a page that names a wrong
+/// neighbour or first page of a chain, a page so named that is bad, or, where a new page is needed,
+/// what `new_page` names; it never comes of sound pages in chains that are right, where a page can be
+/// taken if one is needed. After an error the pages that were asked for may be half changed. After
+/// `Ok` sound pages are sound, at most one page fewer can be taken, and where a page could be taken
+/// within the limit of the page count, pages that passed their checks pass them.
 pub fn place<P: Pages>(pages: &mut P, row: &[u8]) -> Result<Link, PageFault>
     requires ready { P.ready pages.old }
     requires meta { HasMeta (P.seen pages.old) }
@@ -63,7 +64,8 @@ fn place_on<P: Pages>(pages: &mut P, head: Head, row: &[u8]) -> Result<Link, Pag
     ensures cause { HasChainCause P.tells (P.seen pages.old) (P.seen pages.new) result }
     ensures sound { P.tells → IsSound (P.seen pages.old) → 1 ≤ page_count (P.seen pages.old).pages
         → HasChains (P.seen pages.old).pages → NoBadPage result }
-    ensures passes { OnOk result (P.tells → IsStored (P.seen pages.old) → IsStored (P.seen pages.new)) }
+    ensures passes { OnOk result (P.tells → IsStored (P.seen pages.old)
+        → IsStored (P.seen pages.new)) }
 {
     check_head(pages, head)?;
     let item = make_edit(pages, head.at, Edit::Insert, row)?;
