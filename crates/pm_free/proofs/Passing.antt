@@ -9,7 +9,7 @@ use Rattle.pm_data.specs.DataPages.{DataPage, data_of, rows_of, IsStoredPage}
 use Rattle.pm_data.proofs.RowsByItem.{length-rows_of}
 use Rattle.pm_meta.specs.declared.slots.MetaSlot.{MetaSlot}
 use Rattle.pm_meta.specs.declared.slots.MetaSlot.TheVariants.{Bucket, Pages}
-use Rattle.pm_meta.specs.MetaPages.{field_of, IsInBounds, IsStoredMeta}
+use Rattle.pm_meta.specs.MetaPages.{IsInBounds, IsStoredMeta}
 use Rattle.pm_pages.specs.Rows.{Partition, page_count, kind_of}
 use Rattle.pm_pages.specs.Passes.{Passes, PassesAt}
 use Rattle.pm_pages.specs.SparePages.{SetsNumber}
@@ -17,7 +17,7 @@ use Rattle.pm_pages.proofs.SpareSteps.{number_by}
 use Rattle.pm_free.specs.declared.edits.Edit.{Edit}
 use Rattle.pm_free.specs.declared.edits.Edit.TheVariants.{Before, After, Links, Insert, Remove}
 use Rattle.pm_free.specs.DataEdits.{edited}
-use Rattle.pm_free.specs.Passing.{IsStoredAt, KeepsPassing}
+use Rattle.pm_free.specs.Passing.{KeepsPassing}
 use Rattle.pm_free.specs.Changes.{EditsPartition, SetsHead}
 
 -- the check of a page that isn't the first

@@ -1,23 +1,18 @@
 -- Sound pages in chains that are right: what their pages name is a data page, so none is bad.
-use Rattle.std.proofs.Common.{◌≡◌, ◌≢◌, ℕ, suc, ◌+◌, ◌-◌, ◌<◌, ◌≤◌, ◌⊎◌, List, [], ◌∷◌, length, refl, sym, ap, subst, ◌∙◌, inl, inr, arith}
-use Rattle.std.specs.Prelude.{Result, Err, IsErrOf, if◌then◌else◌, ◌==◌}
-use Rattle.std.proofs.lemmas.Bool.{cases_eq, cases_lt, le-ltb}
-use Rattle.pm_types.specs.declared.page_id.PageId.{PageId}
-use Rattle.pm_types.specs.declared.fault.PageFault.{PageFault}
-use Rattle.pm_types.specs.declared.fault.PageFault.TheVariants.{BadPage}
+use Rattle.std.proofs.Common.{◌≡◌, ◌≢◌, ℕ, ◌<◌, ◌≤◌, ◌⊎◌, List, [], ◌∷◌, sym, ap, subst, ◌∙◌, inl, inr, arith}
+use Rattle.std.specs.Prelude.{◌==◌}
+use Rattle.std.proofs.lemmas.Bool.{cases_eq}
 use Rattle.pm_data.specs.declared.layout.TheConstants.{DATA_KIND}
 use Rattle.pm_meta.specs.declared.layout.TheConstants.{BUCKETS}
-use Rattle.pm_meta.specs.declared.slots.MetaSlot.TheVariants.{Bucket, Pages}
+use Rattle.pm_meta.specs.declared.slots.MetaSlot.TheVariants.{Bucket}
 use Rattle.pm_pages.specs.Rows.{Partition, bytes_of, page_at, page_count, number_in, kind_of}
-use Rattle.pm_pages.specs.Chains.{times, next_of, before_of, bucket_of, bucket_chain}
-use Rattle.pm_pages.specs.Paged.{Paged, HasPageCause}
-use Rattle.pm_pages.specs.Edits.{LooksAtPages, HasMeta, IsNumberIn, HasDiskCause}
-use Rattle.pm_pages.specs.SoundPages.{IsSound, NoBadPage}
+use Rattle.pm_pages.specs.Chains.{times, next_of, before_of, bucket_chain}
+use Rattle.pm_pages.specs.Paged.{Paged}
+use Rattle.pm_pages.specs.Edits.{LooksAtPages, HasMeta, IsNumberIn}
 use Rattle.pm_pages.proofs.PageReads.{page_at-below}
-use Rattle.pm_pages.proofs.SoundPages.{sound_looked, sound_not_bad}
-use Rattle.pm_pages.proofs.PassingLooks.{bad_passed}
+use Rattle.pm_pages.proofs.SoundPages.{sound_looked}
 use Rattle.pm_pages.proofs.ChainWalks.{times_here, times_other}
-use Rattle.pm_free.specs.Chained.{home_of, homes_in, with_home, AreChained, MovesPage}
+use Rattle.pm_free.specs.Chained.{home_of, with_home, AreChained, MovesPage}
 use Rattle.pm_free.specs.declared.seats.Seat.{Seat}
 use Rattle.pm_free.specs.DataEdits.{IsDataAt}
 use Rattle.pm_free.specs.Seats.{IsSeatIn}
@@ -28,17 +23,6 @@ use Rattle.pm_free.proofs.Runs.{Run, before_stands, next_stands}
 use Rattle.pm_free.proofs.Relinked.{IsRunOf, run_of, home_there, stands_home}
 use Rattle.pm_free.proofs.Views.{chain_next, chain_before, next_here, other_home, data_next, data_before}
 use Rattle.pm_free.proofs.Settled.{home_here, home_other}
-
--- the only error is that of a call on the disk, also where it is passed on
-pub disk_passed : {R S : Type 0} (a : Paged) (n : ℕ) (r : Result R PageFault) (s : Result S PageFault) (f e : PageFault) → r ≡ Err f → s ≡ Err e → e ≡ f → HasDiskCause a n r → NoBadPage s
-disk_passed a n r s f e is_r is_s same cause id h = cause.not_bad id (bad_passed r s f e is_r is_s same id h)
-
--- a data page is one of the partition's
-pub data_below : (pages : Partition) (i : ℕ) → kind_of (page_at pages i) ≡ DATA_KIND → i < page_count pages
-data_below pages i kind = elim (cases_lt i (page_count pages)) [
-  | inl lt ↦ lt
-  | inr le ↦ (let none : kind_of (page_at pages i) ≡ 0 = ap kind_of (λ k. if le-ltb i (page_count pages) le k then bytes_of (pages i) else []) in absurd (omega (arith, none, kind)))
-]
 
 -- a page with a bucket is a data page
 pub home_data : (page : List ℕ) → home_of page < BUCKETS → kind_of page ≡ DATA_KIND

@@ -1,28 +1,24 @@
 -- Chains stay right, and pages sound, while a row is placed or taken out.
-use Rattle.std.proofs.Common.{◌≡◌, ◌≢◌, ℕ, ◌+◌, ◌<◌, ◌≤◌, ◌⊎◌, List, length, sym, ap, subst, ◌∙◌, inl, inr, arith}
+use Rattle.std.proofs.Common.{◌≡◌, ℕ, ◌<◌, List, sym, ap, subst, ◌∙◌, inl, inr, arith}
 use Rattle.std.specs.Prelude.{Result}
 use Rattle.std.proofs.lemmas.Bool.{cases_eq}
-use Rattle.pm_types.specs.declared.page_id.PageId.{PageId}
 use Rattle.pm_types.specs.declared.fault.PageFault.{PageFault}
-use Rattle.pm_data.specs.declared.layout.TheConstants.{DATA_KIND}
 use Rattle.pm_meta.specs.declared.layout.TheConstants.{BUCKETS}
 use Rattle.pm_meta.specs.declared.slots.MetaSlot.TheVariants.{Bucket, Pages}
 use Rattle.pm_pages.specs.Rows.{Partition, page_at, page_count, number_in, kind_of}
 use Rattle.pm_pages.specs.Paged.{Paged, HasGapCause}
-use Rattle.pm_pages.specs.Edits.{LooksAtPages, EditsPages, HasMeta}
-use Rattle.pm_pages.specs.SparePages.{TakesPage}
+use Rattle.pm_pages.specs.Edits.{LooksAtPages, HasMeta}
 use Rattle.pm_pages.specs.SoundPages.{IsSound, NoBadPage}
-use Rattle.pm_pages.proofs.SoundPages.{sound_looked, sound_no_gap}
+use Rattle.pm_pages.proofs.SoundPages.{sound_no_gap}
 use Rattle.pm_free.specs.declared.buckets.Head.{Head}
 use Rattle.pm_free.specs.DataEdits.{IsDataAt}
 use Rattle.pm_free.specs.Buckets.{HasEnough, IsHeadFor, HasNoHeadFor}
-use Rattle.pm_free.specs.Chained.{home_of, homes_in, AreChained}
+use Rattle.pm_free.specs.Chained.{homes_in, AreChained}
 use Rattle.pm_free.specs.Sound.{HasSoundChains}
-use Rattle.pm_free.specs.Placed.{HasChains, HasNoneBelow, IsFilledIn}
+use Rattle.pm_free.specs.Placed.{HasChains, HasNoneBelow}
 use Rattle.pm_free.proofs.Changed.{below_count, number_told, pages_told}
 use Rattle.pm_free.proofs.PlacedRows.{chains_in, chained_same, ViewsRows}
 use Rattle.pm_free.proofs.NewPages.{Filled, filled_chains, unused_home, keeps_other}
-use Rattle.pm_free.proofs.PlacedPages.{filled_sound}
 use Rattle.pm_free.proofs.SoundChains.{home_data, first_home}
 
 -- the chains of a partition that is well formed

@@ -1,5 +1,5 @@
 -- How many pages can be taken still after a row was placed or taken out.
-use Rattle.std.proofs.Common.{◌≡◌, ℕ, ◌+◌, ◌<◌, ◌≤◌, ◌⊎◌, List, [], ◌∷◌, length, arith}
+use Rattle.std.proofs.Common.{ℕ, ◌+◌, ◌≤◌, List, [], ◌∷◌, length, arith}
 use Rattle.pm_types.specs.declared.page_id.Link.{Link}
 use Rattle.pm_pages.specs.Rows.{Partition}
 use Rattle.pm_pages.specs.Paged.{Paged}

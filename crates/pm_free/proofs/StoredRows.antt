@@ -3,12 +3,11 @@ use Rattle.std.proofs.Common.{◌≡◌, ◌≢◌, ℕ, ◌+◌, ◌*◌, ◌<�
 use Rattle.std.specs.Prelude.{Option, Some}
 use Rattle.std.proofs.lemmas.Bool.{cases_eq}
 use Rattle.pm_types.specs.Ids.{page_id}
-use Rattle.pm_data.specs.DataPages.{DataPage, data_of, rows_of, free_item}
+use Rattle.pm_data.specs.DataPages.{DataPage, rows_of, free_item}
 use Rattle.pm_data.proofs.RowsByItem.{length-rows_of}
 use Rattle.pm_meta.specs.declared.layout.TheConstants.{EXTRA_PAGES, BUCKETS}
 use Rattle.pm_meta.specs.declared.slots.MetaSlot.TheVariants.{Pages}
 use Rattle.pm_pages.specs.Rows.{Partition, page_count}
-use Rattle.pm_pages.specs.Passes.{Passes}
 use Rattle.pm_pages.specs.Paged.{Paged, SamePartition}
 use Rattle.pm_pages.specs.Edits.{LooksAtPages, EditsPages, HasMeta}
 use Rattle.pm_pages.specs.SparePages.{TakesPage, GivesPage, IsMetaOr}

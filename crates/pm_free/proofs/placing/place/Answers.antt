@@ -1,7 +1,7 @@
 use Rattle.std.proofs.lemmas.Result.{IfOk-weaker}
 use Rattle.pm_free.proofs.ChainCauses.{cause_looked}
 use Rattle.pm_free.proofs.PlacedPages.{rows_looked, places_same}
-use Rattle.std.proofs.Common.{◌≡◌, ℕ, ◌≤◌, subst, sym, arith, ap}
+use Rattle.std.proofs.Common.{◌≤◌, subst, sym, arith, ap}
 use Rattle.std.specs.Prelude.{IfNone, length}
 use Rattle.std.proofs.lemmas.Result.{on_ok_weaker}
 use Rattle.pm_pages.specs.Rows.{Partition, page_count}

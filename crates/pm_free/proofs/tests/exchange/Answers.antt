@@ -1,4 +1,4 @@
-use Rattle.std.proofs.Common.{◌≤◌, arith}
+use Rattle.std.proofs.Common.{arith}
 use Rattle.std.proofs.lemmas.Result.{on_ok_weaker, err_from_is_err_and}
 use Rattle.pm_pages.proofs.SoundPages.{no_bad_passed}
 use Rattle.pm_free.proofs.tests.exchange.Goals as goal
