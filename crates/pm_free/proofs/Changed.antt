@@ -7,11 +7,13 @@ use Rattle.pm_meta.specs.declared.slots.MetaSlot.TheVariants.{Bucket, Pages}
 use Rattle.pm_meta.specs.MetaPages.{field_of, IsMetaPage}
 use Rattle.pm_data.specs.DataPages.{IsDataPage}
 use Rattle.pm_pages.specs.Rows.{Partition, number_in, number_of, page_count}
-use Rattle.pm_pages.specs.Paged.{Paged, AllReadable}
+use Rattle.pm_pages.specs.Paged.{Paged, IsThere, AllReadable}
 use Rattle.pm_pages.specs.Edits.{LooksAtPages, EditsPages, HasMeta, IsNumberIn}
 use Rattle.pm_pages.specs.SparePages.{SetsNumber, MetaBecomes}
 use Rattle.pm_pages.proofs.EditedPages.{edits_looked, edits_then, edits_more, some_bytes}
 use Rattle.pm_pages.proofs.TakenPages.{meta_looked}
+use Rattle.pm_pages.proofs.SpareSteps.{number_by}
+use Rattle.pm_pages.proofs.SoundPages.{sound_edited, sound_looked}
 use Rattle.pm_free.specs.declared.edits.Edit.{Edit}
 use Rattle.pm_free.specs.DataEdits.{IsDataIn, IsDataAt, EditsDataAt}
 use Rattle.pm_free.specs.Changes.{ChangesData, EditsPartition, SetsHead}
@@ -62,6 +64,7 @@ changes_looked T a b m meta looks = record {
   edits = edits_looked T a b (λ j. IsTrue (b.asked j)) m looks;
   meta = meta_looked T a b m looks meta;
   stay = λ j is. data_looked T a b m j meta looks is;
+  sound = λ t is. sound_looked T a b m t looks is;
   told = λ t. pages_told T a b m t looks;
 }
 
@@ -72,6 +75,7 @@ changes_then T a b c m n R S Q both x y = record {
       (edits_then T a b c (λ j. IsTrue (b.asked j)) (λ j. IsTrue (c.asked j)) m n x.edits y.edits);
   meta = y.meta;
   stay = λ j is. y.stay j (x.stay j is);
+  sound = λ t is. y.sound t (x.sound t is);
   told = λ t. both a.pages b.pages c.pages (x.told t) (y.told t);
 }
 
@@ -80,6 +84,7 @@ changes_as T a b m n R Q le weaker x = record {
   edits = edits_more T a b (λ j. IsTrue (b.asked j)) (λ j. IsTrue (b.asked j)) m n (λ j h. h) le x.edits;
   meta = x.meta;
   stay = x.stay;
+  sound = x.sound;
   told = λ t. weaker a.pages b.pages (x.told t);
 }
 
@@ -109,6 +114,9 @@ edits_page T a b at row edit item meta is edits takes =
         })
         | inr ne ↦ data_other T a b (λ i. i ≡ at) 0 j edits ne (same_rises a b meta meta_same) was
       ];
+      sound = λ t sound. sound_edited T a b (λ j. j ≡ at) 0 t edits
+          (λ j e. subst (λ i. IsTrue (b.known i) × IsThere b i) (sym e) (edits.known at is.is.in_hand.known, subst IsSome (sym takes.after) refl))
+          (ap (λ o. number_of o Pages) meta_same) sound;
       told = λ t. record {
         some = away;
         below = below_count a at meta is;
@@ -133,6 +141,9 @@ sets_head T a b bucket index meta readable readable' edits sets =
           (let same : number.meta ≡ sets.now = cc (number.in_hand.page, sets.after) in
           let pages : field_of number.meta Pages ≡ field_of sets.was Pages = ap (λ (m : List ℕ). field_of m Pages) same ∙ sets.change.others Pages tt (λ e. cc e) in
           (field_of sets.was Pages, record { meta = sets.was; in_hand = record { known = meta.known; asked = meta.asked; page = sets.before }; is = refl }, omega (arith, number.is, pages)))) is;
+      sound = λ t sound. sound_edited T a b (λ j. j ≡ 0) 0 t edits
+          (λ j e. subst (λ i. IsTrue (b.known i) × IsThere b i) (sym e) (meta'.known, meta'.there))
+          (number_by b.pages Pages sets.now sets.after ∙ sets.change.others Pages tt (λ e. cc e) ∙ sym (number_by a.pages Pages sets.was sets.before)) sound;
       told = λ t. record {
         was = sets.was;
         now = sets.now;
@@ -150,4 +161,4 @@ meta_is T a b m meta looks = meta_looked T a b m looks meta
 
 -- more is known of what changed, where the store reports its pages
 pub changes_told : (T : Type 0) (a b : Paged) (m : ℕ) (R Q : Partition → Partition → Type 0) → ChangesData T a b m R → (T → Q a.pages b.pages) → ChangesData T a b m Q
-changes_told T a b m R Q x told = record { edits = x.edits; meta = x.meta; stay = x.stay; told = told }
+changes_told T a b m R Q x told = record { edits = x.edits; meta = x.meta; stay = x.stay; sound = x.sound; told = told }

@@ -3,10 +3,15 @@ pub mod Changed
 pub mod EditedData
 pub mod Neighbours
 pub mod NewPages
+pub mod Passing
 pub mod PlacedPages
 pub mod PlacedRows
 pub mod Relinked
 pub mod RowLists
 pub mod Runs
 pub mod Settled
+pub mod SoundChains
+pub mod SoundRows
+pub mod SpareRows
+pub mod StoredRows
 pub mod Views

@@ -12,8 +12,8 @@ use Rattle.pm_free.specs.declared.edits.Edit.TheVariants.{Links}
 use Rattle.pm_free.specs.DataEdits.{IsDataAt}
 use Rattle.pm_free.specs.Seats.{IsSeatIn}
 use Rattle.pm_free.specs.Chained.{MovesPage, KeepsAllRows}
-use Rattle.pm_free.specs.Changes.{EditsPartition, SetsHead, SetsBefore, SetsAfter}
-use Rattle.pm_free.proofs.Changed.{below_count, number_told, pages_told}
+use Rattle.pm_free.specs.Changes.{EditsPartition, SetsHead, SetsBefore, SetsAfter, IsDataOrNone}
+use Rattle.pm_free.proofs.Changed.{below_count, meta_is, number_told, pages_told}
 use Rattle.pm_free.proofs.Views.{next_here, keeps_all_then, data_next, data_before, views_edit, keeps_edit, keeps_head, head_here, head_other, head_next, head_before, views_after, views_before}
 use Rattle.pm_free.proofs.Relinked.{unlinked, linked}
 
@@ -24,9 +24,10 @@ pub record SeatKnown (at prev next : ℕ) (old new : Partition) : Type 0 where
   pub below : at < page_count old
   pub before_is : before_of (page_at old at) ≡ prev
   pub after_is : next_of (page_at old at) ≡ next
+  pub next_below : next ≢ 0 → next < page_count old
 
-pub seat_known : (T : Type 0) (a b c : Paged) (m n at : ℕ) (seat : Seat) → T → HasMeta a → IsDataAt a at → LooksAtPages T a b m → IsSeatIn b at seat → LooksAtPages T a c n → SeatKnown at seat.prev seat.next a.pages c.pages
-seat_known T a b c m n at seat t meta is looks seat_is looks' =
+pub seat_known : (T : Type 0) (a b c : Paged) (m n at : ℕ) (seat : Seat) → T → HasMeta a → IsDataAt a at → LooksAtPages T a b m → IsSeatIn b at seat → LooksAtPages T a c n → IsDataOrNone c seat.next → SeatKnown at seat.prev seat.next a.pages c.pages
+seat_known T a b c m n at seat t meta is looks seat_is looks' next =
     let below = below_count a at meta is in
     let page : page_at a.pages at ≡ seat_is.page = page_at-below a.pages at below ∙ ap bytes_of (sym (looks.pages at (inl t)) ∙ seat_is.is.in_hand.page) in
     record {
@@ -35,6 +36,7 @@ seat_known T a b c m n at seat t meta is looks seat_is looks' =
       below = below;
       before_is = ap before_of page ∙ data_before seat_is.page seat_is.is.well_made ∙ sym seat_is.says.before;
       after_is = ap next_of page ∙ data_next seat_is.page seat_is.is.well_made ∙ sym seat_is.says.after;
+      next_below = λ some. omega (arith, below_count c seat.next (meta_is T a c n meta looks') (next some), ap (λ (p : Partition). page_count p) (pages_told T a c n t looks'));
     }
 
 count_kept : (a b : Partition) → KeepsAllRows a b → page_count b ≡ page_count a
@@ -44,7 +46,7 @@ count_kept a b keeps = keeps.numbers Pages tt (λ b e. cc e)
 pub moves_out : (at bucket prev next : ℕ) → bucket < BUCKETS → (x y z : Partition) → SeatKnown at prev next x y → (between : Partition) × SetsAfter bucket prev next y between × SetsBefore next prev between z → MovesPage x z at bucket BUCKETS
 moves_out at bucket prev next few x y z known sets =
     let w = sets.0 in
-    let va = views_after bucket prev next x w (subst (λ (p : Partition). SetsAfter bucket prev next p w) known.same sets.1) in
+    let va = views_after bucket prev next x w known.next_below (subst (λ (p : Partition). SetsAfter bucket prev next p w) known.same sets.1) in
     let vb = views_before next prev w z sets.2 in
     let keeps = keeps_all_then x w z va.keeps vb.keeps in
     record {
@@ -76,7 +78,8 @@ moves_in at bucket head few x y z known sets =
     let q = sets.1 in
     let vb = views_before head at x p (subst (λ (w : Partition). SetsBefore head at w p) known.same sets.2) in
     let ve = views_edit at [] (Links 0 head) p q sets.3 in
-    let keeps = keeps_all_then x p z vb.keeps (keeps_all_then p q z (keeps_edit at [] (Links 0 head) p q sets.3 refl) (keeps_head bucket at q z sets.4)) in
+    let below : at ≢ 0 → at < page_count q = λ some. omega (arith, known.below, ve.count, count_kept x p vb.keeps) in
+    let keeps = keeps_all_then x p z vb.keeps (keeps_all_then p q z (keeps_edit at [] (Links 0 head) p q sets.3 refl) (keeps_head bucket at q z sets.4 below)) in
     record {
       keeps = keeps;
       chains = λ home chained is. linked x z at bucket head (count_kept x z keeps) known.below known.some known.head_is

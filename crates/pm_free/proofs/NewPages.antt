@@ -29,6 +29,8 @@ use Rattle.pm_pages.proofs.ChainWalks.{times_other}
 use Rattle.pm_free.proofs.Relinked.{one_if, run_of, chain_of, home_there}
 use Rattle.pm_free.proofs.Views.{chain_next, chain_before, next_here, keeps_same, keeps_then, other_home, meta_keeps, meta_rows, same_page, no_reuse}
 use Rattle.pm_free.proofs.Changed.{below_count}
+use Rattle.pm_free.specs.Passing.{KeepsPassing}
+use Rattle.pm_free.proofs.Passing.{keeps_passing_same, keeps_passing_then, meta_passes}
 use Rattle.pm_free.proofs.Settled.{chained_as, home_here, home_other}
 use Rattle.pm_pages.proofs.SpareMoves.{moves_none, moves_on}
 use Rattle.pm_pages.proofs.SpareSteps.{number_by, moves_take, moves_give_other, zeros_kind}
@@ -175,17 +177,17 @@ module _ (part at : ℕ) (row : List ℕ) (x w : Partition) (f : Filled part at 
     | inr le ↦ (let none : kind_of (page_at x at) ≡ 0 = ap kind_of (absent x at le) in omega (arith, none, e))
   ]
 
-  unused_home : homes_in x at ≡ BUCKETS
+  pub unused_home : homes_in x at ≡ BUCKETS
   unused_home = other_home (page_at x at) unused_kind
 
-  filled_chains : HasChains x → AreChained w (homes_in x)
+  pub filled_chains : HasChains x → AreChained w (homes_in x)
   filled_chains has = chained_away x w (homes_in x) at unused_home f.some_pages grown (λ i past lt. ap home_of (absent x i past)) f.heads
       (λ j nz ne. (ap next_of (other_page j nz ne), ap before_of (other_page j nz ne))) (chains_in x has)
 
   kind_now : kind_of (page_at w at) ≡ DATA_KIND
   kind_now = ap kind_of f.is ∙ f.well_made.head.kind
 
-  keeps_other : (j : ℕ) → j ≢ at → KeepsRows (page_at x j) (page_at w j)
+  pub keeps_other : (j : ℕ) → j ≢ at → KeepsRows (page_at x j) (page_at w j)
   keeps_other j ne = elim (cases_eq j 0) [
     | inl e ↦ subst (λ n. KeepsRows (page_at x n) (page_at w n)) (sym e) f.first
     | inr nz ↦ keeps_same (page_at x j) (page_at w j) (other_page j nz ne)
@@ -228,6 +230,7 @@ module _ (part at : ℕ) (row : List ℕ) (x w : Partition) (f : Filled part at 
           | inr ne ↦ (m.keeps.pages j).home ∙ (keeps_other j ne).home ∙ sym (home_other (homes_in x) at bucket j ne)
         ]) (m.chains (homes_in x) (filled_chains has) unused_home));
         made = at ∷ [];
+        few = omega arith;
         only = λ j there. (let same = only_one j at there in (same, subst (IsUnused x) (sym same) f.unused));
         moves = moves_on x w z (at ∷ []) [] f.moves (moves_none w z (m.keeps.numbers Reuse tt (λ b e. cc e)) count (λ j nz. (m.keeps.pages j).reuse) (λ j nz kind. (m.keeps.pages j).kind ∙ kind));
         kinds = λ j away. (m.keeps.pages j).kind ∙ (keeps_other j (other_than j at away)).kind;
@@ -270,4 +273,8 @@ drops_page T a b c at bucket t meta readable readable' is few m gives =
       moves = moves_on_then x y z (at ∷ []) (moves_none x y (m.keeps.numbers Reuse tt (λ n e. cc e)) (m.keeps.numbers Pages tt (λ n e. cc e)) (λ j j_some. (m.keeps.pages j).reuse) (λ j j_some kind. (m.keeps.pages j).kind ∙ kind))
           (moves_give_other T b c at t is.some below (λ e. omega (arith, e, data_kind)) gives);
       numbers = λ slot s nr np no_bucket. same slot s nr ∙ m.keeps.numbers slot s no_bucket;
+      passes = λ j ne. keeps_passing_then x y z j (m.keeps.passes j) (elim (cases_eq j 0) [
+        | inl e ↦ subst (KeepsPassing y z) (sym e) (meta_passes y z was now Reuse at gives.numbers.before gives.numbers.after gives.numbers.change.1 (λ id max_rows stored. omega (arith, below, number_by y Pages was gives.numbers.before)))
+        | inr j_some ↦ keeps_passing_same y z j (raw j j_some ne)
+      ]);
     }

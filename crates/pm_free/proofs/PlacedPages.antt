@@ -1,5 +1,5 @@
 -- The steps of placing a row and of taking one out, over pages that are asked for one at a time.
-use Rattle.std.proofs.Common.{◌≡◌, ◌≢◌, ℕ, ◌+◌, ◌-◌, ◌*◌, ◌%◌, ◌^◌, ◌<◌, ◌≤◌, ◌⊎◌, List, [], ◌∷◌, length, sym, ap, subst, ◌∙◌, inl, inr, arith}
+use Rattle.std.proofs.Common.{◌≡◌, ◌≢◌, ℕ, ◌+◌, ◌-◌, ◌*◌, ◌%◌, ◌^◌, ◌<◌, ◌≤◌, ◌⊎◌, List, [], ◌∷◌, length, refl, sym, ap, subst, ◌∙◌, inl, inr, arith}
 use Rattle.std.specs.Prelude.{Option, Some, IsSome, IsTrue, Result, Ok, Err, OnOk, IsErrOf}
 use Rattle.std.proofs.Math.Nat.{div-mul-le_self}
 use Rattle.pm_types.specs.Ids.{page_id, link, page_of_link, item_of_link, index_of_id}
@@ -13,9 +13,9 @@ use Rattle.pm_data.proofs.RowsByItem.{room_is}
 use Rattle.pm_meta.specs.declared.layout.TheConstants.{BUCKETS}
 use Rattle.pm_meta.specs.declared.slots.MetaSlot.TheVariants.{Bucket, Pages}
 use Rattle.pm_meta.specs.MetaPages.{field_of}
-use Rattle.pm_pages.specs.Rows.{Partition, bytes_of, page_at, number_in}
+use Rattle.pm_pages.specs.Rows.{Partition, bytes_of, page_at, page_count, number_in}
 use Rattle.pm_pages.specs.Chains.{bucket_of}
-use Rattle.pm_pages.specs.Paged.{Paged, AllReadable, HasGapCause}
+use Rattle.pm_pages.specs.Paged.{Paged, IsThere, AllReadable, HasGapCause}
 use Rattle.pm_pages.specs.Edits.{LooksAtPages, EditsPages, HasMeta}
 use Rattle.pm_pages.specs.SparePages.{TakesPage, GivesPage, IsMetaOr, HasTakeCause}
 use Rattle.pm_pages.proofs.EditedPages.{edits_looked, edits_then, edits_more, some_bytes}
@@ -33,7 +33,14 @@ use Rattle.pm_free.specs.Placed.{HasNoneBelow, PlacesRow, TakesRow, DropsPage, C
 use Rattle.pm_free.proofs.Changed.{number_told, pages_told, below_count, edits_page, changes_told, changes_then, changes_looked, data_looked, meta_is}
 use Rattle.pm_free.proofs.ChainCauses.{fault_looked, fault_now}
 use Rattle.pm_free.proofs.Views.{data_home}
-use Rattle.pm_free.proofs.NewPages.{filled, placed_new, drops_page}
+use Rattle.pm_free.proofs.NewPages.{Filled, filled, placed_new, drops_page}
+use Rattle.pm_free.specs.Sound.{KeepsSound}
+use Rattle.pm_free.proofs.SpareRows.{TakesFew, places_few, drops_few, leaves_spare}
+use Rattle.pm_pages.specs.SoundPages.{IsSound}
+use Rattle.pm_pages.proofs.SoundPages.{sound_edited, sound_grown, sound_looked}
+use Rattle.pm_pages.proofs.SpareRoom.{can_take_looked}
+use Rattle.pm_pages.proofs.SpareSteps.{number_by}
+use Rattle.std.proofs.lemmas.Bool.{cases_lt}
 use Rattle.pm_free.proofs.PlacedRows.{placed_on, taken_kept, taken_dropped}
 
 -- a page of a bucket has room for a row for which the bucket's pages have
@@ -178,18 +185,22 @@ places_on size part at bucket item row few enough x y z first settles =
     placed_on size part at bucket item row x y z inserts.edits inserts.item_is settles facts.home few enough facts.head facts.lowest
 
 -- of changes of data pages as of rows
-pub changes_rows : (T : Type 0) (a b : Paged) (m n : ℕ) (R Q : Partition → Partition → Type 0) → m ≤ n → ((x y : Partition) → R x y → Q x y) → ChangesData T a b m R → ChangesRows T a b n Q
-changes_rows T a b m n R Q le weaker x = record {
+pub changes_rows : (T : Type 0) (a b : Paged) (m n more : ℕ) (R Q : Partition → Partition → Type 0) → m ≤ n → TakesFew more Q → ((x y : Partition) → R x y → Q x y) → ChangesData T a b m R → ChangesRows T a b n more Q
+changes_rows T a b m n more R Q le few weaker x = record {
   edits = edits_more T a b (λ j. IsTrue (b.asked j)) (λ j. IsTrue (b.asked j)) m n (λ j h. h) le x.edits;
   meta = x.meta;
+  sound = x.sound;
+  takes = leaves_spare T a b more Q few x.sound (λ t. weaker a.pages b.pages (x.told t));
   told = λ t. weaker a.pages b.pages (x.told t);
 }
 
-pub rows_looked : (T : Type 0) (a b c : Paged) (n : ℕ) (R Q : Partition → Partition → Type 0) → ((x y z : Partition) → y ≡ x → R y z → Q x z) → LooksAtPages T a b 0 → ChangesRows T b c n R → ChangesRows T a c n Q
-rows_looked T a b c n R Q both looks x = record {
+pub rows_looked : (T : Type 0) (a b c : Paged) (n more : ℕ) (R Q : Partition → Partition → Type 0) → ((x y z : Partition) → y ≡ x → R y z → Q x z) → LooksAtPages T a b 0 → ChangesRows T b c n more R → ChangesRows T a c n more Q
+rows_looked T a b c n more R Q both looks x = record {
   edits = edits_more T a c (λ j. IsTrue (c.asked j) ⊎ IsTrue (c.asked j)) (λ j. IsTrue (c.asked j)) (0 + n) n (λ j h. elim h [ inl e ↦ e | inr e ↦ e ]) (omega arith)
       (edits_then T a b c (λ j. IsTrue (c.asked j)) (λ j. IsTrue (c.asked j)) 0 n (edits_looked T a b (λ j. IsTrue (c.asked j)) 0 looks) x.edits);
   meta = x.meta;
+  sound = λ t is. x.sound t (sound_looked T a b 0 t looks is);
+  takes = λ t limit left can. x.takes t limit left (can_take_looked T a b 0 t looks limit (more + left) can);
   told = λ t. both a.pages b.pages c.pages (pages_told T a b 0 t looks) (x.told t);
 }
 
@@ -255,14 +266,26 @@ removes_row T a b c at item n Left meta is edits takes looks left =
     }) in
     changes_then T a b c 0 0 (RemovesRow at item Left) (λ old new. new ≡ old) (RemovesRow at item Left) (λ p q r h e. subst (RemovesRow at item Left p) (sym e) h) y (changes_looked T b c 0 x.meta looks)
 
+-- a page that was given back is sound
+given_sound : (T : Type 0) (b c : Paged) (at : ℕ) → T → IsTrue (b.known at) → GivesPage T b c at → IsSound b → IsSound c
+given_sound T b c at t known gives sound =
+    sound_edited T b c (IsMetaOr at) 1 t gives.edits
+    (λ j h. elim h [
+      | inl e ↦ subst (λ i. IsTrue (c.known i) × IsThere c i) (sym e) (gives.meta.known, gives.meta.there)
+      | inr e ↦ subst (λ i. IsTrue (c.known i) × IsThere c i) (sym e) (gives.edits.known at known, subst IsSome (sym gives.here) refl)
+    ])
+    (number_by c.pages Pages gives.numbers.now gives.numbers.after ∙ gives.numbers.change.1.others Pages tt (λ e. cc e) ∙ sym (number_by b.pages Pages gives.numbers.was gives.numbers.before)) sound
+
 -- a page was taken out of its chain and given back
-pub drops_rows : (T : Type 0) (a b c : Paged) (at bucket : ℕ) → AllReadable b → AllReadable c → IsDataAt a at → bucket < BUCKETS → ChangesData T a b 2 (λ old new. MovesPage old new at bucket BUCKETS) → GivesPage T b c at → (IsTrue (b.asked at) → b.spare ≤ c.spare) → ChangesRows T a c 2 (λ old new. DropsPage old new at bucket)
+pub drops_rows : (T : Type 0) (a b c : Paged) (at bucket : ℕ) → AllReadable b → AllReadable c → IsDataAt a at → bucket < BUCKETS → ChangesData T a b 2 (λ old new. MovesPage old new at bucket BUCKETS) → GivesPage T b c at → (IsTrue (b.asked at) → b.spare ≤ c.spare) → ChangesRows T a c 2 0 (λ old new. DropsPage old new at bucket)
 drops_rows T a b c at bucket readable readable' is few x gives again =
     let there = x.stay at is in
     let asked_c : IsTrue (c.asked at) = gives.edits.asked at there.is.in_hand.asked in
     let e = edits_more T a c (λ j. IsTrue (b.asked j) ⊎ IsMetaOr at j) (λ j. IsTrue (c.asked j)) (2 + 1) 3
     (λ j h. elim h [ inl k ↦ gives.edits.asked j k | inr m ↦ elim m [ inl z ↦ subst (λ k. IsTrue (c.asked k)) (sym z) gives.meta.asked | inr z ↦ subst (λ k. IsTrue (c.asked k)) (sym z) asked_c ] ]) (omega arith)
     (edits_then T a b c (λ j. IsTrue (b.asked j)) (IsMetaOr at) 2 1 x.edits gives.edits) in
+    let told : T → DropsPage a.pages c.pages at bucket = λ t. drops_page T a b c at bucket t x.meta readable readable' there few (x.told t) gives in
+    let sound : KeepsSound T a c = λ t is. given_sound T b c at t there.is.in_hand.known gives (x.sound t is) in
     record {
       edits = record {
         others = e.others;
@@ -275,24 +298,49 @@ drops_rows T a b c at bucket readable readable' is few x gives again =
         same = e.same;
       };
       meta = gives.meta;
-      told = λ t. drops_page T a b c at bucket t x.meta readable readable' there few (x.told t) gives;
+      takes = leaves_spare T a c 0 (λ old new. DropsPage old new at bucket) (drops_few at bucket) sound told;
+      sound = sound;
+      told = told;
     }
 
 -- changes of data pages, and then of rows
-pub rows_then : (T : Type 0) (a b c : Paged) (m n : ℕ) (R S Q : Partition → Partition → Type 0) → ((x y z : Partition) → R x y → S y z → Q x z) → ChangesData T a b m R → ChangesRows T b c n S → ChangesRows T a c (m + n) Q
-rows_then T a b c m n R S Q both x y = record {
+pub rows_then : (T : Type 0) (a b c : Paged) (m n more : ℕ) (R S Q : Partition → Partition → Type 0) → TakesFew more Q → ((x y z : Partition) → R x y → S y z → Q x z) → ChangesData T a b m R → ChangesRows T b c n more S → ChangesRows T a c (m + n) more Q
+rows_then T a b c m n more R S Q few both x y = record {
   edits = edits_more T a c (λ j. IsTrue (b.asked j) ⊎ IsTrue (c.asked j)) (λ j. IsTrue (c.asked j)) (m + n) (m + n) (λ j h. elim h [ inl e ↦ y.edits.asked j e | inr e ↦ e ]) (omega arith)
       (edits_then T a b c (λ j. IsTrue (b.asked j)) (λ j. IsTrue (c.asked j)) m n x.edits y.edits);
   meta = y.meta;
+  sound = λ t is. y.sound t (x.sound t is);
+  takes = leaves_spare T a c more Q few (λ t is. y.sound t (x.sound t is)) (λ t. both a.pages b.pages c.pages (x.told t) (y.told t));
   told = λ t. both a.pages b.pages c.pages (x.told t) (y.told t);
 }
 
 -- fewer pages were asked for than so many
-pub rows_more_room : (T : Type 0) (a b : Paged) (m n : ℕ) (R : Partition → Partition → Type 0) → m ≤ n → ChangesRows T a b m R → ChangesRows T a b n R
-rows_more_room T a b m n R le x = record { edits = edits_more T a b (λ j. IsTrue (b.asked j)) (λ j. IsTrue (b.asked j)) m n (λ j h. h) le x.edits; meta = x.meta; told = x.told }
+pub rows_more_room : (T : Type 0) (a b : Paged) (m n more : ℕ) (R : Partition → Partition → Type 0) → m ≤ n → ChangesRows T a b m more R → ChangesRows T a b n more R
+rows_more_room T a b m n more R le x = record { edits = edits_more T a b (λ j. IsTrue (b.asked j)) (λ j. IsTrue (b.asked j)) m n (λ j h. h) le x.edits; meta = x.meta; sound = x.sound; takes = x.takes; told = x.told }
 
 pub places_same : (a b : Paged) (row : List ℕ) (at_link : Link) → b.page_size ≡ a.page_size → b.part ≡ a.part → (x y z : Partition) → y ≡ x → PlacesRow b.page_size b.part y z row at_link → PlacesRow a.page_size a.part x z row at_link
 places_same a b row at_link size part x y z same places = subst (λ (q : ℕ × ℕ × Partition). PlacesRow q.0 q.1 q.2 z row at_link) {x = (b.page_size, b.part, y)} {y = (a.page_size, a.part, x)} (λ k. (size k, part k, same k)) places
+
+-- a page that was taken and filled, and the meta page
+pub filled_edits : (T : Type 0) (a b d : Paged) (n at : ℕ) → TakesPage T a b n at → EditsPages T b d (λ j. j ≡ at) 0 → EditsPages T a d (IsMetaOr at) n
+filled_edits T a b d n at takes edits = edits_more T a d (λ j. IsMetaOr at j ⊎ (j ≡ at)) (IsMetaOr at) (n + 0) n (λ j h. elim h [ inl z ↦ z | inr e ↦ inr e ]) (omega arith) (edits_then T a b d (IsMetaOr at) (λ j. j ≡ at) n 0 takes.edits edits)
+
+pub filled_added : (x w at : ℕ) → (w ≡ x) ⊎ ((w ≡ x + 1) × (at ≡ x)) → (j : ℕ) → j < w → (j < x) ⊎ IsMetaOr at j
+filled_added x w at count j lt = elim count [
+  | inl e ↦ inl (omega (arith, lt, e))
+  | inr p ↦ elim (cases_lt j x) [ inl less ↦ inl less | inr le ↦ inr (inr (omega (arith, lt, le, p.0, p.1))) ]
+]
+
+pub filled_sound : (T : Type 0) (a b d : Paged) (n at item : ℕ) (row : List ℕ) → T → TakesPage T a b n at → EditsPages T b d (λ j. j ≡ at) 0 → IsFilledIn d at row item
+    → (page_count d.pages ≡ page_count a.pages) ⊎ ((page_count d.pages ≡ page_count a.pages + 1) × (at ≡ page_count a.pages)) → IsSound a → IsSound d
+filled_sound T a b d n at item row t takes edits fills count sound =
+    let meta = filled_meta T a b d n at takes edits in
+    sound_grown T a d (IsMetaOr at) n t (filled_edits T a b d n at takes edits)
+    (λ j h. elim h [
+      | inl e ↦ subst (λ i. IsTrue (d.known i) × IsThere d i) (sym e) (meta.known, meta.there)
+      | inr e ↦ subst (λ i. IsTrue (d.known i) × IsThere d i) (sym e) (fills.is.in_hand.known, subst IsSome (sym fills.is.in_hand.page) refl)
+    ])
+    (filled_added (page_count a.pages) (page_count d.pages) at count) sound
 
 -- what was asked for and changed until a new page had its row
 pub new_edits : (T : Type 0) (a b d e : Paged) (n at : ℕ) → TakesPage T a b n at → EditsPages T b d (λ j. j ≡ at) 0 → LooksAtPages T d e 0 → EditsPages T a e (λ j. IsTrue (e.asked j)) n
@@ -302,19 +350,30 @@ new_edits T a b d e n at takes edits looks =
 
 -- a new page was made for a row
 pub places_new : (T : Type 0) (a b d e f : Paged) (at item : ℕ) (row : List ℕ) (seat : Seat) → HasMeta a → AllReadable a → AllReadable d → TakesPage T a b 1 at → EditsPages T b d (λ j. j ≡ at) 0 → IsFilledIn d at row item → LooksAtPages T d e 0 → IsSeatIn e at seat → HasNoHeadFor a (length row)
-    → ChangesData T e f 1 (λ old new. MovesPage old new at BUCKETS seat.bucket) → ChangesRows T a f 4 (λ old new. PlacesRow a.page_size a.part old new row (link (page_id a.part at) item))
+    → ChangesData T e f 1 (λ old new. MovesPage old new at BUCKETS seat.bucket) → ChangesRows T a f 4 1 (λ old new. PlacesRow a.page_size a.part old new row (link (page_id a.part at) item))
 places_new T a b d e f at item row seat meta readable readable' takes edits fills looks seat_is none links = record {
   edits = edits_more T a f (λ j. IsTrue (e.asked j) ⊎ IsTrue (f.asked j)) (λ j. IsTrue (f.asked j)) (1 + 1) 4 (λ j h. elim h [ inl k ↦ links.edits.asked j k | inr k ↦ k ]) (omega arith)
       (edits_then T a e f (λ j. IsTrue (e.asked j)) (λ j. IsTrue (f.asked j)) 1 1 (new_edits T a b d e 1 at takes edits looks) links.edits);
   meta = links.meta;
-  told = λ t.
-      (let same = pages_told T d e 0 t looks in
-      let is = filled T a b d 1 at item row t meta readable readable' takes edits fills in
-      let moves : MovesPage d.pages f.pages at BUCKETS seat.bucket = subst (λ (p : Partition). MovesPage p f.pages at BUCKETS seat.bucket) same (links.told t) in
-      let home : homes_in d.pages at ≡ seat.bucket = ap home_of is.is ∙ data_home is.page is.well_made ∙ ap bucket_of (same_bytes (d.pages at) is.page seat_is.page (is.there) (sym (looks.pages at (inl t)) ∙ seat_is.is.in_hand.page)) ∙ sym seat_is.says.room in
-      subst (λ i. PlacesRow a.page_size a.part a.pages f.pages row (link (page_id a.part at) i)) (sym fills.first)
-      (placed_new a.part at row a.pages d.pages is a.page_size seat.bucket f.pages moves home (λ bucket few enough. number_told a (Bucket bucket) 0 (none bucket few enough))));
+  takes = leaves_spare T a f 1 (λ old new. PlacesRow a.page_size a.part old new row (link (page_id a.part at) item)) (places_few a.page_size a.part row (link (page_id a.part at) item)) keeps_sound places;
+  sound = keeps_sound;
+  told = places;
 }
+  where
+    there : T → Filled a.part at row a.pages d.pages
+    there t = filled T a b d 1 at item row t meta readable readable' takes edits fills
+
+    keeps_sound : KeepsSound T a f
+    keeps_sound t is = links.sound t (sound_looked T d e 0 t looks (filled_sound T a b d 1 at item row t takes edits fills (there t).count is))
+
+    places : T → PlacesRow a.page_size a.part a.pages f.pages row (link (page_id a.part at) item)
+    places t =
+        let same = pages_told T d e 0 t looks in
+        let is = there t in
+        let moves : MovesPage d.pages f.pages at BUCKETS seat.bucket = subst (λ (p : Partition). MovesPage p f.pages at BUCKETS seat.bucket) same (links.told t) in
+        let home : homes_in d.pages at ≡ seat.bucket = ap home_of is.is ∙ data_home is.page is.well_made ∙ ap bucket_of (same_bytes (d.pages at) is.page seat_is.page (is.there) (sym (looks.pages at (inl t)) ∙ seat_is.is.in_hand.page)) ∙ sym seat_is.says.room in
+        subst (λ i. PlacesRow a.page_size a.part a.pages f.pages row (link (page_id a.part at) i)) (sym fills.first)
+        (placed_new a.part at row a.pages d.pages is a.page_size seat.bucket f.pages moves home (λ bucket few enough. number_told a (Bucket bucket) 0 (none bucket few enough)))
 
 -- two facts on a value, if there is one
 pub both_ok : {A E : Type 0} (r : Result A E) (P Q : Type 0) → OnOk r P → OnOk r Q → OnOk r (P × Q)

@@ -197,6 +197,7 @@ placed_on size part at bucket item row x y z e item_is s home_is few enough head
           gone here others;
       chains = kept_chains x y z at bucket v s home_is;
       made = [];
+      few = omega arith;
       only = λ j there. absurd (omega (arith, there));
       moves = kept_moves x y z at bucket v s home_is;
       kinds = λ j none. kept_kinds x y z at bucket v s home_is j;
@@ -241,6 +242,7 @@ taken_kept part at bucket item row x y z e live left s home_is =
       left = λ away none. left (sym ((s.keeps.pages at).items v.now ∙ ap rows_of now) ∙ none);
       only = λ j there. absurd (omega (arith, there));
       moves = kept_moves x y z at bucket v s home_is;
+      count = count;
       kinds = λ j none. kept_kinds x y z at bucket v s home_is j;
       others = λ j nz kind. kept_others x y z at bucket v s home_is j nz kind;
       numbers = λ slot is not_reuse not_pages other. s.keeps.numbers slot is other ∙ v.numbers slot;
@@ -301,6 +303,7 @@ taken_dropped part at bucket item row x y z e live empty d home_is =
       left = λ away. absurd (other_than at at away refl);
       only = λ j there. (let same = only_one j at there in (same, ap (λ n. kind_of (page_at x n)) same ∙ v.was, ap (λ n. kind_of (page_at z n)) same ∙ d.kind));
       moves = moves_on_then x y z (at ∷ []) (rows_move x y at v) d.moves;
+      count = count;
       kinds = λ j none. (let ne = other_than j at none in (d.pages j ne).kind ∙ ap kind_of (v.others j ne));
       others = λ j nz kind. (let ne = away j kind in d.others j nz ne (λ k. kind (sym (ap kind_of (v.others j ne)) ∙ k)) ∙ v.raw j ne);
       numbers = λ slot is not_reuse not_pages other. d.numbers slot is not_reuse not_pages other ∙ v.numbers slot;

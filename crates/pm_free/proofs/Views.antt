@@ -19,6 +19,7 @@ use Rattle.pm_free.specs.declared.edits.Edit.TheVariants.{Before, After}
 use Rattle.pm_free.specs.DataEdits.{edited}
 use Rattle.pm_free.specs.Chained.{home_of, KeepsRows, KeepsAllRows}
 use Rattle.pm_free.specs.Changes.{EditsPartition, SetsHead, SetsBefore, SetsAfter}
+use Rattle.pm_free.proofs.Passing.{keeps_passing_same, keeps_passing_then, edit_passes, head_passes}
 
 -- the page after page j in a bucket's chain; that after 0 is the first
 abbrev pub chain_next : Partition → ℕ → ℕ → ℕ
@@ -42,6 +43,7 @@ keeps_all_then a b c x y = record {
   numbers = λ slot is other. y.numbers slot is other ∙ x.numbers slot is other;
   pages = λ j. keeps_then (page_at a j) (page_at b j) (page_at c j) (x.pages j) (y.pages j);
   others = λ j some kind. y.others j some (λ e. kind (sym (x.pages j).kind ∙ e)) ∙ x.others j some kind;
+  passes = λ j. keeps_passing_then a b c j (x.passes j) (y.passes j);
 }
 
 pub keeps_all_same : (a b : Partition) → b ≡ a → KeepsAllRows a b
@@ -49,6 +51,7 @@ keeps_all_same a b e = record {
   numbers = λ slot is other. ap (λ (p : Partition). number_in p slot) e;
   pages = λ j. keeps_same (page_at a j) (page_at b j) (ap (λ (p : Partition). page_at p j) e);
   others = λ j some kind. ap (λ (p : Partition). p j) e;
+  passes = λ j. keeps_passing_same a b j (ap (λ (p : Partition). p j) e);
 }
 
 -- a data page's room is that beside its rows
@@ -121,6 +124,7 @@ module _ (at : ℕ) (row : List ℕ) (edit : Edit) (old new : Partition) (e : Ed
       | inr ne ↦ keeps_same (page_at old j) (page_at new j) (views_edit.others j ne)
     ];
     others = λ j some kind. e.others j (λ z. kind (ap (λ n. kind_of (page_at old n)) z ∙ ap kind_of was_page ∙ e.well_made.head.kind));
+    passes = λ j. edit_passes at row edit old new e (λ some. omega (arith, some, ap length (ap (λ (s : DataPage). s.rows) e.edits.says ∙ rows))) j;
   }
 
   pub was_next : next_of (page_at old at) ≡ (data_of e.was).next
@@ -196,14 +200,15 @@ module _ (bucket index : ℕ) (old new : Partition) (s : SetsHead bucket index o
         (keeps_same (page_at old 0) (page_at new 0) e, ap next_of e, ap before_of e)
   ]
 
-  pub keeps_head : KeepsAllRows old new
-  keeps_head = record {
+  pub keeps_head : (index ≢ 0 → index < page_count old) → KeepsAllRows old new
+  keeps_head below = record {
     numbers = λ slot is other. head_number slot is (other bucket);
     pages = λ j. elim (cases_eq j 0) [
       | inl e ↦ subst (λ n. KeepsRows (page_at old n) (page_at new n)) (sym e) first_page.0
       | inr ne ↦ keeps_same (page_at old j) (page_at new j) (head_pages j ne)
     ];
     others = λ j some kind. s.others j some;
+    passes = λ j. head_passes bucket index old new s below j;
   }
 
   pub head_before : (j : ℕ) → chain_before new j ≡ chain_before old j
@@ -223,10 +228,10 @@ pub record ViewsAfter (bucket at next : ℕ) (old new : Partition) : Type 0 wher
   pub others : (b j : ℕ) → b < BUCKETS → j ≢ at → chain_next new b j ≡ chain_next old b j
   pub before : (j : ℕ) → chain_before new j ≡ chain_before old j
 
-pub views_after : (bucket at next : ℕ) (old new : Partition) → SetsAfter bucket at next old new → ViewsAfter bucket at next old new
-views_after bucket at next old new sets = elim (cases_eq at 0) [
+pub views_after : (bucket at next : ℕ) (old new : Partition) → (next ≢ 0 → next < page_count old) → SetsAfter bucket at next old new → ViewsAfter bucket at next old new
+views_after bucket at next old new below sets = elim (cases_eq at 0) [
   | inl e ↦ (let s = sets.none e in record {
-    keeps = keeps_head bucket next old new s;
+    keeps = keeps_head bucket next old new s below;
     here = ap (λ n. chain_next new bucket n) e ∙ head_here bucket next old new s;
     heads = head_other bucket next old new s;
     others = λ b j few ne. head_next bucket next old new s b j (λ z. ne (z ∙ sym e));

@@ -9,6 +9,7 @@ use Rattle.pm_meta.specs.declared.slots.MetaSlot.TheVariants.{Bucket}
 use Rattle.pm_meta.specs.MetaPages.{IsSlot}
 use Rattle.pm_pages.specs.Rows.{Partition, page_at, page_count, number_in, kind_of, rows_on}
 use Rattle.pm_pages.specs.Chains.{IsExactly, NamesBefore, before_of, reuse_next_of, bucket_chain, bucket_of}
+use Rattle.pm_free.specs.Passing.{KeepsPassing}
 
 -- the bucket of a page by its room; a page that is no data page has none of the buckets
 abbrev pub home_of : List ℕ → ℕ
@@ -46,11 +47,12 @@ KeepsNumbers old new = (slot : MetaSlot) → IsSlot slot → ((bucket : ℕ) →
     → number_in new slot ≡ number_in old slot
 
 -- No pages changed but the meta page and data pages, and of those no more than heads of buckets and
--- neighbours.
+-- neighbours. Each page that passed its check does so still.
 pub record KeepsAllRows (old new : Partition) : Type 0 where
   pub numbers : KeepsNumbers old new
   pub pages : (j : ℕ) → KeepsRows (page_at old j) (page_at new j)
   pub others : (j : ℕ) → j ≢ 0 → kind_of (page_at old j) ≢ DATA_KIND → new j ≡ old j
+  pub passes : (j : ℕ) → KeepsPassing old new j
 
 -- A page that stood in the chain of one bucket stands in that of another, or in none, where the bucket is
 -- `BUCKETS`. No more than that changed.

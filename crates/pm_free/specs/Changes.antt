@@ -10,14 +10,17 @@ use Rattle.pm_pages.specs.SparePages.{SetsNumber}
 use Rattle.pm_free.specs.declared.edits.Edit.{Edit}
 use Rattle.pm_free.specs.declared.edits.Edit.TheVariants.{Before, After}
 use Rattle.pm_free.specs.DataEdits.{IsDataAt, EditsData}
+use Rattle.pm_free.specs.Sound.{KeepsSound}
 
--- At most so many pages were asked for that weren't before, and no others changed than were asked for. Data
--- pages at hand are so still. Where the store reports its pages, the partition changed so.
+-- At most so many pages were asked for that weren't before, and no others changed than were asked
+-- for. Data pages at hand are so still, and sound pages are sound. Where the store reports its pages,
+-- the partition changed so.
 pub record ChangesData (T : Type 0) (old new : Paged) (most : ℕ)
     (change : Partition → Partition → Type 0) : Type 0 where
   pub edits : EditsPages T old new (λ j. IsTrue (new.asked j)) most
   pub meta : HasMeta new
   pub stay : (j : ℕ) → IsDataAt old j → IsDataAt new j
+  pub sound : KeepsSound T old new
   pub told : T → change old.pages new.pages
 
 -- a data page took a change, and nothing else happened

@@ -3,5 +3,7 @@ pub mod Causes
 pub mod Chained
 pub mod Changes
 pub mod DataEdits
+pub mod Passing
 pub mod Placed
 pub mod Seats
+pub mod Sound

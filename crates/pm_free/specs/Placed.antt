@@ -14,9 +14,12 @@ use Rattle.pm_pages.specs.Rows.{Partition, page_at, page_count, number_in, kind_
 use Rattle.pm_pages.specs.Chains.{times, HasChain}
 use Rattle.pm_pages.specs.Paged.{Paged}
 use Rattle.pm_pages.specs.Edits.{EditsPages, HasMeta}
+use Rattle.pm_pages.specs.SoundPages.{IsSound, MayTake}
 use Rattle.pm_free.specs.Buckets.{HasEnough}
 use Rattle.pm_free.specs.DataEdits.{IsDataIn, IsDataAt}
 use Rattle.pm_free.specs.Chained.{AreChained, KeepsRows, with_home}
+use Rattle.pm_free.specs.Passing.{KeepsPassing}
+use Rattle.pm_free.specs.Sound.{KeepsSound, LeavesSpare}
 use Rattle.pm_pages.specs.SpareChains.{MovesSpare}
 
 -- one list has one row more than another, and else the same rows in the same order
@@ -60,6 +63,7 @@ pub record PlacesRow (page_size part : ℕ) (old new : Partition) (row : List �
   pub rows : HasOneMore (partition.rows_of part old) (partition.rows_of part new) (row_of at_link row)
   pub chains : HasChains old → HasChains new
   pub made : List ℕ
+  pub few : length made ≤ 1
   pub only : (j : ℕ) → 1 ≤ times j made → (j ≡ at) × IsUnused old j
   pub moves : MovesSpare old new made []
   pub kinds : (j : ℕ) → times j made ≡ 0 → kind_of (page_at new j) ≡ kind_of (page_at old j)
@@ -73,7 +77,7 @@ pub record PlacesRow (page_size part : ℕ) (old new : Partition) (row : List �
 -- The row of this link is gone; all other rows are as they were. The chains of the buckets and the reuse
 -- chain are right where they were. The page `at`, on which it stood, has other rows, or is the one page
 -- `given`, which was a data page and is a reuse page; but for them and other data pages only the meta page
--- changed, and of that no root and not the row count.
+-- changed, and of that no root and neither the row count nor the page count.
 pub record TakesRow (part : ℕ) (old new : Partition) (at_link : Link) : Type 0 where
   pub at : ℕ
   pub row : List ℕ
@@ -84,6 +88,7 @@ pub record TakesRow (part : ℕ) (old new : Partition) (at_link : Link) : Type 0
   pub only : (j : ℕ) → 1 ≤ times j given
       → (j ≡ at) × (kind_of (page_at old j) ≡ DATA_KIND) × (kind_of (page_at new j) ≡ REUSE_KIND)
   pub moves : MovesSpare old new [] given
+  pub count : page_count new ≡ page_count old
   pub kinds : (j : ℕ) → times j given ≡ 0 → kind_of (page_at new j) ≡ kind_of (page_at old j)
   pub others : (j : ℕ) → j ≢ 0 → kind_of (page_at old j) ≢ DATA_KIND → new j ≡ old j
   pub numbers : KeepsRoots old new
@@ -110,6 +115,7 @@ pub record DropsPage (old new : Partition) (at from : ℕ) : Type 0 where
   pub others : (j : ℕ) → j ≢ 0 → j ≢ at → kind_of (page_at old j) ≢ DATA_KIND → new j ≡ old j
   pub moves : MovesSpare old new [] (at ∷ [])
   pub numbers : KeepsRoots old new
+  pub passes : (j : ℕ) → j ≢ at → KeepsPassing old new j
 
 -- page i is at hand and is a data page with this row alone, as this item, and without neighbours
 pub record IsFilledIn (p : Paged) (i : ℕ) (row : List ℕ) (item : ℕ) : Type 0 where
@@ -118,10 +124,23 @@ pub record IsFilledIn (p : Paged) (i : ℕ) (row : List ℕ) (item : ℕ) : Type
   pub first : item ≡ 0
   pub says : data_of page ≡ with_rows (empty_page (page_id p.part i)) (Some row ∷ [])
 
--- At most so many pages were asked for that weren't before, and no others changed than were asked for.
--- Where the store reports its pages, the partition changed so.
-pub record ChangesRows (T : Type 0) (old new : Paged) (most : ℕ)
+-- The store reports its pages, which are sound; the partition has a page, and its chains are right.
+-- Where no bucket has pages of those whose pages have room for a row of this length, a page can be
+-- taken.
+pub record MayPlace (T : Type 0) (p : Paged) (len : ℕ) : Type 0 where
+  pub told : T
+  pub sound : IsSound p
+  pub some : 1 ≤ page_count p.pages
+  pub chains : HasChains p.pages
+  pub take : HasNoneBelow p.page_size p.pages len BUCKETS → MayTake T p
+
+-- At most so many pages were asked for that weren't before, and no others changed than were asked
+-- for. Sound pages are sound still, and at most so many of those that can be taken were taken. Where
+-- the store reports its pages, the partition changed so.
+pub record ChangesRows (T : Type 0) (old new : Paged) (most more : ℕ)
     (change : Partition → Partition → Type 0) : Type 0 where
   pub edits : EditsPages T old new (λ j. IsTrue (new.asked j)) most
   pub meta : HasMeta new
+  pub sound : KeepsSound T old new
+  pub takes : LeavesSpare T old new more
   pub told : T → change old.pages new.pages

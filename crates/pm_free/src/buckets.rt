@@ -9,6 +9,8 @@ ghost use Rattle.pm_pages.specs.Paged.{AllReadable};
 ghost use Rattle.pm_pages.specs.Edits.{LooksAtPages, HasMeta, HasDiskCause};
 ghost use Rattle.pm_free.specs.Buckets.{IsFirstOn, HasNoneOn, IsHeadFor, HasNoHeadFor, IsHeadIn};
 ghost use Rattle.pm_free.specs.Causes.{HasChainCause};
+ghost use Rattle.pm_pages.specs.SoundPages.{IsSound, NoBadPage};
+ghost use Rattle.pm_free.specs.Chained.{homes_in};
 
 use crate::seats::find_seat;
 use pm_meta::{BUCKETS, MetaSlot, get};
@@ -76,7 +78,7 @@ pub fn find_head<P: Pages>(pages: &mut P, len: usize) -> Result<Option<Head>, Pa
 /// Makes sure that the first page of a bucket is a data page of that bucket.
 ///
 /// `Failed` comes only where a call on the disk failed. `BadPage` names the meta page where it isn't so, or
-/// the page where that is bad.
+/// the page where that is bad; of sound pages none is bad where it is so.
 pub fn check_head<P: Pages>(pages: &mut P, head: Head) -> Result<(), PageFault>
     requires ready { P.ready pages.old }
     requires meta { HasMeta (P.seen pages.old) }
@@ -88,6 +90,8 @@ pub fn check_head<P: Pages>(pages: &mut P, head: Head) -> Result<(), PageFault>
     ensures readable { AllReadable (P.seen pages.new) }
     ensures page { OnOk result (IsHeadIn (P.seen pages.new) head.at head.bucket) }
     ensures cause { HasChainCause P.tells (P.seen pages.old) (P.seen pages.new) result }
+    ensures sound { P.tells → IsSound (P.seen pages.old)
+        → homes_in (P.seen pages.old).pages head.at ≡ head.bucket → NoBadPage result }
 {
     let count = number(pages, MetaSlot::Pages)?;
     match find_seat(pages, count, head.at)? {

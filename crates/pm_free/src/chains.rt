@@ -12,6 +12,8 @@ ghost use Rattle.pm_free.specs.Chained.{MovesPage, SettlesPage};
 ghost use Rattle.pm_free.specs.Changes.{ChangesData, EditsPartition, SetsHead, SetsBefore, SetsAfter};
 ghost use Rattle.pm_free.specs.Changes.{IsDataOrNone};
 ghost use Rattle.pm_free.specs.Causes.{Names, HasChainCause};
+ghost use Rattle.pm_pages.specs.SoundPages.{IsSound, NoBadPage};
+ghost use Rattle.pm_free.specs.Sound.{IsDataOrZero, HasSoundChains};
 
 use crate::edits::{Edit, make_edit};
 use crate::seats::{Seat, find_seat, seat_at};
@@ -21,8 +23,9 @@ use pm_types::{PageFault, PageId};
 
 /// Takes a data page that is at hand out of the chain of a bucket, in which it stands.
 ///
-/// `Failed` comes only where a call on the disk failed. `BadPage` names the page where a neighbour that it
-/// names is no data page of the partition, or the neighbour where that is bad; no page is changed then.
+/// `Failed` comes only where a call on the disk failed. `BadPage` names the page where a neighbour
+/// that it names is no data page of the partition, or the neighbour where that is bad; no page is
+/// changed then. It never comes of sound pages in chains that are right.
 pub fn unlink<P: Pages>(pages: &mut P, at: u32, bucket: u8) -> Result<(), PageFault>
     requires ready { P.ready pages.old }
     requires meta { HasMeta (P.seen pages.old) }
@@ -35,6 +38,8 @@ pub fn unlink<P: Pages>(pages: &mut P, at: u32, bucket: u8) -> Result<(), PageFa
     ensures unlinks { OnOk result (ChangesData P.tells (P.seen pages.old) (P.seen pages.new) 2
         (λ old new. MovesPage old new at bucket BUCKETS)) }
     ensures cause { HasChainCause P.tells (P.seen pages.old) (P.seen pages.new) result }
+    ensures sound { (home : ℕ → ℕ) → HasSoundChains P.tells (P.seen pages.old) home
+        → home at ≡ bucket → NoBadPage result }
 {
     let seat = seat_at(pages, at)?;
     check_named(pages, at, seat.prev)?;
@@ -63,8 +68,9 @@ fn pass_by<P: Pages>(pages: &mut P, bucket: u8, prev: u32, next: u32) -> Result<
 
 /// Puts a data page that is at hand, and stands in no chain, at the head of the chain of a bucket.
 ///
-/// `Failed` comes only where a call on the disk failed. `BadPage` names the meta page where the head that
-/// it names is no data page of the partition, or the head where that is bad; no page is changed then.
+/// `Failed` comes only where a call on the disk failed. `BadPage` names the meta page where the head
+/// that it names is no data page of the partition, or the head where that is bad; no page is changed
+/// then. It never comes of sound pages in chains that are right.
 pub fn link<P: Pages>(pages: &mut P, at: u32, bucket: u8) -> Result<(), PageFault>
     requires ready { P.ready pages.old }
     requires meta { HasMeta (P.seen pages.old) }
@@ -77,6 +83,8 @@ pub fn link<P: Pages>(pages: &mut P, at: u32, bucket: u8) -> Result<(), PageFaul
     ensures links { OnOk result (ChangesData P.tells (P.seen pages.old) (P.seen pages.new) 1
         (λ old new. MovesPage old new at BUCKETS bucket)) }
     ensures cause { HasChainCause P.tells (P.seen pages.old) (P.seen pages.new) result }
+    ensures sound { (home : ℕ → ℕ) → HasSoundChains P.tells (P.seen pages.old) home
+        → NoBadPage result }
 {
     let head = number(pages, MetaSlot::Bucket(bucket))?;
     check_named(pages, 0, head)?;
@@ -115,6 +123,8 @@ fn check_named<P: Pages>(pages: &mut P, from: u32, at: u32) -> Result<(), PageFa
     ensures readable { AllReadable (P.seen pages.new) }
     ensures page { OnOk result (IsDataOrNone (P.seen pages.new) at) }
     ensures cause { HasChainCause P.tells (P.seen pages.old) (P.seen pages.new) result }
+    ensures sound { P.tells → IsSound (P.seen pages.old) → IsDataOrZero (P.seen pages.old).pages at
+        → NoBadPage result }
 {
     if at == 0 {
         return Ok(());
@@ -210,6 +220,8 @@ pub fn settle<P: Pages>(pages: &mut P, at: u32, bucket: u8) -> Result<(), PageFa
     ensures settles { OnOk result (ChangesData P.tells (P.seen pages.old) (P.seen pages.new) 3
         (λ old new. SettlesPage old new at bucket)) }
     ensures cause { HasChainCause P.tells (P.seen pages.old) (P.seen pages.new) result }
+    ensures sound { (home : ℕ → ℕ) → HasSoundChains P.tells (P.seen pages.old) home
+        → home at ≡ bucket → NoBadPage result }
 {
     let seat = seat_at(pages, at)?;
     if seat.bucket == bucket {

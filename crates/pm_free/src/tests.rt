@@ -1,4 +1,5 @@
-ghost use Rattle.std.specs.Prelude.{◌≡◌, ◌≢◌, ℕ, ◌<◌, ◌≤◌, List, Some, IfOk, OnOk, IsTrue, IsSome, length};
+ghost use Rattle.std.specs.Prelude.{◌≡◌, ◌≢◌, ℕ, ◌<◌, ◌≤◌, List, Some, IfOk, IfSome, OnOk, IsTrue, IsSome};
+ghost use Rattle.std.specs.Prelude.{length};
 ghost use Rattle.pm_types.specs.PageSizes.{IsPageSize};
 ghost use Rattle.pm_data.specs.Rows.{IsRow};
 ghost use Rattle.pm_pages.specs.Paged.{AllReadable};
@@ -9,7 +10,10 @@ ghost use Rattle.pm_pages.specs.Edits.{LooksAtPages, HasMeta, IsNumberIn};
 ghost use Rattle.pm_pages.specs.PlainRooms.{IsOfSize};
 ghost use Rattle.pm_meta.specs.MetaPages.{IsMetaPage};
 ghost use Rattle.pm_pages.specs.Plain.{plain_seen, ArePlain};
+ghost use Rattle.pm_pages.specs.SoundPages.{NoBadPage, MayTake};
+ghost use Rattle.pm_pages.specs.StoredPages.{KeepsStored};
 ghost use Rattle.pm_free.specs.DataEdits.{IsDataIn, IsDataAt};
+ghost use Rattle.pm_free.specs.Placed.{HasChains, HasRowAt};
 
 use crate::*;
 use pm_data::row;
@@ -123,11 +127,37 @@ fn is_live_on(page: &[u8], item: u8) -> bool
     }
 }
 
-// Takes a row out of page `at`, whose name its link has; false where it isn't there.
-fn take_from<P: Pages>(pages: &mut P, at: u32, link: Link) -> Result<bool, PageFault>
+// Takes a row out and places another one. Of sound pages in right chains, of which one can be taken, none is
+// bad.
+fn exchange<P: Pages>(pages: &mut P, link: Link, row: &[u8]) -> Result<Link, PageFault>
     requires ready { P.ready pages.old }
     requires meta { HasMeta (P.seen pages.old) }
-    requires room { 3 ≤ (P.seen pages.old).spare }
+    requires room { 7 ≤ (P.seen pages.old).spare }
+    requires readable { AllReadable (P.seen pages.old) }
+    requires there { HasRowAt (P.seen pages.old) link }
+    requires row { IsRow row.now }
+    ensures kept { P.kept pages.old pages.new }
+    ensures readable { AllReadable (P.seen pages.new) }
+    ensures sound { HasChains (P.seen pages.old).pages → MayTake P.tells (P.seen pages.old)
+        → NoBadPage result }
+    ensures passes { OnOk result (P.tells → KeepsStored (P.seen pages.old) (P.seen pages.new) 1) }
+{
+    take_out(pages, link)?;
+    place(pages, row)
+}
+
+// Takes a row out of page `at`, whose name its link has, and places another one, if there is one; false where
+// the row isn't there.
+fn take_from<P: Pages>(
+    pages: &mut P,
+    at: u32,
+    link: Link,
+    other: Option<&[u8]>,
+) -> Result<bool, PageFault>
+    requires ready { P.ready pages.old }
+    requires meta { HasMeta (P.seen pages.old) }
+    requires room { 7 ≤ (P.seen pages.old).spare }
+    requires other { IfSome other (λ row. IsRow row.now) }
     requires page { IsDataAt (P.seen pages.old) at }
     requires at { at ≡ index_of_id (page_of_link link) }
     requires name { page_of_link link ≡ page_id (P.seen pages.old).part at }
@@ -138,16 +168,30 @@ fn take_from<P: Pages>(pages: &mut P, at: u32, link: Link) -> Result<bool, PageF
     if !is_live(pages, at, link.item())? {
         return Ok(false);
     }
-    take_out(pages, link)?;
-    Ok(true)
+    match other {
+        None => {
+            take_out(pages, link)?;
+            Ok(true)
+        }
+        Some(row) => {
+            exchange(pages, link, row)?;
+            Ok(true)
+        }
+    }
 }
 
-// Takes a row out, in a partition of so many pages.
-fn take_counted<P: Pages>(pages: &mut P, count: u32, link: Link) -> Result<bool, PageFault>
+// Takes a row out, in a partition of so many pages, and places another one, if there is one.
+fn take_counted<P: Pages>(
+    pages: &mut P,
+    count: u32,
+    link: Link,
+    other: Option<&[u8]>,
+) -> Result<bool, PageFault>
     requires ready { P.ready pages.old }
     requires meta { HasMeta (P.seen pages.old) }
     requires count { IsNumberIn (P.seen pages.old) Pages count }
-    requires room { 4 ≤ (P.seen pages.old).spare }
+    requires room { 8 ≤ (P.seen pages.old).spare }
+    requires other { IfSome other (λ row. IsRow row.now) }
     requires readable { AllReadable (P.seen pages.old) }
     ensures kept { P.kept pages.old pages.new }
     ensures readable { AllReadable (P.seen pages.new) }
@@ -161,33 +205,40 @@ fn take_counted<P: Pages>(pages: &mut P, count: u32, link: Link) -> Result<bool,
     }
     match find_seat(pages, count, at)? {
         None => Ok(false),
-        Some(_) => take_from(pages, at, link),
+        Some(_) => take_from(pages, at, link, other),
     }
 }
 
-// Takes a row out; false where that fails.
-fn take_over<P: Pages>(pages: &mut P, link: Link) -> bool
+// Takes a row out, and places another one, if there is one; false where that fails.
+fn take_over<P: Pages>(pages: &mut P, link: Link, other: Option<&[u8]>) -> bool
     requires ready { P.ready pages.old }
-    requires room { 5 ≤ (P.seen pages.old).spare }
+    requires room { 9 ≤ (P.seen pages.old).spare }
+    requires other { IfSome other (λ row. IsRow row.now) }
     requires readable { AllReadable (P.seen pages.old) }
     ensures kept { P.kept pages.old pages.new }
     ensures readable { AllReadable (P.seen pages.new) }
 {
     match find_number(pages, MetaSlot::Pages) {
-        Ok(Some(count)) => take_counted(pages, count, link).unwrap_or(false),
+        Ok(Some(count)) => take_counted(pages, count, link, other).unwrap_or(false),
         Ok(None) => false,
         Err(_) => false,
     }
 }
 
-fn take(alloc: Global, pages: &mut PlainPages, link: Link) -> Result<bool, AllocError>
+fn take(
+    alloc: Global,
+    pages: &mut PlainPages,
+    link: Link,
+    other: Option<&[u8]>,
+) -> Result<bool, AllocError>
     requires plain { ArePlain pages.old }
+    requires other { IfSome other (λ row. IsRow row.now) }
     requires readable { AllReadable (plain_seen pages.old) }
     ensures plain { ArePlain pages.new }
     ensures readable { AllReadable (plain_seen pages.new) }
 {
     pages.ready(alloc)?;
-    Ok(take_over(pages, link))
+    Ok(take_over(pages, link, other))
 }
 
 // Places so many rows, and gives the links of those that were placed.
@@ -206,16 +257,22 @@ fn fill(alloc: Global, pages: &mut PlainPages, rows: u8) -> Result<Vec<Link>, Al
     Ok(links)
 }
 
-// Takes all these rows out, and says whether each was there.
-fn empty(alloc: Global, pages: &mut PlainPages, links: &[Link]) -> Result<bool, AllocError>
+// Takes all these rows out, and places another one for each, if there is one; says whether each was there.
+fn empty(
+    alloc: Global,
+    pages: &mut PlainPages,
+    links: &[Link],
+    other: Option<&[u8]>,
+) -> Result<bool, AllocError>
     requires plain { ArePlain pages.old }
+    requires other { IfSome other (λ row. IsRow row.now) }
     requires readable { AllReadable (plain_seen pages.old) }
     ensures plain { ArePlain pages.new }
     ensures readable { AllReadable (plain_seen pages.new) }
 {
     let mut all = true;
     'rows: for link in links {
-        let was = take(alloc, pages, *link)?;
+        let was = take(alloc, pages, *link, other)?;
         all = all && was;
     }
     Ok(all)
@@ -237,8 +294,18 @@ fn a_partition_that_is_emptied_gives_its_pages_back(rt: HostRuntime) -> Result<(
     let mut pages = partition(rt.alloc())?;
     let links = fill(rt.alloc(), &mut pages, 250)?;
     assert_eq!(rt; (links.len(), pages.len()), (250, 4));
-    assert!(rt; empty(rt.alloc(), &mut pages, &links)?);
+    assert!(rt; empty(rt.alloc(), &mut pages, &links, None)?);
     let again = fill(rt.alloc(), &mut pages, 250)?;
     assert_eq!(rt; (again.len(), pages.len()), (250, 4));
+    Ok(())
+}
+
+#[test]
+fn rows_that_are_exchanged_take_no_more_pages(rt: HostRuntime) -> Result<(), Fail> {
+    let mut pages = partition(rt.alloc())?;
+    let links = fill(rt.alloc(), &mut pages, 250)?;
+    let row = row_of(0x7a);
+    assert!(rt; empty(rt.alloc(), &mut pages, &links, Some(&row))?);
+    assert_eq!(rt; (links.len(), pages.len()), (250, 4));
     Ok(())
 }

@@ -6,6 +6,9 @@ use Rattle.pm_free.specs.Chained.{MovesPage}
 use Rattle.pm_free.proofs.Changed.{data_looked, changes_looked, changes_told, changes_then, changes_as}
 use Rattle.pm_free.proofs.ChainCauses.{cause_passed, cause_looked, cause_after}
 use Rattle.pm_free.proofs.Settled.{HomeKnown, home_known, settles_there, settles_moved}
+use Rattle.pm_pages.proofs.SoundPages.{no_bad_passed}
+use Rattle.pm_free.specs.Chained.{with_home}
+use Rattle.pm_free.proofs.SoundChains.{chains_looked, chains_moved}
 use Rattle.pm_free.proofs.chains.settle.Goals as goal
 
 pub returns-then-seat-bucket-clause-settles : goal.returns-then-seat-bucket-clause-settles
@@ -59,3 +62,21 @@ returns-clause-cause g c =
     let e = g.P.Pages.seen c.link.new.pages in
     let first = changes_then T a b d 0 2 _ _ (λ (x z : Partition). Unit {0}) (λ x y z r s. tt) (changes_looked T a b 0 c.requires.meta c.seat_at.ensures.looks) c.in_ok-unlink.ensures.unlinks in
     cause_after T a d e 2 c.link.result first.edits c.link.ensures.cause
+
+pub returns-in_err-unlink-clause-sound : goal.returns-in_err-unlink-clause-sound
+returns-in_err-unlink-clause-sound g c = λ home s is.
+    let T = g.P.Pages.tells in
+    let a = g.P.Pages.seen c.args.pages.now in
+    let b = g.P.Pages.seen c.seat_at.new.pages in
+    let p = err_from_is_err_and c.from_residual-in_err-unlink.result c.from_residual-in_err-unlink.ensures.1 in
+    no_bad_passed c.unlink.result c.from_residual-in_err-unlink.result c.in_err-unlink.field-0.0 p.0 c.in_err-unlink.was p.1 p.2
+    (c.unlink.ensures.sound home (chains_looked T a b 0 home c.seat_at.ensures.looks s) is)
+
+pub returns-clause-sound : goal.returns-clause-sound
+returns-clause-sound g c = λ home s is.
+    let T = g.P.Pages.tells in
+    let a = g.P.Pages.seen c.args.pages.now in
+    let b = g.P.Pages.seen c.seat_at.new.pages in
+    let d = g.P.Pages.seen c.unlink.new.pages in
+    c.link.ensures.sound (with_home home c.args.at BUCKETS)
+    (chains_moved T b d 2 c.args.at c.args.bucket home c.in_ok-unlink.ensures.unlinks (chains_looked T a b 0 home c.seat_at.ensures.looks s) is)

@@ -13,4 +13,4 @@ returns-clause-takes g c =
     let d = g.P.Pages.seen c.take_item.new.pages in
     let at_is : c.index.result ≡ index_of_id (page_of_link c.args.link) = c.index.ensures ∙ ap index_of_id c.page.ensures in
     let same : link (page_id a.part c.index.result) c.item.result ≡ c.args.link = (λ k. link (page_id a.part (at_is k)) (c.item.ensures k)) ∙ link_is a c.args.link c.requires.row in
-    on_ok_weaker c.take_item.result (λ rows. subst (λ (l : Link). ChangesRows T a d 3 (λ old new. TakesRow a.part old new l)) same rows) c.take_item.ensures.takes
+    on_ok_weaker c.take_item.result (λ rows. subst (λ (l : Link). ChangesRows T a d 3 0 (λ old new. TakesRow a.part old new l)) same rows) c.take_item.ensures.takes
