@@ -34,7 +34,7 @@ rows_len page (suc n) each =
 within : (page : List ℕ) → IsDataPage page → sum_by row_len (rows_of page) + 32 + 4 * length (rows_of page) ≤ length page
 within page is = omega (arith, rows_len page (count_of page) is.rows.each, length-rows_of page, is.rows.low, is.rows.full)
 
-is_live : (rows : List (Option (List ℕ))) (item : ℕ) (row : List ℕ) → row_at rows item ≡ Some row → item < length rows
+pub is_live : (rows : List (Option (List ℕ))) (item : ℕ) (row : List ℕ) → row_at rows item ≡ Some row → item < length rows
 is_live rows item row live = elim (cases_lt item (length rows)) [
   | inl lt ↦ lt
   | inr past ↦ absurd (cc (sym (get_or_past rows item None past) ∙ live))

@@ -147,3 +147,15 @@ row_at_link p at item at_link is part_fits at_fits item_fits has =
       name = (λ k. record { 0 = page k }) ∙ ap (page_id p.part) (sym index);
       item = subst (λ (q : ℕ × ℕ). HasItemAt p q.0 q.1) {x = (at, item)} {y = (index_of_id (page_of_link at_link), item_of_link at_link)} (λ k. (sym index k, sym number k)) has;
     }
+
+-- the row of a key is there still after looks
+pub row_looked : (T : Type 0) (a b : Paged) (m : ℕ) (spot : Spot) (cache : ℕ) (key : List ℕ) → HasMeta a → LooksAtPages T a b m → HasRowIn a spot cache key → HasRowIn b spot cache key
+row_looked T a b m spot cache key meta looks has = record {
+  some = has.some;
+  below = below_same a b spot.at meta (looks.pages 0 (inr meta.known)) has.below;
+  page = has.page;
+  in_hand = record { known = looks.known spot.at has.in_hand.known; asked = looks.asked spot.at has.in_hand.asked; page = looks.pages spot.at (inr has.in_hand.known) ∙ has.in_hand.page };
+  size = has.size ∙ sym looks.same.page_size;
+  row = has.row;
+  is = has.is;
+}

@@ -3,6 +3,9 @@ pub mod Commands
 pub mod Entries
 pub mod Faults
 pub mod NewMeta
+pub mod Puts
 pub mod Reads
+pub mod Removals
 pub mod RowBytes
+pub mod Runs
 pub mod Spots

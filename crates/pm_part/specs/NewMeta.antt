@@ -1,12 +1,20 @@
 -- A meta page that was made: of a partition with no other page, and without rows.
-use Rattle.std.specs.Prelude.{◌≡◌, ◌≢◌, ℕ, List}
+use Rattle.std.specs.Prelude.{◌≡◌, ◌≢◌, ℕ, List, Some}
 use Rattle.pm_types.specs.declared.page_id.PageId.{PageId}
 use Rattle.pm_meta.specs.declared.slots.MetaSlot.{MetaSlot}
 use Rattle.pm_meta.specs.declared.slots.MetaSlot.TheVariants.{Pages}
 use Rattle.pm_meta.specs.MetaPages.{field_of, IsSlot, IsStoredMeta}
+use Rattle.pm_pages.specs.Paged.{Paged}
 
 -- a meta page of this name, which counts itself alone
 pub record IsNewMeta (id : PageId) (page : List ℕ) : Type 0 where
   pub stored : (max_rows : ℕ) → IsStoredMeta id max_rows page
   pub pages : field_of page Pages ≡ 1
   pub others : (slot : MetaSlot) → IsSlot slot → slot ≢ Pages → field_of page slot ≡ 0
+
+-- the first page is such a meta page
+pub record HasNewMeta (p : Paged) : Type 0 where
+  pub id : PageId
+  pub page : List ℕ
+  pub here : p.pages 0 ≡ Some page
+  pub is : IsNewMeta id page

@@ -10,6 +10,7 @@ ghost use Rattle.pm_free.specs.Placed.{HasItemAt};
 ghost use Rattle.pm_free.specs.Causes.{HasChainCause};
 ghost use Rattle.pm_part.specs.declared.overwriting.Way.TheVariants.{InPlace, SamePage};
 ghost use Rattle.pm_part.specs.Changes.{ChangesPages, IsWayOn, IsWayIn, WritesOver};
+ghost use Rattle.pm_part.specs.Puts.{OverwritesRow};
 
 use crate::spots::Spot;
 use pm_data::{replace, room, row};
@@ -84,6 +85,8 @@ pub fn overwrite<P: Pages>(pages: &mut P, spot: Spot, row: &[u8]) -> Result<Link
     ensures readable { AllReadable (P.seen pages.new) }
     ensures changes { OnOk result (ChangesPages P.tells (P.seen pages.old) (P.seen pages.new) 7) }
     ensures cause { HasChainCause P.tells (P.seen pages.old) (P.seen pages.new) result }
+    ensures rows { IfOk result (λ link. P.tells → OverwritesRow (P.seen pages.old).part (P.seen pages.old).pages
+        (P.seen pages.new).pages spot row.now link) }
 {
     let link = spot.link(pages.part());
     match find_way(pages, spot, row.len())? {
@@ -112,6 +115,8 @@ fn swap<P: Pages>(pages: &mut P, spot: Spot, row: &[u8]) -> Result<Link, PageFau
     ensures readable { AllReadable (P.seen pages.new) }
     ensures changes { OnOk result (ChangesPages P.tells (P.seen pages.old) (P.seen pages.new) 3) }
     ensures cause { HasChainCause P.tells (P.seen pages.old) (P.seen pages.new) result }
+    ensures rows { IfOk result (λ link. P.tells → OverwritesRow (P.seen pages.old).part (P.seen pages.old).pages
+        (P.seen pages.new).pages spot row.now link) }
 {
     let seat = seat_at(pages, spot.at)?;
     make_edit(pages, spot.at, Edit::Remove(spot.item), b"")?;

@@ -8,12 +8,16 @@ ghost use Rattle.pm_types.specs.Shapes.{IsShape};
 ghost use Rattle.pm_model.specs.ReplyLists.{with_replies};
 ghost use Rattle.pm_model.specs.declared.reply.Reply.{Reply};
 ghost use Rattle.pm_pages.specs.Paged.{AllReadable, NoneLent};
-ghost use Rattle.pm_pages.specs.Edits.{EditsPages};
+ghost use Rattle.pm_pages.specs.Edits.{LooksAtPages, EditsPages};
 ghost use Rattle.pm_types.specs.Counts.{HasRisen};
 ghost use Rattle.pm_types.specs.declared.fault.StoreFault.TheVariants as StoreFault;
 ghost use Rattle.pm_part.specs.Reads.{ReadsPages};
 ghost use Rattle.pm_part.specs.Commands.{IsPartCmd, cache_of, AppendsReply};
 ghost use Rattle.pm_part.specs.Faults.{HasPartCause};
+ghost use Rattle.pm_part.specs.Runs.{IsPartitionOf, RunsCmd, IsGet};
+ghost use Rattle.pm_part.specs.Puts.{IsPartFor};
+ghost use Rattle.pm_types.specs.declared.shape.Shape.{Shape};
+ghost use Rattle.pm_model.specs.declared.line.Cmd.TheVariants.{Put, Get, Remove};
 
 use crate::entries::find_entry;
 use crate::pairs::append_pairs;
@@ -74,6 +78,11 @@ impl Part {
         ensures replied { OnOk result (AppendsReply replies.old replies.new) }
         ensures unchanged { OnErr result (replies.new ≡ replies.old) }
         ensures cause { HasPartCause P.tells (P.seen pages.old) (P.seen pages.new) (cache_of cmd.now) result }
+        ensures gets { IsGet cmd.now → LooksAtPages P.tells (P.seen pages.old) (P.seen pages.new) 10 }
+        ensures runs { P.tells → IsPartitionOf self.now.shape (P.seen pages.old)
+            → (P.seen pages.old).part ≡ self.now.part
+            → OnOk result (RunsCmd self.now.shape self.now.part cmd.now (P.seen pages.old).pages
+            (P.seen pages.new).pages replies.old replies.new) }
     {
         match cmd {
             Cmd::Put { cache, key, value } => {
@@ -133,6 +142,9 @@ fn run_put<P: Pages>(
     ensures replied { OnOk result (AppendsReply replies.old replies.new) }
     ensures unchanged { OnErr result (replies.new ≡ replies.old) }
     ensures cause { HasPartCause P.tells (P.seen pages.old) (P.seen pages.new) cache result }
+    ensures puts { P.tells → (shape : Shape) → IsPartFor shape (P.seen pages.old) max_rows key.now
+        → OnOk result (RunsCmd shape (P.seen pages.old).part (Put cache key.now value.now)
+        (P.seen pages.old).pages (P.seen pages.new).pages replies.old replies.new) }
 {
     if put(pages, max_rows, cache, key, value)? {
         replies.push(Reply::Done);
@@ -160,6 +172,10 @@ fn run_get<P: Pages>(
     ensures replied { OnOk result (AppendsReply replies.old replies.new) }
     ensures unchanged { OnErr result (replies.new ≡ replies.old) }
     ensures cause { HasPartCause P.tells (P.seen pages.old) (P.seen pages.new) cache result }
+    ensures looks { LooksAtPages P.tells (P.seen pages.old) (P.seen pages.new) 10 }
+    ensures gets { P.tells → (shape : Shape) → IsPartitionOf shape (P.seen pages.old)
+        → OnOk result (RunsCmd shape (P.seen pages.old).part (Get cache key.now) (P.seen pages.old).pages
+        (P.seen pages.new).pages replies.old replies.new) }
 {
     match find_entry(pages, cache, key)? {
         None => {
@@ -188,6 +204,9 @@ fn run_remove<P: Pages>(
     ensures replied { OnOk result (AppendsReply replies.old replies.new) }
     ensures unchanged { OnErr result (replies.new ≡ replies.old) }
     ensures cause { HasPartCause P.tells (P.seen pages.old) (P.seen pages.new) cache result }
+    ensures removes { P.tells → (shape : Shape) → IsPartitionOf shape (P.seen pages.old)
+        → OnOk result (RunsCmd shape (P.seen pages.old).part (Remove cache key.now) (P.seen pages.old).pages
+        (P.seen pages.new).pages replies.old replies.new) }
 {
     let was = remove(pages, cache, key)?;
     replies.push(Reply::Was(was));

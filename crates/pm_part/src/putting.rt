@@ -1,17 +1,26 @@
 //! Puts.
 
 ghost use Rattle.std.specs.Prelude.{◌≡◌, ◌≢◌, ℕ, ◌+◌, ◌-◌, ◌^◌, ◌<◌};
-ghost use Rattle.std.specs.Prelude.{◌≤◌, List, IfOk, OnOk, IsTrue, IfSome, IsSomeAnd, length};
+ghost use Rattle.std.specs.Prelude.{◌≤◌, List, None, true, IfOk, OnOk, IsTrue, IfSome, IsSomeAnd, length};
 ghost use Rattle.pm_types.specs.declared.limits.TheConstants.{CACHES};
 ghost use Rattle.pm_types.specs.Keys.{HasKeyLength, HasValueLength};
 ghost use Rattle.pm_data.specs.Rows.{IsRow};
 ghost use Rattle.pm_pages.specs.PageLists.{ReadsAt};
 ghost use Rattle.pm_pages.specs.Paged.{HasRoomFor, AllReadable, IsLent, IsWhole, WritesPage};
-ghost use Rattle.pm_pages.specs.Edits.{EditsPages, HasMeta, HasDiskCause};
+ghost use Rattle.pm_pages.specs.Edits.{EditsPages, HasMeta, HasDiskCause, IsNumberIn};
 ghost use Rattle.pm_part.specs.Entries.{IsEntryIn};
 ghost use Rattle.pm_part.specs.Spots.{HasRowIn};
 ghost use Rattle.pm_part.specs.Changes.{ChangesPages};
-ghost use Rattle.pm_part.specs.NewMeta.{IsNewMeta};
+ghost use Rattle.pm_part.specs.NewMeta.{IsNewMeta, HasNewMeta};
+ghost use Rattle.pm_part.specs.RowBytes.{IsRowOf};
+ghost use Rattle.pm_part.specs.Runs.{IsPartitionOf};
+ghost use Rattle.pm_part.specs.Puts.{ReplacesKey, AddsKey, IsPartFor, PutsKey, LacksItem};
+ghost use Rattle.pm_types.specs.declared.shape.Shape.{Shape};
+ghost use Rattle.pm_btpage.specs.IndexPages.{Item};
+ghost use Rattle.pm_meta.specs.declared.slots.MetaSlot.TheVariants.{Rows};
+ghost use Rattle.pm_pages.specs.Trees.{root_of};
+ghost use Rattle.pm_pages.specs.SpareChains.{HasSpare};
+ghost use Rattle.pm_tree.specs.Indexes.{IsIndex};
 ghost use Rattle.pm_part.specs.Faults.{HasPartCause};
 
 use crate::entries::{Entry, find_entry};
@@ -46,6 +55,10 @@ pub fn put<P: Pages>(
     ensures changes { OnOk result (EditsPages P.tells (P.seen pages.old) (P.seen pages.new)
         (λ j. IsTrue ((P.seen pages.new).asked j)) 32) }
     ensures cause { HasPartCause P.tells (P.seen pages.old) (P.seen pages.new) cache result }
+    ensures puts { IfOk result (λ done. P.tells → (shape : Shape)
+        → IsPartFor shape (P.seen pages.old) max_rows key.now
+        → PutsKey shape (P.seen pages.old).part (P.seen pages.old).pages (P.seen pages.new).pages
+        cache key.now value.now done) }
 {
     let mut room = [0; ROW_MAX];
     let len = write_row(&mut room, cache, key, value);
@@ -71,6 +84,11 @@ fn put_row<P: Pages>(
     ensures changes { OnOk result (EditsPages P.tells (P.seen pages.old) (P.seen pages.new)
         (λ j. IsTrue ((P.seen pages.new).asked j)) 32) }
     ensures cause { HasPartCause P.tells (P.seen pages.old) (P.seen pages.new) cache result }
+    ensures puts { IfOk result (λ done. P.tells → (shape : Shape)
+        → IsPartFor shape (P.seen pages.old) max_rows key.now
+        → (value : List ℕ) → IsRowOf cache key.now value row.now
+        → PutsKey shape (P.seen pages.old).part (P.seen pages.old).pages (P.seen pages.new).pages
+        cache key.now value done) }
 {
     match find_entry(pages, cache, key)? {
         None => put_new(pages, max_rows, cache, key, row),
@@ -96,6 +114,10 @@ fn put_held<P: Pages>(
     ensures readable { AllReadable (P.seen pages.new) }
     ensures changes { OnOk result (ChangesPages P.tells (P.seen pages.old) (P.seen pages.new) 16) }
     ensures cause { HasPartCause P.tells (P.seen pages.old) (P.seen pages.new) cache result }
+    ensures puts { IfOk result (λ done. P.tells → (shape : Shape) → IsPartitionOf shape (P.seen pages.old)
+        → (value : List ℕ) → IsRowOf cache key.now value row.now
+        → PutsKey shape (P.seen pages.old).part (P.seen pages.old).pages (P.seen pages.new).pages
+        cache key.now value done) }
 {
     let spot = find_row(pages, entry, cache, key)?;
     replace_row(pages, cache, key, spot, row)?;
@@ -122,6 +144,10 @@ fn replace_row<P: Pages>(
     ensures readable { AllReadable (P.seen pages.new) }
     ensures changes { OnOk result (ChangesPages P.tells (P.seen pages.old) (P.seen pages.new) 15) }
     ensures cause { HasPartCause P.tells (P.seen pages.old) (P.seen pages.new) cache result }
+    ensures replaces { OnOk result (P.tells → (shape : Shape) → IsPartitionOf shape (P.seen pages.old)
+        → (value : List ℕ) → IsRowOf cache key.now value row.now
+        → ReplacesKey (P.seen pages.old).part (P.seen pages.old).pages (P.seen pages.new).pages
+        cache key.now value) }
 {
     let old = spot.link(pages.part());
     let link = overwrite(pages, spot, row)?;
@@ -151,6 +177,12 @@ fn put_new<P: Pages>(
     ensures changes { OnOk result (EditsPages P.tells (P.seen pages.old) (P.seen pages.new)
         (λ j. IsTrue ((P.seen pages.new).asked j)) 23) }
     ensures cause { HasPartCause P.tells (P.seen pages.old) (P.seen pages.new) cache result }
+    ensures puts { IfOk result (λ done. P.tells → (shape : Shape)
+        → IsPartFor shape (P.seen pages.old) max_rows key.now
+        → LacksItem (P.seen pages.old).pages cache key.now
+        → (value : List ℕ) → IsRowOf cache key.now value row.now
+        → PutsKey shape (P.seen pages.old).part (P.seen pages.old).pages (P.seen pages.new).pages
+        cache key.now value done) }
 {
     match find_number(pages, MetaSlot::Rows)? {
         None => put_first(pages, cache, key, row),
@@ -170,6 +202,8 @@ fn put_first<P: Pages>(pages: &mut P, cache: u8, key: &[u8], row: &[u8]) -> Resu
     ensures readable { AllReadable (P.seen pages.new) }
     ensures changes { OnOk result (ChangesPages P.tells (P.seen pages.old) (P.seen pages.new) 22) }
     ensures cause { HasPartCause P.tells (P.seen pages.old) (P.seen pages.new) cache result }
+    ensures adds { IfOk result (λ done. (done ≡ true) × (P.tells → (P.seen pages.old).pages 0 ≡ None
+        → AddsKey (P.seen pages.old).part (P.seen pages.old).pages (P.seen pages.new).pages row.now 1)) }
 {
     make_meta(pages)?;
     add_row(pages, 0, cache, key, row)?;
@@ -193,11 +227,18 @@ fn put_next<P: Pages>(
     requires key { HasKeyLength key.now }
     requires row { IsRow row.now }
     requires most { max_rows < 2 ^ 32 - 1 }
+    requires rows { IsNumberIn (P.seen pages.old) Rows rows }
     requires readable { AllReadable (P.seen pages.old) }
     ensures kept { P.kept pages.old pages.new }
     ensures readable { AllReadable (P.seen pages.new) }
     ensures changes { OnOk result (ChangesPages P.tells (P.seen pages.old) (P.seen pages.new) 21) }
     ensures cause { HasPartCause P.tells (P.seen pages.old) (P.seen pages.new) cache result }
+    ensures puts { IfOk result (λ done. P.tells → (shape : Shape)
+        → IsPartFor shape (P.seen pages.old) max_rows key.now
+        → LacksItem (P.seen pages.old).pages cache key.now
+        → (value : List ℕ) → IsRowOf cache key.now value row.now
+        → PutsKey shape (P.seen pages.old).part (P.seen pages.old).pages (P.seen pages.new).pages
+        cache key.now value done) }
 {
     if rows >= max_rows {
         return Ok(false);
@@ -226,6 +267,11 @@ fn add_row<P: Pages>(
     ensures readable { AllReadable (P.seen pages.new) }
     ensures changes { OnOk result (ChangesPages P.tells (P.seen pages.old) (P.seen pages.new) 21) }
     ensures cause { HasPartCause P.tells (P.seen pages.old) (P.seen pages.new) cache result }
+    ensures adds { OnOk result (P.tells → HasSpare (P.seen pages.old).pages
+        → (height : ℕ) (nodes : List ℕ) (items : List Item)
+        → IsIndex (P.seen pages.old).pages (root_of (P.seen pages.old).pages cache) height nodes items
+        → AddsKey (P.seen pages.old).part (P.seen pages.old).pages (P.seen pages.new).pages
+        row.now (rows + 1)) }
 {
     let link = place(pages, row)?;
     tree_put(pages, cache, key, link)?;
@@ -240,6 +286,7 @@ fn make_meta<P: Pages>(pages: &mut P) -> Result<(), PageFault>
     ensures kept { P.kept pages.old pages.new }
     ensures readable { AllReadable (P.seen pages.new) }
     ensures meta { OnOk result (HasMeta (P.seen pages.new)) }
+    ensures new { OnOk result (HasNewMeta (P.seen pages.new)) }
     ensures edits { OnOk result (EditsPages P.tells (P.seen pages.old) (P.seen pages.new) (λ j. j ≡ 0) 1) }
     ensures cause { HasDiskCause (P.seen pages.old) (P.seen pages.new).faults result }
 {
@@ -257,6 +304,7 @@ fn write_meta<P: Pages>(pages: &mut P)
     ensures kept { P.kept pages.old pages.new }
     ensures readable { AllReadable (P.seen pages.new) }
     ensures meta { HasMeta (P.seen pages.new) }
+    ensures new { HasNewMeta (P.seen pages.new) }
     ensures edits { EditsPages P.tells (P.seen pages.old) (P.seen pages.new) (λ j. j ≡ 0) 0 }
 {
     let id = PageId::new(pages.part(), 0);

@@ -1,6 +1,7 @@
 //! Removals.
 
-ghost use Rattle.std.specs.Prelude.{◌≡◌, ℕ, ◌<◌, ◌≤◌, OnOk, IsTrue};
+ghost use Rattle.std.specs.Prelude.{◌≡◌, ℕ, ◌<◌, ◌≤◌, IfOk, OnOk, IsTrue};
+ghost use Rattle.pm_types.specs.declared.shape.Shape.{Shape};
 ghost use Rattle.pm_types.specs.declared.limits.TheConstants.{CACHES};
 ghost use Rattle.pm_pages.specs.Paged.{AllReadable};
 ghost use Rattle.pm_pages.specs.Edits.{EditsPages, HasMeta};
@@ -8,6 +9,8 @@ ghost use Rattle.pm_part.specs.Entries.{IsEntryIn};
 ghost use Rattle.pm_part.specs.Spots.{HasRowIn};
 ghost use Rattle.pm_part.specs.Changes.{ChangesPages};
 ghost use Rattle.pm_part.specs.Faults.{HasPartCause};
+ghost use Rattle.pm_part.specs.Removals.{DropsKey, RemovesKey};
+ghost use Rattle.pm_part.specs.Runs.{IsPartitionOf};
 
 use crate::entries::{Entry, find_entry};
 use crate::spots::{Spot, find_row};
@@ -28,6 +31,9 @@ pub fn remove<P: Pages>(pages: &mut P, cache: u8, key: &[u8]) -> Result<bool, Pa
     ensures changes { OnOk result (EditsPages P.tells (P.seen pages.old) (P.seen pages.new)
         (λ j. IsTrue ((P.seen pages.new).asked j)) 29) }
     ensures cause { HasPartCause P.tells (P.seen pages.old) (P.seen pages.new) cache result }
+    ensures removes { IfOk result (λ was. P.tells → (shape : Shape) → IsPartitionOf shape (P.seen pages.old)
+        → RemovesKey (P.seen pages.old).part (P.seen pages.old).pages (P.seen pages.new).pages
+        cache key.now was) }
 {
     match find_entry(pages, cache, key)? {
         None => Ok(false),
@@ -51,6 +57,9 @@ fn remove_held<P: Pages>(
     ensures readable { AllReadable (P.seen pages.new) }
     ensures changes { OnOk result (ChangesPages P.tells (P.seen pages.old) (P.seen pages.new) 20) }
     ensures cause { HasPartCause P.tells (P.seen pages.old) (P.seen pages.new) cache result }
+    ensures removes { IfOk result (λ was. P.tells → (shape : Shape) → IsPartitionOf shape (P.seen pages.old)
+        → RemovesKey (P.seen pages.old).part (P.seen pages.old).pages (P.seen pages.new).pages
+        cache key.now was) }
 {
     let spot = find_row(pages, entry, cache, key)?;
     drop_row(pages, cache, key, spot)?;
@@ -69,6 +78,9 @@ fn drop_row<P: Pages>(pages: &mut P, cache: u8, key: &[u8], spot: Spot) -> Resul
     ensures readable { AllReadable (P.seen pages.new) }
     ensures changes { OnOk result (ChangesPages P.tells (P.seen pages.old) (P.seen pages.new) 19) }
     ensures cause { HasPartCause P.tells (P.seen pages.old) (P.seen pages.new) cache result }
+    ensures drops { OnOk result (P.tells → (shape : Shape) → IsPartitionOf shape (P.seen pages.old)
+        → DropsKey (P.seen pages.old).part (P.seen pages.old).pages (P.seen pages.new).pages
+        cache key.now) }
 {
     let rows = number(pages, MetaSlot::Rows)?;
     let link = spot.link(pages.part());

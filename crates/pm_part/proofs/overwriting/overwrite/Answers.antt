@@ -1,3 +1,9 @@
+use Rattle.pm_part.proofs.SwappedRows.{moved_rows, overwrites_looked}
+use Rattle.pm_part.proofs.OverwrittenRows.{overwritten}
+use Rattle.pm_part.specs.Puts.{OverwritesRow}
+use Rattle.pm_free.specs.Placed.{PlacesRow}
+use Rattle.std.proofs.lemmas.Result.{IfOk-weaker}
+use Rattle.std.proofs.Common.{ℕ}
 use Rattle.std.proofs.Common.{◌≡◌, ◌∙◌, ap, subst, length, sym, arith}
 use Rattle.std.proofs.lemmas.Result.{on_ok_weaker, err_from_is_err_and}
 use Rattle.pm_types.specs.Ids.{page_id, link}
@@ -78,3 +84,38 @@ returns-in_err-take_out-in-Moved-clause-cause g c =
     let d = g.P.Pages.seen c.take_out.new.pages in
     let p = err_from_is_err_and c.from_residual-in_err-take_out-in-Moved.result c.from_residual-in_err-take_out-in-Moved.ensures.1 in
     cause_passed T a d c.take_out.result c.from_residual-in_err-take_out-in-Moved.result c.in_err-take_out-in-Moved.field-0.0 p.0 c.in_err-take_out-in-Moved.was p.1 p.2 (cause_looked T a b d 0 c.take_out.result c.find_way.ensures.looks c.take_out.ensures.cause)
+
+pub returns-in_ok-write_over-in-InPlace-clause-rows : goal.returns-in_ok-write_over-in-InPlace-clause-rows
+returns-in_ok-write_over-in-InPlace-clause-rows g c = λ t.
+    let T = g.P.Pages.tells in
+    let a = g.P.Pages.seen c.args.pages.now in
+    let b = g.P.Pages.seen c.find_way.new.pages in
+    let d = g.P.Pages.seen c.write_over.new.pages in
+    let looks = c.find_way.ensures.looks in
+    let meta = meta_looked T a b 0 looks c.requires.meta in
+    let item = item_looked T a b 0 c.args.spot.at c.args.spot.item c.requires.meta c.requires.item looks in
+    let link_is = c.link-link.ensures ∙ ap (λ p. link (page_id p c.args.spot.at) c.args.spot.item) (c.part.ensures ∙ sym looks.same.part) in
+    let rows = overwritten T b d c.args.spot c.args.row.now t meta item c.write_over.ensures.edits c.in_ok-write_over-in-InPlace.ensures.over in
+    overwrites_looked T a b 0 d.pages c.args.spot c.args.row.now c.link-link.result t looks (subst (OverwritesRow b.part b.pages d.pages c.args.spot c.args.row.now) (sym link_is) rows)
+
+pub returns-in-SamePage-clause-rows : goal.returns-in-SamePage-clause-rows
+returns-in-SamePage-clause-rows g c =
+    let T = g.P.Pages.tells in
+    let a = g.P.Pages.seen c.args.pages.now in
+    let b = g.P.Pages.seen c.find_way.new.pages in
+    let d = g.P.Pages.seen c.swap.new.pages in
+    IfOk-weaker c.swap.result _ _ (λ at_link rows t. overwrites_looked T a b 0 d.pages c.args.spot c.args.row.now at_link t c.find_way.ensures.looks (rows t)) c.swap.ensures.rows
+
+pub returns-in_ok-take_out-in-Moved-clause-rows : goal.returns-in_ok-take_out-in-Moved-clause-rows
+returns-in_ok-take_out-in-Moved-clause-rows g c =
+    let T = g.P.Pages.tells in
+    let a = g.P.Pages.seen c.args.pages.now in
+    let b = g.P.Pages.seen c.find_way.new.pages in
+    let d = g.P.Pages.seen c.take_out.new.pages in
+    let e = g.P.Pages.seen c.place.new.pages in
+    let looks = c.find_way.ensures.looks in
+    let takes = c.in_ok-take_out-in-Moved.ensures.takes in
+    let link_is = c.link-link.ensures ∙ ap (λ p. link (page_id p c.args.spot.at) c.args.spot.item) (c.part.ensures ∙ sym looks.same.part) in
+    IfOk-weaker c.place.result _ _ (λ at_link places t.
+    let placed = subst (λ (n : ℕ). PlacesRow d.page_size n d.pages e.pages c.args.row.now at_link) takes.edits.same.part (places.told t) in
+    overwrites_looked T a b 0 e.pages c.args.spot c.args.row.now at_link t looks (moved_rows d.page_size b.part b.pages d.pages e.pages c.args.spot c.args.row.now c.link-link.result at_link link_is (takes.told t) placed)) c.place.ensures.places

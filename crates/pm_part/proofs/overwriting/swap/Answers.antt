@@ -1,3 +1,13 @@
+use Rattle.pm_part.proofs.SwappedRows.{swapped_rows, overwrites_looked}
+use Rattle.pm_part.specs.Puts.{OverwritesRow}
+use Rattle.pm_free.proofs.Views.{data_home}
+use Rattle.pm_free.proofs.Changed.{edits_page}
+use Rattle.pm_free.specs.declared.edits.Edit.TheVariants.{Insert, Remove}
+use Rattle.pm_pages.proofs.TakenPages.{meta_looked}
+use Rattle.pm_pages.specs.Chains.{bucket_of}
+use Rattle.pm_data.specs.DataPages.{rows_of, free_item}
+use Rattle.pm_types.specs.Ids.{page_id, link}
+use Rattle.std.proofs.Common.{◌≡◌, [], ◌∙◌, ap, sym, subst}
 use Rattle.std.proofs.Common.{arith}
 use Rattle.std.proofs.lemmas.Result.{err_from_is_err_and}
 use Rattle.pm_free.proofs.ChainCauses.{cause_passed, cause_after}
@@ -71,3 +81,29 @@ returns-in_err-settle-clause-kept g c =
 pub returns-clause-kept : goal.returns-clause-kept
 returns-clause-kept g c =
     g.met.P.Pages.kept_then c.args.pages.now c.make_edit-2.new.pages c.settle.new.pages (g.met.P.Pages.kept_then c.args.pages.now c.make_edit.new.pages c.make_edit-2.new.pages (g.met.P.Pages.kept_then c.args.pages.now c.seat_at.new.pages c.make_edit.new.pages c.seat_at.ensures.kept c.make_edit.ensures.kept) c.make_edit-2.ensures.kept) c.settle.ensures.kept
+
+pub returns-clause-rows : goal.returns-clause-rows
+returns-clause-rows g c = λ t.
+    let T = g.P.Pages.tells in
+    let a = g.P.Pages.seen c.args.pages.now in
+    let b = g.P.Pages.seen c.seat_at.new.pages in
+    let d = g.P.Pages.seen c.make_edit.new.pages in
+    let e = g.P.Pages.seen c.make_edit-2.new.pages in
+    let f = g.P.Pages.seen c.settle.new.pages in
+    let at = c.args.spot.at in
+    let row = c.args.row.now in
+    let looks = c.seat_at.ensures.looks in
+    let item = item_looked T a b 0 at c.args.spot.item c.requires.meta c.requires.item looks in
+    let out = edits_page T b d at [] (Remove c.args.spot.item) _ (meta_looked T a b 0 looks c.requires.meta) item.is c.make_edit.ensures.edits c.in_ok-make_edit.ensures.edited in
+    let put = edits_page T d e at row Insert _ out.meta (out.stay at item.is) c.make_edit-2.ensures.edits c.in_ok-item.ensures.edited in
+    let seat = c.in_ok-seat.ensures.seat in
+    let same : seat.page ≡ item.is.page = cc (seat.is.in_hand.page, item.is.is.in_hand.page) in
+    let bucket_is = seat.says.room ∙ ap bucket_of same ∙ sym (data_home item.is.page item.is.is.well_made) in
+    let edited = c.in_ok-item.ensures.edited in
+    let put_t = put.told t in
+    let was_is : edited.was ≡ put_t.was = cc (edited.before, put_t.before) in
+    let number_is = edited.item_is ∙ ap (λ p. free_item (rows_of p)) was_is in
+    let part_is = c.part.ensures ∙ c.in_ok-settle.ensures.settles.edits.same.part ∙ c.make_edit-2.ensures.edits.same.part ∙ c.make_edit.ensures.edits.same.part in
+    let link_is = c.link.ensures ∙ ap (λ p. link (page_id p at) c.in_ok-item.item) part_is in
+    let rows = swapped_rows b.part b.pages d.pages e.pages f.pages c.args.spot c.in_ok-item.item c.in_ok-seat.seat.bucket row item.row item.is.page (out.told t) put_t (c.in_ok-settle.ensures.settles.told t) item.is.is.in_hand.page bucket_is item.live number_is in
+    overwrites_looked T a b 0 f.pages c.args.spot row c.link.result t looks (subst (OverwritesRow b.part b.pages f.pages c.args.spot row) (sym link_is) rows)

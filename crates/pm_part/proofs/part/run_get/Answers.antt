@@ -1,3 +1,15 @@
+use Rattle.std.proofs.Common.{◌≡◌, ℕ, ◌+◌, ◌≤◌, None, Some, Option, subst, arith}
+use Rattle.std.specs.Prelude.{IfSome}
+use Rattle.std.proofs.lemmas.Result.{on_ok_weaker}
+use Rattle.pm_pages.specs.Paged.{Paged}
+use Rattle.pm_pages.specs.Edits.{LooksAtPages}
+use Rattle.pm_pages.proofs.EditedPages.{looks_then, looks_more}
+use Rattle.pm_pages.proofs.TakenPages.{meta_looked}
+use Rattle.pm_tree.specs.Maps.{get_in}
+use Rattle.pm_part.specs.declared.entries.Entry.{Entry}
+use Rattle.pm_part.specs.Entries.{IsEntryIn, word_of}
+use Rattle.pm_part.proofs.CacheIndexes.{index_of}
+use Rattle.pm_part.proofs.Gets.{got_value, got_none}
 use Rattle.std.proofs.lemmas.Result.{err_from_is_err_and}
 use Rattle.pm_part.proofs.PartCauses.{cause_passed, cause_looked, cause_look}
 use Rattle.pm_part.proofs.part.run_get.Goals as goal
@@ -13,3 +25,34 @@ returns-in_err-find_entry-clause-cause g c =
 pub returns-in-Some-clause-cause : goal.returns-in-Some-clause-cause
 returns-in-Some-clause-cause g c =
     cause_looked g.P.Pages.tells (g.P.Pages.seen c.args.pages.now) (g.P.Pages.seen c.find_entry.new.pages) (g.P.Pages.seen c.reply_value.new.pages) 9 c.args.cache c.reply_value.result c.find_entry.ensures.looks c.reply_value.ensures.cause
+
+pub returns-in-None-clause-looks : goal.returns-in-None-clause-looks
+returns-in-None-clause-looks g c = looks_more g.P.Pages.tells (g.P.Pages.seen c.args.pages.now) (g.P.Pages.seen c.find_entry.new.pages) 9 10 (omega arith) c.find_entry.ensures.looks
+
+pub returns-in_err-find_entry-clause-looks : goal.returns-in_err-find_entry-clause-looks
+returns-in_err-find_entry-clause-looks g c = looks_more g.P.Pages.tells (g.P.Pages.seen c.args.pages.now) (g.P.Pages.seen c.find_entry.new.pages) 9 10 (omega arith) c.find_entry.ensures.looks
+
+pub returns-in-Some-clause-looks : goal.returns-in-Some-clause-looks
+returns-in-Some-clause-looks g c = looks_then g.P.Pages.tells (g.P.Pages.seen c.args.pages.now) (g.P.Pages.seen c.find_entry.new.pages) (g.P.Pages.seen c.reply_value.new.pages) 9 1 c.find_entry.ensures.looks c.reply_value.ensures.looks
+
+pub returns-in-None-clause-gets : goal.returns-in-None-clause-gets
+returns-in-None-clause-gets g c = λ t shape is.
+    let T = g.P.Pages.tells in
+    let a = g.P.Pages.seen c.args.pages.now in
+    let b = g.P.Pages.seen c.find_entry.new.pages in
+    let key = c.args.key.now in
+    let ix = index_of shape a c.args.cache is.page_size is.max_rows is.well_formed c.requires.cache in
+    let none : None ≡ get_in ix.items key = subst (λ (e : Option Entry). word_of e ≡ get_in ix.items key) {y = None} c.in-None.is (c.in_ok-find_entry.ensures.gets t ix.height ix.nodes ix.items ix.index) in
+    got_none T a b 9 shape c.args.cache key _ _ t c.find_entry.ensures.looks is ix none c.push.ensures
+
+pub returns-in-Some-clause-gets : goal.returns-in-Some-clause-gets
+returns-in-Some-clause-gets g c = λ t shape is.
+    let T = g.P.Pages.tells in
+    let a = g.P.Pages.seen c.args.pages.now in
+    let b = g.P.Pages.seen c.find_entry.new.pages in
+    let d = g.P.Pages.seen c.reply_value.new.pages in
+    let key = c.args.key.now in
+    let entry = subst (λ (e : Option Entry). IfSome e (IsEntryIn b c.args.cache key)) {y = Some c.in-Some.entry} c.in-Some.is c.in_ok-find_entry.ensures.entry in
+    let looks = looks_then T a b d 9 1 c.find_entry.ensures.looks c.reply_value.ensures.looks in
+    let meta = meta_looked T b d 1 c.reply_value.ensures.looks entry.meta in
+    on_ok_weaker c.reply_value.result (λ pushed. got_value T a d 10 shape c.args.cache key pushed.0 _ _ t looks meta is pushed.2) c.reply_value.ensures.pushed

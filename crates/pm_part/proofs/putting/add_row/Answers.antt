@@ -1,3 +1,5 @@
+use Rattle.std.proofs.Common.{◌+◌}
+use Rattle.pm_part.proofs.ReplacedKeys.{added_key}
 use Rattle.std.proofs.Common.{arith}
 use Rattle.std.proofs.lemmas.Result.{on_ok_weaker, err_from_is_err_and}
 use Rattle.pm_part.proofs.PartCauses.{cause_passed, cause_after, cause_chain, cause_put, cause_disk}
@@ -49,3 +51,16 @@ returns-clause-cause g c =
     let e = g.P.Pages.seen c.set_number.new.pages in
     let x = pages_then T a b d 4 17 21 (omega arith) (pages_rows T a b 4 _ c.in_ok-link.ensures.places) (pages_put T b d c.args.cache 17 c.in_ok-tree_put.ensures.changes) in
     cause_after T a d e 21 c.args.cache c.set_number.result x.edits (cause_disk T d e c.args.cache c.set_number.result c.set_number.ensures.cause)
+
+pub returns-clause-adds : goal.returns-clause-adds
+returns-clause-adds g c =
+    let T = g.P.Pages.tells in
+    let a = g.P.Pages.seen c.args.pages.now in
+    let b = g.P.Pages.seen c.place.new.pages in
+    let d = g.P.Pages.seen c.tree_put.new.pages in
+    let e = g.P.Pages.seen c.set_number.new.pages in
+    let places = c.in_ok-link.ensures.places in
+    let puts = c.in_ok-tree_put.ensures.changes in
+    on_ok_weaker c.set_number.result (λ sets t spare height nodes items index.
+    added_key T a b d e a.page_size c.args.cache (c.args.rows + 1) c.args.key.now c.args.row.now c.in_ok-link.link _ height nodes items t c.requires.cache c.requires.meta places.meta puts.meta (meta_edited T d e 0 puts.meta c.set_number.ensures.edits sets)
+    c.requires.readable c.place.ensures.readable c.tree_put.ensures.readable c.set_number.ensures.readable spare index (places.told t) (c.in_ok-tree_put.ensures.puts t) c.set_number.ensures.edits sets) c.set_number.ensures.sets

@@ -1,3 +1,5 @@
+use Rattle.pm_part.proofs.ReplacedKeys.{first_added}
+use Rattle.std.proofs.Common.{refl}
 use Rattle.std.proofs.Common.{arith}
 use Rattle.std.proofs.lemmas.Result.{err_from_is_err_and}
 use Rattle.pm_part.proofs.PartCauses.{cause_passed, cause_after}
@@ -27,3 +29,14 @@ returns-clause-changes g c =
     let b = g.P.Pages.seen c.make_meta.new.pages in
     let d = g.P.Pages.seen c.add_row.new.pages in
     pages_then T a b d 1 21 22 (omega arith) (pages_meta T a b 1 c.in_ok-make_meta.ensures.meta c.in_ok-make_meta.ensures.edits) c.in_ok-add_row.ensures.changes
+
+pub returns-clause-adds : goal.returns-clause-adds
+returns-clause-adds g c = (
+  refl,
+  λ t none.
+      let T = g.P.Pages.tells in
+      let a = g.P.Pages.seen c.args.pages.now in
+      let b = g.P.Pages.seen c.make_meta.new.pages in
+      let d = g.P.Pages.seen c.add_row.new.pages in
+      first_added T a b d.pages 1 c.args.cache c.args.row.now c.requires.cache none c.in_ok-make_meta.ensures.edits c.in_ok-make_meta.ensures.meta c.make_meta.ensures.readable c.in_ok-make_meta.ensures.new (c.in_ok-add_row.ensures.adds t),
+)

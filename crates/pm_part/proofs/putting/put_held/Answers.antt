@@ -1,3 +1,6 @@
+use Rattle.pm_part.proofs.ReplacedKeys.{held_put, puts_looked}
+use Rattle.pm_part.proofs.DroppedRows.{partition_looked}
+use Rattle.std.proofs.Common.{true}
 use Rattle.std.proofs.Common.{arith}
 use Rattle.std.proofs.lemmas.Result.{err_from_is_err_and}
 use Rattle.pm_pages.proofs.TakenPages.{meta_looked}
@@ -31,3 +34,14 @@ returns-clause-changes g c =
     let d = g.P.Pages.seen c.replace_row.new.pages in
     let meta = meta_looked T a b 1 c.find_row.ensures.looks c.requires.entry.meta in
     pages_then T a b d 1 15 16 (omega arith) (pages_looked T a b 1 meta c.find_row.ensures.looks) c.in_ok-replace_row.ensures.changes
+
+pub returns-clause-puts : goal.returns-clause-puts
+returns-clause-puts g c = λ t shape is value row_is.
+    let T = g.P.Pages.tells in
+    let a = g.P.Pages.seen c.args.pages.now in
+    let b = g.P.Pages.seen c.find_row.new.pages in
+    let d = g.P.Pages.seen c.replace_row.new.pages in
+    let looks = c.find_row.ensures.looks in
+    let is_b = partition_looked T a b 1 shape t looks is in
+    puts_looked T a b 1 shape d.pages c.args.cache c.args.key.now value true t looks
+    (held_put shape b d.pages c.in_ok-spot.spot c.args.cache c.args.key.now value is_b (meta_looked T a b 1 looks c.requires.entry.meta) c.in_ok-spot.ensures.row (c.in_ok-replace_row.ensures.replaces t shape is_b value row_is))

@@ -1,3 +1,9 @@
+use Rattle.pm_part.proofs.ReplacedKeys.{refused, new_put}
+use Rattle.pm_part.proofs.HeldSpare.{held_spare}
+use Rattle.pm_part.proofs.CacheIndexes.{index_of}
+use Rattle.pm_pages.proofs.ToldPages.{number_told}
+use Rattle.pm_meta.specs.declared.slots.MetaSlot.TheVariants.{Rows}
+use Rattle.std.proofs.Common.{◌+◌}
 use Rattle.std.proofs.Common.{arith}
 use Rattle.pm_part.proofs.Swaps.{pages_looked, pages_more}
 use Rattle.pm_pages.proofs.EditedPages.{looks_at_none}
@@ -8,3 +14,19 @@ returns-then-rows-max_rows-clause-changes g c =
     let T = g.P.Pages.tells in
     let a = g.P.Pages.seen c.args.pages.now in
     pages_more T a a 0 21 (omega arith) (pages_looked T a a 0 c.requires.meta (looks_at_none T a))
+
+pub returns-then-rows-max_rows-clause-puts : goal.returns-then-rows-max_rows-clause-puts
+returns-then-rows-max_rows-clause-puts g c = λ t shape for none value row_is.
+    let T = g.P.Pages.tells in
+    let a = g.P.Pages.seen c.args.pages.now in
+    refused shape a c.args.max_rows c.args.cache c.args.key.now value c.requires.cache for none (omega (arith, c.if-rows-max_rows.true, number_told a Rows c.args.rows c.requires.rows))
+
+pub returns-clause-puts : goal.returns-clause-puts
+returns-clause-puts g c = λ t shape for none value row_is.
+    let T = g.P.Pages.tells in
+    let a = g.P.Pages.seen c.args.pages.now in
+    let b = g.P.Pages.seen c.add_row.new.pages in
+    let is = for.partition in
+    let ix = index_of shape a c.args.cache is.page_size is.max_rows is.well_formed c.requires.cache in
+    let adds = c.in_ok-add_row.ensures.adds t (held_spare shape a.part a.pages is.well_formed) ix.height ix.nodes ix.items ix.index in
+    new_put shape a b.pages c.args.max_rows c.args.cache (c.args.rows + 1) c.args.key.now value c.args.row.now c.requires.cache for none row_is (omega (arith, c.if-rows-max_rows.false, number_told a Rows c.args.rows c.requires.rows, is.well_formed.keys_once.counted)) adds

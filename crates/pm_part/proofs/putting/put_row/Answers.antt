@@ -1,3 +1,10 @@
+use Rattle.pm_part.proofs.ReplacedKeys.{puts_looked, for_looked, lacks_looked}
+use Rattle.pm_part.proofs.DroppedRows.{partition_looked}
+use Rattle.pm_part.specs.Entries.{word_of}
+use Rattle.pm_part.specs.declared.entries.Entry.{Entry}
+use Rattle.pm_tree.specs.Maps.{get_in}
+use Rattle.std.proofs.lemmas.Result.{IfOk-weaker}
+use Rattle.std.proofs.Common.{◌≡◌, None, Option, sym, subst}
 use Rattle.std.proofs.Common.{arith}
 use Rattle.std.proofs.lemmas.Result.{on_ok_weaker, err_from_is_err_and}
 use Rattle.pm_part.proofs.PartCauses.{cause_passed, cause_looked, cause_look, cause_page}
@@ -49,3 +56,25 @@ returns-in_err-find_entry-clause-cause g c =
     let b = g.P.Pages.seen c.find_entry.new.pages in
     let p = err_from_is_err_and c.from_residual.result c.from_residual.ensures.1 in
     cause_passed T a b c.args.cache c.find_entry.result c.from_residual.result c.in_err-find_entry.field-0.0 p.0 c.in_err-find_entry.was p.1 p.2 (cause_look T a b c.args.cache c.find_entry.result c.find_entry.ensures.cause)
+
+pub returns-in-None-clause-puts : goal.returns-in-None-clause-puts
+returns-in-None-clause-puts g c =
+    let T = g.P.Pages.tells in
+    let a = g.P.Pages.seen c.args.pages.now in
+    let b = g.P.Pages.seen c.find_entry.new.pages in
+    let d = g.P.Pages.seen c.put_new.new.pages in
+    let key = c.args.key.now in
+    let looks = c.find_entry.ensures.looks in
+    IfOk-weaker c.put_new.result _ _ (λ done puts t shape for value row_is.
+    let none = lacks_looked T a b 9 c.args.cache key t looks (record { none = λ height nodes items index. sym (subst (λ (e : Option Entry). word_of e ≡ get_in items key) {y = None} c.in-None.is (c.in_ok-find_entry.ensures.gets t height nodes items index)) }) in
+    puts_looked T a b 9 shape d.pages c.args.cache key value done t looks (puts t shape (for_looked T a b 9 shape c.args.max_rows key t looks for) none value row_is)) c.put_new.ensures.puts
+
+pub returns-in-Some-clause-puts : goal.returns-in-Some-clause-puts
+returns-in-Some-clause-puts g c =
+    let T = g.P.Pages.tells in
+    let a = g.P.Pages.seen c.args.pages.now in
+    let b = g.P.Pages.seen c.find_entry.new.pages in
+    let d = g.P.Pages.seen c.put_held.new.pages in
+    let looks = c.find_entry.ensures.looks in
+    IfOk-weaker c.put_held.result _ _ (λ done puts t shape for value row_is.
+    puts_looked T a b 9 shape d.pages c.args.cache c.args.key.now value done t looks (puts t shape (partition_looked T a b 9 shape t looks for.partition) value row_is)) c.put_held.ensures.puts

@@ -1,3 +1,8 @@
+use Rattle.pm_part.proofs.ReplacedKeys.{replaced_key, rows_relinked}
+use Rattle.pm_free.proofs.PlacedPages.{both_ok}
+use Rattle.pm_tree.specs.Indexes.{link_in}
+use Rattle.pm_btpage.specs.IndexPages.{Item}
+use Rattle.std.proofs.Common.{List, refl}
 use Rattle.std.proofs.Common.{arith}
 use Rattle.std.proofs.lemmas.Result.{on_ok_weaker}
 use Rattle.pm_part.proofs.PartCauses.{cause_after}
@@ -23,3 +28,22 @@ returns-clause-cause g c =
     let b = g.P.Pages.seen c.overwrite.new.pages in
     let d = g.P.Pages.seen c.relink.new.pages in
     cause_after T a b d 7 c.args.cache c.relink.result c.in_ok-link.ensures.changes.edits c.relink.ensures.cause
+
+pub returns-then-eq-clause-replaces : goal.returns-then-eq-clause-replaces
+returns-then-eq-clause-replaces g c = λ t shape is value row_is.
+    let T = g.P.Pages.tells in
+    let a = g.P.Pages.seen c.args.pages.now in
+    let b = g.P.Pages.seen c.overwrite.new.pages in
+    replaced_key shape a b.pages b.pages c.args.spot c.args.cache c.args.key.now value c.args.row.now c.in_ok-link.link is c.requires.meta c.requires.has row_is (c.in_ok-link.ensures.rows t) refl
+
+pub returns-clause-replaces : goal.returns-clause-replaces
+returns-clause-replaces g c =
+    let T = g.P.Pages.tells in
+    let a = g.P.Pages.seen c.args.pages.now in
+    let b = g.P.Pages.seen c.overwrite.new.pages in
+    let d = g.P.Pages.seen c.relink.new.pages in
+    on_ok_weaker c.relink.result (λ both t shape is value row_is.
+    let rows = c.in_ok-link.ensures.rows t in
+    let same = rows_relinked a b d shape c.args.spot c.args.cache c.in_ok-link.link.0 c.args.key.now c.args.row.now c.in_ok-link.link (λ (items : List Item). link_in items c.args.key.now) c.requires.cache is c.requires.meta c.in_ok-link.ensures.changes.meta both.0.meta c.requires.readable c.overwrite.ensures.readable c.relink.ensures.readable rows (both.1 t) in
+    replaced_key shape a b.pages d.pages c.args.spot c.args.cache c.args.key.now value c.args.row.now c.in_ok-link.link is c.requires.meta c.requires.has row_is rows same)
+    (both_ok c.relink.result _ _ c.relink.ensures.changes c.relink.ensures.links)

@@ -1,3 +1,11 @@
+use Rattle.pm_part.proofs.DroppedRows.{partition_looked, dropped}
+use Rattle.pm_part.proofs.SpotReads.{row_looked}
+use Rattle.pm_part.specs.Removals.{DropsKey}
+use Rattle.pm_pages.proofs.ToldPages.{pages_told}
+use Rattle.pm_pages.specs.Rows.{Partition}
+use Rattle.pm_pages.specs.SparePages.{SetsNumber, MetaBecomes}
+use Rattle.pm_meta.specs.declared.slots.MetaSlot.TheVariants.{Rows}
+use Rattle.std.proofs.Common.{ℕ, ◌-◌, subst}
 use Rattle.std.proofs.Common.{◌∙◌, ap, sym, arith}
 use Rattle.std.proofs.lemmas.Result.{on_ok_weaker, err_from_is_err_and}
 use Rattle.pm_types.specs.Ids.{page_id, link}
@@ -78,3 +86,22 @@ returns-clause-cause g c =
     let first = pages_then T a b d 0 3 3 (omega arith) (pages_looked T a b 0 meta c.number.ensures.looks) (pages_rows T b d 3 _ c.in_ok-take_out.ensures.takes) in
     let all = pages_then T a d e 3 16 19 (omega arith) first (pages_removed T d e c.args.cache 16 first.meta c.in_ok-tree_remove.ensures.changes) in
     cause_after T a e f 19 c.args.cache c.set_number.result all.edits (cause_disk T e f c.args.cache c.set_number.result c.set_number.ensures.cause)
+
+pub returns-clause-drops : goal.returns-clause-drops
+returns-clause-drops g c =
+    let T = g.P.Pages.tells in
+    let a = g.P.Pages.seen c.args.pages.now in
+    let b = g.P.Pages.seen c.number.new.pages in
+    let d = g.P.Pages.seen c.take_out.new.pages in
+    let e = g.P.Pages.seen c.tree_remove.new.pages in
+    let f = g.P.Pages.seen c.set_number.new.pages in
+    let looks = c.number.ensures.looks in
+    let meta = meta_looked T a b 0 looks c.requires.meta in
+    let second = pages_removed T d e c.args.cache 16 c.in_ok-take_out.ensures.takes.meta c.in_ok-tree_remove.ensures.changes in
+    on_ok_weaker c.set_number.result (λ sets t shape is.
+    let at_is = c.link-link.ensures ∙ ap (λ p. link (page_id p c.args.spot.at) c.args.spot.item) c.part.ensures in
+    let sets' = subst (λ n. MetaBecomes e f (λ was now. SetsNumber was now Rows n)) c.saturating_sub.ensures sets in
+    let made = dropped T b d e f shape c.args.spot c.args.cache c.in_ok-rows.rows c.args.key.now c.link-link.result _ t c.requires.cache (partition_looked T a b 0 shape t looks is) meta c.in_ok-take_out.ensures.takes.meta second.meta (meta_edited T e f 0 second.meta c.set_number.ensures.edits sets)
+    c.number.ensures.readable c.take_out.ensures.readable c.tree_remove.ensures.readable c.set_number.ensures.readable (row_looked T a b 0 c.args.spot c.args.cache c.args.key.now c.requires.meta looks c.requires.has) at_is
+    (c.in_ok-take_out.ensures.takes.told t) (c.in_ok-tree_remove.ensures.removes t) c.set_number.ensures.edits sets' c.in_ok-rows.ensures.number in
+    subst (λ (q : ℕ × Partition). DropsKey q.0 q.1 f.pages c.args.cache c.args.key.now) {x = (b.part, b.pages)} {y = (a.part, a.pages)} (λ k. (looks.same.part k, pages_told T a b 0 t looks k)) made) c.set_number.ensures.sets

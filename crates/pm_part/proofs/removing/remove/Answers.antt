@@ -1,3 +1,11 @@
+use Rattle.pm_part.proofs.RemovedKeys.{none_removed, removes_looked}
+use Rattle.pm_part.proofs.DroppedRows.{partition_looked}
+use Rattle.pm_part.proofs.CacheIndexes.{index_of}
+use Rattle.pm_part.specs.Entries.{word_of}
+use Rattle.pm_part.specs.declared.entries.Entry.{Entry}
+use Rattle.pm_tree.specs.Maps.{get_in}
+use Rattle.std.proofs.lemmas.Result.{IfOk-weaker}
+use Rattle.std.proofs.Common.{◌≡◌, None, Option, subst}
 use Rattle.std.proofs.Common.{arith}
 use Rattle.std.proofs.lemmas.Result.{on_ok_weaker, err_from_is_err_and}
 use Rattle.pm_part.proofs.PartCauses.{cause_passed, cause_looked, cause_look, cause_page}
@@ -33,3 +41,22 @@ returns-in_err-find_entry-clause-cause g c =
     let b = g.P.Pages.seen c.find_entry.new.pages in
     let p = err_from_is_err_and c.from_residual.result c.from_residual.ensures.1 in
     cause_passed T a b c.args.cache c.find_entry.result c.from_residual.result c.in_err-find_entry.field-0.0 p.0 c.in_err-find_entry.was p.1 p.2 (cause_look T a b c.args.cache c.find_entry.result c.find_entry.ensures.cause)
+
+pub returns-in-Some-clause-removes : goal.returns-in-Some-clause-removes
+returns-in-Some-clause-removes g c =
+    let T = g.P.Pages.tells in
+    let a = g.P.Pages.seen c.args.pages.now in
+    let b = g.P.Pages.seen c.find_entry.new.pages in
+    let d = g.P.Pages.seen c.remove_held.new.pages in
+    let looks = c.find_entry.ensures.looks in
+    IfOk-weaker c.remove_held.result _ _ (λ was removes t shape is. removes_looked T a b 9 c.args.cache c.args.key.now d.pages was t looks (removes t shape (partition_looked T a b 9 shape t looks is))) c.remove_held.ensures.removes
+
+pub returns-in-None-clause-removes : goal.returns-in-None-clause-removes
+returns-in-None-clause-removes g c = λ t shape is.
+    let T = g.P.Pages.tells in
+    let a = g.P.Pages.seen c.args.pages.now in
+    let b = g.P.Pages.seen c.find_entry.new.pages in
+    let key = c.args.key.now in
+    let ix = index_of shape a c.args.cache is.page_size is.max_rows is.well_formed c.requires.cache in
+    let none : None ≡ get_in ix.items key = subst (λ (e : Option Entry). word_of e ≡ get_in ix.items key) {y = None} c.in-None.is (c.in_ok-find_entry.ensures.gets t ix.height ix.nodes ix.items ix.index) in
+    none_removed T a b 9 c.args.cache key t c.find_entry.ensures.looks ix none
