@@ -56,7 +56,7 @@ pages_then T a b c m n k le x y = record {
 pub pages_looked : (T : Type 0) (a b : Paged) (m : ℕ) → HasMeta b → LooksAtPages T a b m → ChangesPages T a b m
 pages_looked T a b m meta looks = record { edits = edits_looked T a b (λ j. IsTrue (b.asked j)) m looks; meta = meta }
 
-pub pages_rows : (T : Type 0) (a b : Paged) (m : ℕ) (R : Partition → Partition → Type 0) → ChangesRows T a b m R → ChangesPages T a b m
+pub pages_rows : (T : Type 0) (a b : Paged) (m : ℕ) {more : ℕ} (R : Partition → Partition → Type 0) → ChangesRows T a b m more R → ChangesPages T a b m
 pages_rows T a b m R rows = record { edits = rows.edits; meta = rows.meta }
 
 -- a data page that is at hand was changed

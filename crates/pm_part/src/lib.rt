@@ -2,6 +2,7 @@
 #![tactic(auto)]
 
 mod entries;
+mod laws;
 mod overwriting;
 mod pairs;
 mod part;
@@ -13,5 +14,6 @@ mod spots;
 #[cfg(test)]
 mod tests;
 
+pub use laws::a_partition_has_pages_to_spare;
 pub use part::Part;
 pub use rows::ROW_MAX;

@@ -14,7 +14,7 @@ ghost use Rattle.pm_types.specs.declared.fault.StoreFault.TheVariants as StoreFa
 ghost use Rattle.pm_part.specs.Reads.{ReadsPages};
 ghost use Rattle.pm_part.specs.Commands.{IsPartCmd, cache_of, AppendsReply};
 ghost use Rattle.pm_part.specs.Faults.{HasPartCause};
-ghost use Rattle.pm_part.specs.Runs.{IsPartitionOf, RunsCmd, IsGet};
+ghost use Rattle.pm_part.specs.Runs.{IsPartitionOf, RunsCmd, IsGet, IsGetOrRemove};
 ghost use Rattle.pm_part.specs.Puts.{IsPartFor};
 ghost use Rattle.pm_types.specs.declared.shape.Shape.{Shape};
 ghost use Rattle.pm_model.specs.declared.line.Cmd.TheVariants.{Put, Get, Remove};
@@ -81,7 +81,8 @@ impl Part {
         ensures gets { IsGet cmd.now → LooksAtPages P.tells (P.seen pages.old) (P.seen pages.new) 10 }
         ensures runs { P.tells → IsPartitionOf self.now.shape (P.seen pages.old)
             → (P.seen pages.old).part ≡ self.now.part
-            → OnOk result (RunsCmd self.now.shape self.now.part cmd.now (P.seen pages.old).pages
+            → OnOk result ((IsGetOrRemove cmd.now → IsPartitionOf self.now.shape (P.seen pages.new))
+            × RunsCmd self.now.shape self.now.part cmd.now (P.seen pages.old).pages
             (P.seen pages.new).pages replies.old replies.new) }
     {
         match cmd {
@@ -174,7 +175,8 @@ fn run_get<P: Pages>(
     ensures cause { HasPartCause P.tells (P.seen pages.old) (P.seen pages.new) cache result }
     ensures looks { LooksAtPages P.tells (P.seen pages.old) (P.seen pages.new) 10 }
     ensures gets { P.tells → (shape : Shape) → IsPartitionOf shape (P.seen pages.old)
-        → OnOk result (RunsCmd shape (P.seen pages.old).part (Get cache key.now) (P.seen pages.old).pages
+        → OnOk result (IsPartitionOf shape (P.seen pages.new)
+        × RunsCmd shape (P.seen pages.old).part (Get cache key.now) (P.seen pages.old).pages
         (P.seen pages.new).pages replies.old replies.new) }
 {
     match find_entry(pages, cache, key)? {
@@ -205,7 +207,8 @@ fn run_remove<P: Pages>(
     ensures unchanged { OnErr result (replies.new ≡ replies.old) }
     ensures cause { HasPartCause P.tells (P.seen pages.old) (P.seen pages.new) cache result }
     ensures removes { P.tells → (shape : Shape) → IsPartitionOf shape (P.seen pages.old)
-        → OnOk result (RunsCmd shape (P.seen pages.old).part (Remove cache key.now) (P.seen pages.old).pages
+        → OnOk result (IsPartitionOf shape (P.seen pages.new)
+        × RunsCmd shape (P.seen pages.old).part (Remove cache key.now) (P.seen pages.old).pages
         (P.seen pages.new).pages replies.old replies.new) }
 {
     let was = remove(pages, cache, key)?;

@@ -32,7 +32,8 @@ pub fn remove<P: Pages>(pages: &mut P, cache: u8, key: &[u8]) -> Result<bool, Pa
         (λ j. IsTrue ((P.seen pages.new).asked j)) 29) }
     ensures cause { HasPartCause P.tells (P.seen pages.old) (P.seen pages.new) cache result }
     ensures removes { IfOk result (λ was. P.tells → (shape : Shape) → IsPartitionOf shape (P.seen pages.old)
-        → RemovesKey (P.seen pages.old).part (P.seen pages.old).pages (P.seen pages.new).pages
+        → IsPartitionOf shape (P.seen pages.new)
+        × RemovesKey (P.seen pages.old).part (P.seen pages.old).pages (P.seen pages.new).pages
         cache key.now was) }
 {
     match find_entry(pages, cache, key)? {
@@ -58,7 +59,8 @@ fn remove_held<P: Pages>(
     ensures changes { OnOk result (ChangesPages P.tells (P.seen pages.old) (P.seen pages.new) 20) }
     ensures cause { HasPartCause P.tells (P.seen pages.old) (P.seen pages.new) cache result }
     ensures removes { IfOk result (λ was. P.tells → (shape : Shape) → IsPartitionOf shape (P.seen pages.old)
-        → RemovesKey (P.seen pages.old).part (P.seen pages.old).pages (P.seen pages.new).pages
+        → IsPartitionOf shape (P.seen pages.new)
+        × RemovesKey (P.seen pages.old).part (P.seen pages.old).pages (P.seen pages.new).pages
         cache key.now was) }
 {
     let spot = find_row(pages, entry, cache, key)?;
@@ -79,7 +81,8 @@ fn drop_row<P: Pages>(pages: &mut P, cache: u8, key: &[u8], spot: Spot) -> Resul
     ensures changes { OnOk result (ChangesPages P.tells (P.seen pages.old) (P.seen pages.new) 19) }
     ensures cause { HasPartCause P.tells (P.seen pages.old) (P.seen pages.new) cache result }
     ensures drops { OnOk result (P.tells → (shape : Shape) → IsPartitionOf shape (P.seen pages.old)
-        → DropsKey (P.seen pages.old).part (P.seen pages.old).pages (P.seen pages.new).pages
+        → IsPartitionOf shape (P.seen pages.new)
+        × DropsKey (P.seen pages.old).part (P.seen pages.old).pages (P.seen pages.new).pages
         cache key.now) }
 {
     let rows = number(pages, MetaSlot::Rows)?;

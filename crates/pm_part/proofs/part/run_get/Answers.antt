@@ -1,3 +1,4 @@
+use Rattle.pm_part.proofs.DroppedRows.{partition_looked}
 use Rattle.std.proofs.Common.{◌≡◌, ℕ, ◌+◌, ◌≤◌, None, Some, Option, subst, arith}
 use Rattle.std.specs.Prelude.{IfSome}
 use Rattle.std.proofs.lemmas.Result.{on_ok_weaker}
@@ -43,7 +44,7 @@ returns-in-None-clause-gets g c = λ t shape is.
     let key = c.args.key.now in
     let ix = index_of shape a c.args.cache is.page_size is.max_rows is.well_formed c.requires.cache in
     let none : None ≡ get_in ix.items key = subst (λ (e : Option Entry). word_of e ≡ get_in ix.items key) {y = None} c.in-None.is (c.in_ok-find_entry.ensures.gets t ix.height ix.nodes ix.items ix.index) in
-    got_none T a b 9 shape c.args.cache key _ _ t c.find_entry.ensures.looks is ix none c.push.ensures
+    (partition_looked T a b 9 shape t c.find_entry.ensures.looks is, got_none T a b 9 shape c.args.cache key _ _ t c.find_entry.ensures.looks is ix none c.push.ensures)
 
 pub returns-in-Some-clause-gets : goal.returns-in-Some-clause-gets
 returns-in-Some-clause-gets g c = λ t shape is.
@@ -55,4 +56,4 @@ returns-in-Some-clause-gets g c = λ t shape is.
     let entry = subst (λ (e : Option Entry). IfSome e (IsEntryIn b c.args.cache key)) {y = Some c.in-Some.entry} c.in-Some.is c.in_ok-find_entry.ensures.entry in
     let looks = looks_then T a b d 9 1 c.find_entry.ensures.looks c.reply_value.ensures.looks in
     let meta = meta_looked T b d 1 c.reply_value.ensures.looks entry.meta in
-    on_ok_weaker c.reply_value.result (λ pushed. got_value T a d 10 shape c.args.cache key pushed.0 _ _ t looks meta is pushed.2) c.reply_value.ensures.pushed
+    on_ok_weaker c.reply_value.result (λ pushed. (partition_looked T a d 10 shape t looks is, got_value T a d 10 shape c.args.cache key pushed.0 _ _ t looks meta is pushed.2)) c.reply_value.ensures.pushed

@@ -1,3 +1,4 @@
+use Rattle.pm_part.proofs.RemovalSteps.{removal_stays}
 use Rattle.pm_part.proofs.DroppedRows.{partition_looked, dropped}
 use Rattle.pm_part.proofs.SpotReads.{row_looked}
 use Rattle.pm_part.specs.Removals.{DropsKey}
@@ -104,4 +105,8 @@ returns-clause-drops g c =
     let made = dropped T b d e f shape c.args.spot c.args.cache c.in_ok-rows.rows c.args.key.now c.link-link.result _ t c.requires.cache (partition_looked T a b 0 shape t looks is) meta c.in_ok-take_out.ensures.takes.meta second.meta (meta_edited T e f 0 second.meta c.set_number.ensures.edits sets)
     c.number.ensures.readable c.take_out.ensures.readable c.tree_remove.ensures.readable c.set_number.ensures.readable (row_looked T a b 0 c.args.spot c.args.cache c.args.key.now c.requires.meta looks c.requires.has) at_is
     (c.in_ok-take_out.ensures.takes.told t) (c.in_ok-tree_remove.ensures.removes t) c.set_number.ensures.edits sets' c.in_ok-rows.ensures.number in
-    subst (λ (q : ℕ × Partition). DropsKey q.0 q.1 f.pages c.args.cache c.args.key.now) {x = (b.part, b.pages)} {y = (a.part, a.pages)} (λ k. (looks.same.part k, pages_told T a b 0 t looks k)) made) c.set_number.ensures.sets
+    let row = row_looked T a b 0 c.args.spot c.args.cache c.args.key.now c.requires.meta looks c.requires.has in
+    let stays = removal_stays T b d e f shape c.args.spot c.args.cache c.in_ok-rows.rows c.args.key.now c.link-link.result _ t c.requires.cache (partition_looked T a b 0 shape t looks is) meta c.in_ok-take_out.ensures.takes.meta second.meta (meta_edited T e f 0 second.meta c.set_number.ensures.edits sets)
+    c.number.ensures.readable c.take_out.ensures.readable c.tree_remove.ensures.readable c.set_number.ensures.readable c.in_ok-take_out.ensures.takes.edits.same second.edits.same c.set_number.ensures.edits.same row at_is
+    (c.in_ok-take_out.ensures.takes.told t) (c.in_ok-tree_remove.ensures.removes t) c.set_number.ensures.edits sets' c.in_ok-rows.ensures.number (c.in_ok-take_out.ensures.passes t) (c.in_ok-tree_remove.ensures.passes t) in
+    (stays, subst (λ (q : ℕ × Partition). DropsKey q.0 q.1 f.pages c.args.cache c.args.key.now) {x = (b.part, b.pages)} {y = (a.part, a.pages)} (λ k. (looks.same.part k, pages_told T a b 0 t looks k)) made)) c.set_number.ensures.sets

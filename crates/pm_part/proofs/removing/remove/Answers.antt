@@ -49,7 +49,7 @@ returns-in-Some-clause-removes g c =
     let b = g.P.Pages.seen c.find_entry.new.pages in
     let d = g.P.Pages.seen c.remove_held.new.pages in
     let looks = c.find_entry.ensures.looks in
-    IfOk-weaker c.remove_held.result _ _ (λ was removes t shape is. removes_looked T a b 9 c.args.cache c.args.key.now d.pages was t looks (removes t shape (partition_looked T a b 9 shape t looks is))) c.remove_held.ensures.removes
+    IfOk-weaker c.remove_held.result _ _ (λ was removes t shape is. let made = removes t shape (partition_looked T a b 9 shape t looks is) in (made.0, removes_looked T a b 9 c.args.cache c.args.key.now d.pages was t looks made.1)) c.remove_held.ensures.removes
 
 pub returns-in-None-clause-removes : goal.returns-in-None-clause-removes
 returns-in-None-clause-removes g c = λ t shape is.
@@ -59,4 +59,4 @@ returns-in-None-clause-removes g c = λ t shape is.
     let key = c.args.key.now in
     let ix = index_of shape a c.args.cache is.page_size is.max_rows is.well_formed c.requires.cache in
     let none : None ≡ get_in ix.items key = subst (λ (e : Option Entry). word_of e ≡ get_in ix.items key) {y = None} c.in-None.is (c.in_ok-find_entry.ensures.gets t ix.height ix.nodes ix.items ix.index) in
-    none_removed T a b 9 c.args.cache key t c.find_entry.ensures.looks ix none
+    (partition_looked T a b 9 shape t c.find_entry.ensures.looks is, none_removed T a b 9 c.args.cache key t c.find_entry.ensures.looks ix none)

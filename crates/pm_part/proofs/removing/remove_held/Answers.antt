@@ -44,5 +44,8 @@ returns-clause-removes g c = λ t shape is.
     let looks = c.find_row.ensures.looks in
     let meta = meta_looked T a b 1 looks c.requires.entry.meta in
     let is_b = partition_looked T a b 1 shape t looks is in
-    removes_looked T a b 1 c.args.cache c.args.key.now d.pages true t looks
-    (held_removed shape b d.pages c.in_ok-spot.spot c.args.cache c.args.key.now is_b meta c.in_ok-spot.ensures.row (c.in_ok-drop_row.ensures.drops t shape is_b))
+    let dropped = c.in_ok-drop_row.ensures.drops t shape is_b in (
+      dropped.0,
+      removes_looked T a b 1 c.args.cache c.args.key.now d.pages true t looks
+          (held_removed shape b d.pages c.in_ok-spot.spot c.args.cache c.args.key.now is_b meta c.in_ok-spot.ensures.row dropped.1),
+    )
