@@ -104,10 +104,12 @@ pub number_kept : (e f : Paged) (slot other : MetaSlot) (value : ℕ) → MetaBe
 number_kept e f slot other value sets is differ = ap (λ o. number_of o other) sets.after ∙ sets.change.others other is differ ∙ sym (ap (λ o. number_of o other) sets.before)
 
 -- the row is taken out, then its item, and then the meta page counts one less
-pub dropped : (T : Type 0) (b d e f : Paged) (shape : Shape) (spot : Spot) (cache rows : ℕ) (key : List ℕ) (at_link : Link) (was : Option Link) → T → cache < CACHES → IsPartitionOf shape b → HasMeta b → HasMeta d → HasMeta e → HasMeta f → AllReadable b → AllReadable d → AllReadable e → AllReadable f
-    → HasRowIn b spot cache key → at_link ≡ link (page_id b.part spot.at) spot.item → TakesRow b.part b.pages d.pages at_link → ((height : ℕ) (nodes : List ℕ) (items : List Item) → IsIndex d.pages (root_of d.pages cache) height nodes items → RemovesIndex d.pages e.pages cache nodes items key was)
-    → EditsPages T e f (λ j. j ≡ 0) 0 → MetaBecomes e f (λ w n. SetsNumber w n Rows (rows - 1)) → IsNumberIn b Rows rows → DropsKey b.part b.pages f.pages cache key
-dropped T b d e f shape spot cache rows key at_link was t few is meta_b meta_d meta_e meta_f reads_b reads_d reads_e reads_f has at_is takes removes edits sets number =
+pub dropped : (T : Type 0) (b d e f : Paged) (shape : Shape) (spot : Spot) (cache other rows value : ℕ) (key : List ℕ) (at_link : Link) (was : Option Link) → T → cache < CACHES → IsPartitionOf shape b → HasMeta b → HasMeta d → HasMeta e → HasMeta f → AllReadable b → AllReadable d → AllReadable e → AllReadable f
+    → HasRowIn b spot cache key → at_link ≡ link (page_id b.part spot.at) spot.item → TakesRow b.part b.pages d.pages at_link → ((height : ℕ) (nodes : List ℕ) (items : List Item) → IsIndex d.pages (root_of d.pages other) height nodes items → RemovesIndex d.pages e.pages other nodes items key was)
+    → EditsPages T e f (λ j. j ≡ 0) 0 → MetaBecomes e f (λ w n. SetsNumber w n Rows value) → IsNumberIn b Rows rows → other ≡ cache → value ≡ rows - 1 → DropsKey b.part b.pages f.pages cache key
+dropped T b d e f shape spot cache other rows value key at_link was t few is meta_b meta_d meta_e meta_f reads_b reads_d reads_e reads_f has at_is takes removes_other edits sets_value number other_is value_is =
+    let removes = subst (λ n. (height : ℕ) (nodes : List ℕ) (items : List Item) → IsIndex d.pages (root_of d.pages n) height nodes items → RemovesIndex d.pages e.pages n nodes items key was) other_is removes_other in
+    let sets = subst (λ n. MetaBecomes e f (λ w m. SetsNumber w m Rows n)) value_is sets_value in
     let part = b.part in
     let takes' = subst (TakesRow part b.pages d.pages) at_is takes in
     let ix = index_of shape b cache is.page_size is.max_rows is.well_formed few in

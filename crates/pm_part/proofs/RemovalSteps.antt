@@ -45,12 +45,15 @@ taken_key shape b d spot cache key is meta has takes =
     let same = one_named b.part b.pages spot.at spot.item has.row takes.row (rows_of b.part d.pages) is.part (few_pages shape b is) on.0 live takes.rows in
     record { cache_is = (λ k. (same k).cache) ∙ has.is.cache_is; key_is = (λ k. (same k).key) ∙ has.is.key_is }
 
-pub removal_stays : (T : Type 0) (b d e f : Paged) (shape : Shape) (spot : Spot) (cache rows : ℕ) (key : List ℕ) (at_link : Link) (was : Option Link) → T → cache < CACHES → IsPartitionOf shape b → HasMeta b → HasMeta d → HasMeta e → HasMeta f → AllReadable b → AllReadable d → AllReadable e → AllReadable f
+pub removal_stays : (T : Type 0) (b d e f : Paged) (shape : Shape) (spot : Spot) (cache other rows value : ℕ) (key : List ℕ) (at_link : Link) (was : Option Link) → T → cache < CACHES → IsPartitionOf shape b → HasMeta b → HasMeta d → HasMeta e → HasMeta f → AllReadable b → AllReadable d → AllReadable e → AllReadable f
     → SamePartition b d → SamePartition d e → SamePartition e f → HasRowIn b spot cache key → at_link ≡ link (page_id b.part spot.at) spot.item → TakesRow b.part b.pages d.pages at_link
-    → ((height : ℕ) (nodes : List ℕ) (items : List Item) → IsIndex d.pages (root_of d.pages cache) height nodes items → RemovesIndex d.pages e.pages cache nodes items key was)
-    → EditsPages T e f (λ j. j ≡ 0) 0 → MetaBecomes e f (λ w n. SetsNumber w n Rows (rows - 1)) → IsNumberIn b Rows rows → (IsStored b → IsStored d)
-    → (PassesAll d → d.max_rows ≤ ROWS_MAX → (height : ℕ) (nodes : List ℕ) (items : List Item) → IsIndex d.pages (root_of d.pages cache) height nodes items → PassesAll e) → IsPartitionOf shape f
-removal_stays T b d e f shape spot cache rows key at_link was t few is meta_b meta_d meta_e meta_f reads_b reads_d reads_e reads_f same_d same_e same_f has at_is takes removes edits sets number stores_d passes_e =
+    → ((height : ℕ) (nodes : List ℕ) (items : List Item) → IsIndex d.pages (root_of d.pages other) height nodes items → RemovesIndex d.pages e.pages other nodes items key was)
+    → EditsPages T e f (λ j. j ≡ 0) 0 → MetaBecomes e f (λ w n. SetsNumber w n Rows value) → IsNumberIn b Rows rows → other ≡ cache → value ≡ rows - 1 → (IsStored b → IsStored d)
+    → (PassesAll d → d.max_rows ≤ ROWS_MAX → (height : ℕ) (nodes : List ℕ) (items : List Item) → IsIndex d.pages (root_of d.pages other) height nodes items → PassesAll e) → IsPartitionOf shape f
+removal_stays T b d e f shape spot cache other rows value key at_link was t few is meta_b meta_d meta_e meta_f reads_b reads_d reads_e reads_f same_d same_e same_f has at_is takes removes_other edits sets_value number other_is value_is stores_d passes_other =
+    let removes = subst (λ n. (height : ℕ) (nodes : List ℕ) (items : List Item) → IsIndex d.pages (root_of d.pages n) height nodes items → RemovesIndex d.pages e.pages n nodes items key was) other_is removes_other in
+    let passes_e = subst (λ n. PassesAll d → d.max_rows ≤ ROWS_MAX → (height : ℕ) (nodes : List ℕ) (items : List Item) → IsIndex d.pages (root_of d.pages n) height nodes items → PassesAll e) other_is passes_other in
+    let sets = subst (λ n. MetaBecomes e f (λ w m. SetsNumber w m Rows n)) value_is sets_value in
     let same : SamePartition b f = same_then b e f (same_then b d e same_d same_e) same_f in
     let takes' = subst (TakesRow b.part b.pages d.pages) at_is takes in
     let on = stands_on b spot cache key meta_b has in

@@ -75,9 +75,10 @@ rows_relinked a b c shape spot cache word key row at_link was few is meta_a meta
     rows_put a.part b.pages c.pages cache ix.height ix.nodes ix.items key word (was ix.items) (rows.spare (held_spare shape a.part a.pages is.well_formed)) (meta_no_data b reads_b meta_b) (meta_no_data c reads_c meta_c) index (puts ix.height ix.nodes ix.items index)
 
 -- a row was placed, its item put into the index, and the meta page counts one more
-pub added_key : (T : Type 0) (a b c d : Paged) (size cache count : ℕ) (key row : List ℕ) (at_link : Link) (was : Option Link) (height : ℕ) (nodes : List ℕ) (items : List Item) → T → cache < CACHES → HasMeta a → HasMeta b → HasMeta c → HasMeta d → AllReadable a → AllReadable b → AllReadable c → AllReadable d → HasSpare a.pages → IsIndex a.pages (root_of a.pages cache) height nodes items
-    → PlacesRow size a.part a.pages b.pages row at_link → ((height : ℕ) (nodes : List ℕ) (items : List Item) → IsIndex b.pages (root_of b.pages cache) height nodes items → PutsIndex b.pages c.pages cache nodes items key at_link.0 was) → EditsPages T c d (λ j. j ≡ 0) 0 → MetaBecomes c d (λ w n. SetsNumber w n Rows count) → AddsKey a.part a.pages d.pages row count
-added_key T a b c d size cache count key row at_link was height nodes items t few meta_a meta_b meta_c meta_d reads_a reads_b reads_c reads_d spare index places puts edits sets =
+pub added_key : (T : Type 0) (a b c d : Paged) (size cache count value : ℕ) (key row : List ℕ) (at_link : Link) (was : Option Link) (height : ℕ) (nodes : List ℕ) (items : List Item) → T → cache < CACHES → HasMeta a → HasMeta b → HasMeta c → HasMeta d → AllReadable a → AllReadable b → AllReadable c → AllReadable d → HasSpare a.pages → IsIndex a.pages (root_of a.pages cache) height nodes items
+    → PlacesRow size a.part a.pages b.pages row at_link → ((height : ℕ) (nodes : List ℕ) (items : List Item) → IsIndex b.pages (root_of b.pages cache) height nodes items → PutsIndex b.pages c.pages cache nodes items key at_link.0 was) → EditsPages T c d (λ j. j ≡ 0) 0 → MetaBecomes c d (λ w n. SetsNumber w n Rows value) → value ≡ count → AddsKey a.part a.pages d.pages row count
+added_key T a b c d size cache count value key row at_link was height nodes items t few meta_a meta_b meta_c meta_d reads_a reads_b reads_c reads_d spare index places puts edits sets_value value_is =
+    let sets = subst (λ n. MetaBecomes c d (λ w m. SetsNumber w m Rows n)) value_is sets_value in
     let index_b = index_placed a b.pages cache height nodes items reads_a meta_a few index size a.part row at_link places in
     let rows_c = rows_put a.part b.pages c.pages cache height nodes items key at_link.0 was (places.moves.sound spare) (meta_no_data b reads_b meta_b) (meta_no_data c reads_c meta_c) index_b (puts height nodes items index_b) in
     let rows_d = rows_set a.part c.pages d.pages Rows count sets.was sets.now sets.before sets.after sets.change (λ z. cc z) (λ j ne. edits.others j (inl t) ne) (meta_no_data c reads_c meta_c) (meta_no_data d reads_d meta_d) in

@@ -105,5 +105,5 @@ returns-clause-rows g c = λ t.
     let number_is = edited.item_is ∙ ap (λ p. free_item (rows_of p)) was_is in
     let part_is = c.part.ensures ∙ c.in_ok-settle.ensures.settles.edits.same.part ∙ c.make_edit-2.ensures.edits.same.part ∙ c.make_edit.ensures.edits.same.part in
     let link_is = c.link.ensures ∙ ap (λ p. link (page_id p at) c.in_ok-item.item) part_is in
-    let rows = swapped_rows b.part b.pages d.pages e.pages f.pages c.args.spot c.in_ok-item.item c.in_ok-seat.seat.bucket row item.row item.is.page (out.told t) put_t (c.in_ok-settle.ensures.settles.told t) item.is.is.in_hand.page bucket_is item.live number_is in
+    let rows = swapped_rows b.part b.pages d.pages e.pages f.pages c.args.spot c.in_ok-item.item _ row item.row item.is.page (out.told t) put_t (c.in_ok-settle.ensures.settles.told t) item.is.is.in_hand.page (omega (arith, bucket_is)) item.live number_is in
     overwrites_looked T a b 0 f.pages c.args.spot row c.link.result t looks (subst (OverwritesRow b.part b.pages f.pages c.args.spot row) (sym link_is) rows)

@@ -62,5 +62,5 @@ returns-clause-adds g c =
     let places = c.in_ok-link.ensures.places in
     let puts = c.in_ok-tree_put.ensures.changes in
     on_ok_weaker c.set_number.result (λ sets t spare height nodes items index.
-    added_key T a b d e a.page_size c.args.cache (c.args.rows + 1) c.args.key.now c.args.row.now c.in_ok-link.link _ height nodes items t c.requires.cache c.requires.meta places.meta puts.meta (meta_edited T d e 0 puts.meta c.set_number.ensures.edits sets)
-    c.requires.readable c.place.ensures.readable c.tree_put.ensures.readable c.set_number.ensures.readable spare index (places.told t) (c.in_ok-tree_put.ensures.puts t) c.set_number.ensures.edits sets) c.set_number.ensures.sets
+    added_key T a b d e a.page_size c.args.cache (c.args.rows + 1) _ c.args.key.now c.args.row.now c.in_ok-link.link _ height nodes items t c.requires.cache c.requires.meta places.meta puts.meta (meta_edited T d e 0 puts.meta c.set_number.ensures.edits sets)
+    c.requires.readable c.place.ensures.readable c.tree_put.ensures.readable c.set_number.ensures.readable spare index (places.told t) (c.in_ok-tree_put.ensures.puts t) c.set_number.ensures.edits sets (omega arith)) c.set_number.ensures.sets

@@ -101,12 +101,11 @@ returns-clause-drops g c =
     let second = pages_removed T d e c.args.cache 16 c.in_ok-take_out.ensures.takes.meta c.in_ok-tree_remove.ensures.changes in
     on_ok_weaker c.set_number.result (λ sets t shape is.
     let at_is = c.link-link.ensures ∙ ap (λ p. link (page_id p c.args.spot.at) c.args.spot.item) c.part.ensures in
-    let sets' = subst (λ n. MetaBecomes e f (λ was now. SetsNumber was now Rows n)) c.saturating_sub.ensures sets in
-    let made = dropped T b d e f shape c.args.spot c.args.cache c.in_ok-rows.rows c.args.key.now c.link-link.result _ t c.requires.cache (partition_looked T a b 0 shape t looks is) meta c.in_ok-take_out.ensures.takes.meta second.meta (meta_edited T e f 0 second.meta c.set_number.ensures.edits sets)
+    let made = dropped T b d e f shape c.args.spot c.args.cache _ c.in_ok-rows.rows _ c.args.key.now c.link-link.result _ t c.requires.cache (partition_looked T a b 0 shape t looks is) meta c.in_ok-take_out.ensures.takes.meta second.meta (meta_edited T e f 0 second.meta c.set_number.ensures.edits sets)
     c.number.ensures.readable c.take_out.ensures.readable c.tree_remove.ensures.readable c.set_number.ensures.readable (row_looked T a b 0 c.args.spot c.args.cache c.args.key.now c.requires.meta looks c.requires.has) at_is
-    (c.in_ok-take_out.ensures.takes.told t) (c.in_ok-tree_remove.ensures.removes t) c.set_number.ensures.edits sets' c.in_ok-rows.ensures.number in
+    (c.in_ok-take_out.ensures.takes.told t) (c.in_ok-tree_remove.ensures.removes t) c.set_number.ensures.edits sets c.in_ok-rows.ensures.number (omega arith) (omega (arith, c.saturating_sub.ensures)) in
     let row = row_looked T a b 0 c.args.spot c.args.cache c.args.key.now c.requires.meta looks c.requires.has in
-    let stays = removal_stays T b d e f shape c.args.spot c.args.cache c.in_ok-rows.rows c.args.key.now c.link-link.result _ t c.requires.cache (partition_looked T a b 0 shape t looks is) meta c.in_ok-take_out.ensures.takes.meta second.meta (meta_edited T e f 0 second.meta c.set_number.ensures.edits sets)
+    let stays = removal_stays T b d e f shape c.args.spot c.args.cache _ c.in_ok-rows.rows _ c.args.key.now c.link-link.result _ t c.requires.cache (partition_looked T a b 0 shape t looks is) meta c.in_ok-take_out.ensures.takes.meta second.meta (meta_edited T e f 0 second.meta c.set_number.ensures.edits sets)
     c.number.ensures.readable c.take_out.ensures.readable c.tree_remove.ensures.readable c.set_number.ensures.readable c.in_ok-take_out.ensures.takes.edits.same second.edits.same c.set_number.ensures.edits.same row at_is
-    (c.in_ok-take_out.ensures.takes.told t) (c.in_ok-tree_remove.ensures.removes t) c.set_number.ensures.edits sets' c.in_ok-rows.ensures.number (c.in_ok-take_out.ensures.passes t) (c.in_ok-tree_remove.ensures.passes t) in
+    (c.in_ok-take_out.ensures.takes.told t) (c.in_ok-tree_remove.ensures.removes t) c.set_number.ensures.edits sets c.in_ok-rows.ensures.number (omega arith) (omega (arith, c.saturating_sub.ensures)) (c.in_ok-take_out.ensures.passes t) (c.in_ok-tree_remove.ensures.passes t) in
     (stays, subst (λ (q : ℕ × Partition). DropsKey q.0 q.1 f.pages c.args.cache c.args.key.now) {x = (b.part, b.pages)} {y = (a.part, a.pages)} (λ k. (looks.same.part k, pages_told T a b 0 t looks k)) made)) c.set_number.ensures.sets
