@@ -28,6 +28,9 @@ pub mod NamedRows
 pub mod NewMeta
 pub mod OneMore
 pub mod OverwrittenRows
+pub mod PairCauses
+pub mod PairItems
+pub mod PairWalks
 pub mod PartCauses
 pub mod PlacedPages
 pub mod Quantified
@@ -43,11 +46,14 @@ pub mod RowItems
 pub mod RowKeys
 pub mod RowReplies
 pub mod SameIndexes
+pub mod SortedPairs
 pub mod SpareLaw
 pub mod SpotReads
 pub mod SwappedRows
 pub mod Swaps
+pub mod ToldPairs
 pub mod Totals
+pub mod TreeLeaves
 pub mod TreeRows
 pub mod TreeSizes
 pub mod TreeSteps

@@ -3,6 +3,8 @@ pub mod Commands
 pub mod Entries
 pub mod Faults
 pub mod NewMeta
+pub mod PairFaults
+pub mod PairReads
 pub mod Puts
 pub mod Reads
 pub mod Removals

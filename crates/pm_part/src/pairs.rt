@@ -1,17 +1,24 @@
 //! The pairs of a cache by rising key: the leaves of its tree are read from the first one on, and
 //! the rows that their items name.
 
-ghost use Rattle.std.specs.Prelude.{◌≡◌, ℕ, ◌≤◌, ◌<◌, true, IsErrOf, IsTrue, IfOk, length};
+ghost use Rattle.std.specs.Prelude.{◌≡◌, ◌≢◌, ℕ, ◌≤◌, ◌<◌, ◌⊎◌, true, false, IsTrue, IfOk, OnOk, length};
 ghost use Rattle.pm_types.specs.declared.limits.TheConstants.{CACHES};
 ghost use Rattle.pm_types.specs.PageSizes.{IsPageSize};
 ghost use Rattle.pm_types.specs.Keys.{HasKeyLength};
-ghost use Rattle.pm_types.specs.Counts.{HasRisen};
-ghost use Rattle.pm_types.specs.declared.fault.PageFault.TheVariants as PageFault;
-ghost use Rattle.pm_types.specs.declared.fault.StoreFault.TheVariants as StoreFault;
-ghost use Rattle.pm_btpage.specs.IndexPages.{IsIndexPage, index_of};
+ghost use Rattle.pm_meta.specs.declared.slots.MetaSlot.TheVariants.{Root};
+ghost use Rattle.pm_pages.specs.Edits.{HasMeta, IsNumberIn};
+ghost use Rattle.pm_btpage.specs.declared.layout.TheConstants.{LEAF_KIND};
+ghost use Rattle.pm_btpage.specs.IndexPages.{IsIndexPage, index_of, items_of};
+ghost use Rattle.pm_pages.specs.Rows.{kind_of};
 ghost use Rattle.pm_pages.specs.PageLists.{IsReadable};
 ghost use Rattle.pm_pages.specs.Paged.{AllReadable, NoneLent};
 ghost use Rattle.pm_part.specs.Reads.{ReadsPages};
+ghost use Rattle.pm_part.specs.PairReads.{SinceReads, AppendsPairs, IsDownOn, IsDown, HadPair, HadPairs};
+ghost use Rattle.pm_part.specs.PairReads.{WasLeaf, HadLeaf, HadAllLeaves, WasFirstLeaf, HadTree};
+ghost use Rattle.pm_part.specs.PairReads.{HadTreePairs};
+ghost use Rattle.pm_part.specs.PairFaults.{WasBad, WasNoLeaf, IsPairFault, IsItemFault, IsLeafFault};
+ghost use Rattle.pm_part.specs.PairFaults.{IsLeavesFault, IsDownFault, HasReadCause, HasPageReadCause};
+ghost use Rattle.pm_part.specs.PairFaults.{IsPairsFault, HasPairsCause};
 
 use crate::spots::{find_pair, spot_of};
 use pm_btpage::{INNER_KIND, LEAF_KIND, key_at, next, word_at};
@@ -52,8 +59,9 @@ pub fn append_pairs<P: Pages>(
     ensures kept { P.kept pages.old pages.new }
     ensures reads { ReadsPages P.tells (P.seen pages.old) (P.seen pages.new) }
     ensures readable { AllReadable (P.seen pages.new) }
-    ensures failed { IsErrOf result StoreFault.Failed
-        → HasRisen (P.seen pages.old).faults (P.seen pages.new).faults }
+    ensures pairs { OnOk result (AppendsPairs pairs.old.items pairs.new.items
+        (HadTree P.tells (P.seen pages.old) cache)) }
+    ensures cause { HasPairsCause P.tells (P.seen pages.old) (P.seen pages.new) cache result }
 {
     pages.let_go();
     match find_number(pages, MetaSlot::Root(cache))? {
@@ -62,11 +70,36 @@ pub fn append_pairs<P: Pages>(
             if root == 0 {
                 return Ok(());
             }
-            let count = number(pages, MetaSlot::Pages)?;
-            let leaf = first_leaf(pages, count, root)?;
-            append_leaves(alloc, cache, pages, count, leaf, pairs)
+            append_tree(alloc, cache, pages, root, pairs)
         }
     }
+}
+
+// Appends the pairs of the tree at the root of a cache.
+fn append_tree<P: Pages>(
+    alloc: Global,
+    cache: u8,
+    pages: &mut P,
+    root: u32,
+    pairs: &mut Vec<(Key, Value)>,
+) -> Result<(), StoreFault>
+    requires ready { P.ready pages.old }
+    requires none_lent { NoneLent (P.seen pages.old) }
+    requires readable { AllReadable (P.seen pages.old) }
+    requires meta { HasMeta (P.seen pages.old) }
+    requires root { IsNumberIn (P.seen pages.old) (Root cache) root }
+    requires some { root ≢ 0 }
+    ensures kept { P.kept pages.old pages.new }
+    ensures reads { ReadsPages P.tells (P.seen pages.old) (P.seen pages.new) }
+    ensures readable { AllReadable (P.seen pages.new) }
+    ensures pairs { SinceReads P.tells (P.seen pages.old) (λ start. OnOk result
+        (AppendsPairs pairs.old.items pairs.new.items (HadTreePairs P.tells start cache))) }
+    ensures cause { HasReadCause P.tells (P.seen pages.old) (P.seen pages.new)
+        (λ start. IsPairsFault P.tells start cache) result }
+{
+    let count = number(pages, MetaSlot::Pages)?;
+    let leaf = first_leaf(pages, count, root)?;
+    append_leaves(alloc, cache, pages, count, leaf, pairs)
 }
 
 // The first leaf of the tree at a root.
@@ -77,8 +110,10 @@ fn first_leaf<P: Pages>(pages: &mut P, count: u32, root: u32) -> Result<u32, Pag
     ensures kept { P.kept pages.old pages.new }
     ensures reads { ReadsPages P.tells (P.seen pages.old) (P.seen pages.new) }
     ensures readable { AllReadable (P.seen pages.new) }
-    ensures failed { IsErrOf result PageFault.Failed
-        → HasRisen (P.seen pages.old).faults (P.seen pages.new).faults }
+    ensures leaf { SinceReads P.tells (P.seen pages.old)
+        (λ start. IfOk result (WasFirstLeaf P.tells start count root)) }
+    ensures cause { HasPageReadCause P.tells (P.seen pages.old) (P.seen pages.new)
+        (λ start id. WasBad P.tells start count id ⊎ IsDownFault P.tells start count root id) result }
 {
     let mut from = 0;
     let mut at = root;
@@ -102,8 +137,10 @@ fn look_down<P: Pages>(pages: &mut P, count: u32, at: u32) -> Result<Down, PageF
     ensures kept { P.kept pages.old pages.new }
     ensures reads { ReadsPages P.tells (P.seen pages.old) (P.seen pages.new) }
     ensures readable { AllReadable (P.seen pages.new) }
-    ensures failed { IsErrOf result PageFault.Failed
-        → HasRisen (P.seen pages.old).faults (P.seen pages.new).faults }
+    ensures down { SinceReads P.tells (P.seen pages.old)
+        (λ start. IfOk result (IsDown P.tells start count at)) }
+    ensures cause { HasPageReadCause P.tells (P.seen pages.old) (P.seen pages.new)
+        (λ start. WasBad P.tells start count) result }
 {
     if at == 0 || at >= count {
         return Ok(Down::Other);
@@ -117,6 +154,7 @@ fn look_down<P: Pages>(pages: &mut P, count: u32, at: u32) -> Result<Down, PageF
 
 fn down_on(page: &[u8]) -> Down
     requires { IsReadable page.now }
+    ensures { IsDownOn page.now result }
 {
     let kind = page[KIND_AT as usize];
     if kind == LEAF_KIND {
@@ -140,11 +178,14 @@ fn append_leaves<P: Pages>(
     requires ready { P.ready pages.old }
     requires none_lent { NoneLent (P.seen pages.old) }
     requires readable { AllReadable (P.seen pages.old) }
+    requires first { 1 ≤ first }
     ensures kept { P.kept pages.old pages.new }
     ensures reads { ReadsPages P.tells (P.seen pages.old) (P.seen pages.new) }
     ensures readable { AllReadable (P.seen pages.new) }
-    ensures failed { IsErrOf result StoreFault.Failed
-        → HasRisen (P.seen pages.old).faults (P.seen pages.new).faults }
+    ensures leaves { SinceReads P.tells (P.seen pages.old) (λ start. OnOk result
+        (AppendsPairs pairs.old.items pairs.new.items (HadAllLeaves P.tells start count cache first))) }
+    ensures cause { HasReadCause P.tells (P.seen pages.old) (P.seen pages.new) (λ start id.
+        WasBad P.tells start count id ⊎ IsLeavesFault P.tells start count cache first id) result }
 {
     let mut room = [0; PAGE_SIZE_MAX];
     let size = pages.page_size() as usize;
@@ -190,8 +231,10 @@ fn append_leaf<P: Pages>(
     ensures reads { ReadsPages P.tells (P.seen pages.old) (P.seen pages.new) }
     ensures readable { AllReadable (P.seen pages.new) }
     ensures size { length page.new ≡ length page.old }
-    ensures failed { IsErrOf result StoreFault.Failed
-        → HasRisen (P.seen pages.old).faults (P.seen pages.new).faults }
+    ensures leaf { SinceReads P.tells (P.seen pages.old) (λ start. IfOk result (λ next.
+        AppendsPairs pairs.old.items pairs.new.items (HadLeaf P.tells start count cache at next))) }
+    ensures cause { HasReadCause P.tells (P.seen pages.old) (P.seen pages.new) (λ start id.
+        WasBad P.tells start count id ⊎ IsLeafFault P.tells start count cache from at id) result }
 {
     if !read_leaf(pages, count, at, page)? {
         return Err(StoreFault::BadPage(PageId::new(pages.part(), from)));
@@ -217,8 +260,11 @@ fn read_leaf<P: Pages>(
     ensures leaf { IfOk result (λ found. IsTrue found
         → IsIndexPage into.new × ((index_of into.new).leaf ≡ true)) }
     ensures size { length into.new ≡ length into.old }
-    ensures failed { IsErrOf result PageFault.Failed
-        → HasRisen (P.seen pages.old).faults (P.seen pages.new).faults }
+    ensures read { SinceReads P.tells (P.seen pages.old) (λ start. IfOk result (λ found.
+        (IsTrue found → WasLeaf P.tells start count at into.new)
+        × (found ≡ false → WasNoLeaf P.tells start count at))) }
+    ensures cause { HasPageReadCause P.tells (P.seen pages.old) (P.seen pages.new)
+        (λ start. WasBad P.tells start count) result }
 {
     if at == 0 || at >= count {
         return Ok(false);
@@ -234,6 +280,8 @@ fn copy_leaf(page: &[u8], into: &mut [u8]) -> bool
     requires page { IsReadable page.now }
     requires size { length into.old ≡ length page.now }
     ensures leaf { IsTrue result → IsIndexPage into.new × ((index_of into.new).leaf ≡ true) }
+    ensures copied { IsTrue result → (into.new ≡ page.now) × (kind_of page.now ≡ LEAF_KIND) }
+    ensures other { result ≡ false → kind_of page.now ≢ LEAF_KIND }
     ensures size { length into.new ≡ length into.old }
 {
     if page[KIND_AT as usize] != LEAF_KIND {
@@ -260,8 +308,10 @@ fn append_items<P: Pages>(
     ensures kept { P.kept pages.old pages.new }
     ensures reads { ReadsPages P.tells (P.seen pages.old) (P.seen pages.new) }
     ensures readable { AllReadable (P.seen pages.new) }
-    ensures failed { IsErrOf result StoreFault.Failed
-        → HasRisen (P.seen pages.old).faults (P.seen pages.new).faults }
+    ensures pairs { SinceReads P.tells (P.seen pages.old) (λ start. OnOk result
+        (AppendsPairs pairs.old.items pairs.new.items (HadPairs P.tells start count cache (items_of page.now)))) }
+    ensures cause { HasReadCause P.tells (P.seen pages.old) (P.seen pages.new) (λ start id.
+        WasBad P.tells start count id ⊎ IsItemFault P.tells start count cache leaf page.now id) result }
 {
     'items: for i in 0..pm_btpage::count(page) {
         let link = Link(word_at(page, i));
@@ -288,8 +338,10 @@ fn read_pair<P: Pages>(
     ensures kept { P.kept pages.old pages.new }
     ensures reads { ReadsPages P.tells (P.seen pages.old) (P.seen pages.new) }
     ensures readable { AllReadable (P.seen pages.new) }
-    ensures failed { IsErrOf result StoreFault.Failed
-        → HasRisen (P.seen pages.old).faults (P.seen pages.new).faults }
+    ensures pair { SinceReads P.tells (P.seen pages.old)
+        (λ start. IfOk result (HadPair P.tells start count cache link key.now)) }
+    ensures cause { HasReadCause P.tells (P.seen pages.old) (P.seen pages.new) (λ start id.
+        WasBad P.tells start count id ⊎ IsPairFault P.tells start count cache leaf link key.now id) result }
 {
     match spot_of(link, pages.part(), count) {
         None => Err(StoreFault::BadPage(PageId::new(pages.part(), leaf))),

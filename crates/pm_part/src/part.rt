@@ -1,6 +1,6 @@
 //! One partition of a store.
 
-ghost use Rattle.std.specs.Prelude.{◌≡◌, ℕ, ◌^◌, ◌-◌, ◌<◌, ◌≤◌, [], ◌∷◌, OnOk, OnErr, IsErrOf, IsTrue};
+ghost use Rattle.std.specs.Prelude.{◌≡◌, ℕ, ◌^◌, ◌-◌, ◌<◌, ◌≤◌, [], ◌∷◌, ◌++◌, OnOk, OnErr, IsTrue};
 ghost use Rattle.pm_types.specs.declared.limits.TheConstants.{CACHES, OP_PAGES, ROWS_MAX};
 ghost use Rattle.pm_types.specs.declared.limits.TheConstants.{PARTITIONS_MAX};
 ghost use Rattle.pm_types.specs.Keys.{HasKeyLength, HasValueLength};
@@ -9,11 +9,13 @@ ghost use Rattle.pm_model.specs.ReplyLists.{with_replies};
 ghost use Rattle.pm_model.specs.declared.reply.Reply.{Reply};
 ghost use Rattle.pm_pages.specs.Paged.{AllReadable, NoneLent};
 ghost use Rattle.pm_pages.specs.Edits.{LooksAtPages, EditsPages};
-ghost use Rattle.pm_types.specs.Counts.{HasRisen};
-ghost use Rattle.pm_types.specs.declared.fault.StoreFault.TheVariants as StoreFault;
+ghost use Rattle.pm_pages.specs.Rows.{rows_of};
+ghost use Rattle.pm_pages.specs.RowMaps.{map_of};
+ghost use Rattle.pm_model.specs.Eval.{pairs_of};
 ghost use Rattle.pm_part.specs.Reads.{ReadsPages};
 ghost use Rattle.pm_part.specs.Commands.{IsPartCmd, cache_of, AppendsReply};
 ghost use Rattle.pm_part.specs.Faults.{HasPartCause};
+ghost use Rattle.pm_part.specs.PairFaults.{HasPairsCause};
 ghost use Rattle.pm_part.specs.Runs.{IsPartitionOf, RunsCmd, IsGet, IsGetOrRemove};
 ghost use Rattle.pm_part.specs.Puts.{IsPartFor};
 ghost use Rattle.pm_types.specs.declared.shape.Shape.{Shape};
@@ -113,8 +115,10 @@ impl Part {
         ensures kept { P.kept pages.old pages.new }
         ensures reads { ReadsPages P.tells (P.seen pages.old) (P.seen pages.new) }
         ensures readable { AllReadable (P.seen pages.new) }
-        ensures failed { IsErrOf result StoreFault.Failed
-            → HasRisen (P.seen pages.old).faults (P.seen pages.new).faults }
+        ensures pairs { P.tells → (shape : Shape) → IsPartitionOf shape (P.seen pages.old)
+            → OnOk result (into.new ≡ into.old ++ pairs_of cache
+            (map_of (rows_of (P.seen pages.old).part (P.seen pages.old).pages))) }
+        ensures cause { HasPairsCause P.tells (P.seen pages.old) (P.seen pages.new) cache result }
     {
         append_pairs(alloc, cache, pages, &mut into.pairs)
     }

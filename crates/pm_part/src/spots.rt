@@ -2,7 +2,7 @@
 
 ghost use Rattle.std.specs.Prelude.{◌≡◌, ℕ, ◌+◌, ◌<◌, ◌≤◌, ◌↔◌, ◌⊎◌};
 ghost use Rattle.std.specs.Prelude.{List, Some, None, IfOk, OnOk, OnErr, IfSome};
-ghost use Rattle.std.specs.Prelude.{IfNone, IsTrue, IsErrOf, false, length, [], ◌∷◌};
+ghost use Rattle.std.specs.Prelude.{IfNone, IsTrue, false, length, [], ◌∷◌};
 ghost use Rattle.std.specs.Bool.{OnTrue, OnFalse};
 ghost use Rattle.pm_types.specs.Ids.{page_id, link, page_of_link, item_of_link, index_of_id};
 ghost use Rattle.pm_data.specs.Rows.{IsRow, row_cache, row_key, row_value};
@@ -10,8 +10,6 @@ ghost use Rattle.pm_meta.specs.declared.slots.MetaSlot.TheVariants.{Pages};
 ghost use Rattle.pm_pages.specs.PageLists.{IsReadable};
 ghost use Rattle.pm_pages.specs.Paged.{HasRoomFor, AllReadable, NoneLent, HasPageCause};
 ghost use Rattle.pm_types.specs.Keys.{HasKeyLength};
-ghost use Rattle.pm_types.specs.Counts.{HasRisen};
-ghost use Rattle.pm_types.specs.declared.fault.StoreFault.TheVariants as StoreFault;
 ghost use Rattle.pm_part.specs.Reads.{ReadsPages};
 ghost use Rattle.pm_pages.specs.Edits.{LooksAtPages, HasMeta, HasDiskCause, IsNumberIn};
 ghost use Rattle.pm_tree.specs.Indexes.{as_link};
@@ -22,6 +20,8 @@ ghost use Rattle.pm_part.specs.Spots.{IsRowOn, HasNoRowOn, LeadsTo, LeadsNowhere
 ghost use Rattle.pm_part.specs.Spots.{PushesValue};
 ghost use Rattle.pm_part.specs.declared.spots.Spot.{Spot};
 ghost use Rattle.pm_part.specs.Faults.{HasPartCause};
+ghost use Rattle.pm_part.specs.PairReads.{SinceReads, ReadPair};
+ghost use Rattle.pm_part.specs.PairFaults.{HadNoRow, WasBadAt, HasReadCause};
 
 use crate::entries::Entry;
 use pm_data::{DATA_KIND, cache_in, key_in, row, value_in};
@@ -263,8 +263,12 @@ pub fn find_pair<P: Pages>(
     ensures kept { P.kept pages.old pages.new }
     ensures reads { ReadsPages P.tells (P.seen pages.old) (P.seen pages.new) }
     ensures readable { AllReadable (P.seen pages.new) }
-    ensures failed { IsErrOf result StoreFault.Failed
-        → HasRisen (P.seen pages.old).faults (P.seen pages.new).faults }
+    ensures pair { SinceReads P.tells (P.seen pages.old) (λ start. IfOk result (λ pair.
+        IfSome pair (ReadPair P.tells start spot cache key.now))) }
+    ensures none { SinceReads P.tells (P.seen pages.old) (λ start. IfOk result (λ pair.
+        IfNone pair (HadNoRow P.tells start spot.at spot.item cache key.now))) }
+    ensures cause { HasReadCause P.tells (P.seen pages.old) (P.seen pages.new)
+        (λ start. WasBadAt P.tells start spot.at) result }
 {
     match pages.view(spot.at)? {
         None => Ok(None),

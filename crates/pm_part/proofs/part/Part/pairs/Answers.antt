@@ -1,0 +1,7 @@
+use Rattle.std.proofs.Common.{sym}
+use Rattle.pm_part.proofs.ToldPairs.{told_appended}
+use Rattle.pm_part.proofs.part.Part.pairs.Goals as goal
+
+pub returns-clause-pairs : goal.returns-clause-pairs
+returns-clause-pairs g c = λ t shape of.
+    told_appended g.P.Pages.tells shape (g.P.Pages.seen c.args.pages.now) c.args.cache c.args.into.now c.into.inside.pairs.items c.append_pairs.new.pairs.items c.append_pairs.result (sym c.into.view_is) c.requires.cache t of c.append_pairs.ensures.pairs
