@@ -1,6 +1,6 @@
 -- How far a file was written.
 use Rattle.std.specs.Prelude.{◌≡◌, ◌+◌, ◌^◌, ◌<◌, ◌⊎◌, ℕ, List, [], ◌∷◌, ◌++◌, length, Option, Some}
-use Rattle.std.specs.Prelude.{IsSome, IfSome, false}
+use Rattle.std.specs.Prelude.{IsSome, IfSome, IsTrue, false}
 use Rattle.std.specs.Option.{SomeIff}
 use Rattle.pm_disk.specs.declared.names.StoreFile.{StoreFile}
 use Rattle.pm_disk.specs.declared.names.StoreFile.TheVariants.{Segment}
@@ -33,6 +33,14 @@ pub record IsChangedLast {F : Type 0} (files : List (Opened F)) (name : StoreFil
   pub last : files ≡ before ++ file ∷ []
   pub named : file.name ≡ name
   pub unforced : file.is_forced ≡ false
+
+-- Of the open files the one that was changed last is the one of this name, and it was forced since.
+pub record IsForcedLast {F : Type 0} (files : List (Opened F)) (name : StoreFile) : Type 0 where
+  pub before : List (Opened F)
+  pub file : Opened F
+  pub last : files ≡ before ++ file ∷ []
+  pub named : file.name ≡ name
+  pub forced : IsTrue file.is_forced
 
 -- All bytes of the stretch were handed to the system, last of all.
 abbrev pub IsStretchWritten : {F : Type 0} → List (Opened F) → Stretch → Type 0

@@ -2,7 +2,7 @@
 
 ghost use Rattle.std.specs.Prelude.{◌≡◌, ◌≤◌, ◌↔◌, [], ◌∷◌, true, false, length, map, vec_len, refl};
 ghost use Rattle.std.specs.Prelude.{Ok, None, Some, IsTrue, IsErr, IsNone, IsSome, IfOk, OnOk, OnErr};
-ghost use Rattle.std.specs.Prelude.{All};
+ghost use Rattle.std.specs.Prelude.{All, replicate};
 ghost use Rattle.std.specs.Option.{option_copied};
 ghost use Rattle.pm_types.specs.declared.limits.TheConstants.{PAGE_SIZE_MAX};
 ghost use Rattle.pm_disk.specs.States.{HasCause, Binds};
@@ -203,6 +203,8 @@ impl<R: Files + Input + AllocGlobal + Drop> PageReader for FsHost<R> {
         ensures cause { HasCause (state_of self.old) (state_of self.new) result }
         ensures first { KeepsFirstFailure self.old self.new result }
         ensures writes { self.new.writes ≡ self.old.writes }
+        ensures zeros { IfOk result
+            (λ whole. whole ≡ false → into.new ≡ replicate (length into.new) 0) }
     {
         let at = page.index() as u64 * into.len() as u64;
         let name = StoreFile::Pages(page.part());
@@ -289,6 +291,8 @@ impl<
         ensures cause { HasCause (state_of self.old) (state_of self.new) result }
         ensures first { KeepsFirstFailure self.old self.new result }
         ensures writes { self.new.writes ≡ self.old.writes }
+        ensures zeros { IfOk result
+            (λ whole. whole ≡ false → into.new ≡ replicate (length into.new) 0) }
     {
         let at = slot as u64 * SLOT_LEN as u64;
         let name = StoreFile::Marks(file);
