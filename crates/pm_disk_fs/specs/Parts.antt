@@ -1,9 +1,13 @@
 -- What a clause sees of the parts of the host over files.
-use Rattle.std.specs.Prelude.{ℕ, List, Option, false, not}
+use Rattle.std.specs.Prelude.{◌≡◌, ℕ, List, Option, None, IsTrue, false, not}
 use Rattle.pm_types.specs.declared.page_id.PageId.{PageId}
 use Rattle.pm_disk.specs.Lending.{is_among}
 use Rattle.pm_disk.specs.States.{DeviceState}
+use Rattle.pm_disk_fs.specs.Failures.{IsFailureOn}
 use Rattle.pm_disk_fs.specs.Faults.{FaultsView}
+use Rattle.pm_disk_fs.specs.declared.failure.SystemCall.{SystemCall}
+use Rattle.pm_disk_fs.specs.declared.failure.Object.{Object}
+use Rattle.pm_disk_fs.specs.declared.failure.Failure.{Failure}
 use Rattle.pm_disk_fs.specs.declared.writes.Writes.{Writes}
 
 -- What the calls of the log part, or of the writer, have met so far, and what they keep back.
@@ -42,3 +46,12 @@ state_of_reader reader = record {
     writes = λ _. false;
   };
 }
+
+-- A failure of a call that makes these calls of the system, on a part that was so.
+abbrev pub IsPartFailure : PartView → (SystemCall → Object → Type 0) → Failure → Type 0
+IsPartFailure part calls failure =
+    IsFailureOn calls (part.folder ≡ None) (IsTrue part.writes.is_poisoned) failure
+
+-- One on a reader that was so.
+abbrev pub IsReaderFailure : ReaderView → (SystemCall → Object → Type 0) → Failure → Type 0
+IsReaderFailure reader calls failure = IsFailureOn calls (reader.folder ≡ None) ⊥ failure

@@ -9,7 +9,7 @@ ghost use Rattle.pm_types.specs.Ids.{part_of_id};
 ghost use Rattle.pm_disk.specs.declared.names.StoreFile.TheVariants.{Pages};
 ghost use Rattle.pm_disk_fs.specs.Failures.{IsFailureOn, IsOnFileOrSync};
 ghost use Rattle.pm_disk_fs.specs.Faults.{KeepsFirst};
-ghost use Rattle.pm_disk_fs.specs.Parts.{state_of_reader};
+ghost use Rattle.pm_disk_fs.specs.Parts.{state_of_reader, IsReaderFailure};
 
 use crate::failure::Failure;
 use crate::faults::Faults;
@@ -106,7 +106,9 @@ impl<R: Files<File: FileExt> + AllocGlobal + Drop> PageReader for FsReader<R> {
     fn read_page(&mut self, page: PageId, into: &mut [u8]) -> Result<bool, Failed>
         requires { length into.old ≤ PAGE_SIZE_MAX }
         ensures cause { HasCause (state_of_reader self.old) (state_of_reader self.new) result }
-        ensures first { KeepsFirst self.old.faults self.new.faults result }
+        ensures first { KeepsFirst (IsReaderFailure self.old
+            (IsOnFileOrSync (Pages (part_of_id page))))
+            self.old.faults self.new.faults result }
         ensures zeros { IfOk result
             (λ whole. whole ≡ false → into.new ≡ replicate (length into.new) 0) }
     {
