@@ -10,6 +10,7 @@ use Rattle.pm_disk_fs.specs.declared.failure.Failure.TheVariants.{Lent}
 use Rattle.pm_disk_fs.specs.declared.failure.SystemCall.{SystemCall}
 use Rattle.pm_disk_fs.specs.declared.failure.Object.{Object}
 use Rattle.pm_disk_fs.specs.declared.failure.Failure.{Failure}
+use Rattle.pm_disk_fs.specs.OpenViews.{OpenView}
 use Rattle.pm_disk_fs.specs.declared.writes.Writes.{Writes}
 
 -- What the host's calls have met so far, and what they keep back.
@@ -24,6 +25,8 @@ pub record HostView : Type 0 where
   pub folder : Option (List ℕ)
   -- whether a change or a force of a file has failed, and what of the log isn't with the system yet
   pub writes : Writes
+  -- the files that are open since they were changed, in the order of their last changes
+  pub files : List OpenView
   -- what is left of the input, where its reader reports that
   pub input : Option (List ℕ)
 

@@ -8,6 +8,7 @@ use Rattle.pm_disk_fs.specs.Faults.{FaultsView}
 use Rattle.pm_disk_fs.specs.declared.failure.SystemCall.{SystemCall}
 use Rattle.pm_disk_fs.specs.declared.failure.Object.{Object}
 use Rattle.pm_disk_fs.specs.declared.failure.Failure.{Failure}
+use Rattle.pm_disk_fs.specs.OpenViews.{OpenView}
 use Rattle.pm_disk_fs.specs.declared.writes.Writes.{Writes}
 
 -- What the calls of the log part, or of the writer, have met so far, and what they keep back.
@@ -19,6 +20,8 @@ pub record PartView : Type 0 where
   pub due : List PageId
   -- whether a change or a force of a file has failed, and what of the log isn't with the system yet
   pub writes : Writes
+  -- the files that are open since they were changed, in the order of their last changes
+  pub files : List OpenView
 
 -- What the calls of a reader have met so far.
 pub record ReaderView : Type 0 where

@@ -2,7 +2,7 @@
 
 ghost use Rattle.std.specs.Prelude.{◌≡◌, ◌≤◌, ◌↔◌, [], ◌∷◌, true, false, length, map, vec_len, refl};
 ghost use Rattle.std.specs.Prelude.{Ok, None, Some, IsTrue, IsErr, IsNone, IsSome, IfOk, OnOk, OnErr};
-ghost use Rattle.std.specs.Prelude.{All, replicate, Err, IfErr};
+ghost use Rattle.std.specs.Prelude.{◌+◌, ◌⊎◌, All, replicate, Err, IfErr};
 ghost use Rattle.std.specs.Io.KnownBytes.{ReadConsumes};
 ghost use Rattle.std.specs.Option.{option_copied};
 ghost use Rattle.pm_types.specs.declared.limits.TheConstants.{PAGE_SIZE_MAX};
@@ -17,6 +17,8 @@ ghost use Rattle.pm_disk_fs.specs.Failures.{IsOnFile, IsCallOn, IsOnFileOrSync, 
 ghost use Rattle.pm_disk_fs.specs.Failures.{IsOnEither, IsOnEitherOrFolder};
 ghost use Rattle.pm_disk_fs.specs.Host.{state_of, IsHostFailure, IsBindFailure, IsPrintFailure};
 ghost use Rattle.pm_disk_fs.specs.Host.{KeepsFirstFailure};
+ghost use Rattle.pm_disk_fs.specs.OpenViews.{WrittenLast, ChangedLast, ForcedLast, NoneOpen};
+ghost use Rattle.pm_disk.specs.Worlds.{page_at, slot_at};
 ghost use Rattle.pm_disk_fs.specs.Parts.{state_of_part, state_of_reader};
 
 use crate::failure::{Failure, Object, SystemCall, named};
@@ -56,6 +58,7 @@ impl<R: Files + Input + Drop> Model for FsHost<R> {
     ghost use Rattle.std.specs.Prelude.{option_map, IsSome};
     ghost use Rattle.std.specs.String.{string_bytes};
     ghost use Rattle.pm_disk_fs.specs.Host.{HostView};
+    ghost use Rattle.pm_disk_fs.specs.OpenViews.{open_views};
 
     ghost Value = { HostView };
 
@@ -65,6 +68,7 @@ impl<R: Files + Input + Drop> Model for FsHost<R> {
       is_lent = host.is_lent;
       folder = option_map string_bytes host.folder.dir;
       writes = host.store.writes;
+      files = open_views host.store.open.files.items;
       input = R.Reader.remaining host.input;
     } };
 
@@ -108,6 +112,7 @@ impl<R: Files + Input + Drop> FsHost<R> {
         ensures first { KeepsFirstFailure (λ failure. made ≡ Err failure) self.old self.new result }
         ensures writes { self.new.writes ≡ self.old.writes }
         ensures input { self.new.input ≡ self.old.input }
+        ensures files { self.new.files ≡ self.old.files }
         ensures value { IfOk result (λ v. made ≡ Ok v) }
         ensures error { IsErr result → IsErr made }
     {
@@ -195,6 +200,7 @@ impl<R: Files + Input + AllocGlobal + Drop> LogFile for FsHost<R> {
         ensures first { KeepsFirstFailure (IsHostFailure self.old
             (IsOnEither (Segment seg) (Segment self.old.writes.buffer.seg))) self.old self.new result }
         ensures changes { ChangesLog self.old.writes self.new.writes result }
+        ensures cut { OnOk result (ChangedLast self.new.files (Segment seg)) }
     {
         let cut = self.store.cut_log(&self.folder, seg, len);
         self.counted(cut)
@@ -238,6 +244,8 @@ impl<R: Files + Input + AllocGlobal + Drop> PageWriter for FsHost<R> {
         ensures first { KeepsFirstFailure (IsHostFailure self.old
             (IsOnFileOrSync (Pages (part_of_id page)))) self.old self.new result }
         ensures changes { ChangesFile self.old.writes self.new.writes result }
+        ensures wrote { OnOk result (WrittenLast self.new.files (Pages (part_of_id page))
+            (page_at page (length bytes.now) + length bytes.now)) }
     {
         let at = page.index() as u64 * bytes.len() as u64;
         let name = StoreFile::Pages(page.part());
@@ -251,6 +259,8 @@ impl<R: Files + Input + AllocGlobal + Drop> PageWriter for FsHost<R> {
         ensures first { KeepsFirstFailure (IsHostFailure self.old
             (IsOnFileOrFolder (Pages part))) self.old self.new result }
         ensures changes { ChangesFile self.old.writes self.new.writes result }
+        ensures forced { OnOk result (NoneOpen self.old.files (Pages part)
+            ⊎ ForcedLast self.new.files (Pages part)) }
     {
         let forced = self.store.force(&self.folder, StoreFile::Pages(part));
         self.counted(forced)
@@ -328,6 +338,8 @@ impl<
         ensures first { KeepsFirstFailure (IsHostFailure self.old
             (IsOnFileOrSync (Marks file))) self.old self.new result }
         ensures changes { ChangesFile self.old.writes self.new.writes result }
+        ensures wrote { OnOk result (WrittenLast self.new.files (Marks file)
+            (slot_at slot + SLOT_LEN)) }
     {
         let at = slot as u64 * SLOT_LEN as u64;
         let name = StoreFile::Marks(file);
@@ -341,6 +353,8 @@ impl<
         ensures first { KeepsFirstFailure (IsHostFailure self.old
             (IsOnFileOrFolder (Marks file))) self.old self.new result }
         ensures changes { ChangesFile self.old.writes self.new.writes result }
+        ensures forced { OnOk result (NoneOpen self.old.files (Marks file)
+            ⊎ ForcedLast self.new.files (Marks file)) }
     {
         let forced = self.store.force(&self.folder, StoreFile::Marks(file));
         self.counted(forced)

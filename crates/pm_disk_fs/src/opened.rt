@@ -1,6 +1,6 @@
 //! A file that is open to be changed, and how far it was written.
 
-ghost use Rattle.std.specs.Prelude.{◌≡◌, ◌+◌, length, replicate, false, IsTrue, IsOk, IfOk, IfErr, OnOk};
+ghost use Rattle.std.specs.Prelude.{◌≡◌, length, replicate, false, IsTrue, IsOk, IfOk, IfErr, OnOk};
 ghost use Rattle.std.specs.Prelude.{None, Some};
 ghost use Rattle.pm_disk_fs.specs.Failures.{IsSystemFailure, IsOnFile, IsCallOn};
 
@@ -23,7 +23,7 @@ pub struct Opened<F: Drop> {
 }
 
 impl<F: Write + Seek + OpenFile + Drop> Opened<F> {
-    ghost use Rattle.pm_disk_fs.specs.Positions.{EndsAt, IsKnown};
+    ghost use Rattle.pm_disk_fs.specs.Positions.{HasBytes, IsKnown};
 
     /// A file that was opened just now.
     pub fn new(name: StoreFile, file: F) -> Opened<F>
@@ -41,7 +41,7 @@ impl<F: Write + Seek + OpenFile + Drop> Opened<F> {
 
     /// Writes the bytes from the offset on. After an error a prefix of them may be there.
     pub fn write(&mut self, at: u64, bytes: &[u8]) -> Result<(), Failure>
-        ensures ends { OnOk result (EndsAt self.new self.old.name (at + length bytes.now)) }
+        ensures written { OnOk result (HasBytes F.contents self.new self.old.name at bytes.now) }
         ensures changed { self.new.is_forced ≡ false }
         ensures failed { IfErr result (IsSystemFailure (IsOnFile self.old.name)) }
     {

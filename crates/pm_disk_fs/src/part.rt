@@ -1,6 +1,6 @@
 //! A part of the host over files that has the log, or that writes pages.
 
-ghost use Rattle.std.specs.Prelude.{◌≡◌, ◌≤◌, length, option_map, Ok, Err, IsErr, IfOk, OnOk};
+ghost use Rattle.std.specs.Prelude.{◌≡◌, ◌≤◌, ◌+◌, ◌⊎◌, length, option_map, Ok, Err, IsErr, IfOk, OnOk};
 ghost use Rattle.std.specs.String.{string_bytes};
 ghost use Rattle.pm_types.specs.declared.limits.TheConstants.{PAGE_SIZE_MAX};
 ghost use Rattle.pm_disk.specs.Moments.{nothing_told};
@@ -11,6 +11,8 @@ ghost use Rattle.pm_disk_fs.specs.Failures.{IsOnFileOrSync, IsOnFileOrFolder, Is
 ghost use Rattle.pm_disk_fs.specs.Failures.{IsOnEitherOrFolder};
 ghost use Rattle.pm_disk_fs.specs.Faults.{KeepsFirst};
 ghost use Rattle.pm_disk_fs.specs.Parts.{state_of_part, IsPartFailure};
+ghost use Rattle.pm_disk_fs.specs.OpenViews.{WrittenLast, ChangedLast, ForcedLast, NoneOpen};
+ghost use Rattle.pm_disk.specs.Worlds.{page_at};
 ghost use Rattle.pm_disk_fs.specs.WriteBuffer.{IsBufferedOrWritten, FitsAfter, IsAppended};
 ghost use Rattle.pm_disk_fs.specs.Writes.{ChangesFile, ChangesLog, FlushesBuffer, PoisonsOnFailure};
 
@@ -39,6 +41,7 @@ impl<R: Files + Drop> Model for FsPart<R> {
     ghost use Rattle.std.specs.Prelude.{option_map};
     ghost use Rattle.std.specs.String.{string_bytes};
     ghost use Rattle.pm_disk_fs.specs.Parts.{PartView};
+    ghost use Rattle.pm_disk_fs.specs.OpenViews.{open_views};
 
     ghost Value = { PartView };
 
@@ -47,6 +50,7 @@ impl<R: Files + Drop> Model for FsPart<R> {
       folder = option_map string_bytes part.folder.dir;
       due = part.due.value.items;
       writes = part.store.writes;
+      files = open_views part.store.open.files.items;
     } };
 }
 
@@ -72,6 +76,7 @@ impl<R: Files + Drop> FsPart<R> {
         ensures first { KeepsFirst (λ failure. made ≡ Err failure)
             self.old.faults self.new.faults result }
         ensures writes { self.new.writes ≡ self.old.writes }
+        ensures files { self.new.files ≡ self.old.files }
         ensures value { IfOk result (λ v. made ≡ Ok v) }
         ensures error { IsErr result → IsErr made }
     {
@@ -139,6 +144,7 @@ impl<R: Files + AllocGlobal + Drop> LogFile for FsPart<R> {
             (IsOnEither (Segment seg) (Segment self.old.writes.buffer.seg)))
             self.old.faults self.new.faults result }
         ensures changes { ChangesLog self.old.writes self.new.writes result }
+        ensures cut { OnOk result (ChangedLast self.new.files (Segment seg)) }
     {
         let cut = self.store.cut_log(&self.folder, seg, len);
         self.counted(cut)
@@ -168,6 +174,8 @@ impl<R: Files + AllocGlobal + Drop> PageWriter for FsPart<R> {
             (IsOnFileOrSync (Pages (part_of_id page))))
             self.old.faults self.new.faults result }
         ensures changes { ChangesFile self.old.writes self.new.writes result }
+        ensures wrote { OnOk result (WrittenLast self.new.files (Pages (part_of_id page))
+            (page_at page (length bytes.now) + length bytes.now)) }
     {
         let at = page.index() as u64 * bytes.len() as u64;
         let name = StoreFile::Pages(page.part());
@@ -182,6 +190,8 @@ impl<R: Files + AllocGlobal + Drop> PageWriter for FsPart<R> {
             (IsOnFileOrFolder (Pages part)))
             self.old.faults self.new.faults result }
         ensures changes { ChangesFile self.old.writes self.new.writes result }
+        ensures forced { OnOk result (NoneOpen self.old.files (Pages part)
+            ⊎ ForcedLast self.new.files (Pages part)) }
     {
         let forced = self.store.force(&self.folder, StoreFile::Pages(part));
         self.counted(forced)

@@ -1,6 +1,6 @@
 //! The changes of the store's files.
 
-ghost use Rattle.std.specs.Prelude.{◌≡◌, ◌+◌, ◌<◌, [], false, length, vec_len, vec_capacity, IsTrue};
+ghost use Rattle.std.specs.Prelude.{◌≡◌, ◌<◌, [], false, vec_len, vec_capacity, IsTrue};
 ghost use Rattle.std.specs.Prelude.{◌⊎◌, None, IsErr, IfOk, IfErr, OnOk, OnErr};
 ghost use Rattle.pm_disk.specs.declared.names.StoreFile.TheVariants.{Segment};
 ghost use Rattle.pm_disk_fs.specs.Failures.{IsFailureOn, IsOn, IsCallOn, IsOnFile, IsOnFileOrSync};
@@ -26,8 +26,8 @@ mod log;
 /// each later one fails: nobody knows then what the disk holds.
 #[derive(Drop)]
 pub struct Store<R: Files> {
-    // The files that were changed.
-    open: OpenFiles<R::File>,
+    /// The files that were changed.
+    pub open: OpenFiles<R::File>,
     // Whether each name in the folder lasts. An earlier run may have ended before it saw to that.
     names_last: bool,
     pub writes: Writes,
@@ -137,7 +137,8 @@ impl<R: Files + AllocGlobal + Drop> Store<R> {
         bytes: &[u8],
     ) -> Result<(), Failure>
         ensures changes { ChangesFile self.old.writes self.new.writes result }
-        ensures wrote { OnOk result (IsWritten self.new.open.files.items name (at + length bytes.now)) }
+        ensures wrote { OnOk result (IsWritten R.File.contents self.new.open.files.items
+            name at bytes.now) }
         ensures others { OnOk result (OthersStayOpen self.old.open.files.items
             self.new.open.files.items name) }
         ensures failed { IfErr result (IsFailureOn (IsOnFileOrSync name)
@@ -211,7 +212,8 @@ impl<R: Files + AllocGlobal + Drop> Store<R> {
         bytes: &[u8],
     ) -> Result<(), Failure>
         ensures writes { self.new.writes ≡ self.old.writes }
-        ensures wrote { OnOk result (IsWritten self.new.open.files.items name (at + length bytes.now)) }
+        ensures wrote { OnOk result (IsWritten R.File.contents self.new.open.files.items
+            name at bytes.now) }
         ensures others { OnOk result (OthersStayOpen self.old.open.files.items
             self.new.open.files.items name) }
         ensures failed { IfErr result (IsFailureOn (IsOnFileOrSync name)

@@ -21,7 +21,7 @@ impl<R: Files + AllocGlobal + Drop> Store<R> {
     pub fn flush(&mut self, folder: &Folder<R>) -> Result<(), Failure>
         ensures writes { FlushesBuffer self.old.writes self.new.writes result }
         ensures wrote { OnOk result (0 < length self.old.writes.buffer.bytes
-            → IsStretchWritten self.new.open.files.items self.old.writes.buffer) }
+            → IsStretchWritten R.File.contents self.new.open.files.items self.old.writes.buffer) }
         ensures kept { OnErr result (self.new.writes.buffer ≡ self.old.writes.buffer) }
         ensures poisoned { IsErr result → IsTrue self.new.writes.is_poisoned }
         ensures failed { IfErr result (IsFailureOn
@@ -74,8 +74,8 @@ impl<R: Files + AllocGlobal + Drop> Store<R> {
         bytes: &[u8],
     ) -> Result<(), Failure>
         ensures poisons { PoisonsOnFailure self.old.writes self.new.writes result }
-        ensures in_order { OnOk result (IsWrittenInOrder self.old.writes.buffer
-            self.new.writes.buffer self.new.open.files.items seg at bytes.now) }
+        ensures in_order { OnOk result (IsWrittenInOrder R.File.contents
+            self.old.writes.buffer self.new.writes.buffer self.new.open.files.items seg at bytes.now) }
         ensures appended { OnOk result (FitsAfter self.old.writes.buffer seg at bytes.now
             → IsAppended self.old.writes.buffer self.new.writes.buffer seg at bytes.now) }
         ensures failed { IfErr result (IsFailureOn
@@ -129,8 +129,8 @@ impl<R: Files + AllocGlobal + Drop> Store<R> {
         at: u64,
         bytes: &[u8],
     ) -> Result<(), Failure>
-        ensures in_order { OnOk result (IsWrittenInOrder self.old.writes.buffer
-            self.new.writes.buffer self.new.open.files.items seg at bytes.now) }
+        ensures in_order { OnOk result (IsWrittenInOrder R.File.contents
+            self.old.writes.buffer self.new.writes.buffer self.new.open.files.items seg at bytes.now) }
         ensures appended { OnOk result (FitsAfter self.old.writes.buffer seg at bytes.now
             → IsAppended self.old.writes.buffer self.new.writes.buffer seg at bytes.now) }
         ensures same { self.new.writes.is_poisoned ≡ self.old.writes.is_poisoned }
@@ -157,7 +157,7 @@ impl<R: Files + AllocGlobal + Drop> Store<R> {
             ((IsAlone self.new.writes.buffer seg at bytes.now
             × (self.new.open.files.items ≡ self.old.open.files.items))
             ⊎ ((self.new.writes.buffer.bytes ≡ [])
-            × IsWritten self.new.open.files.items (Segment seg) (at + length bytes.now))) }
+            × IsWritten R.File.contents self.new.open.files.items (Segment seg) at bytes.now)) }
         ensures same { self.new.writes.is_poisoned ≡ self.old.writes.is_poisoned }
         ensures failed { IfErr result (IsFailureOn
             (IsOnFileOrSync (Segment seg)) (folder.now.dir ≡ None) ⊥) }
@@ -172,7 +172,7 @@ impl<R: Files + AllocGlobal + Drop> Store<R> {
     fn put_buffered(&mut self, folder: &Folder<R>) -> Result<(), Failure>
         ensures written { OnOk result (self.new.writes.buffer.bytes ≡ []) }
         ensures wrote { OnOk result (0 < length self.old.writes.buffer.bytes
-            → IsStretchWritten self.new.open.files.items self.old.writes.buffer) }
+            → IsStretchWritten R.File.contents self.new.open.files.items self.old.writes.buffer) }
         ensures kept { OnErr result (self.new.writes.buffer ≡ self.old.writes.buffer) }
         ensures same { self.new.writes.is_poisoned ≡ self.old.writes.is_poisoned }
         ensures failed { IfErr result (IsFailureOn
