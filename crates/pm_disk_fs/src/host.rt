@@ -41,7 +41,9 @@ use std::rt::Files;
 
 /// Disk and console of the process, whose content no contract can observe. A clause sees how often a call
 /// has failed and the first failure, which folder is bound, whether a change or a force of a file has
-/// failed, and what of the log isn't with the system yet.
+/// failed, what of the log isn't with the system yet, which files are open since they were changed, where
+/// the last write to each ended and whether it was forced since, and what is left of the input where its
+/// reader reports that.
 #[derive(Drop)]
 pub struct FsHost<R: Files + Input + Drop> {
     pub(crate) folder: Folder<R>,

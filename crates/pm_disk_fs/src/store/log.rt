@@ -25,7 +25,8 @@ impl<R: Files + AllocGlobal + Drop> Store<R> {
         ensures kept { OnErr result (self.new.writes.buffer ≡ self.old.writes.buffer) }
         ensures poisoned { IsErr result → IsTrue self.new.writes.is_poisoned }
         ensures failed { IfErr result (IsFailureOn
-            (IsOnFileOrSync (Segment self.old.writes.buffer.seg)) (folder.now.dir ≡ None) (IsTrue self.old.writes.is_poisoned)) }
+            (IsOnFileOrSync (Segment self.old.writes.buffer.seg))
+            (folder.now.dir ≡ None) (IsTrue self.old.writes.is_poisoned)) }
     {
         if self.writes.buffer.is_empty() {
             return Ok(());
@@ -40,7 +41,8 @@ impl<R: Files + AllocGlobal + Drop> Store<R> {
     pub fn seg_len(&mut self, folder: &Folder<R>, seg: u64) -> Result<Option<u64>, Failure>
         ensures writes { FlushesBuffer self.old.writes self.new.writes result }
         ensures failed { IfErr result (IsFailureOn
-            (IsOnEither (Segment seg) (Segment self.old.writes.buffer.seg)) (folder.now.dir ≡ None) (IsTrue self.old.writes.is_poisoned)) }
+            (IsOnEither (Segment seg) (Segment self.old.writes.buffer.seg))
+            (folder.now.dir ≡ None) (IsTrue self.old.writes.is_poisoned)) }
     {
         self.flush(folder)?;
         folder.len(StoreFile::Segment(seg))
@@ -58,7 +60,8 @@ impl<R: Files + AllocGlobal + Drop> Store<R> {
         ensures bound { IfOk result (λ n. n ≤ length into.new) }
         ensures writes { FlushesBuffer self.old.writes self.new.writes result }
         ensures failed { IfErr result (IsFailureOn
-            (IsOnEither (Segment seg) (Segment self.old.writes.buffer.seg)) (folder.now.dir ≡ None) (IsTrue self.old.writes.is_poisoned)) }
+            (IsOnEither (Segment seg) (Segment self.old.writes.buffer.seg))
+            (folder.now.dir ≡ None) (IsTrue self.old.writes.is_poisoned)) }
     {
         self.flush(folder)?;
         folder.read(StoreFile::Segment(seg), at, into)
@@ -79,7 +82,8 @@ impl<R: Files + AllocGlobal + Drop> Store<R> {
         ensures appended { OnOk result (FitsAfter self.old.writes.buffer seg at bytes.now
             → IsAppended self.old.writes.buffer self.new.writes.buffer seg at bytes.now) }
         ensures failed { IfErr result (IsFailureOn
-            (IsOnEither (Segment seg) (Segment self.old.writes.buffer.seg)) (folder.now.dir ≡ None) (IsTrue self.old.writes.is_poisoned)) }
+            (IsOnEither (Segment seg) (Segment self.old.writes.buffer.seg))
+            (folder.now.dir ≡ None) (IsTrue self.old.writes.is_poisoned)) }
     {
         self.writes.begin()?;
         let _bound = folder.name()?;
@@ -93,7 +97,8 @@ impl<R: Files + AllocGlobal + Drop> Store<R> {
         ensures changes { ChangesLog self.old.writes self.new.writes result }
         ensures cut { OnOk result (IsChangedLast self.new.open.files.items (Segment seg)) }
         ensures failed { IfErr result (IsFailureOn
-            (IsOnEither (Segment seg) (Segment self.old.writes.buffer.seg)) (folder.now.dir ≡ None) (IsTrue self.old.writes.is_poisoned)) }
+            (IsOnEither (Segment seg) (Segment self.old.writes.buffer.seg))
+            (folder.now.dir ≡ None) (IsTrue self.old.writes.is_poisoned)) }
     {
         self.flush(folder)?;
         self.cut(folder, StoreFile::Segment(seg), len)
@@ -104,7 +109,8 @@ impl<R: Files + AllocGlobal + Drop> Store<R> {
         ensures changes { ChangesLog self.old.writes self.new.writes result }
         ensures names { OnOk result (IsTrue self.new.names_last) }
         ensures failed { IfErr result (IsFailureOn
-            (IsOnEitherOrFolder (Segment seg) (Segment self.old.writes.buffer.seg)) (folder.now.dir ≡ None) (IsTrue self.old.writes.is_poisoned)) }
+            (IsOnEitherOrFolder (Segment seg) (Segment self.old.writes.buffer.seg))
+            (folder.now.dir ≡ None) (IsTrue self.old.writes.is_poisoned)) }
     {
         self.flush(folder)?;
         self.force(folder, StoreFile::Segment(seg))
@@ -115,7 +121,8 @@ impl<R: Files + AllocGlobal + Drop> Store<R> {
         ensures changes { ChangesLog self.old.writes self.new.writes result }
         ensures names { OnOk result (self.new.names_last ≡ false) }
         ensures failed { IfErr result (IsFailureOn
-            (IsOnEither (Segment seg) (Segment self.old.writes.buffer.seg)) (folder.now.dir ≡ None) (IsTrue self.old.writes.is_poisoned)) }
+            (IsOnEither (Segment seg) (Segment self.old.writes.buffer.seg))
+            (folder.now.dir ≡ None) (IsTrue self.old.writes.is_poisoned)) }
     {
         self.flush(folder)?;
         self.remove(folder, StoreFile::Segment(seg))
@@ -135,7 +142,8 @@ impl<R: Files + AllocGlobal + Drop> Store<R> {
             → IsAppended self.old.writes.buffer self.new.writes.buffer seg at bytes.now) }
         ensures same { self.new.writes.is_poisoned ≡ self.old.writes.is_poisoned }
         ensures failed { IfErr result (IsFailureOn
-            (IsOnEither (Segment seg) (Segment self.old.writes.buffer.seg)) (folder.now.dir ≡ None) ⊥) }
+            (IsOnEither (Segment seg) (Segment self.old.writes.buffer.seg))
+            (folder.now.dir ≡ None) ⊥) }
     {
         if self.writes.buffer.add(seg, at, bytes) {
             return Ok(());
@@ -160,7 +168,8 @@ impl<R: Files + AllocGlobal + Drop> Store<R> {
             × IsWritten R.File.contents self.new.open.files.items (Segment seg) at bytes.now)) }
         ensures same { self.new.writes.is_poisoned ≡ self.old.writes.is_poisoned }
         ensures failed { IfErr result (IsFailureOn
-            (IsOnFileOrSync (Segment seg)) (folder.now.dir ≡ None) ⊥) }
+            (IsOnFileOrSync (Segment seg))
+            (folder.now.dir ≡ None) ⊥) }
     {
         if self.writes.buffer.add(seg, at, bytes) {
             return Ok(());
@@ -176,7 +185,8 @@ impl<R: Files + AllocGlobal + Drop> Store<R> {
         ensures kept { OnErr result (self.new.writes.buffer ≡ self.old.writes.buffer) }
         ensures same { self.new.writes.is_poisoned ≡ self.old.writes.is_poisoned }
         ensures failed { IfErr result (IsFailureOn
-            (IsOnFileOrSync (Segment self.old.writes.buffer.seg)) (folder.now.dir ≡ None) ⊥) }
+            (IsOnFileOrSync (Segment self.old.writes.buffer.seg))
+            (folder.now.dir ≡ None) ⊥) }
     {
         if self.writes.buffer.is_empty() {
             return Ok(());
