@@ -5,3 +5,4 @@ pub mod SortingOut
 pub mod StayingOpen
 pub mod TakingBack
 pub mod TakingOut
+pub mod Viewing

@@ -1,13 +1,13 @@
 -- A list is what stands before an element, the element, and what follows.
 use Rattle.std.proofs.Common.{◌≡◌, ◌<◌, ◌+◌, ℕ, suc, List, ◌∷◌, ◌++◌, [], length, take, drop, get_or, sym, ◌∙◌, ap, subst, add-one}
-use Rattle.std.specs.Prelude.{Some, slice_get, IfSome}
+use Rattle.std.specs.Prelude.{Option, Some, slice_get, IfSome}
 use Rattle.std.proofs.lemmas.List.{take-append-drop}
 use Rattle.std.proofs.lemmas.Option.{slice_get-get_or}
 use Rattle.std.proofs.Math.Seq.{drop-cons}
 use Rattle.pm_disk.specs.declared.names.StoreFile.{StoreFile}
 use Rattle.pm_disk_fs.specs.declared.opened.Opened.{Opened}
 use Rattle.pm_disk_fs.specs.OpenFiles.{IsTakenOut}
-use Rattle.pm_disk_fs.specs.Positions.{EndsAt, IsWritten}
+use Rattle.pm_disk_fs.specs.Positions.{HasBytes, IsWritten}
 
 pub split_at : {X : Type 0} (xs : List X) (i : ℕ) (x : X) → i < length xs → x ≡ get_or xs i x → xs ≡ take i xs ++ x ∷ drop (i + 1) xs
 split_at xs i x lt is =
@@ -26,10 +26,10 @@ taken_out old new i file name lt named is left = record {
 }
 
 -- the file that was put after the others was written last
-pub written_last : {F : Type 0} (files before : List (Opened F)) (file : Opened F) (was name : StoreFile) (end : ℕ) → files ≡ before ++ file ∷ [] → EndsAt file was end → was ≡ name → IsWritten files name end
-written_last files before file was name end last ends same = record {
+pub written_last : {F : Type 0} (contents : F → Option (List ℕ)) (files before : List (Opened F)) (file : Opened F) (was name : StoreFile) (at : ℕ) (bytes : List ℕ) → files ≡ before ++ file ∷ [] → HasBytes contents file was at bytes → was ≡ name → IsWritten contents files name at bytes
+written_last contents files before file was name at bytes last has same = record {
   before = before;
   file = file;
   last = last;
-  ends = record { named = ends.named ∙ same; noted = ends.noted; unforced = ends.unforced };
+  has = record { named = has.named ∙ same; handed = has.handed; noted = has.noted; unforced = has.unforced };
 }

@@ -1,6 +1,8 @@
+pub mod Failures
 pub mod Faults
 pub mod Host
 pub mod OpenFiles
+pub mod OpenViews
 pub mod Parts
 pub mod Paths
 pub mod Positions

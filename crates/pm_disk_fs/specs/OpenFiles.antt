@@ -1,6 +1,6 @@
 -- The files that are open since they were changed.
 use Rattle.std.specs.Prelude.{◌≡◌, ◌≢◌, ◌<◌, ◌∷◌, ◌++◌, Bool, true, false, List, length, filter, ◌==◌}
-use Rattle.std.specs.Prelude.{if◌then◌else◌, remove, Contains}
+use Rattle.std.specs.Prelude.{if◌then◌else◌, remove, Contains, All, IsTrue}
 use Rattle.pm_disk.specs.declared.names.StoreFile.{StoreFile}
 use Rattle.pm_disk.specs.declared.names.StoreFile.TheVariants.{Config, Marks, Segment, Pages}
 use Rattle.pm_disk_fs.specs.declared.opened.Opened.{Opened}
@@ -14,6 +14,14 @@ pub record IsTakenOut {F : Type 0} (old new : List (Opened F)) (name : StoreFile
   pub after : List (Opened F)
   pub was : old ≡ before ++ file ∷ after
   pub is : new ≡ before ++ after
+
+-- No open file has this name.
+abbrev pub IsNotOpen : {F : Type 0} → List (Opened F) → StoreFile → Type 0
+IsNotOpen files name = All (λ file. file.name ≢ name) files
+
+-- Each of the files was forced since its last change.
+abbrev pub AreForced : {F : Type 0} → List (Opened F) → Type 0
+AreForced files = All (λ file. IsTrue file.is_forced) files
 
 -- the files, without the one that was changed longest ago where they are as many as may be open
 abbrev pub after_oldest : {F : Type 0} → List (Opened F) → List (Opened F)

@@ -1,7 +1,8 @@
 -- How far a file was written.
 use Rattle.std.specs.Prelude.{◌≡◌, ◌+◌, ◌^◌, ◌<◌, ◌⊎◌, ℕ, List, [], ◌∷◌, ◌++◌, length, Option, Some}
-use Rattle.std.specs.Prelude.{IsSome, IfSome, false}
+use Rattle.std.specs.Prelude.{IsSome, IfSome, IsTrue, false}
 use Rattle.std.specs.Option.{SomeIff}
+use Rattle.std.specs.Io.KnownBytes.{Appends}
 use Rattle.pm_disk.specs.declared.names.StoreFile.{StoreFile}
 use Rattle.pm_disk.specs.declared.names.StoreFile.TheVariants.{Segment}
 use Rattle.pm_disk_fs.specs.declared.opened.Opened.{Opened}
@@ -12,19 +13,28 @@ pub record IsKnown (noted reported : Option ℕ) : Type 0 where
   pub is_reported : IsSome reported
   pub agrees : IfSome noted (λ at. reported ≡ Some at)
 
--- The file is the one of this name, the last write to it ended at this offset, and it has to be forced.
-pub record EndsAt {F : Type 0} (file : Opened F) (name : StoreFile) (end : ℕ) : Type 0 where
+-- The system's file was handed these bytes, and nothing after them.
+pub record IsHanded {F : Type 0} (contents : F → Option (List ℕ)) (file : F) (bytes : List ℕ) : Type 0 where
+  pub before : F
+  pub appended : Appends (contents before) (contents file) bytes
+
+-- The file is the one of this name, the last write to it was of these bytes and began at this offset, and it
+-- has to be forced.
+pub record HasBytes {F : Type 0} (contents : F → Option (List ℕ)) (file : Opened F) (name : StoreFile)
+    (at : ℕ) (bytes : List ℕ) : Type 0 where
   pub named : file.name ≡ name
-  pub noted : SomeIff file.at (end < 2 ^ 64) end
+  pub handed : IsHanded contents file.file bytes
+  pub noted : SomeIff file.at (at + length bytes < 2 ^ 64) (at + length bytes)
   pub unforced : file.is_forced ≡ false
 
--- Of the open files the one that was changed last is the one of this name, and the last write to it
--- ended at this offset.
-pub record IsWritten {F : Type 0} (files : List (Opened F)) (name : StoreFile) (end : ℕ) : Type 0 where
+-- Of the open files the one that was changed last is the one of this name, and the last write to it was of
+-- these bytes and began at this offset.
+pub record IsWritten {F : Type 0} (contents : F → Option (List ℕ)) (files : List (Opened F))
+    (name : StoreFile) (at : ℕ) (bytes : List ℕ) : Type 0 where
   pub before : List (Opened F)
   pub file : Opened F
   pub last : files ≡ before ++ file ∷ []
-  pub ends : EndsAt file name end
+  pub has : HasBytes contents file name at bytes
 
 -- Of the open files the one that was changed last is the one of this name, and it has to be forced.
 pub record IsChangedLast {F : Type 0} (files : List (Opened F)) (name : StoreFile) : Type 0 where
@@ -34,13 +44,23 @@ pub record IsChangedLast {F : Type 0} (files : List (Opened F)) (name : StoreFil
   pub named : file.name ≡ name
   pub unforced : file.is_forced ≡ false
 
+-- Of the open files the one that was changed last is the one of this name, and it was forced since.
+pub record IsForcedLast {F : Type 0} (files : List (Opened F)) (name : StoreFile) : Type 0 where
+  pub before : List (Opened F)
+  pub file : Opened F
+  pub last : files ≡ before ++ file ∷ []
+  pub named : file.name ≡ name
+  pub forced : IsTrue file.is_forced
+
 -- All bytes of the stretch were handed to the system, last of all.
-abbrev pub IsStretchWritten : {F : Type 0} → List (Opened F) → Stretch → Type 0
-IsStretchWritten files stretch = IsWritten files (Segment stretch.seg) (stretch.at + length stretch.bytes)
+abbrev pub IsStretchWritten : {F : Type 0} → (F → Option (List ℕ)) → List (Opened F) → Stretch → Type 0
+IsStretchWritten contents files stretch =
+    IsWritten contents files (Segment stretch.seg) stretch.at stretch.bytes
 
 -- A write to a segment follows what was buffered before, or is alone in the buffer since that was
 -- written, or was itself written last of all.
-abbrev pub IsWrittenInOrder : {F : Type 0} → Stretch → Stretch → List (Opened F) → ℕ → ℕ → List ℕ → Type 0
-IsWrittenInOrder old new files seg at more = IsAppended old new seg at more
-    ⊎ ((IsAlone new seg at more × (0 < length old.bytes → IsStretchWritten files old))
-    ⊎ ((new.bytes ≡ []) × IsWritten files (Segment seg) (at + length more)))
+abbrev pub IsWrittenInOrder : {F : Type 0} → (F → Option (List ℕ)) → Stretch → Stretch
+    → List (Opened F) → ℕ → ℕ → List ℕ → Type 0
+IsWrittenInOrder contents old new files seg at more = IsAppended old new seg at more
+    ⊎ ((IsAlone new seg at more × (0 < length old.bytes → IsStretchWritten contents files old))
+    ⊎ ((new.bytes ≡ []) × IsWritten contents files (Segment seg) at more))

@@ -1,6 +1,7 @@
 //! Why a call failed: which call of the system, on what, and the system's words.
 
-ghost use Rattle.std.specs.Prelude.{◌↔◌, ◌≡◌, Ok, IsErr, IfOk};
+ghost use Rattle.std.specs.Prelude.{◌≡◌, Ok, IfOk, IfErr, IsErrAnd};
+ghost use Rattle.pm_disk_fs.specs.declared.failure.Failure.TheVariants.{Memory};
 
 use pm_disk::{MarkFile, StoreFile};
 use std::alloc::{AllocError, AllocFailed};
@@ -108,12 +109,16 @@ impl Display for Failure {
 }
 
 impl From<AllocError> for Failure {
+    ghost from_gives = { λ _ failure. failure ≡ Memory };
+
     fn from(_e: AllocError) -> Failure {
         Failure::Memory
     }
 }
 
 impl<T: Drop> From<AllocFailed<T>> for Failure {
+    ghost from_gives = { λ _ failure. failure ≡ Memory };
+
     fn from(_e: AllocFailed<T>) -> Failure {
         Failure::Memory
     }
@@ -122,7 +127,8 @@ impl<T: Drop> From<AllocFailed<T>> for Failure {
 /// What the system answered to a call, with an error of it named.
 pub fn named<T>(call: SystemCall, object: Object, answer: io::Result<T>) -> Result<T, Failure>
     ensures value { IfOk result (λ value. answer ≡ Ok value) }
-    ensures error { IsErr result → IsErr answer }
+    ensures error { IfErr result (λ failure. IsErrAnd answer
+        (λ error. failure ≡ Failure.System call object error)) }
 {
     match answer {
         Ok(value) => Ok(value),

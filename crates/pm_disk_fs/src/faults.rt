@@ -1,6 +1,6 @@
 //! How often calls failed, and why the first one did.
 
-ghost use Rattle.std.specs.Prelude.{◌≡◌, ◌≤◌, ◌<◌, Ok, None, IsErr, IfOk, OnErr};
+ghost use Rattle.std.specs.Prelude.{◌≡◌, ◌≤◌, ◌<◌, Ok, Err, None, IsErr, IfOk, OnErr};
 ghost use Rattle.pm_types.specs.Counts.{HasRisen};
 ghost use Rattle.pm_disk_fs.specs.Faults.{KeepsFirst, JoinsFaults};
 
@@ -54,7 +54,7 @@ impl Faults {
         ensures later { self.old.count ≤ self.new.count }
         ensures same { OnOk result (self.new ≡ self.old) }
         ensures rose { OnErr result (HasRisen self.old.count self.new.count) }
-        ensures first { KeepsFirst self.old self.new result }
+        ensures first { KeepsFirst (λ failure. made ≡ Err failure) self.old self.new result }
         ensures value { IfOk result (λ v. made ≡ Ok v) }
         ensures error { IsErr result → IsErr made }
     {

@@ -1,9 +1,12 @@
 //! The store's folder, and its files by name.
 
 ghost use Rattle.std.specs.Prelude.{◌≡◌, ◌<◌, ◌≤◌, ◌+◌, false, length, take, replicate, None, Some};
-ghost use Rattle.std.specs.Prelude.{IsNone, IsSome, IfOk, OnOk, OnErr, option_map};
+ghost use Rattle.std.specs.Prelude.{IsNone, IsSome, IfOk, IfErr, OnOk, OnErr, option_map};
 ghost use Rattle.std.specs.String.{string_bytes};
 ghost use Rattle.std.specs.Io.KnownBytes.{Consumes, IsAtEnd, ReadConsumes};
+ghost use Rattle.pm_disk_fs.specs.Failures.{IsFailureOn, IsPathFailure, IsLockFailure};
+ghost use Rattle.pm_disk_fs.specs.Failures.{IsOn, IsOnFile, IsCallOn};
+ghost use Rattle.pm_disk_fs.specs.Paths.{IsPathOf};
 
 use crate::failure::{Failure, Object, SystemCall, named};
 use crate::lock::{Lockable, lock_folder};
@@ -32,6 +35,8 @@ impl<R: Files<File: Lockable> + AllocGlobal + Drop> Folder<R> {
         ensures bound { OnOk result (option_map string_bytes self.new.dir ≡ Some dir.now) }
         ensures unchanged { OnErr result (self.new.dir ≡ self.old.dir) }
         ensures locked { IfOk result (λ lock. IsNone lock → IsSome at_hand.now) }
+        ensures failed { IfErr result (IsLockFailure
+            ((file : R.File) × R.File.may_be_held file)) }
     {
         let store = Path::new(dir);
         let name = String::from_str(self.rt.alloc(), dir)?;
@@ -68,7 +73,10 @@ impl<R: Files + AllocGlobal + Drop> Folder<R> {
     }
 
     /// The length of a file in bytes, none where it isn't there.
-    pub fn len(&self, name: StoreFile) -> Result<Option<u64>, Failure> {
+    pub fn len(&self, name: StoreFile) -> Result<Option<u64>, Failure>
+        ensures { IfErr result (IsFailureOn (IsCallOn SystemCall.Stat (Object.File name))
+            (self.now.dir ≡ None) ⊥) }
+    {
         let found = fs::metadata(&self.rt, &self.path(name)?);
         let found = named(SystemCall::Stat, Object::File(name), if_there(found))?;
         Ok(found.map(|metadata| metadata.len()))
@@ -78,6 +86,7 @@ impl<R: Files + AllocGlobal + Drop> Folder<R> {
     /// bytes there were; 0 where it isn't there.
     pub fn read(&self, name: StoreFile, at: u64, into: &mut [u8]) -> Result<usize, Failure>
         ensures bound { IfOk result (λ n. n ≤ length into.new) }
+        ensures failed { IfErr result (IsFailureOn (IsOnFile name) (self.now.dir ≡ None) ⊥) }
     {
         let Some(mut file) = self.open(name)? else {
             return Ok(0);
@@ -92,6 +101,7 @@ impl<R: Files + AllocGlobal + Drop> Folder<R> {
     pub fn read_whole(&self, name: StoreFile, at: u64, into: &mut [u8]) -> Result<bool, Failure>
         ensures zeros { IfOk result
             (λ whole. whole ≡ false → into.new ≡ replicate (length into.new) 0) }
+        ensures failed { IfErr result (IsFailureOn (IsOnFile name) (self.now.dir ≡ None) ⊥) }
     {
         let is_whole = self.read(name, at, into)? == into.len();
         if !is_whole {
@@ -101,20 +111,29 @@ impl<R: Files + AllocGlobal + Drop> Folder<R> {
     }
 
     /// Opens a file to be read, none where it isn't there.
-    pub fn open(&self, name: StoreFile) -> Result<Option<R::File>, Failure> {
+    pub fn open(&self, name: StoreFile) -> Result<Option<R::File>, Failure>
+        ensures { IfErr result (IsFailureOn (IsCallOn SystemCall.Open (Object.File name))
+            (self.now.dir ≡ None) ⊥) }
+    {
         let opened = fs::open(&self.rt, &self.path(name)?);
         named(SystemCall::Open, Object::File(name), if_there(opened))
     }
 
     /// Opens a file to be changed, none where it isn't there.
-    pub fn open_to_change(&self, name: StoreFile) -> Result<Option<R::File>, Failure> {
+    pub fn open_to_change(&self, name: StoreFile) -> Result<Option<R::File>, Failure>
+        ensures { IfErr result (IsFailureOn (IsCallOn SystemCall.Open (Object.File name))
+            (self.now.dir ≡ None) ⊥) }
+    {
         let path = self.path(name)?;
         let opened = OpenOptions::new().write(true).open(&self.rt, &path);
         named(SystemCall::Open, Object::File(name), if_there(opened))
     }
 
     /// Makes a file that isn't there, to be changed. Its name lasts once the names were synced.
-    pub fn make(&self, name: StoreFile) -> Result<R::File, Failure> {
+    pub fn make(&self, name: StoreFile) -> Result<R::File, Failure>
+        ensures { IfErr result (IsFailureOn (IsCallOn SystemCall.Open (Object.File name))
+            (self.now.dir ≡ None) ⊥) }
+    {
         let path = self.path(name)?;
         let made = OpenOptions::new()
             .write(true)
@@ -124,20 +143,27 @@ impl<R: Files + AllocGlobal + Drop> Folder<R> {
     }
 
     /// Removes a file, where it is there. It is gone for good once the names were synced.
-    pub fn remove(&self, name: StoreFile) -> Result<(), Failure> {
+    pub fn remove(&self, name: StoreFile) -> Result<(), Failure>
+        ensures { IfErr result (IsFailureOn (IsCallOn SystemCall.Remove (Object.File name))
+            (self.now.dir ≡ None) ⊥) }
+    {
         let removed = fs::remove_file(&self.rt, &self.path(name)?);
         named(SystemCall::Remove, Object::File(name), if_there(removed))?;
         Ok(())
     }
 
     /// Makes the names of all files lasting, also of those that were removed.
-    pub fn sync_names(&self) -> Result<(), Failure> {
+    pub fn sync_names(&self) -> Result<(), Failure>
+        ensures { IfErr result (IsFailureOn (IsOn Object.Folder) (self.now.dir ≡ None) ⊥) }
+    {
         sync_folder(&self.rt, Path::new(self.name()?), Object::Folder)
     }
 
     /// The folder's name.
     pub fn name(&self) -> Result<&str, Failure>
         ensures name { IfOk result (λ dir. option_map string_bytes self.now.dir ≡ Some dir.now) }
+        ensures unbound { IfErr result (λ failure. (failure ≡ Failure.Unbound)
+            × (self.now.dir ≡ None)) }
     {
         match &self.dir {
             Some(dir) => Ok(dir.as_str()),
@@ -146,7 +172,11 @@ impl<R: Files + AllocGlobal + Drop> Folder<R> {
     }
 
     // The path of a file.
-    fn path(&self, name: StoreFile) -> Result<String, Failure> {
+    fn path(&self, name: StoreFile) -> Result<String, Failure>
+        ensures path { IfOk result
+            (λ path. IsPathOf (option_map string_bytes self.now.dir) name (string_bytes path)) }
+        ensures failed { IfErr result (IsPathFailure name (self.now.dir ≡ None)) }
+    {
         file_path(self.rt.alloc(), self.name()?, name)
     }
 }

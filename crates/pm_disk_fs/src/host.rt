@@ -2,7 +2,8 @@
 
 ghost use Rattle.std.specs.Prelude.{◌≡◌, ◌≤◌, ◌↔◌, [], ◌∷◌, true, false, length, map, vec_len, refl};
 ghost use Rattle.std.specs.Prelude.{Ok, None, Some, IsTrue, IsErr, IsNone, IsSome, IfOk, OnOk, OnErr};
-ghost use Rattle.std.specs.Prelude.{All};
+ghost use Rattle.std.specs.Prelude.{◌+◌, ◌⊎◌, All, replicate, Err, IfErr};
+ghost use Rattle.std.specs.Io.KnownBytes.{ReadConsumes};
 ghost use Rattle.std.specs.Option.{option_copied};
 ghost use Rattle.pm_types.specs.declared.limits.TheConstants.{PAGE_SIZE_MAX};
 ghost use Rattle.pm_disk.specs.States.{HasCause, Binds};
@@ -10,7 +11,14 @@ ghost use Rattle.pm_disk.specs.Moments.{nothing_told};
 ghost use Rattle.pm_disk_fs.specs.WriteBuffer.{IsBufferedOrWritten, FitsAfter, IsAppended};
 ghost use Rattle.pm_disk_fs.specs.Writes.{ChangesFile, ChangesLog, FlushesBuffer, PoisonsOnFailure};
 ghost use Rattle.pm_disk.specs.Lending.{reader_lent, PartsLent, Lends, TakesBack};
-ghost use Rattle.pm_disk_fs.specs.Host.{state_of, KeepsFirstFailure};
+ghost use Rattle.pm_disk.specs.declared.names.StoreFile.TheVariants.{Config, Marks, Segment, Pages};
+ghost use Rattle.pm_types.specs.Ids.{part_of_id};
+ghost use Rattle.pm_disk_fs.specs.Failures.{IsOnFile, IsCallOn, IsOnFileOrSync, IsOnFileOrFolder};
+ghost use Rattle.pm_disk_fs.specs.Failures.{IsOnEither, IsOnEitherOrFolder};
+ghost use Rattle.pm_disk_fs.specs.Host.{state_of, IsHostFailure, IsBindFailure, IsPrintFailure};
+ghost use Rattle.pm_disk_fs.specs.Host.{KeepsFirstFailure};
+ghost use Rattle.pm_disk_fs.specs.OpenViews.{WrittenLast, ChangedLast, ForcedLast, NoneOpen};
+ghost use Rattle.pm_disk.specs.Worlds.{page_at, slot_at};
 ghost use Rattle.pm_disk_fs.specs.Parts.{state_of_part, state_of_reader};
 
 use crate::failure::{Failure, Object, SystemCall, named};
@@ -33,7 +41,9 @@ use std::rt::Files;
 
 /// Disk and console of the process, whose content no contract can observe. A clause sees how often a call
 /// has failed and the first failure, which folder is bound, whether a change or a force of a file has
-/// failed, and what of the log isn't with the system yet.
+/// failed, what of the log isn't with the system yet, which files are open since they were changed, where
+/// the last write to each ended and whether it was forced since, and what is left of the input where its
+/// reader reports that.
 #[derive(Drop)]
 pub struct FsHost<R: Files + Input + Drop> {
     pub(crate) folder: Folder<R>,
@@ -50,6 +60,7 @@ impl<R: Files + Input + Drop> Model for FsHost<R> {
     ghost use Rattle.std.specs.Prelude.{option_map, IsSome};
     ghost use Rattle.std.specs.String.{string_bytes};
     ghost use Rattle.pm_disk_fs.specs.Host.{HostView};
+    ghost use Rattle.pm_disk_fs.specs.OpenViews.{open_views};
 
     ghost Value = { HostView };
 
@@ -59,6 +70,8 @@ impl<R: Files + Input + Drop> Model for FsHost<R> {
       is_lent = host.is_lent;
       folder = option_map string_bytes host.folder.dir;
       writes = host.store.writes;
+      files = open_views host.store.open.files.items;
+      input = R.Reader.remaining host.input;
     } };
 
     ghost invariant = { λ host. IsSome host.folder.dir → IsSome host.lock };
@@ -98,8 +111,10 @@ impl<R: Files + Input + Drop> FsHost<R> {
     // What a call made, a failure of it counted.
     fn counted<T>(&mut self, made: Result<T, Failure>) -> Result<T, Failed>
         ensures cause { HasCause (state_of self.old) (state_of self.new) result }
-        ensures first { KeepsFirstFailure self.old self.new result }
+        ensures first { KeepsFirstFailure (λ failure. made ≡ Err failure) self.old self.new result }
         ensures writes { self.new.writes ≡ self.old.writes }
+        ensures input { self.new.input ≡ self.old.input }
+        ensures files { self.new.files ≡ self.old.files }
         ensures value { IfOk result (λ v. made ≡ Ok v) }
         ensures error { IsErr result → IsErr made }
     {
@@ -117,6 +132,8 @@ impl<R: Files<File: Lockable> + Input + AllocGlobal + Drop> FsHost<R> {
         ensures writes { FlushesBuffer self.old.writes self.new.writes result }
         ensures refused { IsTrue self.old.writes.is_poisoned → IsErr result }
         ensures is_lent { self.new.is_lent ≡ self.old.is_lent }
+        ensures failed { IfErr result (λ failure. IsBindFailure self.old failure
+            ((file : R.File) × R.File.may_be_held file)) }
     {
         self.store.leave(&self.folder)?;
         if let Some(lock) = self.folder.bind(dir, &self.lock)? {
@@ -141,7 +158,8 @@ impl<R: Files + Input + Drop> Device for FsHost<R> {
 impl<R: Files + Input + AllocGlobal + Drop> LogReader for FsHost<R> {
     fn seg_len(&mut self, seg: u64) -> Result<Option<u64>, Failed>
         ensures cause { HasCause (state_of self.old) (state_of self.new) result }
-        ensures first { KeepsFirstFailure self.old self.new result }
+        ensures first { KeepsFirstFailure (IsHostFailure self.old
+            (IsOnEither (Segment seg) (Segment self.old.writes.buffer.seg))) self.old self.new result }
         ensures writes { FlushesBuffer self.old.writes self.new.writes result }
     {
         let len = self.store.seg_len(&self.folder, seg);
@@ -150,7 +168,8 @@ impl<R: Files + Input + AllocGlobal + Drop> LogReader for FsHost<R> {
 
     fn read_log(&mut self, seg: u64, at: u64, into: &mut [u8]) -> Result<usize, Failed>
         ensures cause { HasCause (state_of self.old) (state_of self.new) result }
-        ensures first { KeepsFirstFailure self.old self.new result }
+        ensures first { KeepsFirstFailure (IsHostFailure self.old
+            (IsOnEither (Segment seg) (Segment self.old.writes.buffer.seg))) self.old self.new result }
         ensures bound { IfOk result (λ n. n ≤ length into.new) }
         ensures writes { FlushesBuffer self.old.writes self.new.writes result }
     {
@@ -166,7 +185,8 @@ impl<R: Files + Input + AllocGlobal + Drop> LogFile for FsHost<R> {
     /// the system refuses may be a failure of that call. The file is made then too.
     fn write_log(&mut self, seg: u64, at: u64, bytes: &[u8]) -> Result<(), Failed>
         ensures cause { HasCause (state_of self.old) (state_of self.new) result }
-        ensures first { KeepsFirstFailure self.old self.new result }
+        ensures first { KeepsFirstFailure (IsHostFailure self.old
+            (IsOnEither (Segment seg) (Segment self.old.writes.buffer.seg))) self.old self.new result }
         ensures poisons { PoisonsOnFailure self.old.writes self.new.writes result }
         ensures in_order { OnOk result (IsBufferedOrWritten self.old.writes.buffer
             self.new.writes.buffer seg at bytes.now) }
@@ -179,8 +199,10 @@ impl<R: Files + Input + AllocGlobal + Drop> LogFile for FsHost<R> {
 
     fn cut_log(&mut self, seg: u64, len: u64) -> Result<(), Failed>
         ensures cause { HasCause (state_of self.old) (state_of self.new) result }
-        ensures first { KeepsFirstFailure self.old self.new result }
+        ensures first { KeepsFirstFailure (IsHostFailure self.old
+            (IsOnEither (Segment seg) (Segment self.old.writes.buffer.seg))) self.old self.new result }
         ensures changes { ChangesLog self.old.writes self.new.writes result }
+        ensures cut { OnOk result (ChangedLast self.new.files (Segment seg)) }
     {
         let cut = self.store.cut_log(&self.folder, seg, len);
         self.counted(cut)
@@ -189,7 +211,8 @@ impl<R: Files + Input + AllocGlobal + Drop> LogFile for FsHost<R> {
     /// It makes the names of all files lasting too.
     fn force_log(&mut self, seg: u64) -> Result<(), Failed>
         ensures cause { HasCause (state_of self.old) (state_of self.new) result }
-        ensures first { KeepsFirstFailure self.old self.new result }
+        ensures first { KeepsFirstFailure (IsHostFailure self.old
+            (IsOnEitherOrFolder (Segment seg) (Segment self.old.writes.buffer.seg))) self.old self.new result }
         ensures changes { ChangesLog self.old.writes self.new.writes result }
     {
         let forced = self.store.force_log(&self.folder, seg);
@@ -201,8 +224,11 @@ impl<R: Files + Input + AllocGlobal + Drop> PageReader for FsHost<R> {
     fn read_page(&mut self, page: PageId, into: &mut [u8]) -> Result<bool, Failed>
         requires { length into.old ≤ PAGE_SIZE_MAX }
         ensures cause { HasCause (state_of self.old) (state_of self.new) result }
-        ensures first { KeepsFirstFailure self.old self.new result }
+        ensures first { KeepsFirstFailure (IsHostFailure self.old
+            (IsOnFile (Pages (part_of_id page)))) self.old self.new result }
         ensures writes { self.new.writes ≡ self.old.writes }
+        ensures zeros { IfOk result
+            (λ whole. whole ≡ false → into.new ≡ replicate (length into.new) 0) }
     {
         let at = page.index() as u64 * into.len() as u64;
         let name = StoreFile::Pages(page.part());
@@ -217,8 +243,11 @@ impl<R: Files + Input + AllocGlobal + Drop> PageWriter for FsHost<R> {
     fn write_page(&mut self, page: PageId, bytes: &[u8]) -> Result<(), Failed>
         requires { length bytes.now ≤ PAGE_SIZE_MAX }
         ensures cause { HasCause (state_of self.old) (state_of self.new) result }
-        ensures first { KeepsFirstFailure self.old self.new result }
+        ensures first { KeepsFirstFailure (IsHostFailure self.old
+            (IsOnFileOrSync (Pages (part_of_id page)))) self.old self.new result }
         ensures changes { ChangesFile self.old.writes self.new.writes result }
+        ensures wrote { OnOk result (WrittenLast self.new.files (Pages (part_of_id page))
+            (page_at page (length bytes.now) + length bytes.now)) }
     {
         let at = page.index() as u64 * bytes.len() as u64;
         let name = StoreFile::Pages(page.part());
@@ -229,8 +258,11 @@ impl<R: Files + Input + AllocGlobal + Drop> PageWriter for FsHost<R> {
     /// It makes the names of all files lasting too.
     fn force_pages(&mut self, part: u16) -> Result<(), Failed>
         ensures cause { HasCause (state_of self.old) (state_of self.new) result }
-        ensures first { KeepsFirstFailure self.old self.new result }
+        ensures first { KeepsFirstFailure (IsHostFailure self.old
+            (IsOnFileOrFolder (Pages part))) self.old self.new result }
         ensures changes { ChangesFile self.old.writes self.new.writes result }
+        ensures forced { OnOk result (NoneOpen self.old.files (Pages part)
+            ⊎ ForcedLast self.new.files (Pages part)) }
     {
         let forced = self.store.force(&self.folder, StoreFile::Pages(part));
         self.counted(forced)
@@ -253,7 +285,8 @@ impl<
     /// fails, or the host is poisoned, that folder stays bound.
     fn bind(&mut self, dir: &str) -> Result<(), Failed>
         ensures binds { Binds (state_of self.old) (state_of self.new) dir.now result }
-        ensures first { KeepsFirstFailure self.old self.new result }
+        ensures first { KeepsFirstFailure (λ failure. IsBindFailure self.old failure
+            ((file : R.File) × R.File.may_be_held file)) self.old self.new result }
         ensures writes { FlushesBuffer self.old.writes self.new.writes result }
         ensures refused { IsTrue self.old.writes.is_poisoned → IsErr result }
     {
@@ -263,7 +296,8 @@ impl<
 
     fn read_config(&mut self, into: &mut [u8]) -> Result<usize, Failed>
         ensures cause { HasCause (state_of self.old) (state_of self.new) result }
-        ensures first { KeepsFirstFailure self.old self.new result }
+        ensures first { KeepsFirstFailure (IsHostFailure self.old
+            (IsOnFile Config)) self.old self.new result }
         ensures bound { IfOk result (λ n. n ≤ length into.new) }
         ensures writes { self.new.writes ≡ self.old.writes }
     {
@@ -273,7 +307,8 @@ impl<
 
     fn drop_log(&mut self, seg: u64) -> Result<(), Failed>
         ensures cause { HasCause (state_of self.old) (state_of self.new) result }
-        ensures first { KeepsFirstFailure self.old self.new result }
+        ensures first { KeepsFirstFailure (IsHostFailure self.old
+            (IsOnEither (Segment seg) (Segment self.old.writes.buffer.seg))) self.old self.new result }
         ensures changes { ChangesLog self.old.writes self.new.writes result }
     {
         let removed = self.store.drop_log(&self.folder, seg);
@@ -287,8 +322,11 @@ impl<
         into: &mut [u8; SLOT_LEN],
     ) -> Result<bool, Failed>
         ensures cause { HasCause (state_of self.old) (state_of self.new) result }
-        ensures first { KeepsFirstFailure self.old self.new result }
+        ensures first { KeepsFirstFailure (IsHostFailure self.old
+            (IsOnFile (Marks file))) self.old self.new result }
         ensures writes { self.new.writes ≡ self.old.writes }
+        ensures zeros { IfOk result
+            (λ whole. whole ≡ false → into.new ≡ replicate (length into.new) 0) }
     {
         let at = slot as u64 * SLOT_LEN as u64;
         let name = StoreFile::Marks(file);
@@ -299,8 +337,11 @@ impl<
     /// What a file system leaves in a gap is zeros.
     fn write_mark(&mut self, file: MarkFile, slot: u8, bytes: &[u8; SLOT_LEN]) -> Result<(), Failed>
         ensures cause { HasCause (state_of self.old) (state_of self.new) result }
-        ensures first { KeepsFirstFailure self.old self.new result }
+        ensures first { KeepsFirstFailure (IsHostFailure self.old
+            (IsOnFileOrSync (Marks file))) self.old self.new result }
         ensures changes { ChangesFile self.old.writes self.new.writes result }
+        ensures wrote { OnOk result (WrittenLast self.new.files (Marks file)
+            (slot_at slot + SLOT_LEN)) }
     {
         let at = slot as u64 * SLOT_LEN as u64;
         let name = StoreFile::Marks(file);
@@ -311,8 +352,11 @@ impl<
     /// It makes the names of all files lasting too.
     fn force_mark(&mut self, file: MarkFile) -> Result<(), Failed>
         ensures cause { HasCause (state_of self.old) (state_of self.new) result }
-        ensures first { KeepsFirstFailure self.old self.new result }
+        ensures first { KeepsFirstFailure (IsHostFailure self.old
+            (IsOnFileOrFolder (Marks file))) self.old self.new result }
         ensures changes { ChangesFile self.old.writes self.new.writes result }
+        ensures forced { OnOk result (NoneOpen self.old.files (Marks file)
+            ⊎ ForcedLast self.new.files (Marks file)) }
     {
         let forced = self.store.force(&self.folder, StoreFile::Marks(file));
         self.counted(forced)
@@ -322,8 +366,10 @@ impl<
     /// for nothing else.
     fn read(&mut self, into: &mut [u8]) -> Result<usize, Failed>
         ensures cause { HasCause (state_of self.old) (state_of self.new) result }
-        ensures first { KeepsFirstFailure self.old self.new result }
+        ensures first { KeepsFirstFailure (IsHostFailure self.old
+            (IsCallOn SystemCall.Read Object.Input)) self.old self.new result }
         ensures bound { IfOk result (λ n. n ≤ length into.new) }
+        ensures taken { ReadConsumes self.old.input self.new.input result into.new }
         ensures writes { self.new.writes ≡ self.old.writes }
     {
         let taken = read_some(&mut self.input, into);
@@ -334,7 +380,7 @@ impl<
     /// Where it takes nothing, or nobody reads any more, the call fails.
     fn print(&mut self, bytes: &[u8]) -> Result<(), Failed>
         ensures cause { HasCause (state_of self.old) (state_of self.new) result }
-        ensures first { KeepsFirstFailure self.old self.new result }
+        ensures first { KeepsFirstFailure (IsPrintFailure self.old) self.old self.new result }
         ensures writes { self.new.writes ≡ self.old.writes }
         ensures silent { self.old.is_lent ≡ true → IsErr result }
     {

@@ -1,6 +1,7 @@
 //! The lock on the store's folder: one run at a time has it.
 
-ghost use Rattle.std.specs.Prelude.{IfOk, IsNone, IsSome};
+ghost use Rattle.std.specs.Prelude.{◌≡◌, false, IfOk, IfErr, IsNone, IsSome};
+ghost use Rattle.pm_disk_fs.specs.Failures.{IsLockFailure};
 
 use crate::failure::{Failure, Object, SystemCall, named};
 use std::fs::{File, OpenFile, TryLockError};
@@ -9,9 +10,13 @@ use std::os::unix::fs::MetadataExt;
 
 /// A file or a folder whose lock can be taken.
 pub trait Lockable {
+    /// Whether somebody else may have its lock. Of a file of the system's nobody can know better.
+    ghost may_be_held: { Self → Type 0 } = { λ _. Unit {0} };
+
     /// Takes its exclusive lock, where nobody else has it, and answers whether it did. It doesn't wait.
     /// The lock is let go when the file is closed, and with the process, however that ends.
-    fn take_lock(&self) -> io::Result<bool>;
+    fn take_lock(&self) -> io::Result<bool>
+        ensures { IfOk result (λ taken. taken ≡ false → may_be_held self.now) };
 }
 
 impl Lockable for File {
@@ -30,7 +35,8 @@ pub fn lock_folder<F: OpenFile + Lockable + Drop>(
     folder: F,
     at_hand: &Option<F>,
 ) -> Result<Option<F>, Failure>
-    ensures { IfOk result (λ lock. IsNone lock → IsSome at_hand.now) }
+    ensures locked { IfOk result (λ lock. IsNone lock → IsSome at_hand.now) }
+    ensures failed { IfErr result (IsLockFailure (F.may_be_held folder)) }
 {
     if let Some(held) = at_hand {
         if named(SystemCall::Stat, Object::Folder, is_same(held, &folder))? {

@@ -1,8 +1,9 @@
 //! The files that are open since they were changed.
 
 ghost use Rattle.std.specs.Prelude.{◌≡◌, ◌<◌, ◌≤◌, ◌++◌, ◌∷◌, [], length, MatchOption, IfSome, OnSome};
-ghost use Rattle.std.specs.Prelude.{IfOk, OnOk, OnErr, slice_get, vec_len, vec_capacity};
-ghost use Rattle.pm_disk_fs.specs.OpenFiles.{AreSorted};
+ghost use Rattle.std.specs.Prelude.{IfOk, IfErr, IfNone, OnOk, OnErr, slice_get, vec_len, vec_capacity};
+ghost use Rattle.pm_disk_fs.specs.Failures.{IsSystemFailure, IsSync};
+ghost use Rattle.pm_disk_fs.specs.OpenFiles.{AreSorted, AreForced};
 
 use crate::failure::Failure;
 use crate::opened::Opened;
@@ -25,7 +26,7 @@ pub struct OpenFiles<F: Drop> {
 }
 
 impl<F: Write + Seek + OpenFile + Drop> OpenFiles<F> {
-    ghost use Rattle.pm_disk_fs.specs.OpenFiles.{IsTakenOut, OthersStayOpen, after_oldest};
+    ghost use Rattle.pm_disk_fs.specs.OpenFiles.{IsTakenOut, OthersStayOpen, IsNotOpen, after_oldest};
 
     /// No file is open.
     pub fn new(alloc: Global) -> OpenFiles<F>
@@ -40,6 +41,7 @@ impl<F: Write + Seek + OpenFile + Drop> OpenFiles<F> {
     pub fn take(&mut self, name: StoreFile) -> Option<Opened<F>>
         ensures taken { MatchOption result (self.new.files.items ≡ self.old.files.items)
             (λ file. IsTakenOut self.old.files.items self.new.files.items name file) }
+        ensures closed { IfNone result (IsNotOpen self.old.files.items name) }
         ensures others { OthersStayOpen self.old.files.items self.new.files.items name }
         ensures room { OnSome result (vec_len self.new.files < vec_capacity self.new.files) }
     {
@@ -52,6 +54,7 @@ impl<F: Write + Seek + OpenFile + Drop> OpenFiles<F> {
     pub fn make_room(&mut self) -> Result<(), Failure>
         ensures oldest { OnOk result (self.new.files.items ≡ after_oldest self.old.files.items) }
         ensures room { OnOk result (vec_len self.new.files < vec_capacity self.new.files) }
+        ensures failed { IfErr result (IsSystemFailure IsSync) }
     {
         if self.files.len() == OPEN_MAX {
             self.files.remove(0).sync()?;
@@ -76,11 +79,11 @@ impl<F: Write + Seek + OpenFile + Drop> OpenFiles<F> {
     }
 
     /// Forces each open file.
-    pub fn sync(&self) -> Result<(), Failure> {
-        for file in &self.files {
-            file.sync()?;
-        }
-        Ok(())
+    pub fn force(&mut self) -> Result<(), Failure>
+        ensures forced { OnOk result (AreForced self.new.files.items) }
+        ensures failed { IfErr result (IsSystemFailure IsSync) }
+    {
+        force_all(&mut self.files)
     }
 
     /// Moves the segments, and the partitions' files, to lists of their own. Out of memory moves none.
@@ -103,7 +106,9 @@ impl<F: Write + Seek + OpenFile + Drop> OpenFiles<F> {
 
     /// Takes the files in, after those that are open. Where as many are open as may be, the one that was
     /// changed longest ago is forced and closed. After a failure a file may be closed that wasn't forced.
-    pub fn keep_all(&mut self, more: OpenFiles<F>) -> Result<(), Failure> {
+    pub fn keep_all(&mut self, more: OpenFiles<F>) -> Result<(), Failure>
+        ensures failed { IfErr result (IsSystemFailure IsSync) }
+    {
         for file in more.files {
             self.make_room()?;
             self.keep(file);
@@ -113,11 +118,23 @@ impl<F: Write + Seek + OpenFile + Drop> OpenFiles<F> {
 
     // Where the file of this name stands among the open ones.
     fn position(&self, name: StoreFile) -> Option<usize>
-        ensures { IfSome result (λ index. index < length self.now.files.items
+        ensures found { IfSome result (λ index. index < length self.now.files.items
             × IfSome (slice_get self.now.files.items index) (λ file. file.name ≡ name)) }
+        ensures closed { IfNone result (IsNotOpen self.now.files.items name) }
     {
         self.files.iter().position(|file| file.name == name)
     }
+}
+
+// Forces each of the files.
+fn force_all<F: Write + Seek + OpenFile + Drop>(files: &mut [Opened<F>]) -> Result<(), Failure>
+    ensures forced { OnOk result (AreForced files.new) }
+    ensures failed { IfErr result (IsSystemFailure IsSync) }
+{
+    for file in files.iter_mut() {
+        file.force()?;
+    }
+    Ok(())
 }
 
 // Puts each file to those of its kind, of which there are none yet.

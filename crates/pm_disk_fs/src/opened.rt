@@ -1,6 +1,8 @@
 //! A file that is open to be changed, and how far it was written.
 
-ghost use Rattle.std.specs.Prelude.{◌≡◌, ◌+◌, length, replicate, false, IsTrue, IsOk, IfOk, OnOk, None, Some};
+ghost use Rattle.std.specs.Prelude.{◌≡◌, length, replicate, false, IsTrue, IsOk, IfOk, IfErr, OnOk};
+ghost use Rattle.std.specs.Prelude.{None, Some};
+ghost use Rattle.pm_disk_fs.specs.Failures.{IsSystemFailure, IsOnFile, IsCallOn};
 
 use crate::failure::{Failure, Object, SystemCall, named};
 use pm_disk::StoreFile;
@@ -21,7 +23,7 @@ pub struct Opened<F: Drop> {
 }
 
 impl<F: Write + Seek + OpenFile + Drop> Opened<F> {
-    ghost use Rattle.pm_disk_fs.specs.Positions.{EndsAt, IsKnown};
+    ghost use Rattle.pm_disk_fs.specs.Positions.{HasBytes, IsKnown};
 
     /// A file that was opened just now.
     pub fn new(name: StoreFile, file: F) -> Opened<F>
@@ -39,8 +41,9 @@ impl<F: Write + Seek + OpenFile + Drop> Opened<F> {
 
     /// Writes the bytes from the offset on. After an error a prefix of them may be there.
     pub fn write(&mut self, at: u64, bytes: &[u8]) -> Result<(), Failure>
-        ensures ends { OnOk result (EndsAt self.new self.old.name (at + length bytes.now)) }
+        ensures written { OnOk result (HasBytes F.contents self.new self.old.name at bytes.now) }
         ensures changed { self.new.is_forced ≡ false }
+        ensures failed { IfErr result (IsSystemFailure (IsOnFile self.old.name)) }
     {
         self.is_forced = false;
         self.go_to(at)?;
@@ -58,6 +61,7 @@ impl<F: Write + Seek + OpenFile + Drop> Opened<F> {
         ensures forgotten { self.new.at ≡ None }
         ensures name { self.new.name ≡ self.old.name }
         ensures forced { self.new.is_forced ≡ self.old.is_forced }
+        ensures failed { IfErr result (IsSystemFailure (IsOnFile self.old.name)) }
     {
         if self.at.take() != Some(at) {
             let sought = self.file.seek(SeekFrom::Start(at));
@@ -70,6 +74,8 @@ impl<F: Write + Seek + OpenFile + Drop> Opened<F> {
     pub fn cut(&mut self, len: u64) -> Result<(), Failure>
         ensures name { self.new.name ≡ self.old.name }
         ensures changed { self.new.is_forced ≡ false }
+        ensures failed { IfErr result (IsSystemFailure
+            (IsCallOn SystemCall.Truncate (Object.File self.old.name))) }
     {
         self.is_forced = false;
         named(
@@ -84,6 +90,8 @@ impl<F: Write + Seek + OpenFile + Drop> Opened<F> {
         ensures name { self.new.name ≡ self.old.name }
         ensures forced { OnOk result (IsTrue self.new.is_forced) }
         ensures lasts { IsTrue self.old.is_forced → IsOk result }
+        ensures failed { IfErr result (IsSystemFailure
+            (IsCallOn SystemCall.Sync (Object.File self.old.name))) }
     {
         self.sync()?;
         self.is_forced = true;
@@ -94,6 +102,8 @@ impl<F: Write + Seek + OpenFile + Drop> Opened<F> {
     /// the system isn't asked.
     pub fn sync(&self) -> Result<(), Failure>
         ensures lasts { IsTrue self.now.is_forced → IsOk result }
+        ensures failed { IfErr result (IsSystemFailure
+            (IsCallOn SystemCall.Sync (Object.File self.now.name))) }
     {
         if self.is_forced {
             return Ok(());
@@ -112,6 +122,8 @@ impl<F: FileExt + Drop> Opened<F> {
     pub fn read_whole(&self, at: u64, into: &mut [u8]) -> Result<bool, Failure>
         ensures zeros { IfOk result
             (λ whole. whole ≡ false → into.new ≡ replicate (length into.new) 0) }
+        ensures failed { IfErr result (IsSystemFailure
+            (IsCallOn SystemCall.Read (Object.File self.now.name))) }
     {
         match self.file.read_exact_at(into, at) {
             Ok(()) => Ok(true),

@@ -1,12 +1,18 @@
 //! A part of the host over files that has the log, or that writes pages.
 
-ghost use Rattle.std.specs.Prelude.{◌≡◌, ◌≤◌, length, option_map, Ok, IsErr, IfOk, OnOk};
+ghost use Rattle.std.specs.Prelude.{◌≡◌, ◌≤◌, ◌+◌, ◌⊎◌, length, option_map, Ok, Err, IsErr, IfOk, OnOk};
 ghost use Rattle.std.specs.String.{string_bytes};
 ghost use Rattle.pm_types.specs.declared.limits.TheConstants.{PAGE_SIZE_MAX};
 ghost use Rattle.pm_disk.specs.Moments.{nothing_told};
 ghost use Rattle.pm_disk.specs.States.{HasCause};
+ghost use Rattle.pm_types.specs.Ids.{part_of_id};
+ghost use Rattle.pm_disk.specs.declared.names.StoreFile.TheVariants.{Segment, Pages};
+ghost use Rattle.pm_disk_fs.specs.Failures.{IsOnFileOrSync, IsOnFileOrFolder, IsOnEither};
+ghost use Rattle.pm_disk_fs.specs.Failures.{IsOnEitherOrFolder};
 ghost use Rattle.pm_disk_fs.specs.Faults.{KeepsFirst};
-ghost use Rattle.pm_disk_fs.specs.Parts.{state_of_part};
+ghost use Rattle.pm_disk_fs.specs.Parts.{state_of_part, IsPartFailure};
+ghost use Rattle.pm_disk_fs.specs.OpenViews.{WrittenLast, ChangedLast, ForcedLast, NoneOpen};
+ghost use Rattle.pm_disk.specs.Worlds.{page_at};
 ghost use Rattle.pm_disk_fs.specs.WriteBuffer.{IsBufferedOrWritten, FitsAfter, IsAppended};
 ghost use Rattle.pm_disk_fs.specs.Writes.{ChangesFile, ChangesLog, FlushesBuffer, PoisonsOnFailure};
 
@@ -35,6 +41,7 @@ impl<R: Files + Drop> Model for FsPart<R> {
     ghost use Rattle.std.specs.Prelude.{option_map};
     ghost use Rattle.std.specs.String.{string_bytes};
     ghost use Rattle.pm_disk_fs.specs.Parts.{PartView};
+    ghost use Rattle.pm_disk_fs.specs.OpenViews.{open_views};
 
     ghost Value = { PartView };
 
@@ -43,6 +50,7 @@ impl<R: Files + Drop> Model for FsPart<R> {
       folder = option_map string_bytes part.folder.dir;
       due = part.due.value.items;
       writes = part.store.writes;
+      files = open_views part.store.open.files.items;
     } };
 }
 
@@ -65,8 +73,10 @@ impl<R: Files + Drop> FsPart<R> {
     // What a call made, a failure of it counted.
     fn counted<T>(&mut self, made: Result<T, Failure>) -> Result<T, Failed>
         ensures cause { HasCause (state_of_part self.old) (state_of_part self.new) result }
-        ensures first { KeepsFirst self.old.faults self.new.faults result }
+        ensures first { KeepsFirst (λ failure. made ≡ Err failure)
+            self.old.faults self.new.faults result }
         ensures writes { self.new.writes ≡ self.old.writes }
+        ensures files { self.new.files ≡ self.old.files }
         ensures value { IfOk result (λ v. made ≡ Ok v) }
         ensures error { IsErr result → IsErr made }
     {
@@ -88,7 +98,9 @@ impl<R: Files + Drop> Device for FsPart<R> {
 impl<R: Files + AllocGlobal + Drop> LogReader for FsPart<R> {
     fn seg_len(&mut self, seg: u64) -> Result<Option<u64>, Failed>
         ensures cause { HasCause (state_of_part self.old) (state_of_part self.new) result }
-        ensures first { KeepsFirst self.old.faults self.new.faults result }
+        ensures first { KeepsFirst (IsPartFailure self.old
+            (IsOnEither (Segment seg) (Segment self.old.writes.buffer.seg)))
+            self.old.faults self.new.faults result }
         ensures writes { FlushesBuffer self.old.writes self.new.writes result }
     {
         let len = self.store.seg_len(&self.folder, seg);
@@ -97,7 +109,9 @@ impl<R: Files + AllocGlobal + Drop> LogReader for FsPart<R> {
 
     fn read_log(&mut self, seg: u64, at: u64, into: &mut [u8]) -> Result<usize, Failed>
         ensures cause { HasCause (state_of_part self.old) (state_of_part self.new) result }
-        ensures first { KeepsFirst self.old.faults self.new.faults result }
+        ensures first { KeepsFirst (IsPartFailure self.old
+            (IsOnEither (Segment seg) (Segment self.old.writes.buffer.seg)))
+            self.old.faults self.new.faults result }
         ensures bound { IfOk result (λ n. n ≤ length into.new) }
         ensures writes { FlushesBuffer self.old.writes self.new.writes result }
     {
@@ -111,7 +125,9 @@ impl<R: Files + AllocGlobal + Drop> LogReader for FsPart<R> {
 impl<R: Files + AllocGlobal + Drop> LogFile for FsPart<R> {
     fn write_log(&mut self, seg: u64, at: u64, bytes: &[u8]) -> Result<(), Failed>
         ensures cause { HasCause (state_of_part self.old) (state_of_part self.new) result }
-        ensures first { KeepsFirst self.old.faults self.new.faults result }
+        ensures first { KeepsFirst (IsPartFailure self.old
+            (IsOnEither (Segment seg) (Segment self.old.writes.buffer.seg)))
+            self.old.faults self.new.faults result }
         ensures poisons { PoisonsOnFailure self.old.writes self.new.writes result }
         ensures in_order { OnOk result (IsBufferedOrWritten self.old.writes.buffer
             self.new.writes.buffer seg at bytes.now) }
@@ -124,8 +140,11 @@ impl<R: Files + AllocGlobal + Drop> LogFile for FsPart<R> {
 
     fn cut_log(&mut self, seg: u64, len: u64) -> Result<(), Failed>
         ensures cause { HasCause (state_of_part self.old) (state_of_part self.new) result }
-        ensures first { KeepsFirst self.old.faults self.new.faults result }
+        ensures first { KeepsFirst (IsPartFailure self.old
+            (IsOnEither (Segment seg) (Segment self.old.writes.buffer.seg)))
+            self.old.faults self.new.faults result }
         ensures changes { ChangesLog self.old.writes self.new.writes result }
+        ensures cut { OnOk result (ChangedLast self.new.files (Segment seg)) }
     {
         let cut = self.store.cut_log(&self.folder, seg, len);
         self.counted(cut)
@@ -134,7 +153,9 @@ impl<R: Files + AllocGlobal + Drop> LogFile for FsPart<R> {
     /// It makes the names of all files lasting too.
     fn force_log(&mut self, seg: u64) -> Result<(), Failed>
         ensures cause { HasCause (state_of_part self.old) (state_of_part self.new) result }
-        ensures first { KeepsFirst self.old.faults self.new.faults result }
+        ensures first { KeepsFirst (IsPartFailure self.old
+            (IsOnEitherOrFolder (Segment seg) (Segment self.old.writes.buffer.seg)))
+            self.old.faults self.new.faults result }
         ensures changes { ChangesLog self.old.writes self.new.writes result }
     {
         let forced = self.store.force_log(&self.folder, seg);
@@ -149,8 +170,12 @@ impl<R: Files + AllocGlobal + Drop> PageWriter for FsPart<R> {
     fn write_page(&mut self, page: PageId, bytes: &[u8]) -> Result<(), Failed>
         requires { length bytes.now ≤ PAGE_SIZE_MAX }
         ensures cause { HasCause (state_of_part self.old) (state_of_part self.new) result }
-        ensures first { KeepsFirst self.old.faults self.new.faults result }
+        ensures first { KeepsFirst (IsPartFailure self.old
+            (IsOnFileOrSync (Pages (part_of_id page))))
+            self.old.faults self.new.faults result }
         ensures changes { ChangesFile self.old.writes self.new.writes result }
+        ensures wrote { OnOk result (WrittenLast self.new.files (Pages (part_of_id page))
+            (page_at page (length bytes.now) + length bytes.now)) }
     {
         let at = page.index() as u64 * bytes.len() as u64;
         let name = StoreFile::Pages(page.part());
@@ -161,8 +186,12 @@ impl<R: Files + AllocGlobal + Drop> PageWriter for FsPart<R> {
     /// It makes the names of all files lasting too.
     fn force_pages(&mut self, part: u16) -> Result<(), Failed>
         ensures cause { HasCause (state_of_part self.old) (state_of_part self.new) result }
-        ensures first { KeepsFirst self.old.faults self.new.faults result }
+        ensures first { KeepsFirst (IsPartFailure self.old
+            (IsOnFileOrFolder (Pages part)))
+            self.old.faults self.new.faults result }
         ensures changes { ChangesFile self.old.writes self.new.writes result }
+        ensures forced { OnOk result (NoneOpen self.old.files (Pages part)
+            ⊎ ForcedLast self.new.files (Pages part)) }
     {
         let forced = self.store.force(&self.folder, StoreFile::Pages(part));
         self.counted(forced)

@@ -1,9 +1,10 @@
 //! The paths of the store's folder and of the files in it.
 
-ghost use Rattle.std.specs.Prelude.{◌≡◌, ◌<◌, ◌++◌, IfOk, OnOk, codes};
+ghost use Rattle.std.specs.Prelude.{◌≡◌, ◌<◌, ◌++◌, IfOk, OnOk, IfErr, codes};
 ghost use Rattle.std.specs.String.{string_bytes};
 ghost use Rattle.pm_types.specs.declared.limits.TheConstants.{PARTITIONS_MAX};
 ghost use Rattle.pm_disk.specs.Names.{segment_name, partition_name};
+ghost use Rattle.pm_disk_fs.specs.Failures.{IsPathFailure, IsSystemFailure, IsOn, IsOnFolders};
 ghost use Rattle.pm_disk_fs.specs.Paths.{name_of};
 
 use crate::failure::{Failure, Object, SystemCall, named};
@@ -17,7 +18,9 @@ use std::rt::Files;
 use std::str;
 
 /// Makes the folder, and those above it, where they aren't there, and opens it.
-pub fn open_folder<R: Files + AllocGlobal>(rt: &R, store: Path<'_>) -> Result<R::File, Failure> {
+pub fn open_folder<R: Files + AllocGlobal>(rt: &R, store: Path<'_>) -> Result<R::File, Failure>
+    ensures { IfErr result (IsSystemFailure IsOnFolders) }
+{
     if !store.is_dir(rt) {
         make_missing(rt, store)?;
     }
@@ -30,7 +33,9 @@ pub fn open_folder<R: Files + AllocGlobal>(rt: &R, store: Path<'_>) -> Result<R:
 
 // Makes each folder on the path that isn't there, and syncs the one above it before the next is made. So
 // at most one name may be there and not last, that of the last folder that was there: it is made lasting too.
-fn make_missing<R: Files + AllocGlobal>(rt: &R, store: Path<'_>) -> Result<(), Failure> {
+fn make_missing<R: Files + AllocGlobal>(rt: &R, store: Path<'_>) -> Result<(), Failure>
+    ensures { IfErr result (IsSystemFailure IsOnFolders) }
+{
     let mut folder = PathBuf::new(rt.alloc());
     let mut lasts = true;
     for part in store.components() {
@@ -50,19 +55,25 @@ fn make_missing<R: Files + AllocGlobal>(rt: &R, store: Path<'_>) -> Result<(), F
 }
 
 /// Makes the name of a folder that is there lasting.
-pub fn sync_above<R: Files + AllocGlobal>(rt: &R, folder: Path<'_>) -> Result<(), Failure> {
+pub fn sync_above<R: Files + AllocGlobal>(rt: &R, folder: Path<'_>) -> Result<(), Failure>
+    ensures { IfErr result (IsSystemFailure (IsOn Object.FolderAbove)) }
+{
     let above = folder.join(rt.alloc(), "..")?;
     sync_folder(rt, above.as_path(), Object::FolderAbove)
 }
 
 /// Makes the names in the folder lasting.
-pub fn sync_folder<R: Files>(rt: &R, dir: Path<'_>, object: Object) -> Result<(), Failure> {
+pub fn sync_folder<R: Files>(rt: &R, dir: Path<'_>, object: Object) -> Result<(), Failure>
+    ensures { IfErr result (IsSystemFailure (IsOn object)) }
+{
     let opened = open_names(rt, dir, object)?;
     named(SystemCall::Sync, object, opened.sync_all())
 }
 
 // Opens the folder. No path is the folder where the process runs.
-fn open_names<R: Files>(rt: &R, dir: Path<'_>, object: Object) -> Result<R::File, Failure> {
+fn open_names<R: Files>(rt: &R, dir: Path<'_>, object: Object) -> Result<R::File, Failure>
+    ensures { IfErr result (IsSystemFailure (IsOn object)) }
+{
     let folder = if dir.as_str().is_empty() {
         Path::new(".")
     } else {
@@ -73,7 +84,8 @@ fn open_names<R: Files>(rt: &R, dir: Path<'_>, object: Object) -> Result<R::File
 
 /// The path of a file of the store. A partition whose number no name has is refused.
 pub fn file_path(alloc: Global, dir: &str, file: StoreFile) -> Result<String, Failure>
-    ensures { IfOk result (λ path. string_bytes path ≡ dir.now ++ codes "/" ++ name_of file) }
+    ensures path { IfOk result (λ path. string_bytes path ≡ dir.now ++ codes "/" ++ name_of file) }
+    ensures failed { IfErr result (IsPathFailure file ⊥) }
 {
     let mut path = String::from_str(alloc, dir)?;
     path.push('/')?;
@@ -83,7 +95,8 @@ pub fn file_path(alloc: Global, dir: &str, file: StoreFile) -> Result<String, Fa
 
 // Puts the name of a file after the path.
 fn push_name(path: &mut String, file: StoreFile) -> Result<(), Failure>
-    ensures { OnOk result (string_bytes path.new ≡ string_bytes path.old ++ name_of file) }
+    ensures pushed { OnOk result (string_bytes path.new ≡ string_bytes path.old ++ name_of file) }
+    ensures failed { IfErr result (IsPathFailure file ⊥) }
 {
     match file {
         StoreFile::Config => path.push_str("config.json")?,
@@ -118,7 +131,9 @@ fn push_partition(path: &mut String, part: u16) -> Result<(), AllocError>
 }
 
 // Makes the folder, and answers whether it wasn't there before.
-fn make_one<R: Files>(rt: &R, folder: Path<'_>) -> Result<bool, Failure> {
+fn make_one<R: Files>(rt: &R, folder: Path<'_>) -> Result<bool, Failure>
+    ensures { IfErr result (IsSystemFailure (IsOn Object.Folder)) }
+{
     let made = match fs::create_dir(rt, folder) {
         Ok(()) => Ok(true),
         Err(e) if e.kind() == ErrorKind::AlreadyExists => Ok(false),

@@ -1,11 +1,15 @@
 //! A part of the host over files that reads pages.
 
-ghost use Rattle.std.specs.Prelude.{◌≡◌, ◌<◌, ◌≤◌, length, vec_len, vec_capacity, replicate, false, IfOk, OnOk};
+ghost use Rattle.std.specs.Prelude.{◌≡◌, ◌<◌, ◌≤◌, length, vec_len, vec_capacity, replicate, false, None};
+ghost use Rattle.std.specs.Prelude.{IfOk, IfErr, IfSome, OnOk};
 ghost use Rattle.pm_types.specs.declared.limits.TheConstants.{PAGE_SIZE_MAX};
 ghost use Rattle.pm_disk.specs.Moments.{nothing_told};
 ghost use Rattle.pm_disk.specs.States.{HasCause};
+ghost use Rattle.pm_types.specs.Ids.{part_of_id};
+ghost use Rattle.pm_disk.specs.declared.names.StoreFile.TheVariants.{Pages};
+ghost use Rattle.pm_disk_fs.specs.Failures.{IsFailureOn, IsOnFileOrSync};
 ghost use Rattle.pm_disk_fs.specs.Faults.{KeepsFirst};
-ghost use Rattle.pm_disk_fs.specs.Parts.{state_of_reader};
+ghost use Rattle.pm_disk_fs.specs.Parts.{state_of_reader, IsReaderFailure};
 
 use crate::failure::Failure;
 use crate::faults::Faults;
@@ -52,6 +56,8 @@ impl<R: Files<File: FileExt> + AllocGlobal + Drop> FsReader<R> {
         ensures same { self.new ≡ self.old }
         ensures zeros { IfOk result
             (λ whole. whole ≡ false → into.new ≡ replicate (length into.new) 0) }
+        ensures failed { IfErr result (IsFailureOn (IsOnFileOrSync (Pages (part_of_id page)))
+            (self.old.folder ≡ None) ⊥) }
     {
         let at = page.index() as u64 * into.len() as u64;
         let name = StoreFile::Pages(page.part());
@@ -72,7 +78,9 @@ fn take_to_read<R: Files + AllocGlobal + Drop>(
     folder: &Folder<R>,
     name: StoreFile,
 ) -> Result<Option<Opened<R::File>>, Failure>
-    ensures { OnOk result (vec_len files.new.files < vec_capacity files.new.files) }
+    ensures room { OnOk result (vec_len files.new.files < vec_capacity files.new.files) }
+    ensures named { IfOk result (λ found. IfSome found (λ file. file.name ≡ name)) }
+    ensures failed { IfErr result (IsFailureOn (IsOnFileOrSync name) (folder.now.dir ≡ None) ⊥) }
 {
     if let Some(file) = files.take(name) {
         return Ok(Some(file));
@@ -98,7 +106,11 @@ impl<R: Files<File: FileExt> + AllocGlobal + Drop> PageReader for FsReader<R> {
     fn read_page(&mut self, page: PageId, into: &mut [u8]) -> Result<bool, Failed>
         requires { length into.old ≤ PAGE_SIZE_MAX }
         ensures cause { HasCause (state_of_reader self.old) (state_of_reader self.new) result }
-        ensures first { KeepsFirst self.old.faults self.new.faults result }
+        ensures first { KeepsFirst (IsReaderFailure self.old
+            (IsOnFileOrSync (Pages (part_of_id page))))
+            self.old.faults self.new.faults result }
+        ensures zeros { IfOk result
+            (λ whole. whole ≡ false → into.new ≡ replicate (length into.new) 0) }
     {
         let is_whole = self.read(page, into);
         self.faults.counted(is_whole)

@@ -1,12 +1,15 @@
 //! The changes of the store's files.
 
-ghost use Rattle.std.specs.Prelude.{◌≡◌, ◌+◌, ◌<◌, [], false, length, vec_len, vec_capacity, IsTrue};
-ghost use Rattle.std.specs.Prelude.{IsErr, IfOk, OnOk, OnErr};
-ghost use Rattle.pm_disk_fs.specs.OpenFiles.{AreSorted, OthersStayOpen};
-ghost use Rattle.pm_disk_fs.specs.Positions.{IsChangedLast, IsWritten};
+ghost use Rattle.std.specs.Prelude.{◌≡◌, ◌<◌, [], false, vec_len, vec_capacity, IsTrue};
+ghost use Rattle.std.specs.Prelude.{◌⊎◌, None, IsErr, IfOk, IfErr, OnOk, OnErr};
+ghost use Rattle.pm_disk.specs.declared.names.StoreFile.TheVariants.{Segment};
+ghost use Rattle.pm_disk_fs.specs.Failures.{IsFailureOn, IsOn, IsCallOn, IsOnFile, IsOnFileOrSync};
+ghost use Rattle.pm_disk_fs.specs.Failures.{IsOnFileOrFolder};
+ghost use Rattle.pm_disk_fs.specs.OpenFiles.{AreSorted, OthersStayOpen, IsNotOpen};
+ghost use Rattle.pm_disk_fs.specs.Positions.{IsChangedLast, IsForcedLast, IsWritten};
 ghost use Rattle.pm_disk_fs.specs.Writes.{ChangesFile, FlushesBuffer};
 
-use crate::failure::Failure;
+use crate::failure::{Failure, Object, SystemCall};
 use crate::folder::Folder;
 use crate::open_files::OpenFiles;
 use crate::opened::Opened;
@@ -23,8 +26,8 @@ mod log;
 /// each later one fails: nobody knows then what the disk holds.
 #[derive(Drop)]
 pub struct Store<R: Files> {
-    // The files that were changed.
-    open: OpenFiles<R::File>,
+    /// The files that were changed.
+    pub open: OpenFiles<R::File>,
     // Whether each name in the folder lasts. An earlier run may have ended before it saw to that.
     names_last: bool,
     pub writes: Writes,
@@ -51,10 +54,13 @@ impl<R: Files + AllocGlobal + Drop> Store<R> {
         ensures refused { IsTrue self.old.writes.is_poisoned → IsErr result }
         ensures names { OnOk result (self.new.names_last ≡ false) }
         ensures closed { OnOk result (self.new.open.files.items ≡ []) }
+        ensures failed { IfErr result (IsFailureOn
+            (IsOnFileOrFolder (Segment self.old.writes.buffer.seg))
+            (folder.now.dir ≡ None) (IsTrue self.old.writes.is_poisoned)) }
     {
         self.flush(folder)?;
         self.writes.begin()?;
-        self.open.sync()?;
+        self.open.force()?;
         self.sync_names(folder)?;
         self.names_last = false;
         self.open.clear();
@@ -131,9 +137,12 @@ impl<R: Files + AllocGlobal + Drop> Store<R> {
         bytes: &[u8],
     ) -> Result<(), Failure>
         ensures changes { ChangesFile self.old.writes self.new.writes result }
-        ensures wrote { OnOk result (IsWritten self.new.open.files.items name (at + length bytes.now)) }
+        ensures wrote { OnOk result (IsWritten R.File.contents self.new.open.files.items
+            name at bytes.now) }
         ensures others { OnOk result (OthersStayOpen self.old.open.files.items
             self.new.open.files.items name) }
+        ensures failed { IfErr result (IsFailureOn (IsOnFileOrSync name)
+            (folder.now.dir ≡ None) (IsTrue self.old.writes.is_poisoned)) }
     {
         self.writes.begin()?;
         self.put(folder, name, at, bytes)?;
@@ -147,6 +156,8 @@ impl<R: Files + AllocGlobal + Drop> Store<R> {
         ensures cut { OnOk result (IsChangedLast self.new.open.files.items name) }
         ensures others { OnOk result (OthersStayOpen self.old.open.files.items
             self.new.open.files.items name) }
+        ensures failed { IfErr result (IsFailureOn (IsOnFileOrSync name)
+            (folder.now.dir ≡ None) (IsTrue self.old.writes.is_poisoned)) }
     {
         self.writes.begin()?;
         let mut file = self.take(folder, name)?;
@@ -161,8 +172,12 @@ impl<R: Files + AllocGlobal + Drop> Store<R> {
     pub fn force(&mut self, folder: &Folder<R>, name: StoreFile) -> Result<(), Failure>
         ensures changes { ChangesFile self.old.writes self.new.writes result }
         ensures names { OnOk result (IsTrue self.new.names_last) }
+        ensures forced { OnOk result (IsNotOpen self.old.open.files.items name
+            ⊎ IsForcedLast self.new.open.files.items name) }
         ensures others { OnOk result (OthersStayOpen self.old.open.files.items
             self.new.open.files.items name) }
+        ensures failed { IfErr result (IsFailureOn (IsOnFileOrFolder name)
+            (folder.now.dir ≡ None) (IsTrue self.old.writes.is_poisoned)) }
     {
         self.writes.begin()?;
         self.sync(folder, name)?;
@@ -177,6 +192,8 @@ impl<R: Files + AllocGlobal + Drop> Store<R> {
         ensures names { OnOk result (self.new.names_last ≡ false) }
         ensures others { OnOk result (OthersStayOpen self.old.open.files.items
             self.new.open.files.items name) }
+        ensures failed { IfErr result (IsFailureOn (IsCallOn SystemCall.Remove (Object.File name))
+            (folder.now.dir ≡ None) (IsTrue self.old.writes.is_poisoned)) }
     {
         self.writes.begin()?;
         self.names_last = false;
@@ -195,9 +212,12 @@ impl<R: Files + AllocGlobal + Drop> Store<R> {
         bytes: &[u8],
     ) -> Result<(), Failure>
         ensures writes { self.new.writes ≡ self.old.writes }
-        ensures wrote { OnOk result (IsWritten self.new.open.files.items name (at + length bytes.now)) }
+        ensures wrote { OnOk result (IsWritten R.File.contents self.new.open.files.items
+            name at bytes.now) }
         ensures others { OnOk result (OthersStayOpen self.old.open.files.items
             self.new.open.files.items name) }
+        ensures failed { IfErr result (IsFailureOn (IsOnFileOrSync name)
+            (folder.now.dir ≡ None) ⊥) }
     {
         let mut file = self.take(folder, name)?;
         file.write(at, bytes)?;
@@ -211,6 +231,9 @@ impl<R: Files + AllocGlobal + Drop> Store<R> {
         ensures names { self.new.names_last ≡ self.old.names_last }
         ensures others { OnOk result (OthersStayOpen self.old.open.files.items
             self.new.open.files.items name) }
+        ensures forced { OnOk result (IsNotOpen self.old.open.files.items name
+            ⊎ IsForcedLast self.new.open.files.items name) }
+        ensures failed { IfErr result (IsFailureOn (IsOnFile name) (folder.now.dir ≡ None) ⊥) }
     {
         let Some(mut file) = self.open.take(name) else {
             return sync_closed(folder, name);
@@ -225,6 +248,7 @@ impl<R: Files + AllocGlobal + Drop> Store<R> {
         ensures writes { self.new.writes ≡ self.old.writes }
         ensures open { self.new.open ≡ self.old.open }
         ensures names { OnOk result (IsTrue self.new.names_last) }
+        ensures failed { IfErr result (IsFailureOn (IsOn Object.Folder) (folder.now.dir ≡ None) ⊥) }
     {
         if !self.names_last {
             folder.sync_names()?;
@@ -241,6 +265,8 @@ impl<R: Files + AllocGlobal + Drop> Store<R> {
         ensures others { OnOk result (OthersStayOpen self.old.open.files.items
             self.new.open.files.items name) }
         ensures writes { self.new.writes ≡ self.old.writes }
+        ensures failed { IfErr result (IsFailureOn (IsOnFileOrSync name)
+            (folder.now.dir ≡ None) ⊥) }
     {
         match self.open.take(name) {
             Some(file) => Ok(file),
@@ -256,6 +282,8 @@ impl<R: Files + AllocGlobal + Drop> Store<R> {
     fn open_to_change(&mut self, folder: &Folder<R>, name: StoreFile) -> Result<R::File, Failure>
         ensures writes { self.new.writes ≡ self.old.writes }
         ensures open { self.new.open ≡ self.old.open }
+        ensures failed { IfErr result (IsFailureOn (IsCallOn SystemCall.Open (Object.File name))
+            (folder.now.dir ≡ None) ⊥) }
     {
         match folder.open_to_change(name)? {
             Some(file) => Ok(file),
@@ -268,6 +296,8 @@ impl<R: Files + AllocGlobal + Drop> Store<R> {
         ensures writes { self.new.writes ≡ self.old.writes }
         ensures open { self.new.open ≡ self.old.open }
         ensures names { self.new.names_last ≡ false }
+        ensures failed { IfErr result (IsFailureOn (IsCallOn SystemCall.Open (Object.File name))
+            (folder.now.dir ≡ None) ⊥) }
     {
         self.names_last = false;
         folder.make(name)
@@ -278,7 +308,9 @@ impl<R: Files + AllocGlobal + Drop> Store<R> {
 fn sync_closed<R: Files + AllocGlobal + Drop>(
     folder: &Folder<R>,
     name: StoreFile,
-) -> Result<(), Failure> {
+) -> Result<(), Failure>
+    ensures { IfErr result (IsFailureOn (IsOnFile name) (folder.now.dir ≡ None) ⊥) }
+{
     match folder.open(name)? {
         Some(file) => Opened::new(name, file).sync(),
         None => Ok(()),

@@ -1,9 +1,10 @@
 //! The log in a folder of the system's.
 
+use crate::failure::{Object, SystemCall};
 use crate::host::FsHost;
 use crate::open_files::OPEN_MAX;
 use crate::write_buffer::BUFFER_MAX;
-use pm_disk::{Failed, Host, LogFile, LogReader};
+use pm_disk::{Failed, Host, LogFile, LogReader, MarkFile, StoreFile};
 use std::alloc::{AllocError, Global};
 use std::os::unix::fs::symlink;
 use std::path::PathBuf;
@@ -472,4 +473,65 @@ fn one_host_at_a_time_has_the_folder(rt: HostRuntime) -> Result<(), Fail> {
     assert!(rt; !binds(&mut other, "locked2"));
     remove_folder(&rt, "locked")?;
     remove_folder(&rt, "locked2")
+}
+
+/// Calls of the system, each with an object of it, and how both are named.
+const NAMES: [(SystemCall, Object, &str); 10] = [
+    (
+        SystemCall::Open,
+        Object::File(StoreFile::Config),
+        "open of config.json",
+    ),
+    (
+        SystemCall::Stat,
+        Object::File(StoreFile::Segment(26)),
+        "stat of wal-000000000000001a.seg",
+    ),
+    (SystemCall::Read, Object::Input, "read of the input"),
+    (SystemCall::Write, Object::Output, "write of the output"),
+    (
+        SystemCall::Seek,
+        Object::File(StoreFile::Pages(7)),
+        "lseek of part-007.pages",
+    ),
+    (
+        SystemCall::Truncate,
+        Object::File(StoreFile::Segment(1)),
+        "ftruncate of wal-0000000000000001.seg",
+    ),
+    (
+        SystemCall::Sync,
+        Object::Folder,
+        "fsync of the store's folder",
+    ),
+    (
+        SystemCall::Remove,
+        Object::File(StoreFile::Marks(MarkFile::Start)),
+        "unlink of cp.start",
+    ),
+    (
+        SystemCall::MakeFolder,
+        Object::FolderAbove,
+        "mkdir of the folder above the store's",
+    ),
+    (
+        SystemCall::Lock,
+        Object::File(StoreFile::Marks(MarkFile::End)),
+        "flock of cp.end",
+    ),
+];
+
+/// A call and its object, as a failure names them.
+fn named_call(alloc: Global, call: SystemCall, object: Object) -> Result<String, AllocError> {
+    let call = call.name();
+    format!(in alloc; "{call} of {object}")
+}
+
+#[test]
+fn a_call_and_its_object_have_their_names(rt: HostRuntime) -> Result<(), Fail> {
+    for (call, object, wanted) in NAMES {
+        let text = named_call(rt.alloc(), call, object)?;
+        assert_eq!(rt; text.as_str(), wanted);
+    }
+    Ok(())
 }

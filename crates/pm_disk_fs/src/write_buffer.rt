@@ -1,6 +1,6 @@
 //! The write buffer: writes to the log that are handed to the system as one.
 
-ghost use Rattle.std.specs.Prelude.{◌≡◌, ◌+◌, ◌<◌, ◌≤◌, ◌↔◌, [], length, IsTrue, OnOk, OnErr};
+ghost use Rattle.std.specs.Prelude.{◌≡◌, ◌+◌, ◌<◌, ◌≤◌, ◌↔◌, [], length, IsTrue, OnOk, OnErr, IfErr};
 ghost use Rattle.std.specs.Bool.{OnTrue, OnFalse};
 
 use crate::failure::Failure;
@@ -36,7 +36,8 @@ impl Model for WriteBuffer {
 
 impl WriteBuffer {
     ghost use Rattle.pm_disk_fs.specs.WriteBuffer.{FitsAfter, IsAppended};
-    ghost use Rattle.pm_disk_fs.specs.Positions.{EndsAt};
+    ghost use Rattle.pm_disk_fs.specs.Positions.{HasBytes};
+    ghost use Rattle.pm_disk_fs.specs.Failures.{IsSystemFailure, IsOnFile};
 
     /// Nothing is buffered, and no memory is taken.
     pub fn new(alloc: Global) -> WriteBuffer
@@ -89,9 +90,10 @@ impl WriteBuffer {
         file: &mut Opened<F>,
     ) -> Result<(), Failure>
         ensures written { OnOk result (self.new.bytes ≡ []) }
-        ensures wrote { OnOk result (EndsAt file.new file.old.name
-            (self.old.at + length self.old.bytes)) }
+        ensures wrote { OnOk result (HasBytes F.contents file.new file.old.name
+            self.old.at self.old.bytes) }
         ensures kept { OnErr result (self.new ≡ self.old) }
+        ensures failed { IfErr result (IsSystemFailure (IsOnFile file.old.name)) }
     {
         file.write(self.at, &self.bytes)?;
         self.bytes.clear();

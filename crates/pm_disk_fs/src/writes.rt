@@ -1,6 +1,6 @@
 //! Whether a change of a file has failed, and what of the log isn't with the system yet.
 
-ghost use Rattle.std.specs.Prelude.{◌≡◌, ◌↔◌, [], false, IsTrue, IsErr};
+ghost use Rattle.std.specs.Prelude.{◌≡◌, ◌↔◌, [], false, IsTrue, IsErr, IfErr};
 
 use crate::failure::Failure;
 use crate::write_buffer::WriteBuffer;
@@ -30,6 +30,7 @@ impl Writes {
     /// Refuses a change where one has failed, and takes this one for failed until it is done.
     pub fn begin(&mut self) -> Result<(), Failure>
         ensures refused { IsErr result ↔ IsTrue self.old.is_poisoned }
+        ensures failed { IfErr result (λ failure. failure ≡ Failure.Poisoned) }
         ensures poisoned { IsTrue self.new.is_poisoned }
         ensures buffered { self.new.buffer ≡ self.old.buffer }
     {

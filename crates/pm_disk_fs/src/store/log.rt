@@ -2,9 +2,10 @@
 //! system as one before any other call on the log.
 
 ghost use Rattle.std.specs.Prelude.{◌≡◌, ◌<◌, ◌≤◌, ◌+◌, ◌⊎◌, [], false, length, IsTrue, IsErr, OnOk};
-ghost use Rattle.std.specs.Prelude.{OnErr, IfOk};
+ghost use Rattle.std.specs.Prelude.{OnErr, IfOk, IfErr, None};
+ghost use Rattle.pm_disk_fs.specs.Failures.{IsFailureOn, IsOnFileOrSync, IsOnEither, IsOnEitherOrFolder};
 ghost use Rattle.pm_disk_fs.specs.WriteBuffer.{FitsAfter, IsAlone, IsAppended};
-ghost use Rattle.pm_disk_fs.specs.Positions.{IsWrittenInOrder, IsStretchWritten, IsWritten};
+ghost use Rattle.pm_disk_fs.specs.Positions.{IsChangedLast, IsWrittenInOrder, IsStretchWritten, IsWritten};
 ghost use Rattle.pm_disk_fs.specs.Writes.{ChangesLog, FlushesBuffer, PoisonsOnFailure};
 ghost use Rattle.pm_disk.specs.declared.names.StoreFile.TheVariants.{Segment};
 
@@ -20,9 +21,12 @@ impl<R: Files + AllocGlobal + Drop> Store<R> {
     pub fn flush(&mut self, folder: &Folder<R>) -> Result<(), Failure>
         ensures writes { FlushesBuffer self.old.writes self.new.writes result }
         ensures wrote { OnOk result (0 < length self.old.writes.buffer.bytes
-            → IsStretchWritten self.new.open.files.items self.old.writes.buffer) }
+            → IsStretchWritten R.File.contents self.new.open.files.items self.old.writes.buffer) }
         ensures kept { OnErr result (self.new.writes.buffer ≡ self.old.writes.buffer) }
         ensures poisoned { IsErr result → IsTrue self.new.writes.is_poisoned }
+        ensures failed { IfErr result (IsFailureOn
+            (IsOnFileOrSync (Segment self.old.writes.buffer.seg))
+            (folder.now.dir ≡ None) (IsTrue self.old.writes.is_poisoned)) }
     {
         if self.writes.buffer.is_empty() {
             return Ok(());
@@ -36,6 +40,9 @@ impl<R: Files + AllocGlobal + Drop> Store<R> {
     /// The length of a segment's file in bytes, none where it isn't there.
     pub fn seg_len(&mut self, folder: &Folder<R>, seg: u64) -> Result<Option<u64>, Failure>
         ensures writes { FlushesBuffer self.old.writes self.new.writes result }
+        ensures failed { IfErr result (IsFailureOn
+            (IsOnEither (Segment seg) (Segment self.old.writes.buffer.seg))
+            (folder.now.dir ≡ None) (IsTrue self.old.writes.is_poisoned)) }
     {
         self.flush(folder)?;
         folder.len(StoreFile::Segment(seg))
@@ -52,6 +59,9 @@ impl<R: Files + AllocGlobal + Drop> Store<R> {
     ) -> Result<usize, Failure>
         ensures bound { IfOk result (λ n. n ≤ length into.new) }
         ensures writes { FlushesBuffer self.old.writes self.new.writes result }
+        ensures failed { IfErr result (IsFailureOn
+            (IsOnEither (Segment seg) (Segment self.old.writes.buffer.seg))
+            (folder.now.dir ≡ None) (IsTrue self.old.writes.is_poisoned)) }
     {
         self.flush(folder)?;
         folder.read(StoreFile::Segment(seg), at, into)
@@ -67,10 +77,13 @@ impl<R: Files + AllocGlobal + Drop> Store<R> {
         bytes: &[u8],
     ) -> Result<(), Failure>
         ensures poisons { PoisonsOnFailure self.old.writes self.new.writes result }
-        ensures in_order { OnOk result (IsWrittenInOrder self.old.writes.buffer
-            self.new.writes.buffer self.new.open.files.items seg at bytes.now) }
+        ensures in_order { OnOk result (IsWrittenInOrder R.File.contents
+            self.old.writes.buffer self.new.writes.buffer self.new.open.files.items seg at bytes.now) }
         ensures appended { OnOk result (FitsAfter self.old.writes.buffer seg at bytes.now
             → IsAppended self.old.writes.buffer self.new.writes.buffer seg at bytes.now) }
+        ensures failed { IfErr result (IsFailureOn
+            (IsOnEither (Segment seg) (Segment self.old.writes.buffer.seg))
+            (folder.now.dir ≡ None) (IsTrue self.old.writes.is_poisoned)) }
     {
         self.writes.begin()?;
         let _bound = folder.name()?;
@@ -82,6 +95,10 @@ impl<R: Files + AllocGlobal + Drop> Store<R> {
     /// Cuts the segment to this length in bytes, and makes it where it isn't there.
     pub fn cut_log(&mut self, folder: &Folder<R>, seg: u64, len: u64) -> Result<(), Failure>
         ensures changes { ChangesLog self.old.writes self.new.writes result }
+        ensures cut { OnOk result (IsChangedLast self.new.open.files.items (Segment seg)) }
+        ensures failed { IfErr result (IsFailureOn
+            (IsOnEither (Segment seg) (Segment self.old.writes.buffer.seg))
+            (folder.now.dir ≡ None) (IsTrue self.old.writes.is_poisoned)) }
     {
         self.flush(folder)?;
         self.cut(folder, StoreFile::Segment(seg), len)
@@ -91,6 +108,9 @@ impl<R: Files + AllocGlobal + Drop> Store<R> {
     pub fn force_log(&mut self, folder: &Folder<R>, seg: u64) -> Result<(), Failure>
         ensures changes { ChangesLog self.old.writes self.new.writes result }
         ensures names { OnOk result (IsTrue self.new.names_last) }
+        ensures failed { IfErr result (IsFailureOn
+            (IsOnEitherOrFolder (Segment seg) (Segment self.old.writes.buffer.seg))
+            (folder.now.dir ≡ None) (IsTrue self.old.writes.is_poisoned)) }
     {
         self.flush(folder)?;
         self.force(folder, StoreFile::Segment(seg))
@@ -100,6 +120,9 @@ impl<R: Files + AllocGlobal + Drop> Store<R> {
     pub fn drop_log(&mut self, folder: &Folder<R>, seg: u64) -> Result<(), Failure>
         ensures changes { ChangesLog self.old.writes self.new.writes result }
         ensures names { OnOk result (self.new.names_last ≡ false) }
+        ensures failed { IfErr result (IsFailureOn
+            (IsOnEither (Segment seg) (Segment self.old.writes.buffer.seg))
+            (folder.now.dir ≡ None) (IsTrue self.old.writes.is_poisoned)) }
     {
         self.flush(folder)?;
         self.remove(folder, StoreFile::Segment(seg))
@@ -113,11 +136,14 @@ impl<R: Files + AllocGlobal + Drop> Store<R> {
         at: u64,
         bytes: &[u8],
     ) -> Result<(), Failure>
-        ensures in_order { OnOk result (IsWrittenInOrder self.old.writes.buffer
-            self.new.writes.buffer self.new.open.files.items seg at bytes.now) }
+        ensures in_order { OnOk result (IsWrittenInOrder R.File.contents
+            self.old.writes.buffer self.new.writes.buffer self.new.open.files.items seg at bytes.now) }
         ensures appended { OnOk result (FitsAfter self.old.writes.buffer seg at bytes.now
             → IsAppended self.old.writes.buffer self.new.writes.buffer seg at bytes.now) }
         ensures same { self.new.writes.is_poisoned ≡ self.old.writes.is_poisoned }
+        ensures failed { IfErr result (IsFailureOn
+            (IsOnEither (Segment seg) (Segment self.old.writes.buffer.seg))
+            (folder.now.dir ≡ None) ⊥) }
     {
         if self.writes.buffer.add(seg, at, bytes) {
             return Ok(());
@@ -139,8 +165,11 @@ impl<R: Files + AllocGlobal + Drop> Store<R> {
             ((IsAlone self.new.writes.buffer seg at bytes.now
             × (self.new.open.files.items ≡ self.old.open.files.items))
             ⊎ ((self.new.writes.buffer.bytes ≡ [])
-            × IsWritten self.new.open.files.items (Segment seg) (at + length bytes.now))) }
+            × IsWritten R.File.contents self.new.open.files.items (Segment seg) at bytes.now)) }
         ensures same { self.new.writes.is_poisoned ≡ self.old.writes.is_poisoned }
+        ensures failed { IfErr result (IsFailureOn
+            (IsOnFileOrSync (Segment seg))
+            (folder.now.dir ≡ None) ⊥) }
     {
         if self.writes.buffer.add(seg, at, bytes) {
             return Ok(());
@@ -152,9 +181,12 @@ impl<R: Files + AllocGlobal + Drop> Store<R> {
     fn put_buffered(&mut self, folder: &Folder<R>) -> Result<(), Failure>
         ensures written { OnOk result (self.new.writes.buffer.bytes ≡ []) }
         ensures wrote { OnOk result (0 < length self.old.writes.buffer.bytes
-            → IsStretchWritten self.new.open.files.items self.old.writes.buffer) }
+            → IsStretchWritten R.File.contents self.new.open.files.items self.old.writes.buffer) }
         ensures kept { OnErr result (self.new.writes.buffer ≡ self.old.writes.buffer) }
         ensures same { self.new.writes.is_poisoned ≡ self.old.writes.is_poisoned }
+        ensures failed { IfErr result (IsFailureOn
+            (IsOnFileOrSync (Segment self.old.writes.buffer.seg))
+            (folder.now.dir ≡ None) ⊥) }
     {
         if self.writes.buffer.is_empty() {
             return Ok(());

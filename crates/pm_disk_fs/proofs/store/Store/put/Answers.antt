@@ -5,7 +5,7 @@ use Rattle.pm_disk_fs.proofs.store.Store.put.Goals as goal
 
 pub returns-clause-wrote : goal.returns-clause-wrote
 returns-clause-wrote g c =
-    written_last c.keep.new.self.files.items c.take.new.self.open.files.items c.write.new.self c.in_ok-file.file.name c.args.name _ c.keep.ensures c.in_ok-write.ensures.ends c.in_ok-file.ensures.name
+    written_last g.R.File.Write.contents c.keep.new.self.files.items c.take.new.self.open.files.items c.write.new.self c.in_ok-file.file.name c.args.name c.args.at c.args.bytes.now c.keep.ensures c.in_ok-write.ensures.written c.in_ok-file.ensures.name
 
 pub returns-clause-others : goal.returns-clause-others
 returns-clause-others g c =

@@ -8,6 +8,6 @@ use Rattle.pm_disk_fs.proofs.store.Store.put_buffered.Goals as goal
 
 pub returns-clause-wrote : goal.returns-clause-wrote
 returns-clause-wrote g c = λ some.
-    subst (λ (writes : Writes). IsStretchWritten c.keep.new.self.files.items writes.buffer) c.in_ok-file.ensures.writes
-    (written_last c.keep.new.self.files.items c.take.new.self.open.files.items c.write_to.new.file c.in_ok-file.file.name _ _ c.keep.ensures c.in_ok-write_to.ensures.wrote
+    subst (λ (writes : Writes). IsStretchWritten g.R.File.Write.contents c.keep.new.self.files.items writes.buffer) c.in_ok-file.ensures.writes
+    (written_last g.R.File.Write.contents c.keep.new.self.files.items c.take.new.self.open.files.items c.write_to.new.file c.in_ok-file.file.name _ _ _ c.keep.ensures c.in_ok-write_to.ensures.wrote
     (c.in_ok-file.ensures.name ∙ ap Segment (c.seg.ensures ∙ ap (λ (writes : Writes). writes.buffer.seg) (sym c.in_ok-file.ensures.writes))))

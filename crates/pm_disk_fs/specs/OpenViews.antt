@@ -1,0 +1,51 @@
+-- What a clause sees of the files that a host or a part keeps open.
+use Rattle.std.specs.Prelude.{◌≡◌, ◌≢◌, ◌<◌, ◌^◌, ℕ, List, [], ◌∷◌, ◌++◌, map, All, Option, Bool, false, IsTrue}
+use Rattle.std.specs.Option.{SomeIff}
+use Rattle.pm_disk.specs.declared.names.StoreFile.{StoreFile}
+use Rattle.pm_disk_fs.specs.declared.opened.Opened.{Opened}
+
+-- A file that is open since it was changed.
+pub record OpenView : Type 0 where
+  pub name : StoreFile
+  -- where its last write ended, in bytes from the file's start, where that is known
+  pub at : Option ℕ
+  -- whether it was forced since its last change
+  pub is_forced : Bool
+
+-- what a clause sees of a file
+abbrev pub view_of : {F : Type 0} → Opened F → OpenView
+view_of file = record { name = file.name; at = file.at; is_forced = file.is_forced }
+
+-- the files that are open, in the order of their last changes
+abbrev pub open_views : {F : Type 0} → List (Opened F) → List OpenView
+open_views files = map (λ file. view_of file) files
+
+-- The file that was changed last is the one of this name, its last write ended at this offset, and it has to be
+-- forced.
+pub record WrittenLast (files : List OpenView) (name : StoreFile) (end : ℕ) : Type 0 where
+  pub before : List OpenView
+  pub file : OpenView
+  pub last : files ≡ before ++ file ∷ []
+  pub named : file.name ≡ name
+  pub noted : SomeIff file.at (end < 2 ^ 64) end
+  pub unforced : file.is_forced ≡ false
+
+-- The file that was changed last is the one of this name, and it has to be forced.
+pub record ChangedLast (files : List OpenView) (name : StoreFile) : Type 0 where
+  pub before : List OpenView
+  pub file : OpenView
+  pub last : files ≡ before ++ file ∷ []
+  pub named : file.name ≡ name
+  pub unforced : file.is_forced ≡ false
+
+-- The file that was changed or forced last is the one of this name, and it was forced since its last change.
+pub record ForcedLast (files : List OpenView) (name : StoreFile) : Type 0 where
+  pub before : List OpenView
+  pub file : OpenView
+  pub last : files ≡ before ++ file ∷ []
+  pub named : file.name ≡ name
+  pub forced : IsTrue file.is_forced
+
+-- No open file has this name.
+abbrev pub NoneOpen : List OpenView → StoreFile → Type 0
+NoneOpen files name = All (λ file. file.name ≢ name) files
