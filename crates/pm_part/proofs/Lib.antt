@@ -21,6 +21,7 @@ pub mod KeyedRows
 pub mod LaidOutWell
 pub mod Layouts
 pub mod Levels
+pub mod LinkedRows
 pub mod ListedRows
 pub mod Looks
 pub mod MappedRows
@@ -47,6 +48,7 @@ pub mod RowKeys
 pub mod RowReplies
 pub mod SameIndexes
 pub mod SortedPairs
+pub mod SoundPairs
 pub mod SpareLaw
 pub mod SpotReads
 pub mod SwappedRows

@@ -1,16 +1,14 @@
 -- The way to the first leaf of a tree, and along its leaves.
-use Rattle.std.proofs.Common.{◌≡◌, ◌≢◌, ℕ, zero, suc, ◌+◌, ◌<◌, ◌≤◌, ◌⊎◌, List, [], ◌∷◌, ◌++◌, refl, sym, ap, subst, ◌∙◌, inl, inr, arith}
+use Rattle.std.proofs.Common.{◌≡◌, ◌≢◌, ℕ, suc, ◌+◌, [], ◌++◌, refl, sym, ap, subst, ◌∙◌, inl, inr, arith}
 use Rattle.std.specs.Prelude.{Result, OnOk}
 use Rattle.pm_types.specs.declared.fault.StoreFault.{StoreFault}
 use Rattle.pm_meta.specs.declared.slots.MetaSlot.TheVariants.{Root, Pages}
 use Rattle.std.proofs.lemmas.Result.{on_ok_weaker}
 use Rattle.std.proofs.lemmas.List.{append_assoc, append-nil}
-use Rattle.pm_types.specs.declared.page_id.PageId.{PageId}
 use Rattle.pm_meta.specs.declared.slots.MetaSlot.{MetaSlot}
 use Rattle.pm_pages.specs.Paged.{Paged}
 use Rattle.pm_pages.specs.Edits.{IsNumberIn}
-use Rattle.pm_part.specs.declared.pairs.Down.{Down}
-use Rattle.pm_part.specs.declared.pairs.Down.TheVariants.{Leaf, Child, Other}
+use Rattle.pm_part.specs.declared.pairs.Down.TheVariants.{Leaf, Child}
 use Rattle.pm_part.specs.Reads.{ReadsPages}
 use Rattle.pm_part.specs.PairReads.{PairsList, AppendsPairs, HadNumber, WasPage, IsDown, LeadsDown, HadLeaf, HadLeaves, HadAllLeaves, WasFirstLeaf, HadTreePairs, HadTree}
 

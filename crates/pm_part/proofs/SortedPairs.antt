@@ -1,6 +1,6 @@
 -- The pairs of a cache's rows, in the order of the items that list the rows, are those of the map that the rows make.
-use Rattle.std.proofs.Common.{◌≡◌, ◌≢◌, ℕ, zero, suc, ◌⊎◌, ◌==◌, List, [], ◌∷◌, Bool, true, false, cond, Option, None, Some, T, map, refl, sym, ap, subst, ◌∙◌, inl, inr, ◌&&◌}
-use Rattle.std.specs.Prelude.{All, Any, AllPairs, filter}
+use Rattle.std.proofs.Common.{◌≡◌, ◌≢◌, ℕ, ◌==◌, List, [], ◌∷◌, Bool, true, false, cond, None, Some, T, map, refl, sym, ap, subst, ◌∙◌, inl, inr, ◌&&◌}
+use Rattle.std.specs.Prelude.{Any, AllPairs}
 use Rattle.std.specs.Ordering.{nat_cmp, ordering_then, is_lt, eq_by_cmp, is_eq}
 use Rattle.std.specs.declared.cmp.Ordering.{Ordering}
 use Rattle.std.specs.declared.cmp.Ordering.TheVariants.{Less, Equal, Greater}
@@ -13,7 +13,7 @@ use Rattle.std.proofs.lemmas.Bool.{cases_eq, cases_Bool, eq-eqb, ne_eqb}
 use Rattle.std.proofs.lemmas.Cmp.{tied_itself, eq_by_cmp_equiv}
 use Rattle.pm_btpage.specs.IndexPages.{Item, IsBelow}
 use Rattle.pm_model.specs.declared.cache_key.CacheKey.{CacheKey}
-use Rattle.pm_model.specs.Eval.{cache_key, cache_key_cmp, pairs_of, pairs_among}
+use Rattle.pm_model.specs.Eval.{cache_key, cache_key_cmp, pairs_of}
 use Rattle.pm_model.proofs.CacheKeys.{exact_cache_keys, cache_keys_total}
 use Rattle.pm_pages.specs.declared.row.Row.{Row}
 use Rattle.pm_pages.specs.RowMaps.{map_of}

@@ -1,5 +1,5 @@
 -- Over pages that are told and well formed, the pairs that are read are those of the map that the rows make.
-use Rattle.std.proofs.Common.{◌≡◌, ◌≢◌, ℕ, zero, suc, ◌<◌, ◌⊎◌, List, [], ◌∷◌, refl, sym, ap, subst, ◌∙◌, inl, inr, arith}
+use Rattle.std.proofs.Common.{◌≡◌, ℕ, zero, suc, ◌<◌, List, [], ◌∷◌, sym, ap, subst, ◌∙◌, inl, inr, arith}
 use Rattle.std.specs.Prelude.{Result, OnOk, ◌++◌}
 use Rattle.std.proofs.lemmas.Result.{on_ok_weaker}
 use Rattle.pm_types.specs.declared.fault.StoreFault.{StoreFault}
@@ -8,7 +8,7 @@ use Rattle.pm_types.specs.declared.shape.Shape.{Shape}
 use Rattle.pm_btpage.specs.IndexPages.{Item}
 use Rattle.pm_meta.specs.declared.slots.MetaSlot.TheVariants.{Root, Pages}
 use Rattle.pm_model.specs.Eval.{pairs_of}
-use Rattle.pm_pages.specs.Rows.{Partition, number_of, page_count, rows_of}
+use Rattle.pm_pages.specs.Rows.{number_of, page_count, rows_of}
 use Rattle.pm_pages.specs.RowMaps.{map_of}
 use Rattle.pm_pages.specs.Trees.{root_of, ListsRows}
 use Rattle.pm_pages.specs.Paged.{Paged}
@@ -16,7 +16,7 @@ use Rattle.pm_pages.specs.SoundPages.{PassesAll}
 use Rattle.pm_tree.specs.Indexes.{IsIndex}
 use Rattle.pm_part.specs.Runs.{IsPartitionOf}
 use Rattle.pm_part.specs.PairReads.{PairsList, AppendsPairs, WasFirstLeaf, HadPair, HadPairs, HadTreePairs, HadTree}
-use Rattle.pm_part.proofs.CacheIndexes.{HasIndex, index_of}
+use Rattle.pm_part.proofs.CacheIndexes.{index_of}
 use Rattle.pm_part.proofs.KeyedRows.{HasValue}
 use Rattle.pm_part.proofs.Quantified.{Holds}
 use Rattle.pm_part.proofs.ReadRows.{row_is_there}

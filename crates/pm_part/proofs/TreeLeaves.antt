@@ -1,23 +1,19 @@
 -- The leaves of a tree are those that are read from its first one on, where the store reports its pages.
-use Rattle.std.proofs.Common.{◌≡◌, ◌≢◌, ℕ, zero, suc, ◌+◌, ◌-◌, ◌<◌, ◌≤◌, ◌⊎◌, List, [], ◌∷◌, ◌++◌, length, Some, refl, sym, ap, subst, ◌∙◌, inl, inr, arith}
-use Rattle.std.specs.Prelude.{All}
-use Rattle.std.specs.List.{flat_map}
+use Rattle.std.proofs.Common.{◌≡◌, ◌≢◌, ℕ, zero, suc, ◌-◌, ◌<◌, ◌≤◌, ◌⊎◌, List, [], ◌∷◌, ◌++◌, length, Some, refl, sym, ap, subst, ◌∙◌, inl, inr, arith}
 use Rattle.std.proofs.lemmas.Grind.{flat_map-append}
 use Rattle.std.proofs.lemmas.List.{append_assoc, append-nil}
 use Rattle.pm_btpage.specs.declared.layout.TheConstants.{LEAF_KIND, INNER_KIND}
 use Rattle.pm_btpage.specs.IndexPages.{Item, items_of, index_of}
 use Rattle.pm_meta.specs.declared.slots.MetaSlot.{MetaSlot}
-use Rattle.pm_meta.specs.declared.slots.MetaSlot.TheVariants.{Pages}
 use Rattle.pm_pages.specs.Rows.{Partition, bytes_of, page_at, page_count, number_in, number_of, kind_of}
-use Rattle.pm_pages.specs.Trees.{child_of, children_of, leaves_below, items_in, items_below, first_of, IsTree, IsSomeTree, AreLinked}
+use Rattle.pm_pages.specs.Trees.{child_of, leaves_below, items_in, items_below, first_of, IsSomeTree, AreLinked}
 use Rattle.pm_pages.specs.Paged.{Paged}
 use Rattle.pm_pages.specs.SoundPages.{PassesAll}
 use Rattle.pm_pages.proofs.PageReads.{page_at-below}
 use Rattle.pm_pages.proofs.BelowTrees.{some_child, all_leaves}
 use Rattle.pm_tree.proofs.SoundLooks.{tree_some}
-use Rattle.pm_part.specs.declared.pairs.Down.TheVariants.{Leaf, Child}
-use Rattle.pm_part.specs.PairReads.{PairsList, WasRead, HadNumber, WasPage, LeadsDown, WasFirstLeaf, HadPairs, HadLeaf, HadLeaves, HadAllLeaves}
-use Rattle.pm_part.proofs.Quantified.{Each, each_of, each_left, each_middle}
+use Rattle.pm_part.specs.PairReads.{PairsList, WasRead, HadNumber, LeadsDown, WasFirstLeaf, HadPairs, HadLeaf, HadLeaves, HadAllLeaves}
+use Rattle.pm_part.proofs.Quantified.{Each, each_of, each_middle}
 
 -- the bytes of a page that was read
 pub read_told : (T : Type 0) (a : Paged) (i : ℕ) (page : List ℕ) → T → WasRead T a i page → a.pages i ≡ Some page
@@ -55,7 +51,7 @@ down_one pages (suc m) at some =
     subst (λ n. first_of (leaves_below pages n (child_of (page_at pages at) 0)) ≡ first_of (leaves_below pages (suc m) at)) e
     (sym (first_left (leaves_below pages m (child_of (page_at pages at) 0)) _ (some_leaf pages m (child_of (page_at pages at) 0))))
 
-tree_kinds : (pages : Partition) (m at : ℕ) → IsSomeTree pages m at → ((m ≡ 0) × (kind_of (page_at pages at) ≡ LEAF_KIND)) ⊎ ((0 < m) × (kind_of (page_at pages at) ≡ INNER_KIND))
+pub tree_kinds : (pages : Partition) (m at : ℕ) → IsSomeTree pages m at → ((m ≡ 0) × (kind_of (page_at pages at) ≡ LEAF_KIND)) ⊎ ((0 < m) × (kind_of (page_at pages at) ≡ INNER_KIND))
 tree_kinds pages zero at tree = inl (refl, tree.1.kind_is)
 tree_kinds pages (suc m) at tree = inr (omega arith, tree.1.0.kind_is)
 

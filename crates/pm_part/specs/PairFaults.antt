@@ -15,10 +15,11 @@ use Rattle.pm_pages.specs.declared.limits.TheConstants.{LEVELS_MAX}
 use Rattle.pm_pages.specs.Rows.{kind_of}
 use Rattle.pm_pages.specs.Paged.{Paged, IsBadPage}
 use Rattle.pm_tree.specs.Indexes.{as_link}
-use Rattle.pm_part.specs.declared.pairs.Down.TheVariants.{Leaf, Other}
+use Rattle.pm_part.specs.declared.pairs.Down.TheVariants.{Other}
 use Rattle.pm_part.specs.Reads.{ReadsPages}
 use Rattle.pm_part.specs.Spots.{HasNoRowOn, LeadsNowhere}
-use Rattle.pm_part.specs.PairReads.{PairsList, WasRead, HadNumber, WasPage, IsDown, LeadsDown, WasLeaf, HadLeaves, WasFirstLeaf}
+use Rattle.pm_part.specs.PairReads.{PairsList, WasRead, HadNumber, IsDown, LeadsDown, WasLeaf, HadLeaves}
+use Rattle.pm_part.specs.PairReads.{WasFirstLeaf}
 
 -- page i was bad, which has this name, at a moment until which pages were only read
 pub record WasBadAt (T : Type 0) (start : Paged) (i : ℕ) (id : PageId) : Type 0 where
@@ -45,26 +46,30 @@ NamedNoRow T start count cache link key = LeadsNowhere link start.part count
     ⊎ HadNoRow T start (index_of_id (page_of_link link)) (item_of_link link) cache key
 
 -- an item of a leaf named no row of its key
-pub record HadWrongItem (T : Type 0) (start : Paged) (count cache : ℕ) (page : List ℕ) : Type 0 where
+pub record HadWrongItem (T : Type 0) (start : Paged) (count cache : ℕ) (page : List ℕ)
+    : Type 0 where
   pub item : ℕ
   pub in_range : item < length (items_of page)
-  pub wrong : NamedNoRow T start count cache (as_link (word_in (items_of page) item)) (key_in (items_of page) item)
+  pub wrong : NamedNoRow T start count cache (as_link (word_in (items_of page) item))
+      (key_in (items_of page) item)
 
--- there was no such leaf: 0 names none, nor does an index past the page count, nor a page of another kind
+-- there was no such leaf: 0 names none, nor does an index past the page count, nor a page of
+-- another kind
 abbrev pub WasNoLeaf : Type 0 → Paged → ℕ → ℕ → Type 0
 WasNoLeaf T start count at = (at ≡ 0) ⊎ (count ≤ at)
     ⊎ ((page : List ℕ) × WasRead T start at page × (kind_of page ≢ LEAF_KIND))
 
 -- page `leaf`, which has this name, was a leaf with an item that named no row of its key
-pub record WasWrongLeaf (T : Type 0) (start : Paged) (count cache leaf : ℕ) (id : PageId) : Type 0 where
+pub record WasWrongLeaf (T : Type 0) (start : Paged) (count cache leaf : ℕ) (id : PageId)
+    : Type 0 where
   pub name : id ≡ page_id start.part leaf
   pub page : List ℕ
   pub was : WasLeaf T start count leaf page
   pub wrong : HadWrongItem T start count cache page
 
 -- a link of a key named no row of it, in a leaf that has this name
-pub record IsPairFault (T : Type 0) (start : Paged) (count cache leaf : ℕ) (link : Link) (key : List ℕ)
-    (id : PageId) : Type 0 where
+pub record IsPairFault (T : Type 0) (start : Paged) (count cache leaf : ℕ) (link : Link)
+    (key : List ℕ) (id : PageId) : Type 0 where
   pub name : id ≡ page_id start.part leaf
   pub wrong : NamedNoRow T start count cache link key
 
@@ -87,7 +92,8 @@ IsLeafFault T start count cache from at id =
 -- What was wrong of the leaves from one on, of which so many were read: the last of them, page
 -- `from`, names a page `at` that is no leaf, or one with a wrong item, or there were more leaves
 -- than pages.
-pub record IsLeavesFault (T : Type 0) (start : Paged) (count cache first : ℕ) (id : PageId) : Type 0 where
+pub record IsLeavesFault (T : Type 0) (start : Paged) (count cache first : ℕ) (id : PageId)
+    : Type 0 where
   pub leaves : ℕ
   pub from : ℕ
   pub at : ℕ
@@ -107,7 +113,8 @@ pub record IsDownFault (T : Type 0) (start : Paged) (count root : ℕ) (id : Pag
   pub name : id ≡ page_id start.part from
   pub wrong : IsDown T start count at Other ⊎ (levels ≡ LEVELS_MAX)
 
--- a page of the partition was bad, or something was wrong on the way to the first leaf or of the leaves
+-- a page of the partition was bad, or something was wrong on the way to the first leaf or of the
+-- leaves
 pub record IsPairsFault (T : Type 0) (start : Paged) (cache : ℕ) (id : PageId) : Type 0 where
   pub count : ℕ
   pub count_is : HadNumber T start Pages count
@@ -115,19 +122,20 @@ pub record IsPairsFault (T : Type 0) (start : Paged) (cache : ℕ) (id : PageId)
   pub some : root ≢ 0
   pub root_is : HadNumber T start (Root cache) root
   pub fault : WasBad T start count id ⊎ IsDownFault T start count root id
-      ⊎ ((first : ℕ) × WasFirstLeaf T start count root first × IsLeavesFault T start count cache first id)
+      ⊎ ((first : ℕ) × WasFirstLeaf T start count root first
+      × IsLeavesFault T start count cache first id)
 
--- A call of the disk failed, or there was such a fault, also as seen from a moment since which pages
--- were only read.
-pub record HasReadCause {R : Type 0} (T : Type 0) (old new : Paged) (fault : Paged → PageId → Type 0)
-    (result : Result R StoreFault) : Type 0 where
+-- A call of the disk failed, or there was such a fault, also as seen from a moment since which
+-- pages were only read.
+pub record HasReadCause {R : Type 0} (T : Type 0) (old new : Paged)
+    (fault : Paged → PageId → Type 0) (result : Result R StoreFault) : Type 0 where
   pub failed : IsErrOf result store_fault.Failed → HasRisen old.faults new.faults
   pub bad : (start : Paged) → ReadsPages T start old → (id : PageId)
       → IsErrOf result (store_fault.BadPage id) → fault start id
 
 -- the same of a call that takes no memory
-pub record HasPageReadCause {R : Type 0} (T : Type 0) (old new : Paged) (fault : Paged → PageId → Type 0)
-    (result : Result R PageFault) : Type 0 where
+pub record HasPageReadCause {R : Type 0} (T : Type 0) (old new : Paged)
+    (fault : Paged → PageId → Type 0) (result : Result R PageFault) : Type 0 where
   pub failed : IsErrOf result page_fault.Failed → HasRisen old.faults new.faults
   pub bad : (start : Paged) → ReadsPages T start old → (id : PageId)
       → IsErrOf result (page_fault.BadPage id) → fault start id
@@ -138,3 +146,7 @@ pub record HasPairsCause {R : Type 0} (T : Type 0) (old new : Paged) (cache : �
   pub failed : IsErrOf result store_fault.Failed → HasRisen old.faults new.faults
   pub bad : (id : PageId) → IsErrOf result (store_fault.BadPage id)
       → WasBad T old 0 id ⊎ IsPairsFault T old cache id
+
+-- no page is answered as bad
+abbrev pub NamesNoBadPage : {R : Type 0} → Result R StoreFault → Type 0
+NamesNoBadPage result = (id : PageId) → IsErrOf result (store_fault.BadPage id) → ⊥

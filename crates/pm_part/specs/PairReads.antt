@@ -1,5 +1,5 @@
--- What was read of a partition for the pairs of a cache. The pages are read one after the other, and
--- each is given up before the next, so that each has the bytes of the moment when it was read.
+-- What was read of a partition for the pairs of a cache. The pages are read one after the other,
+-- and each is given up before the next, so that each has the bytes of the moment when it was read.
 use Rattle.std.specs.Prelude.{◌≡◌, ◌≢◌, ℕ, zero, suc, ◌<◌, ◌≤◌, ◌⊎◌, List, [], ◌∷◌, ◌++◌, None}
 use Rattle.pm_types.specs.declared.page_id.Link.{Link}
 use Rattle.pm_btpage.specs.declared.layout.TheConstants.{LEAF_KIND, INNER_KIND}
@@ -99,7 +99,8 @@ HadPairs T start count cache [] [] = Unit {0}
 HadPairs T start count cache [] (pair ∷ pairs) = ⊥
 HadPairs T start count cache (item ∷ items) [] = ⊥
 HadPairs T start count cache (item ∷ items) (pair ∷ pairs) =
-    HadPair T start count cache (as_link item.word) item.key pair × HadPairs T start count cache items pairs
+    HadPair T start count cache (as_link item.word) item.key pair
+    × HadPairs T start count cache items pairs
 
 -- a leaf of the partition, with these bytes
 pub record WasLeaf (T : Type 0) (start : Paged) (count at : ℕ) (page : List ℕ) : Type 0 where
@@ -109,22 +110,26 @@ pub record WasLeaf (T : Type 0) (start : Paged) (count at : ℕ) (page : List �
   pub kind : kind_of page ≡ LEAF_KIND
 
 -- the leaf, its next one, and the pairs of its items
-pub record HadLeaf (T : Type 0) (start : Paged) (count cache leaf next : ℕ) (pairs : PairsList) : Type 0 where
+pub record HadLeaf (T : Type 0) (start : Paged) (count cache leaf next : ℕ) (pairs : PairsList)
+    : Type 0 where
   pub page : List ℕ
   pub was : WasLeaf T start count leaf page
   pub next_is : next ≡ (index_of page).link
   pub pairs_are : HadPairs T start count cache (items_of page) pairs
 
--- From a leaf on so many leaves were read, each naming the next. Page `from` is the last of them, its
--- next one is page `at`, and these are the pairs of all their items.
+-- From a leaf on so many leaves were read, each naming the next. Page `from` is the last of them,
+-- its next one is page `at`, and these are the pairs of all their items.
 abbrev pub HadLeaves : Type 0 → Paged → ℕ → ℕ → ℕ → ℕ → ℕ → ℕ → PairsList → Type 0
-HadLeaves T start count cache first zero from at pairs = (from ≡ first) × (at ≡ first) × (pairs ≡ [])
-HadLeaves T start count cache first (suc n) from at pairs = (earlier : PairsList) × (later : PairsList)
+HadLeaves T start count cache first zero from at pairs =
+    (from ≡ first) × (at ≡ first) × (pairs ≡ [])
+HadLeaves T start count cache first (suc n) from at pairs =
+    (earlier : PairsList) × (later : PairsList)
     × HadLeaf T start count cache from at later × (pairs ≡ earlier ++ later)
     × (before : ℕ) × HadLeaves T start count cache first n before from earlier
 
 -- the pairs of all leaves from one on: the last has no next one
-pub record HadAllLeaves (T : Type 0) (start : Paged) (count cache first : ℕ) (pairs : PairsList) : Type 0 where
+pub record HadAllLeaves (T : Type 0) (start : Paged) (count cache first : ℕ) (pairs : PairsList)
+    : Type 0 where
   pub leaves : ℕ
   pub last : ℕ
   pub read : HadLeaves T start count cache first leaves last 0 pairs
@@ -154,4 +159,5 @@ pub record HadTreePairs (T : Type 0) (start : Paged) (cache : ℕ) (pairs : Pair
 
 -- the pairs of a cache as they were read: none where it had no tree
 abbrev pub HadTree : Type 0 → Paged → ℕ → PairsList → Type 0
-HadTree T start cache pairs = (HadNoTree T start cache × (pairs ≡ [])) ⊎ HadTreePairs T start cache pairs
+HadTree T start cache pairs =
+    (HadNoTree T start cache × (pairs ≡ [])) ⊎ HadTreePairs T start cache pairs

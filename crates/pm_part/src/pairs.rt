@@ -1,7 +1,8 @@
 //! The pairs of a cache by rising key: the leaves of its tree are read from the first one on, and
 //! the rows that their items name.
 
-ghost use Rattle.std.specs.Prelude.{◌≡◌, ◌≢◌, ℕ, ◌≤◌, ◌<◌, ◌⊎◌, true, false, IsTrue, IfOk, OnOk, length};
+ghost use Rattle.std.specs.Prelude.{◌≡◌, ◌≢◌, ℕ, ◌≤◌, ◌<◌, ◌⊎◌, true, false};
+ghost use Rattle.std.specs.Prelude.{IsTrue, IfOk, OnOk, length};
 ghost use Rattle.pm_types.specs.declared.limits.TheConstants.{CACHES};
 ghost use Rattle.pm_types.specs.PageSizes.{IsPageSize};
 ghost use Rattle.pm_types.specs.Keys.{HasKeyLength};
@@ -13,12 +14,12 @@ ghost use Rattle.pm_pages.specs.Rows.{kind_of};
 ghost use Rattle.pm_pages.specs.PageLists.{IsReadable};
 ghost use Rattle.pm_pages.specs.Paged.{AllReadable, NoneLent};
 ghost use Rattle.pm_part.specs.Reads.{ReadsPages};
-ghost use Rattle.pm_part.specs.PairReads.{SinceReads, AppendsPairs, IsDownOn, IsDown, HadPair, HadPairs};
-ghost use Rattle.pm_part.specs.PairReads.{WasLeaf, HadLeaf, HadAllLeaves, WasFirstLeaf, HadTree};
-ghost use Rattle.pm_part.specs.PairReads.{HadTreePairs};
-ghost use Rattle.pm_part.specs.PairFaults.{WasBad, WasNoLeaf, IsPairFault, IsItemFault, IsLeafFault};
-ghost use Rattle.pm_part.specs.PairFaults.{IsLeavesFault, IsDownFault, HasReadCause, HasPageReadCause};
-ghost use Rattle.pm_part.specs.PairFaults.{IsPairsFault, HasPairsCause};
+ghost use Rattle.pm_part.specs.PairReads.{SinceReads, AppendsPairs, IsDownOn, IsDown, HadPair};
+ghost use Rattle.pm_part.specs.PairReads.{HadPairs, WasLeaf, HadLeaf, HadAllLeaves, WasFirstLeaf};
+ghost use Rattle.pm_part.specs.PairReads.{HadTree, HadTreePairs};
+ghost use Rattle.pm_part.specs.PairFaults.{WasBad, WasNoLeaf, IsPairFault, IsItemFault};
+ghost use Rattle.pm_part.specs.PairFaults.{IsLeafFault, IsLeavesFault, IsDownFault, HasReadCause};
+ghost use Rattle.pm_part.specs.PairFaults.{HasPageReadCause, IsPairsFault, HasPairsCause};
 
 use crate::spots::{find_pair, spot_of};
 use pm_btpage::{INNER_KIND, LEAF_KIND, key_at, next, word_at};
@@ -183,7 +184,8 @@ fn append_leaves<P: Pages>(
     ensures reads { ReadsPages P.tells (P.seen pages.old) (P.seen pages.new) }
     ensures readable { AllReadable (P.seen pages.new) }
     ensures leaves { SinceReads P.tells (P.seen pages.old) (λ start. OnOk result
-        (AppendsPairs pairs.old.items pairs.new.items (HadAllLeaves P.tells start count cache first))) }
+        (AppendsPairs pairs.old.items pairs.new.items
+        (HadAllLeaves P.tells start count cache first))) }
     ensures cause { HasReadCause P.tells (P.seen pages.old) (P.seen pages.new) (λ start id.
         WasBad P.tells start count id ⊎ IsLeavesFault P.tells start count cache first id) result }
 {
@@ -309,9 +311,11 @@ fn append_items<P: Pages>(
     ensures reads { ReadsPages P.tells (P.seen pages.old) (P.seen pages.new) }
     ensures readable { AllReadable (P.seen pages.new) }
     ensures pairs { SinceReads P.tells (P.seen pages.old) (λ start. OnOk result
-        (AppendsPairs pairs.old.items pairs.new.items (HadPairs P.tells start count cache (items_of page.now)))) }
+        (AppendsPairs pairs.old.items pairs.new.items
+        (HadPairs P.tells start count cache (items_of page.now)))) }
     ensures cause { HasReadCause P.tells (P.seen pages.old) (P.seen pages.new) (λ start id.
-        WasBad P.tells start count id ⊎ IsItemFault P.tells start count cache leaf page.now id) result }
+        WasBad P.tells start count id
+        ⊎ IsItemFault P.tells start count cache leaf page.now id) result }
 {
     'items: for i in 0..pm_btpage::count(page) {
         let link = Link(word_at(page, i));
@@ -341,7 +345,8 @@ fn read_pair<P: Pages>(
     ensures pair { SinceReads P.tells (P.seen pages.old)
         (λ start. IfOk result (HadPair P.tells start count cache link key.now)) }
     ensures cause { HasReadCause P.tells (P.seen pages.old) (P.seen pages.new) (λ start id.
-        WasBad P.tells start count id ⊎ IsPairFault P.tells start count cache leaf link key.now id) result }
+        WasBad P.tells start count id
+        ⊎ IsPairFault P.tells start count cache leaf link key.now id) result }
 {
     match spot_of(link, pages.part(), count) {
         None => Err(StoreFault::BadPage(PageId::new(pages.part(), leaf))),

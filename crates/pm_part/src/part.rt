@@ -15,7 +15,7 @@ ghost use Rattle.pm_model.specs.Eval.{pairs_of};
 ghost use Rattle.pm_part.specs.Reads.{ReadsPages};
 ghost use Rattle.pm_part.specs.Commands.{IsPartCmd, cache_of, AppendsReply};
 ghost use Rattle.pm_part.specs.Faults.{HasPartCause};
-ghost use Rattle.pm_part.specs.PairFaults.{HasPairsCause};
+ghost use Rattle.pm_part.specs.PairFaults.{HasPairsCause, NamesNoBadPage};
 ghost use Rattle.pm_part.specs.Runs.{IsPartitionOf, RunsCmd, IsGet, IsGetOrRemove};
 ghost use Rattle.pm_part.specs.Puts.{IsPartFor};
 ghost use Rattle.pm_types.specs.declared.shape.Shape.{Shape};
@@ -101,6 +101,10 @@ impl Part {
 
     /// Appends the pairs of a cache in this partition, by rising key. The pages are asked for one
     /// after the other, and each is given up before the next.
+    ///
+    /// `Failed` comes only where a call on the disk failed, and `Memory` where memory ran out.
+    /// `BadPage` names a page that is bad, or one that names a wrong page or row; in a well-formed
+    /// partition there is none. After an error some of the pairs may have been appended.
     pub fn pairs<P: Pages>(
         &self,
         alloc: Global,
@@ -118,6 +122,8 @@ impl Part {
         ensures pairs { P.tells → (shape : Shape) → IsPartitionOf shape (P.seen pages.old)
             → OnOk result (into.new ≡ into.old ++ pairs_of cache
             (map_of (rows_of (P.seen pages.old).part (P.seen pages.old).pages))) }
+        ensures sound { P.tells → (shape : Shape) → IsPartitionOf shape (P.seen pages.old)
+            → NamesNoBadPage result }
         ensures cause { HasPairsCause P.tells (P.seen pages.old) (P.seen pages.new) cache result }
     {
         append_pairs(alloc, cache, pages, &mut into.pairs)

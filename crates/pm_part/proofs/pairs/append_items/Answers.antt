@@ -1,4 +1,4 @@
-use Rattle.std.proofs.Common.{ℕ, ◌<◌, ◌⊎◌, length, ap, inl, inr, arith}
+use Rattle.std.proofs.Common.{◌<◌, ◌⊎◌, length, ap, inl, inr, arith}
 use Rattle.std.proofs.lemmas.Result.{err_from_is_err_and}
 use Rattle.pm_btpage.specs.IndexPages.{items_of}
 use Rattle.pm_tree.specs.Indexes.{as_link}

@@ -1,4 +1,4 @@
-use Rattle.std.proofs.Common.{ℕ, take}
+use Rattle.std.proofs.Common.{take}
 use Rattle.pm_btpage.specs.IndexPages.{items_of}
 use Rattle.pm_pages.specs.Paged.{Paged, AllReadable}
 use Rattle.pm_part.specs.Reads.{ReadsPages}

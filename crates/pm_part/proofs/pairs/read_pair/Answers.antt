@@ -1,4 +1,4 @@
-use Rattle.std.proofs.Common.{Some, ◌⊎◌, subst, inl}
+use Rattle.std.proofs.Common.{◌⊎◌, subst, inl}
 use Rattle.std.specs.Prelude.{IfSome}
 use Rattle.std.proofs.lemmas.Result.{err_from_is_err_and}
 use Rattle.pm_part.specs.PairReads.{ReadPair}
