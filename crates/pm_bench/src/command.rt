@@ -3,8 +3,8 @@
 use crate::log_rings::Delta;
 use crate::policies::{Frames, Kind};
 use crate::{
-    block, hash_map, keys, locks, log_rings, maps, page_table, policies, region, ring_threads,
-    trees,
+    block, hash_map, keys, locks, log_rings, maps, operations, page_table, policies, region,
+    ring_threads, trees,
 };
 use std::alloc::{AllocError, Global};
 use std::thread::Threads;
@@ -42,6 +42,12 @@ pub enum Command {
     MapGets,
     /// The same, and then removed.
     MapRemoves,
+    /// So many operations, made alone.
+    Operations,
+    /// The same, done on a partition over pages in memory.
+    OperationsInPages,
+    /// The same, done in the map in memory that the partition is compared with.
+    OperationsInMap,
     /// The records of so many operations, appended to a log in memory.
     Appends(Delta),
     /// The same through the rings of two workers, which the appends are compared with.
@@ -51,7 +57,7 @@ pub enum Command {
 }
 
 /// All commands, in the order in which `all` runs them.
-pub const COMMANDS: [Command; 29] = [
+pub const COMMANDS: [Command; 32] = [
     Command::PageTable,
     Command::HashMap,
     Command::Region,
@@ -75,6 +81,9 @@ pub const COMMANDS: [Command; 29] = [
     Command::MapPuts,
     Command::MapGets,
     Command::MapRemoves,
+    Command::Operations,
+    Command::OperationsInPages,
+    Command::OperationsInMap,
     Command::Appends(Delta::Short),
     Command::Rings(Delta::Short),
     Command::RingThreads(Delta::Short),
@@ -146,6 +155,9 @@ impl Command {
             Command::MapPuts => "map_puts",
             Command::MapGets => "map_gets",
             Command::MapRemoves => "map_removes",
+            Command::Operations => "operations",
+            Command::OperationsInPages => "operations_in_pages",
+            Command::OperationsInMap => "operations_in_map",
             Command::Appends(Delta::Short) => "appends_short",
             Command::Rings(Delta::Short) => "rings_short",
             Command::RingThreads(Delta::Short) => "ring_threads_short",
@@ -178,6 +190,9 @@ impl Command {
             Command::MapPuts => maps::puts(alloc, count),
             Command::MapGets => maps::gets(alloc, count),
             Command::MapRemoves => maps::removes(alloc, count),
+            Command::Operations => operations::commands(alloc, count),
+            Command::OperationsInPages => operations::in_pages(alloc, count),
+            Command::OperationsInMap => operations::in_map(alloc, count),
             Command::Appends(delta) => log_rings::appends(alloc, *delta, count),
             Command::Rings(delta) => log_rings::rings(alloc, *delta, count),
             Command::RingThreads(delta) => ring_threads::run(rt, alloc, *delta, count),

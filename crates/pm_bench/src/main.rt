@@ -10,6 +10,7 @@ mod locks;
 mod log_rings;
 mod lookups;
 mod maps;
+mod operations;
 mod page_table;
 mod policies;
 mod region;
@@ -26,6 +27,7 @@ const USAGE: &str =
 |random_64|random_4096|random_65536|segmented_64|segmented_4096|segmented_65536\
 |clock_64|clock_4096|clock_65536\
 |keys|tree_puts|tree_gets|tree_removes|map_puts|map_gets|map_removes\
+|operations|operations_in_pages|operations_in_map\
 |appends_short|rings_short|ring_threads_short|appends_long|rings_long|ring_threads_long COUNT";
 
 fn main(rt: HostRuntime) -> io::Result<ExitCode> {
