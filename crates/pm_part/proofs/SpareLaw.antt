@@ -42,7 +42,7 @@ use Rattle.pm_part.proofs.WellLaidOut.{items_of_cache, laid_of, lists_of}
 -- a page with a row among its items has a row
 some_from : (id : PageId) (item k : ℕ) (items : List (Option (List ℕ))) (row : List ℕ) → k < length items → get_or items k None ≡ Some row → 1 ≤ length (rows_from id item items)
 some_from id item k [] row lt is = absurd (omega (arith, lt))
-some_from id item k (Some first ∷ items) row lt is = omega arith
+some_from id item k (Some here ∷ items) row lt is = omega arith
 some_from id item zero (None ∷ items) row lt is = absurd (cc is)
 some_from id item (suc k) (None ∷ items) row lt is = some_from id (item + 1) k items row (omega (arith, lt)) is
 
