@@ -1,5 +1,6 @@
 -- What contracts see of the log writer's end of a worker's ring.
-use Rattle.std.specs.Prelude.{◌≡◌, ◌≤◌, ◌⊎◌, ℕ, List, [], ◌∷◌, ◌++◌, Bool, if◌then◌else◌, Result, Ok, Err}
+use Rattle.std.specs.Prelude.{◌≡◌, ◌≤◌, ◌⊎◌, ◌+◌, ℕ, List, [], ◌∷◌, ◌++◌, length, Bool, true, false}
+use Rattle.std.specs.Prelude.{if◌then◌else◌, Result, Ok, Err}
 use Rattle.rtrb.specs.Ring.{received, known_items, SameConsumer, IsPair}
 use Rattle.pm_types.specs.declared.limits.TheConstants.{BATCH_LINES_MAX}
 use Rattle.pm_logger.specs.Blocks.{joined}
@@ -74,6 +75,12 @@ piece_taken (Err error) piece = []
 -- there.
 abbrev pub IsHalted : Inbox → ℕ → Type 0
 IsHalted inbox noted = IsBad (kept inbox) ⊎ (BATCH_LINES_MAX ≤ noted)
+
+-- What a call answers that takes a block: one that was known to be in the ring was taken, or none, since no
+-- operation can be appended.
+abbrev pub AnswersTaken : Bool → Inbox → Inbox → ℕ → Type 0
+AnswersTaken true old new noted = length (waiting new) + 1 ≡ length (waiting old)
+AnswersTaken false old new noted = IsHalted new noted
 
 -- All that is known to be in the ring was taken, and no whole operation is left, or none can be appended.
 abbrev pub IsDrained : Inbox → ℕ → Type 0

@@ -17,7 +17,7 @@ use pm_disk::{Failed, LogFile};
 use pm_segments::Log;
 
 impl Inbox {
-    ghost use Rattle.pm_logger.specs.Inboxes.{kept, waiting, TakesBlock, KeepsSeen};
+    ghost use Rattle.pm_logger.specs.Inboxes.{kept, waiting, TakesBlock, KeepsSeen, AnswersTaken};
     ghost use Rattle.pm_logger.specs.Inboxes.{AppendsTaken, AppendsGiven, piece_taken, IsHalted};
 
     /// Appends the whole operations that are kept.
@@ -59,9 +59,7 @@ impl Inbox {
         ensures appended { AppendsTaken L.tells (writer (L.history dev.old) log.old tally.old)
             (writer (L.history dev.new) log.new tally.new) (is_ok result) self.old self.new }
         ensures seen { KeepsSeen self.old self.new }
-        ensures took { IfOk result (λ took. took ≡ true
-            → length (waiting self.new) + 1 ≡ length (waiting self.old)) }
-        ensures halted { IfOk result (λ took. took ≡ false → IsHalted self.new (length tally.new.lines)) }
+        ensures took { IfOk result (λ took. AnswersTaken took self.old self.new (length tally.new.lines)) }
         ensures cause { HasCause (L.state dev.old) (L.state dev.new) result }
     {
         match self.append_kept(log, dev, tally)? {
@@ -72,6 +70,17 @@ impl Inbox {
             Stop::Bad => Ok(false),
             Stop::Full => Ok(false),
         }
+    }
+
+    // Takes the next block out of the ring.
+    fn take_next(&mut self)
+        requires waiting { 0 < length (waiting self.old) }
+        requires begun { length (kept self.old) < longest }
+        ensures { TakesBlock self.old self.new }
+    {
+        // It is read where it lies: a block that is moved out first is copied whole, however short it is.
+        keep(&mut self.kept, self.consumer.peek_known().bytes());
+        self.consumer.pop_known();
     }
 
     /// Keeps bytes that were given beside the ring, once all whole operations that are kept were appended,
@@ -100,17 +109,6 @@ impl Inbox {
             Stop::Bad => Ok(false),
             Stop::Full => Ok(false),
         }
-    }
-
-    // Takes the next block out of the ring.
-    fn take_next(&mut self)
-        requires waiting { 0 < length (waiting self.old) }
-        requires begun { length (kept self.old) < longest }
-        ensures { TakesBlock self.old self.new }
-    {
-        // It is read where it lies: a block that is moved out first is copied whole, however short it is.
-        keep(&mut self.kept, self.consumer.peek_known().bytes());
-        self.consumer.pop_known();
     }
 }
 
