@@ -27,6 +27,7 @@ pub mod Looks
 pub mod MappedRows
 pub mod NamedRows
 pub mod NewMeta
+pub mod OneMap
 pub mod OneMore
 pub mod OverwrittenRows
 pub mod PairCauses

@@ -3,6 +3,7 @@ pub mod Commands
 pub mod Entries
 pub mod Faults
 pub mod NewMeta
+pub mod OneMap
 pub mod PairFaults
 pub mod PairReads
 pub mod Puts

@@ -14,6 +14,6 @@ mod spots;
 #[cfg(test)]
 mod tests;
 
-pub use laws::a_partition_has_pages_to_spare;
+pub use laws::{a_partition_has_one_map, a_partition_has_pages_to_spare};
 pub use part::Part;
 pub use rows::ROW_MAX;
