@@ -1,4 +1,5 @@
 pub mod Fills
+pub mod ForcedSegments
 pub mod JoinedReaders
 pub mod Names
 pub mod SortingOut

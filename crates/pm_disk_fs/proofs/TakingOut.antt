@@ -6,7 +6,7 @@ use Rattle.std.proofs.lemmas.Option.{slice_get-get_or}
 use Rattle.std.proofs.Math.Seq.{drop-cons}
 use Rattle.pm_disk.specs.declared.names.StoreFile.{StoreFile}
 use Rattle.pm_disk_fs.specs.declared.opened.Opened.{Opened}
-use Rattle.pm_disk_fs.specs.OpenFiles.{IsTakenOut}
+use Rattle.pm_disk_fs.specs.OpenFiles.{IsTakenOut, IsNotOpen}
 use Rattle.pm_disk_fs.specs.Positions.{HasBytes, IsWritten}
 
 pub split_at : {X : Type 0} (xs : List X) (i : ℕ) (x : X) → i < length xs → x ≡ get_or xs i x → xs ≡ take i xs ++ x ∷ drop (i + 1) xs
@@ -16,13 +16,14 @@ split_at xs i x lt is =
 
 -- the file at an index is taken out
 pub taken_out : {F : Type 0} (old new : List (Opened F)) (i : ℕ) (file : Opened F) (name : StoreFile) → i < length old → IfSome (slice_get old i) (λ f. f.name ≡ name) → file ≡ get_or old i file
-    → new ≡ take i old ++ drop (i + 1) old → IsTakenOut old new name file
-taken_out old new i file name lt named is left = record {
+    → new ≡ take i old ++ drop (i + 1) old → IsNotOpen (drop (i + 1) old) name → IsTakenOut old new name file
+taken_out old new i file name lt named is left latest = record {
   named = subst (λ o. IfSome o (λ f. f.name ≡ name)) (slice_get-get_or old i file lt ∙ ap Some (sym is)) named;
   before = take i old;
   after = drop (i + 1) old;
   was = split_at old i file lt is;
   is = left;
+  latest = latest;
 }
 
 -- the file that was put after the others was written last

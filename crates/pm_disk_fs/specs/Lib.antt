@@ -1,3 +1,4 @@
+pub mod Calls
 pub mod Failures
 pub mod Faults
 pub mod Host

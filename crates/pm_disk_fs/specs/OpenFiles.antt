@@ -6,7 +6,12 @@ use Rattle.pm_disk.specs.declared.names.StoreFile.TheVariants.{Config, Marks, Se
 use Rattle.pm_disk_fs.specs.declared.opened.Opened.{Opened}
 use Rattle.pm_disk_fs.specs.declared.open_files.TheConstants.{OPEN_MAX}
 
--- The file of this name was taken out of the files, and each other one is left.
+-- No open file has this name.
+abbrev pub IsNotOpen : {F : Type 0} → List (Opened F) → StoreFile → Type 0
+IsNotOpen files name = All (λ file. file.name ≢ name) files
+
+-- The file of this name was taken out of the files, the one that was changed last where several have it, and
+-- each other one is left.
 pub record IsTakenOut {F : Type 0} (old new : List (Opened F)) (name : StoreFile)
     (file : Opened F) : Type 0 where
   pub named : file.name ≡ name
@@ -14,10 +19,7 @@ pub record IsTakenOut {F : Type 0} (old new : List (Opened F)) (name : StoreFile
   pub after : List (Opened F)
   pub was : old ≡ before ++ file ∷ after
   pub is : new ≡ before ++ after
-
--- No open file has this name.
-abbrev pub IsNotOpen : {F : Type 0} → List (Opened F) → StoreFile → Type 0
-IsNotOpen files name = All (λ file. file.name ≢ name) files
+  pub latest : IsNotOpen after name
 
 -- Each of the files was forced since its last change.
 abbrev pub AreForced : {F : Type 0} → List (Opened F) → Type 0

@@ -1,8 +1,12 @@
 -- What a clause sees of the files that a host or a part keeps open.
-use Rattle.std.specs.Prelude.{◌≡◌, ◌≢◌, ◌<◌, ◌^◌, ℕ, List, [], ◌∷◌, ◌++◌, map, All, Option, Bool, false, IsTrue}
+use Rattle.std.specs.Prelude.{◌≡◌, ◌≢◌, ◌<◌, ◌⊎◌, ◌^◌, ℕ, List, [], ◌∷◌, ◌++◌, length, map, All, Option}
+use Rattle.std.specs.Prelude.{Bool, false, IsTrue}
 use Rattle.std.specs.Option.{SomeIff}
 use Rattle.pm_disk.specs.declared.names.StoreFile.{StoreFile}
+use Rattle.pm_disk.specs.declared.names.StoreFile.TheVariants.{Segment}
 use Rattle.pm_disk_fs.specs.declared.opened.Opened.{Opened}
+use Rattle.pm_disk_fs.specs.declared.open_files.TheConstants.{OPEN_MAX}
+use Rattle.pm_disk_fs.specs.WriteBuffer.{Stretch}
 
 -- A file that is open since it was changed.
 pub record OpenView : Type 0 where
@@ -49,3 +53,9 @@ pub record ForcedLast (files : List OpenView) (name : StoreFile) : Type 0 where
 -- No open file has this name.
 abbrev pub NoneOpen : List OpenView → StoreFile → Type 0
 NoneOpen files name = All (λ file. file.name ≢ name) files
+
+-- A segment was forced, after what was buffered was written: the file of it that was written last was forced
+-- where something of it was buffered, and else its file that was open before, unless as many were as may be.
+pub record SegmentForced (buffer : Stretch) (old new : List OpenView) (seg : ℕ) : Type 0 where
+  pub buffered : 0 < length buffer.bytes → buffer.seg ≡ seg → ForcedLast new (Segment seg)
+  pub open_before : length old < OPEN_MAX → NoneOpen old (Segment seg) ⊎ ForcedLast new (Segment seg)

@@ -6,6 +6,8 @@ use Rattle.std.specs.Io.KnownBytes.{Appends}
 use Rattle.pm_disk.specs.declared.names.StoreFile.{StoreFile}
 use Rattle.pm_disk.specs.declared.names.StoreFile.TheVariants.{Segment}
 use Rattle.pm_disk_fs.specs.declared.opened.Opened.{Opened}
+use Rattle.pm_disk_fs.specs.OpenFiles.{IsNotOpen}
+use Rattle.pm_disk_fs.specs.declared.open_files.TheConstants.{OPEN_MAX}
 use Rattle.pm_disk_fs.specs.WriteBuffer.{Stretch, IsAppended, IsAlone}
 
 -- The file reports where it stands, and it is where it was noted to stand, if that was noted.
@@ -51,6 +53,40 @@ pub record IsForcedLast {F : Type 0} (files : List (Opened F)) (name : StoreFile
   pub last : files ≡ before ++ file ∷ []
   pub named : file.name ≡ name
   pub forced : IsTrue file.is_forced
+
+-- Of the open files of this name the one that was changed last was forced, if it had to be, and stands after
+-- all others now.
+pub record WasForced {F : Type 0} (synced : F → Type 0) (old new : List (Opened F))
+    (name : StoreFile) : Type 0 where
+  pub before : List (Opened F)
+  pub was : Opened F
+  pub after : List (Opened F)
+  pub stood : old ≡ before ++ was ∷ after
+  pub latest : IsNotOpen after name
+  pub file : Opened F
+  pub last : new ≡ (before ++ after) ++ file ∷ []
+  pub named : file.name ≡ name
+  pub same : file.file ≡ was.file
+  pub is_synced : IsTrue was.is_forced ⊎ synced file.file
+  pub forced : IsTrue file.is_forced
+
+-- All bytes of the stretch were handed to the system, last of all to the file of its segment, which was forced
+-- since.
+pub record IsStretchForced {F : Type 0} (contents : F → Option (List ℕ)) (files : List (Opened F))
+    (stretch : Stretch) : Type 0 where
+  pub before : List (Opened F)
+  pub file : Opened F
+  pub last : files ≡ before ++ file ∷ []
+  pub named : file.name ≡ Segment stretch.seg
+  pub handed : IsHanded contents file.file stretch.bytes
+  pub forced : IsTrue file.is_forced
+
+-- A segment was forced, after what was buffered was written: the file that was forced was handed what was
+-- buffered of it, and is the one of it that was open before, unless as many were as may be.
+pub record ForcesSegment {F : Type 0} (contents : F → Option (List ℕ)) (buffer : Stretch)
+    (old new : List (Opened F)) (seg : ℕ) : Type 0 where
+  pub buffered : 0 < length buffer.bytes → buffer.seg ≡ seg → IsStretchForced contents new buffer
+  pub open_before : length old < OPEN_MAX → IsNotOpen old (Segment seg) ⊎ IsForcedLast new (Segment seg)
 
 -- All bytes of the stretch were handed to the system, last of all.
 abbrev pub IsStretchWritten : {F : Type 0} → (F → Option (List ℕ)) → List (Opened F) → Stretch → Type 0

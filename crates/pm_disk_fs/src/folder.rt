@@ -1,22 +1,28 @@
 //! The store's folder, and its files by name.
 
 ghost use Rattle.std.specs.Prelude.{◌≡◌, ◌<◌, ◌≤◌, ◌+◌, false, length, take, replicate, None, Some};
-ghost use Rattle.std.specs.Prelude.{IsNone, IsSome, IfOk, IfErr, OnOk, OnErr, option_map};
+ghost use Rattle.std.specs.Prelude.{◌⊎◌, Ok, IsNone, IsSome, IfSome, IsSomeAnd, MatchOption, IfOk};
+ghost use Rattle.std.specs.Prelude.{IfErr, IsErrAnd};
+ghost use Rattle.std.specs.Prelude.{OnOk, OnErr, option_map, codes};
+ghost use Rattle.std.specs.IoError.{error_kind};
 ghost use Rattle.std.specs.String.{string_bytes};
 ghost use Rattle.std.specs.Io.KnownBytes.{Consumes, IsAtEnd, ReadConsumes};
 ghost use Rattle.pm_disk_fs.specs.Failures.{IsFailureOn, IsPathFailure, IsLockFailure};
 ghost use Rattle.pm_disk_fs.specs.Failures.{IsOn, IsOnFile, IsCallOn};
 ghost use Rattle.pm_disk_fs.specs.Paths.{IsPathOf};
+ghost use Rattle.pm_disk_fs.specs.Calls.{IsMadeAt, AreNamesSynced, folder_path};
+ghost use Rattle.pm_disk_fs.specs.Calls.{to_read, to_change, to_make};
+ghost use Rattle.std.specs.Path.{path_join};
 
+use crate::calls::{FileCalls, PathCalls};
 use crate::failure::{Failure, Object, SystemCall, named};
 use crate::lock::{Lockable, lock_folder};
 use crate::paths::{file_path, open_folder, sync_above, sync_folder};
 use pm_disk::StoreFile;
 use std::alloc::AllocError;
-use std::fs::{self, OpenOptions};
+use std::fs::OpenOptions;
 use std::io::{self, ErrorKind, Read, Seek, SeekFrom};
 use std::path::Path;
-use std::rt::Files;
 
 /// The store's folder, once one is bound.
 #[derive(Drop)]
@@ -26,7 +32,7 @@ pub struct Folder<R: Drop> {
     pub dir: Option<String>,
 }
 
-impl<R: Files<File: Lockable> + AllocGlobal + Drop> Folder<R> {
+impl<R: PathCalls<File: Lockable + FileCalls> + AllocGlobal + Drop> Folder<R> {
     /// Makes the folder where it isn't there, locks it, and makes its name lasting, also where it is there:
     /// an earlier run may have ended between making it and that, or the user may have made it just now.
     /// From now on the files are in it. Gives the file that has the lock, or none where the one at hand has
@@ -34,7 +40,10 @@ impl<R: Files<File: Lockable> + AllocGlobal + Drop> Folder<R> {
     pub fn bind(&mut self, dir: &str, at_hand: &Option<R::File>) -> Result<Option<R::File>, Failure>
         ensures bound { OnOk result (option_map string_bytes self.new.dir ≡ Some dir.now) }
         ensures unchanged { OnErr result (self.new.dir ≡ self.old.dir) }
-        ensures locked { IfOk result (λ lock. IsNone lock → IsSome at_hand.now) }
+        ensures locked { IfOk result (λ lock. MatchOption lock (IsSome at_hand.now)
+            (λ file. R.opened to_read (folder_path dir.now) file × R.File.locked file)) }
+        ensures lasts { OnOk result (AreNamesSynced R.opened R.File.synced
+            (path_join dir.now (codes ".."))) }
         ensures failed { IfErr result (IsLockFailure
             ((file : R.File) × R.File.may_be_held file)) }
     {
@@ -47,7 +56,7 @@ impl<R: Files<File: Lockable> + AllocGlobal + Drop> Folder<R> {
     }
 }
 
-impl<R: Files + AllocGlobal + Drop> Folder<R> {
+impl<R: PathCalls<File: FileCalls> + AllocGlobal + Drop> Folder<R> {
     /// No folder is bound yet.
     pub fn new(rt: R) -> Folder<R>
         ensures { result.dir ≡ None }
@@ -74,12 +83,13 @@ impl<R: Files + AllocGlobal + Drop> Folder<R> {
 
     /// The length of a file in bytes, none where it isn't there.
     pub fn len(&self, name: StoreFile) -> Result<Option<u64>, Failure>
-        ensures { IfErr result (IsFailureOn (IsCallOn SystemCall.Stat (Object.File name))
+        ensures measured { IfOk result (λ found. IsMadeAt (option_map string_bytes self.now.dir) name
+            (λ path. MatchOption found (R.missing path) (R.measured path))) }
+        ensures failed { IfErr result (IsFailureOn (IsCallOn SystemCall.Stat (Object.File name))
             (self.now.dir ≡ None) ⊥) }
     {
-        let found = fs::metadata(&self.rt, &self.path(name)?);
-        let found = named(SystemCall::Stat, Object::File(name), if_there(found))?;
-        Ok(found.map(|metadata| metadata.len()))
+        let found = self.rt.len_at(self.path(name)?.as_str());
+        named(SystemCall::Stat, Object::File(name), if_there(found))
     }
 
     /// Reads a file from the offset on until the buffer is full or the file ends, and answers how many
@@ -112,49 +122,64 @@ impl<R: Files + AllocGlobal + Drop> Folder<R> {
 
     /// Opens a file to be read, none where it isn't there.
     pub fn open(&self, name: StoreFile) -> Result<Option<R::File>, Failure>
-        ensures { IfErr result (IsFailureOn (IsCallOn SystemCall.Open (Object.File name))
+        ensures opened { IfOk result (λ found. IsMadeAt (option_map string_bytes self.now.dir) name
+            (λ path. MatchOption found (R.missing path) (R.opened to_read path))) }
+        ensures failed { IfErr result (IsFailureOn (IsCallOn SystemCall.Open (Object.File name))
             (self.now.dir ≡ None) ⊥) }
     {
-        let opened = fs::open(&self.rt, &self.path(name)?);
+        let path = self.path(name)?;
+        let opened = self
+            .rt
+            .open_at(OpenOptions::new().read(true), path.as_str());
         named(SystemCall::Open, Object::File(name), if_there(opened))
     }
 
     /// Opens a file to be changed, none where it isn't there.
     pub fn open_to_change(&self, name: StoreFile) -> Result<Option<R::File>, Failure>
-        ensures { IfErr result (IsFailureOn (IsCallOn SystemCall.Open (Object.File name))
+        ensures opened { IfOk result (λ found. IsMadeAt (option_map string_bytes self.now.dir) name
+            (λ path. MatchOption found (R.missing path) (R.opened to_change path))) }
+        ensures failed { IfErr result (IsFailureOn (IsCallOn SystemCall.Open (Object.File name))
             (self.now.dir ≡ None) ⊥) }
     {
         let path = self.path(name)?;
-        let opened = OpenOptions::new().write(true).open(&self.rt, &path);
+        let opened = self
+            .rt
+            .open_at(OpenOptions::new().write(true), path.as_str());
         named(SystemCall::Open, Object::File(name), if_there(opened))
     }
 
     /// Makes a file that isn't there, to be changed. Its name lasts once the names were synced.
     pub fn make(&self, name: StoreFile) -> Result<R::File, Failure>
-        ensures { IfErr result (IsFailureOn (IsCallOn SystemCall.Open (Object.File name))
+        ensures opened { IfOk result (λ file. IsMadeAt (option_map string_bytes self.now.dir) name
+            (λ path. R.opened to_make path file)) }
+        ensures failed { IfErr result (IsFailureOn (IsCallOn SystemCall.Open (Object.File name))
             (self.now.dir ≡ None) ⊥) }
     {
         let path = self.path(name)?;
-        let made = OpenOptions::new()
-            .write(true)
-            .create_new(true)
-            .open(&self.rt, &path);
+        let made = self.rt.open_at(
+            OpenOptions::new().write(true).create_new(true),
+            path.as_str(),
+        );
         named(SystemCall::Open, Object::File(name), made)
     }
 
     /// Removes a file, where it is there. It is gone for good once the names were synced.
     pub fn remove(&self, name: StoreFile) -> Result<(), Failure>
-        ensures { IfErr result (IsFailureOn (IsCallOn SystemCall.Remove (Object.File name))
+        ensures removed { OnOk result (IsMadeAt (option_map string_bytes self.now.dir) name
+            (λ path. R.removed path ⊎ R.missing path)) }
+        ensures failed { IfErr result (IsFailureOn (IsCallOn SystemCall.Remove (Object.File name))
             (self.now.dir ≡ None) ⊥) }
     {
-        let removed = fs::remove_file(&self.rt, &self.path(name)?);
+        let removed = self.rt.remove_at(self.path(name)?.as_str());
         named(SystemCall::Remove, Object::File(name), if_there(removed))?;
         Ok(())
     }
 
     /// Makes the names of all files lasting, also of those that were removed.
     pub fn sync_names(&self) -> Result<(), Failure>
-        ensures { IfErr result (IsFailureOn (IsOn Object.Folder) (self.now.dir ≡ None) ⊥) }
+        ensures synced { OnOk result (IsSomeAnd (option_map string_bytes self.now.dir)
+            (AreNamesSynced R.opened R.File.synced)) }
+        ensures failed { IfErr result (IsFailureOn (IsOn Object.Folder) (self.now.dir ≡ None) ⊥) }
     {
         sync_folder(&self.rt, Path::new(self.name()?), Object::Folder)
     }
@@ -182,7 +207,10 @@ impl<R: Files + AllocGlobal + Drop> Folder<R> {
 }
 
 // What was found, none where there is no such file.
-fn if_there<T>(answer: io::Result<T>) -> io::Result<Option<T>> {
+fn if_there<T>(answer: io::Result<T>) -> io::Result<Option<T>>
+    ensures { IfOk result (λ found. MatchOption found
+        (IsErrAnd answer (λ e. error_kind e ≡ ErrorKind.NotFound)) (λ value. answer ≡ Ok value)) }
+{
     match answer {
         Ok(value) => Ok(Some(value)),
         Err(e) if e.kind() == ErrorKind::NotFound => Ok(None),

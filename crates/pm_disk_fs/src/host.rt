@@ -13,14 +13,16 @@ ghost use Rattle.pm_disk_fs.specs.Writes.{ChangesFile, ChangesLog, FlushesBuffer
 ghost use Rattle.pm_disk.specs.Lending.{reader_lent, PartsLent, Lends, TakesBack};
 ghost use Rattle.pm_disk.specs.declared.names.StoreFile.TheVariants.{Config, Marks, Segment, Pages};
 ghost use Rattle.pm_types.specs.Ids.{part_of_id};
+ghost use Rattle.pm_disk_fs.specs.Calls.{IsBoundTo};
 ghost use Rattle.pm_disk_fs.specs.Failures.{IsOnFile, IsCallOn, IsOnFileOrSync, IsOnFileOrFolder};
 ghost use Rattle.pm_disk_fs.specs.Failures.{IsOnEither, IsOnEitherOrFolder};
 ghost use Rattle.pm_disk_fs.specs.Host.{state_of, IsHostFailure, IsBindFailure, IsPrintFailure};
 ghost use Rattle.pm_disk_fs.specs.Host.{KeepsFirstFailure};
-ghost use Rattle.pm_disk_fs.specs.OpenViews.{WrittenLast, ChangedLast, ForcedLast, NoneOpen};
+ghost use Rattle.pm_disk_fs.specs.OpenViews.{WrittenLast, ChangedLast, ForcedLast, NoneOpen, SegmentForced};
 ghost use Rattle.pm_disk.specs.Worlds.{page_at, slot_at};
 ghost use Rattle.pm_disk_fs.specs.Parts.{state_of_part, state_of_reader};
 
+use crate::calls::{FileCalls, PathCalls};
 use crate::failure::{Failure, Object, SystemCall, named};
 use crate::faults::Faults;
 use crate::folder::{Folder, read_some};
@@ -122,12 +124,12 @@ impl<R: Files + Input + Drop> FsHost<R> {
     }
 }
 
-impl<R: Files<File: Lockable> + Input + AllocGlobal + Drop> FsHost<R> {
+impl<R: PathCalls<File: Lockable + FileCalls> + Input + AllocGlobal + Drop> FsHost<R> {
     // Binds the folder and locks it, after all that is left to do in the one that is bound.
     fn rebind(&mut self, dir: &str) -> Result<(), Failure>
         ensures faults { self.new.faults ≡ self.old.faults }
         ensures first { self.new.first ≡ self.old.first }
-        ensures bound { OnOk result (self.new.folder ≡ Some dir.now) }
+        ensures bound { OnOk result (IsBoundTo R.opened R.File.synced self.new.folder dir.now) }
         ensures unchanged { OnErr result (self.new.folder ≡ self.old.folder) }
         ensures writes { FlushesBuffer self.old.writes self.new.writes result }
         ensures refused { IsTrue self.old.writes.is_poisoned → IsErr result }
@@ -214,6 +216,8 @@ impl<R: Files + Input + AllocGlobal + Drop> LogFile for FsHost<R> {
         ensures first { KeepsFirstFailure (IsHostFailure self.old
             (IsOnEitherOrFolder (Segment seg) (Segment self.old.writes.buffer.seg))) self.old self.new result }
         ensures changes { ChangesLog self.old.writes self.new.writes result }
+        ensures forced { OnOk result (SegmentForced self.old.writes.buffer self.old.files
+            self.new.files seg) }
     {
         let forced = self.store.force_log(&self.folder, seg);
         self.counted(forced)
@@ -270,7 +274,13 @@ impl<R: Files + Input + AllocGlobal + Drop> PageWriter for FsHost<R> {
 }
 
 impl<
-    R: Files<File: Send + FileExt + Lockable> + Input + Print + AllocGlobal + Clone + Send + Drop,
+    R: PathCalls<File: Send + FileExt + Lockable + FileCalls>
+        + Input
+        + Print
+        + AllocGlobal
+        + Clone
+        + Send
+        + Drop,
 > Host for FsHost<R> {
     type Reader = FsReader<R>;
 
@@ -285,6 +295,7 @@ impl<
     /// fails, or the host is poisoned, that folder stays bound.
     fn bind(&mut self, dir: &str) -> Result<(), Failed>
         ensures binds { Binds (state_of self.old) (state_of self.new) dir.now result }
+        ensures bound { OnOk result (IsBoundTo R.opened R.File.synced self.new.folder dir.now) }
         ensures first { KeepsFirstFailure (λ failure. IsBindFailure self.old failure
             ((file : R.File) × R.File.may_be_held file)) self.old self.new result }
         ensures writes { FlushesBuffer self.old.writes self.new.writes result }

@@ -1,6 +1,7 @@
 //! The outside as the process has it: real files, standard input and standard output.
 #![tactic(auto)]
 
+mod calls;
 mod failure;
 mod faults;
 mod folder;
@@ -16,6 +17,7 @@ mod store;
 mod write_buffer;
 mod writes;
 
+pub use calls::{FileCalls, PathCalls};
 pub use failure::{Failure, Object, SystemCall};
 pub use host::FsHost;
 pub use lock::Lockable;

@@ -1,6 +1,6 @@
 //! The lock on the store's folder: one run at a time has it.
 
-ghost use Rattle.std.specs.Prelude.{◌≡◌, false, IfOk, IfErr, IsNone, IsSome};
+ghost use Rattle.std.specs.Prelude.{◌≡◌, true, false, IfOk, IfErr, MatchOption, IsSome};
 ghost use Rattle.pm_disk_fs.specs.Failures.{IsLockFailure};
 
 use crate::failure::{Failure, Object, SystemCall, named};
@@ -13,10 +13,14 @@ pub trait Lockable {
     /// Whether somebody else may have its lock. Of a file of the system's nobody can know better.
     ghost may_be_held: { Self → Type 0 } = { λ _. Unit {0} };
 
+    /// Its lock was taken. Nobody can know better of that either.
+    ghost locked: { Self → Type 0 } = { λ _. Unit {0} };
+
     /// Takes its exclusive lock, where nobody else has it, and answers whether it did. It doesn't wait.
     /// The lock is let go when the file is closed, and with the process, however that ends.
     fn take_lock(&self) -> io::Result<bool>
-        ensures { IfOk result (λ taken. taken ≡ false → may_be_held self.now) };
+        ensures free { IfOk result (λ taken. taken ≡ false → may_be_held self.now) }
+        ensures takes { IfOk result (λ taken. taken ≡ true → locked self.now) };
 }
 
 impl Lockable for File {
@@ -35,7 +39,8 @@ pub fn lock_folder<F: OpenFile + Lockable + Drop>(
     folder: F,
     at_hand: &Option<F>,
 ) -> Result<Option<F>, Failure>
-    ensures locked { IfOk result (λ lock. IsNone lock → IsSome at_hand.now) }
+    ensures locked { IfOk result (λ lock. MatchOption lock (IsSome at_hand.now)
+        (λ file. (file ≡ folder) × F.locked file)) }
     ensures failed { IfErr result (IsLockFailure (F.may_be_held folder)) }
 {
     if let Some(held) = at_hand {

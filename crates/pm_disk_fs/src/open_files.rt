@@ -1,15 +1,16 @@
 //! The files that are open since they were changed.
 
-ghost use Rattle.std.specs.Prelude.{◌≡◌, ◌<◌, ◌≤◌, ◌++◌, ◌∷◌, [], length, MatchOption, IfSome, OnSome};
+ghost use Rattle.std.specs.Prelude.{◌≡◌, ◌<◌, ◌≤◌, ◌+◌, ◌++◌, ◌∷◌, [], length, drop, MatchOption};
+ghost use Rattle.std.specs.Prelude.{IfSome, OnSome};
 ghost use Rattle.std.specs.Prelude.{IfOk, IfErr, IfNone, OnOk, OnErr, slice_get, vec_len, vec_capacity};
 ghost use Rattle.pm_disk_fs.specs.Failures.{IsSystemFailure, IsSync};
 ghost use Rattle.pm_disk_fs.specs.OpenFiles.{AreSorted, AreForced};
 
+use crate::calls::FileCalls;
 use crate::failure::Failure;
 use crate::opened::Opened;
 use pm_disk::StoreFile;
 use std::alloc::{AllocError, Global};
-use std::fs::OpenFile;
 use std::io::{Seek, Write};
 use std::mem;
 
@@ -25,7 +26,7 @@ pub struct OpenFiles<F: Drop> {
     pub files: Vec<Opened<F>>,
 }
 
-impl<F: Write + Seek + OpenFile + Drop> OpenFiles<F> {
+impl<F: Write + Seek + FileCalls + Drop> OpenFiles<F> {
     ghost use Rattle.pm_disk_fs.specs.OpenFiles.{IsTakenOut, OthersStayOpen, IsNotOpen, after_oldest};
 
     /// No file is open.
@@ -116,18 +117,19 @@ impl<F: Write + Seek + OpenFile + Drop> OpenFiles<F> {
         Ok(())
     }
 
-    // Where the file of this name stands among the open ones.
+    // Where the file of this name stands among the open ones: the one of them that was changed last.
     fn position(&self, name: StoreFile) -> Option<usize>
         ensures found { IfSome result (λ index. index < length self.now.files.items
             × IfSome (slice_get self.now.files.items index) (λ file. file.name ≡ name)) }
+        ensures latest { IfSome result (λ index. IsNotOpen (drop (index + 1) self.now.files.items) name) }
         ensures closed { IfNone result (IsNotOpen self.now.files.items name) }
     {
-        self.files.iter().position(|file| file.name == name)
+        self.files.iter().rposition(|file| file.name == name)
     }
 }
 
 // Forces each of the files.
-fn force_all<F: Write + Seek + OpenFile + Drop>(files: &mut [Opened<F>]) -> Result<(), Failure>
+fn force_all<F: Write + Seek + FileCalls + Drop>(files: &mut [Opened<F>]) -> Result<(), Failure>
     ensures forced { OnOk result (AreForced files.new) }
     ensures failed { IfErr result (IsSystemFailure IsSync) }
 {
@@ -138,7 +140,7 @@ fn force_all<F: Write + Seek + OpenFile + Drop>(files: &mut [Opened<F>]) -> Resu
 }
 
 // Puts each file to those of its kind, of which there are none yet.
-fn sort_out<F: Write + Seek + OpenFile + Drop>(
+fn sort_out<F: Write + Seek + FileCalls + Drop>(
     files: Vec<Opened<F>>,
     segments: &mut OpenFiles<F>,
     pages: &mut OpenFiles<F>,

@@ -1,12 +1,12 @@
 //! A file that is open to be changed, and how far it was written.
 
-ghost use Rattle.std.specs.Prelude.{◌≡◌, length, replicate, false, IsTrue, IsOk, IfOk, IfErr, OnOk};
+ghost use Rattle.std.specs.Prelude.{◌≡◌, ◌⊎◌, length, replicate, false, IsTrue, IsOk, IfOk, IfErr, OnOk};
 ghost use Rattle.std.specs.Prelude.{None, Some};
 ghost use Rattle.pm_disk_fs.specs.Failures.{IsSystemFailure, IsOnFile, IsCallOn};
 
+use crate::calls::FileCalls;
 use crate::failure::{Failure, Object, SystemCall, named};
 use pm_disk::StoreFile;
-use std::fs::OpenFile;
 use std::io::{ErrorKind, Seek, SeekFrom, Write};
 use std::os::unix::fs::FileExt;
 
@@ -22,12 +22,13 @@ pub struct Opened<F: Drop> {
     is_forced: bool,
 }
 
-impl<F: Write + Seek + OpenFile + Drop> Opened<F> {
+impl<F: Write + Seek + FileCalls + Drop> Opened<F> {
     ghost use Rattle.pm_disk_fs.specs.Positions.{HasBytes, IsKnown};
 
     /// A file that was opened just now.
     pub fn new(name: StoreFile, file: F) -> Opened<F>
         ensures name { result.name ≡ name }
+        ensures file { result.file ≡ file }
         ensures nowhere { result.at ≡ None }
         ensures unforced { result.is_forced ≡ false }
     {
@@ -74,6 +75,7 @@ impl<F: Write + Seek + OpenFile + Drop> Opened<F> {
     pub fn cut(&mut self, len: u64) -> Result<(), Failure>
         ensures name { self.new.name ≡ self.old.name }
         ensures changed { self.new.is_forced ≡ false }
+        ensures cut { OnOk result (F.cut_to self.new.file len) }
         ensures failed { IfErr result (IsSystemFailure
             (IsCallOn SystemCall.Truncate (Object.File self.old.name))) }
     {
@@ -81,7 +83,7 @@ impl<F: Write + Seek + OpenFile + Drop> Opened<F> {
         named(
             SystemCall::Truncate,
             Object::File(self.name),
-            self.file.set_len(len),
+            self.file.cut(len),
         )
     }
 
@@ -89,6 +91,8 @@ impl<F: Write + Seek + OpenFile + Drop> Opened<F> {
     pub fn force(&mut self) -> Result<(), Failure>
         ensures name { self.new.name ≡ self.old.name }
         ensures forced { OnOk result (IsTrue self.new.is_forced) }
+        ensures same { self.new.file ≡ self.old.file }
+        ensures synced { OnOk result (IsTrue self.old.is_forced ⊎ F.synced self.new.file) }
         ensures lasts { IsTrue self.old.is_forced → IsOk result }
         ensures failed { IfErr result (IsSystemFailure
             (IsCallOn SystemCall.Sync (Object.File self.old.name))) }
@@ -101,6 +105,7 @@ impl<F: Write + Seek + OpenFile + Drop> Opened<F> {
     /// Makes its bytes and its length lasting. Where it wasn't changed since it was forced, they last, and
     /// the system isn't asked.
     pub fn sync(&self) -> Result<(), Failure>
+        ensures synced { OnOk result (IsTrue self.now.is_forced ⊎ F.synced self.now.file) }
         ensures lasts { IsTrue self.now.is_forced → IsOk result }
         ensures failed { IfErr result (IsSystemFailure
             (IsCallOn SystemCall.Sync (Object.File self.now.name))) }
@@ -108,11 +113,7 @@ impl<F: Write + Seek + OpenFile + Drop> Opened<F> {
         if self.is_forced {
             return Ok(());
         }
-        named(
-            SystemCall::Sync,
-            Object::File(self.name),
-            self.file.sync_all(),
-        )
+        named(SystemCall::Sync, Object::File(self.name), self.file.sync())
     }
 }
 

@@ -11,7 +11,7 @@ ghost use Rattle.pm_disk_fs.specs.Failures.{IsOnFileOrSync, IsOnFileOrFolder, Is
 ghost use Rattle.pm_disk_fs.specs.Failures.{IsOnEitherOrFolder};
 ghost use Rattle.pm_disk_fs.specs.Faults.{KeepsFirst};
 ghost use Rattle.pm_disk_fs.specs.Parts.{state_of_part, IsPartFailure};
-ghost use Rattle.pm_disk_fs.specs.OpenViews.{WrittenLast, ChangedLast, ForcedLast, NoneOpen};
+ghost use Rattle.pm_disk_fs.specs.OpenViews.{WrittenLast, ChangedLast, ForcedLast, NoneOpen, SegmentForced};
 ghost use Rattle.pm_disk.specs.Worlds.{page_at};
 ghost use Rattle.pm_disk_fs.specs.WriteBuffer.{IsBufferedOrWritten, FitsAfter, IsAppended};
 ghost use Rattle.pm_disk_fs.specs.Writes.{ChangesFile, ChangesLog, FlushesBuffer, PoisonsOnFailure};
@@ -157,6 +157,8 @@ impl<R: Files + AllocGlobal + Drop> LogFile for FsPart<R> {
             (IsOnEitherOrFolder (Segment seg) (Segment self.old.writes.buffer.seg)))
             self.old.faults self.new.faults result }
         ensures changes { ChangesLog self.old.writes self.new.writes result }
+        ensures forced { OnOk result (SegmentForced self.old.writes.buffer self.old.files
+            self.new.files seg) }
     {
         let forced = self.store.force_log(&self.folder, seg);
         self.counted(forced)

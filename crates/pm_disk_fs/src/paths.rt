@@ -6,20 +6,27 @@ ghost use Rattle.pm_types.specs.declared.limits.TheConstants.{PARTITIONS_MAX};
 ghost use Rattle.pm_disk.specs.Names.{segment_name, partition_name};
 ghost use Rattle.pm_disk_fs.specs.Failures.{IsPathFailure, IsSystemFailure, IsOn, IsOnFolders};
 ghost use Rattle.pm_disk_fs.specs.Paths.{name_of};
+ghost use Rattle.pm_disk_fs.specs.Calls.{AreNamesSynced, folder_path, to_read};
+ghost use Rattle.std.specs.Path.{path_bytes, path_join};
 
+use crate::calls::{FileCalls, PathCalls};
 use crate::failure::{Failure, Object, SystemCall, named};
 use pm_disk::{MarkFile, StoreFile, partition_name, segment_name};
 use pm_types::PARTITIONS_MAX;
 use std::alloc::{AllocError, Global};
-use std::fs::{self, OpenFile};
+use std::fs::{self, OpenOptions};
 use std::io::{self, ErrorKind};
 use std::path::{Path, PathBuf};
 use std::rt::Files;
 use std::str;
 
 /// Makes the folder, and those above it, where they aren't there, and opens it.
-pub fn open_folder<R: Files + AllocGlobal>(rt: &R, store: Path<'_>) -> Result<R::File, Failure>
-    ensures { IfErr result (IsSystemFailure IsOnFolders) }
+pub fn open_folder<R: PathCalls<File: FileCalls> + AllocGlobal>(
+    rt: &R,
+    store: Path<'_>,
+) -> Result<R::File, Failure>
+    ensures opened { IfOk result (R.opened to_read (folder_path (path_bytes store.entry))) }
+    ensures failed { IfErr result (IsSystemFailure IsOnFolders) }
 {
     if !store.is_dir(rt) {
         make_missing(rt, store)?;
@@ -33,7 +40,10 @@ pub fn open_folder<R: Files + AllocGlobal>(rt: &R, store: Path<'_>) -> Result<R:
 
 // Makes each folder on the path that isn't there, and syncs the one above it before the next is made. So
 // at most one name may be there and not last, that of the last folder that was there: it is made lasting too.
-fn make_missing<R: Files + AllocGlobal>(rt: &R, store: Path<'_>) -> Result<(), Failure>
+fn make_missing<R: PathCalls<File: FileCalls> + AllocGlobal>(
+    rt: &R,
+    store: Path<'_>,
+) -> Result<(), Failure>
     ensures { IfErr result (IsSystemFailure IsOnFolders) }
 {
     let mut folder = PathBuf::new(rt.alloc());
@@ -55,31 +65,45 @@ fn make_missing<R: Files + AllocGlobal>(rt: &R, store: Path<'_>) -> Result<(), F
 }
 
 /// Makes the name of a folder that is there lasting.
-pub fn sync_above<R: Files + AllocGlobal>(rt: &R, folder: Path<'_>) -> Result<(), Failure>
-    ensures { IfErr result (IsSystemFailure (IsOn Object.FolderAbove)) }
+pub fn sync_above<R: PathCalls<File: FileCalls> + AllocGlobal>(
+    rt: &R,
+    folder: Path<'_>,
+) -> Result<(), Failure>
+    ensures synced { OnOk result
+        (AreNamesSynced R.opened R.File.synced (path_join (path_bytes folder.entry) (codes ".."))) }
+    ensures failed { IfErr result (IsSystemFailure (IsOn Object.FolderAbove)) }
 {
     let above = folder.join(rt.alloc(), "..")?;
     sync_folder(rt, above.as_path(), Object::FolderAbove)
 }
 
 /// Makes the names in the folder lasting.
-pub fn sync_folder<R: Files>(rt: &R, dir: Path<'_>, object: Object) -> Result<(), Failure>
-    ensures { IfErr result (IsSystemFailure (IsOn object)) }
+pub fn sync_folder<R: PathCalls<File: FileCalls>>(
+    rt: &R,
+    dir: Path<'_>,
+    object: Object,
+) -> Result<(), Failure>
+    ensures synced { OnOk result (AreNamesSynced R.opened R.File.synced (path_bytes dir.entry)) }
+    ensures failed { IfErr result (IsSystemFailure (IsOn object)) }
 {
     let opened = open_names(rt, dir, object)?;
-    named(SystemCall::Sync, object, opened.sync_all())
+    named(SystemCall::Sync, object, opened.sync())
 }
 
-// Opens the folder. No path is the folder where the process runs.
-fn open_names<R: Files>(rt: &R, dir: Path<'_>, object: Object) -> Result<R::File, Failure>
-    ensures { IfErr result (IsSystemFailure (IsOn object)) }
+// Opens the folder.
+fn open_names<R: PathCalls>(rt: &R, dir: Path<'_>, object: Object) -> Result<R::File, Failure>
+    ensures opened { IfOk result (R.opened to_read (folder_path (path_bytes dir.entry))) }
+    ensures failed { IfErr result (IsSystemFailure (IsOn object)) }
 {
-    let folder = if dir.as_str().is_empty() {
-        Path::new(".")
-    } else {
-        dir
-    };
-    named(SystemCall::Open, object, fs::open(rt, folder))
+    let opened = rt.open_at(OpenOptions::new().read(true), folder_path(dir.as_str()));
+    named(SystemCall::Open, object, opened)
+}
+
+// The path by which the system knows a folder. No path is the folder where the process runs.
+fn folder_path(dir: &str) -> &str
+    ensures { result.now ≡ folder_path dir.now }
+{
+    if dir.is_empty() { "." } else { dir }
 }
 
 /// The path of a file of the store. A partition whose number no name has is refused.

@@ -1,16 +1,20 @@
 //! A part of the host over files that reads pages.
 
 ghost use Rattle.std.specs.Prelude.{◌≡◌, ◌<◌, ◌≤◌, length, vec_len, vec_capacity, replicate, false, None};
-ghost use Rattle.std.specs.Prelude.{IfOk, IfErr, IfSome, OnOk};
+ghost use Rattle.std.specs.Prelude.{◌⊎◌, IfOk, IfErr, IfSome, MatchOption, OnOk, option_map};
+ghost use Rattle.std.specs.String.{string_bytes};
 ghost use Rattle.pm_types.specs.declared.limits.TheConstants.{PAGE_SIZE_MAX};
 ghost use Rattle.pm_disk.specs.Moments.{nothing_told};
 ghost use Rattle.pm_disk.specs.States.{HasCause};
 ghost use Rattle.pm_types.specs.Ids.{part_of_id};
 ghost use Rattle.pm_disk.specs.declared.names.StoreFile.TheVariants.{Pages};
 ghost use Rattle.pm_disk_fs.specs.Failures.{IsFailureOn, IsOnFileOrSync};
+ghost use Rattle.pm_disk_fs.specs.Calls.{IsMadeAt, to_read};
+ghost use Rattle.pm_disk_fs.specs.OpenFiles.{IsTakenOut};
 ghost use Rattle.pm_disk_fs.specs.Faults.{KeepsFirst};
 ghost use Rattle.pm_disk_fs.specs.Parts.{state_of_reader, IsReaderFailure};
 
+use crate::calls::{FileCalls, PathCalls};
 use crate::failure::Failure;
 use crate::faults::Faults;
 use crate::folder::Folder;
@@ -49,7 +53,7 @@ impl<R: Files + Drop> Model for FsReader<R> {
     } };
 }
 
-impl<R: Files<File: FileExt> + AllocGlobal + Drop> FsReader<R> {
+impl<R: PathCalls<File: FileExt + FileCalls> + AllocGlobal + Drop> FsReader<R> {
     // Reads a page by the file of its partition, and answers whether it is there whole.
     fn read(&mut self, page: PageId, into: &mut [u8]) -> Result<bool, Failure>
         requires { length into.old ≤ PAGE_SIZE_MAX }
@@ -73,13 +77,18 @@ impl<R: Files<File: FileExt> + AllocGlobal + Drop> FsReader<R> {
 
 // The file of this name, which isn't among the open ones from now on; none where there is none. There is
 // room for it.
-fn take_to_read<R: Files + AllocGlobal + Drop>(
+fn take_to_read<R: PathCalls<File: FileCalls> + AllocGlobal + Drop>(
     files: &mut OpenFiles<R::File>,
     folder: &Folder<R>,
     name: StoreFile,
 ) -> Result<Option<Opened<R::File>>, Failure>
     ensures room { OnOk result (vec_len files.new.files < vec_capacity files.new.files) }
     ensures named { IfOk result (λ found. IfSome found (λ file. file.name ≡ name)) }
+    ensures from { IfOk result (λ found. MatchOption found
+        (IsMadeAt (option_map string_bytes folder.now.dir) name R.missing)
+        (λ file. IsTakenOut files.old.files.items files.new.files.items name file
+        ⊎ IsMadeAt (option_map string_bytes folder.now.dir) name
+        (λ path. R.opened to_read path file.file))) }
     ensures failed { IfErr result (IsFailureOn (IsOnFileOrSync name) (folder.now.dir ≡ None) ⊥) }
 {
     if let Some(file) = files.take(name) {

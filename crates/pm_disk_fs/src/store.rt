@@ -1,14 +1,18 @@
 //! The changes of the store's files.
 
 ghost use Rattle.std.specs.Prelude.{◌≡◌, ◌<◌, [], false, vec_len, vec_capacity, IsTrue};
-ghost use Rattle.std.specs.Prelude.{◌⊎◌, None, IsErr, IfOk, IfErr, OnOk, OnErr};
+ghost use Rattle.std.specs.Prelude.{◌⊎◌, None, IsErr, IfOk, IfErr, IsSomeAnd, OnOk, OnErr, option_map};
+ghost use Rattle.std.specs.String.{string_bytes};
 ghost use Rattle.pm_disk.specs.declared.names.StoreFile.TheVariants.{Segment};
 ghost use Rattle.pm_disk_fs.specs.Failures.{IsFailureOn, IsOn, IsCallOn, IsOnFile, IsOnFileOrSync};
 ghost use Rattle.pm_disk_fs.specs.Failures.{IsOnFileOrFolder};
-ghost use Rattle.pm_disk_fs.specs.OpenFiles.{AreSorted, OthersStayOpen, IsNotOpen};
-ghost use Rattle.pm_disk_fs.specs.Positions.{IsChangedLast, IsForcedLast, IsWritten};
+ghost use Rattle.pm_disk_fs.specs.OpenFiles.{AreSorted, OthersStayOpen, IsNotOpen, IsTakenOut};
+ghost use Rattle.pm_disk_fs.specs.Calls.{IsMadeAt, IsOpenedToChange, IsSyncedAt, DoNamesLast, to_make};
+ghost use Rattle.pm_disk_fs.specs.Calls.{AreNamesSynced};
+ghost use Rattle.pm_disk_fs.specs.Positions.{IsChangedLast, WasForced, IsWritten};
 ghost use Rattle.pm_disk_fs.specs.Writes.{ChangesFile, FlushesBuffer};
 
+use crate::calls::{FileCalls, PathCalls};
 use crate::failure::{Failure, Object, SystemCall};
 use crate::folder::Folder;
 use crate::open_files::OpenFiles;
@@ -33,7 +37,7 @@ pub struct Store<R: Files> {
     pub writes: Writes,
 }
 
-impl<R: Files + AllocGlobal + Drop> Store<R> {
+impl<R: PathCalls<File: FileCalls> + AllocGlobal + Drop> Store<R> {
     /// Before the first change. No name is in doubt before a folder is bound.
     pub fn new(alloc: Global) -> Store<R>
         ensures sound { result.writes.is_poisoned ≡ false }
@@ -54,6 +58,8 @@ impl<R: Files + AllocGlobal + Drop> Store<R> {
         ensures refused { IsTrue self.old.writes.is_poisoned → IsErr result }
         ensures names { OnOk result (self.new.names_last ≡ false) }
         ensures closed { OnOk result (self.new.open.files.items ≡ []) }
+        ensures synced { OnOk result (IsTrue self.old.names_last
+            ⊎ IsSomeAnd (option_map string_bytes folder.now.dir) (AreNamesSynced R.opened R.File.synced)) }
         ensures failed { IfErr result (IsFailureOn
             (IsOnFileOrFolder (Segment self.old.writes.buffer.seg))
             (folder.now.dir ≡ None) (IsTrue self.old.writes.is_poisoned)) }
@@ -137,6 +143,7 @@ impl<R: Files + AllocGlobal + Drop> Store<R> {
         bytes: &[u8],
     ) -> Result<(), Failure>
         ensures changes { ChangesFile self.old.writes self.new.writes result }
+        ensures names { IsTrue self.new.names_last → IsTrue self.old.names_last }
         ensures wrote { OnOk result (IsWritten R.File.contents self.new.open.files.items
             name at bytes.now) }
         ensures others { OnOk result (OthersStayOpen self.old.open.files.items
@@ -153,6 +160,7 @@ impl<R: Files + AllocGlobal + Drop> Store<R> {
     /// Cuts the file to this length in bytes, and makes it where it isn't there.
     pub fn cut(&mut self, folder: &Folder<R>, name: StoreFile, len: u64) -> Result<(), Failure>
         ensures changes { ChangesFile self.old.writes self.new.writes result }
+        ensures names { IsTrue self.new.names_last → IsTrue self.old.names_last }
         ensures cut { OnOk result (IsChangedLast self.new.open.files.items name) }
         ensures others { OnOk result (OthersStayOpen self.old.open.files.items
             self.new.open.files.items name) }
@@ -172,8 +180,11 @@ impl<R: Files + AllocGlobal + Drop> Store<R> {
     pub fn force(&mut self, folder: &Folder<R>, name: StoreFile) -> Result<(), Failure>
         ensures changes { ChangesFile self.old.writes self.new.writes result }
         ensures names { OnOk result (IsTrue self.new.names_last) }
-        ensures forced { OnOk result (IsNotOpen self.old.open.files.items name
-            ⊎ IsForcedLast self.new.open.files.items name) }
+        ensures synced { OnOk result (DoNamesLast R.opened R.File.synced self.old.names_last
+            (option_map string_bytes folder.now.dir)) }
+        ensures forced { OnOk result ((IsNotOpen self.old.open.files.items name
+            × IsSyncedAt R.opened R.missing R.File.synced (option_map string_bytes folder.now.dir) name)
+            ⊎ WasForced R.File.synced self.old.open.files.items self.new.open.files.items name) }
         ensures others { OnOk result (OthersStayOpen self.old.open.files.items
             self.new.open.files.items name) }
         ensures failed { IfErr result (IsFailureOn (IsOnFileOrFolder name)
@@ -190,6 +201,8 @@ impl<R: Files + AllocGlobal + Drop> Store<R> {
     pub fn remove(&mut self, folder: &Folder<R>, name: StoreFile) -> Result<(), Failure>
         ensures changes { ChangesFile self.old.writes self.new.writes result }
         ensures names { OnOk result (self.new.names_last ≡ false) }
+        ensures removed { OnOk result (IsMadeAt (option_map string_bytes folder.now.dir) name
+            (λ path. R.removed path ⊎ R.missing path)) }
         ensures others { OnOk result (OthersStayOpen self.old.open.files.items
             self.new.open.files.items name) }
         ensures failed { IfErr result (IsFailureOn (IsCallOn SystemCall.Remove (Object.File name))
@@ -212,6 +225,7 @@ impl<R: Files + AllocGlobal + Drop> Store<R> {
         bytes: &[u8],
     ) -> Result<(), Failure>
         ensures writes { self.new.writes ≡ self.old.writes }
+        ensures names { IsTrue self.new.names_last → IsTrue self.old.names_last }
         ensures wrote { OnOk result (IsWritten R.File.contents self.new.open.files.items
             name at bytes.now) }
         ensures others { OnOk result (OthersStayOpen self.old.open.files.items
@@ -231,8 +245,9 @@ impl<R: Files + AllocGlobal + Drop> Store<R> {
         ensures names { self.new.names_last ≡ self.old.names_last }
         ensures others { OnOk result (OthersStayOpen self.old.open.files.items
             self.new.open.files.items name) }
-        ensures forced { OnOk result (IsNotOpen self.old.open.files.items name
-            ⊎ IsForcedLast self.new.open.files.items name) }
+        ensures forced { OnOk result ((IsNotOpen self.old.open.files.items name
+            × IsSyncedAt R.opened R.missing R.File.synced (option_map string_bytes folder.now.dir) name)
+            ⊎ WasForced R.File.synced self.old.open.files.items self.new.open.files.items name) }
         ensures failed { IfErr result (IsFailureOn (IsOnFile name) (folder.now.dir ≡ None) ⊥) }
     {
         let Some(mut file) = self.open.take(name) else {
@@ -248,6 +263,8 @@ impl<R: Files + AllocGlobal + Drop> Store<R> {
         ensures writes { self.new.writes ≡ self.old.writes }
         ensures open { self.new.open ≡ self.old.open }
         ensures names { OnOk result (IsTrue self.new.names_last) }
+        ensures synced { OnOk result (DoNamesLast R.opened R.File.synced self.old.names_last
+            (option_map string_bytes folder.now.dir)) }
         ensures failed { IfErr result (IsFailureOn (IsOn Object.Folder) (folder.now.dir ≡ None) ⊥) }
     {
         if !self.names_last {
@@ -260,6 +277,11 @@ impl<R: Files + AllocGlobal + Drop> Store<R> {
     // The file to be changed, which isn't among the open ones from now on. There is room for it.
     fn take(&mut self, folder: &Folder<R>, name: StoreFile) -> Result<Opened<R::File>, Failure>
         ensures name { IfOk result (λ file. file.name ≡ name) }
+        ensures from { IfOk result (λ file. IsTakenOut self.old.open.files.items
+            self.new.open.files.items name file
+            ⊎ IsOpenedToChange R.opened (option_map string_bytes folder.now.dir) name
+            self.new.names_last file.file) }
+        ensures names { IsTrue self.new.names_last → IsTrue self.old.names_last }
         ensures room { OnOk result
             (vec_len self.new.open.files < vec_capacity self.new.open.files) }
         ensures others { OnOk result (OthersStayOpen self.old.open.files.items
@@ -280,6 +302,9 @@ impl<R: Files + AllocGlobal + Drop> Store<R> {
     // The file to be changed, which is made where it isn't there. Its name lasts once a force has seen to
     // that.
     fn open_to_change(&mut self, folder: &Folder<R>, name: StoreFile) -> Result<R::File, Failure>
+        ensures opened { IfOk result (IsOpenedToChange R.opened
+            (option_map string_bytes folder.now.dir) name self.new.names_last) }
+        ensures names { IsTrue self.new.names_last → IsTrue self.old.names_last }
         ensures writes { self.new.writes ≡ self.old.writes }
         ensures open { self.new.open ≡ self.old.open }
         ensures failed { IfErr result (IsFailureOn (IsCallOn SystemCall.Open (Object.File name))
@@ -293,6 +318,8 @@ impl<R: Files + AllocGlobal + Drop> Store<R> {
 
     // Makes a file. Its name lasts once a force has seen to that.
     fn make(&mut self, folder: &Folder<R>, name: StoreFile) -> Result<R::File, Failure>
+        ensures opened { IfOk result (λ file. IsMadeAt (option_map string_bytes folder.now.dir) name
+            (λ path. R.opened to_make path file)) }
         ensures writes { self.new.writes ≡ self.old.writes }
         ensures open { self.new.open ≡ self.old.open }
         ensures names { self.new.names_last ≡ false }
@@ -305,11 +332,13 @@ impl<R: Files + AllocGlobal + Drop> Store<R> {
 }
 
 // Makes the bytes and the length of a file lasting that isn't open, where it is there.
-fn sync_closed<R: Files + AllocGlobal + Drop>(
+fn sync_closed<R: PathCalls<File: FileCalls> + AllocGlobal + Drop>(
     folder: &Folder<R>,
     name: StoreFile,
 ) -> Result<(), Failure>
-    ensures { IfErr result (IsFailureOn (IsOnFile name) (folder.now.dir ≡ None) ⊥) }
+    ensures synced { OnOk result (IsSyncedAt R.opened R.missing R.File.synced
+        (option_map string_bytes folder.now.dir) name) }
+    ensures failed { IfErr result (IsFailureOn (IsOnFile name) (folder.now.dir ≡ None) ⊥) }
 {
     match folder.open(name)? {
         Some(file) => Opened::new(name, file).sync(),

@@ -3,10 +3,10 @@
 ghost use Rattle.std.specs.Prelude.{◌≡◌, ◌+◌, ◌<◌, ◌≤◌, ◌↔◌, [], length, IsTrue, OnOk, OnErr, IfErr};
 ghost use Rattle.std.specs.Bool.{OnTrue, OnFalse};
 
+use crate::calls::FileCalls;
 use crate::failure::Failure;
 use crate::opened::Opened;
 use std::alloc::Global;
-use std::fs::OpenFile;
 use std::io::{Seek, Write};
 use std::marker::Model;
 
@@ -85,7 +85,7 @@ impl WriteBuffer {
     }
 
     /// Writes what is buffered into the file of its segment, and then forgets it. The memory is kept.
-    pub fn write_to<F: Write + Seek + OpenFile + Drop>(
+    pub fn write_to<F: Write + Seek + FileCalls + Drop>(
         &mut self,
         file: &mut Opened<F>,
     ) -> Result<(), Failure>

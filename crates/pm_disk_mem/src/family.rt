@@ -1,6 +1,6 @@
 //! Files in memory that are numbered: the log's segments, or the partitions' files.
 
-ghost use Rattle.std.specs.Prelude.{◌≡◌, ◌≤◌, ℕ, length, IfOk, OnOk, OnErr, IsSome, Some, option_map};
+ghost use Rattle.std.specs.Prelude.{◌≡◌, ◌≤◌, ℕ, length, IfOk, OnOk, OnErr, IsSome, None, Some, option_map};
 ghost use Rattle.std.specs.Ordering.{nat_cmp};
 ghost use Rattle.std.specs.BTreeMap.{get, insert_entry};
 ghost use Rattle.pm_disk.specs.Files.{content, with_change, all_forced, ReadsFrom, ReadsWhole};
@@ -41,10 +41,11 @@ impl Family {
     }
 
     /// No file.
-    pub fn empty(alloc: Global) -> Family {
-        Family {
-            files: BTreeMap::new(alloc),
-        }
+    pub fn empty(alloc: Global) -> Family
+        ensures { (n : ℕ) → track_at result n ≡ new_track None }
+    {
+        let files = BTreeMap::new(alloc);
+        Family { files }
     }
 
     /// A copy of each file, with all that was done to it.

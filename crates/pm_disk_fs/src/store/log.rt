@@ -6,22 +6,28 @@ ghost use Rattle.std.specs.Prelude.{OnErr, IfOk, IfErr, None};
 ghost use Rattle.pm_disk_fs.specs.Failures.{IsFailureOn, IsOnFileOrSync, IsOnEither, IsOnEitherOrFolder};
 ghost use Rattle.pm_disk_fs.specs.WriteBuffer.{FitsAfter, IsAlone, IsAppended};
 ghost use Rattle.pm_disk_fs.specs.Positions.{IsChangedLast, IsWrittenInOrder, IsStretchWritten, IsWritten};
+ghost use Rattle.pm_disk_fs.specs.Positions.{ForcesSegment};
+ghost use Rattle.pm_disk_fs.specs.OpenFiles.{OthersStayOpen};
 ghost use Rattle.pm_disk_fs.specs.Writes.{ChangesLog, FlushesBuffer, PoisonsOnFailure};
 ghost use Rattle.pm_disk.specs.declared.names.StoreFile.TheVariants.{Segment};
 
+use crate::calls::{FileCalls, PathCalls};
 use crate::failure::Failure;
 use crate::folder::Folder;
 use crate::store::Store;
 use pm_disk::StoreFile;
-use std::rt::Files;
 
-impl<R: Files + AllocGlobal + Drop> Store<R> {
+impl<R: PathCalls<File: FileCalls> + AllocGlobal + Drop> Store<R> {
     /// Writes what is buffered. Where it can't, or the store is poisoned, what is buffered is kept, so that
     /// each later call on the log fails too.
     pub fn flush(&mut self, folder: &Folder<R>) -> Result<(), Failure>
         ensures writes { FlushesBuffer self.old.writes self.new.writes result }
         ensures wrote { OnOk result (0 < length self.old.writes.buffer.bytes
             → IsStretchWritten R.File.contents self.new.open.files.items self.old.writes.buffer) }
+        ensures names { IsTrue self.new.names_last → IsTrue self.old.names_last }
+        ensures idle { self.old.writes.buffer.bytes ≡ [] → self.new.open ≡ self.old.open }
+        ensures others { OnOk result (OthersStayOpen self.old.open.files.items
+            self.new.open.files.items (Segment self.old.writes.buffer.seg)) }
         ensures kept { OnErr result (self.new.writes.buffer ≡ self.old.writes.buffer) }
         ensures poisoned { IsErr result → IsTrue self.new.writes.is_poisoned }
         ensures failed { IfErr result (IsFailureOn
@@ -108,6 +114,8 @@ impl<R: Files + AllocGlobal + Drop> Store<R> {
     pub fn force_log(&mut self, folder: &Folder<R>, seg: u64) -> Result<(), Failure>
         ensures changes { ChangesLog self.old.writes self.new.writes result }
         ensures names { OnOk result (IsTrue self.new.names_last) }
+        ensures forced { OnOk result (ForcesSegment R.File.contents self.old.writes.buffer
+            self.old.open.files.items self.new.open.files.items seg) }
         ensures failed { IfErr result (IsFailureOn
             (IsOnEitherOrFolder (Segment seg) (Segment self.old.writes.buffer.seg))
             (folder.now.dir ≡ None) (IsTrue self.old.writes.is_poisoned)) }
@@ -182,6 +190,10 @@ impl<R: Files + AllocGlobal + Drop> Store<R> {
         ensures written { OnOk result (self.new.writes.buffer.bytes ≡ []) }
         ensures wrote { OnOk result (0 < length self.old.writes.buffer.bytes
             → IsStretchWritten R.File.contents self.new.open.files.items self.old.writes.buffer) }
+        ensures names { IsTrue self.new.names_last → IsTrue self.old.names_last }
+        ensures idle { self.old.writes.buffer.bytes ≡ [] → self.new.open ≡ self.old.open }
+        ensures others { OnOk result (OthersStayOpen self.old.open.files.items
+            self.new.open.files.items (Segment self.old.writes.buffer.seg)) }
         ensures kept { OnErr result (self.new.writes.buffer ≡ self.old.writes.buffer) }
         ensures same { self.new.writes.is_poisoned ≡ self.old.writes.is_poisoned }
         ensures failed { IfErr result (IsFailureOn

@@ -7,5 +7,5 @@ use Rattle.pm_disk_fs.proofs.host.FsHostHost.force_mark.Goals as goal
 
 pub returns-clause-forced : goal.returns-clause-forced
 returns-clause-forced g c =
-    force_seen c.force-forced.result c.counted.result (Marks c.args.file) c.self.inside.store.open.files.items c.force-forced.new.self.open.files.items c.args.self.now.files c.counted.new.self.files c.counted.ensures.value
+    force_seen c.force-forced.result c.counted.result (Marks c.args.file) _ _ c.self.inside.store.open.files.items c.force-forced.new.self.open.files.items c.args.self.now.files c.counted.new.self.files c.counted.ensures.value
     c.force-forced.ensures.forced (ap (λ (view : HostView). view.files) c.self.view_is) c.counted.ensures.files

@@ -4,6 +4,8 @@ use Rattle.pm_disk.specs.declared.names.StoreFile.TheVariants.{Segment}
 use Rattle.pm_disk_fs.specs.Positions.{IsStretchWritten}
 use Rattle.pm_disk_fs.specs.declared.writes.Writes.{Writes}
 use Rattle.pm_disk_fs.proofs.TakingOut.{written_last}
+use Rattle.pm_disk_fs.specs.OpenFiles.{OthersStayOpen}
+use Rattle.pm_disk_fs.proofs.StayingOpen.{others_of_kept}
 use Rattle.pm_disk_fs.proofs.store.Store.put_buffered.Goals as goal
 
 pub returns-clause-wrote : goal.returns-clause-wrote
@@ -11,3 +13,8 @@ returns-clause-wrote g c = λ some.
     subst (λ (writes : Writes). IsStretchWritten g.R.File.Write.contents c.keep.new.self.files.items writes.buffer) c.in_ok-file.ensures.writes
     (written_last g.R.File.Write.contents c.keep.new.self.files.items c.take.new.self.open.files.items c.write_to.new.file c.in_ok-file.file.name _ _ _ c.keep.ensures c.in_ok-write_to.ensures.wrote
     (c.in_ok-file.ensures.name ∙ ap Segment (c.seg.ensures ∙ ap (λ (writes : Writes). writes.buffer.seg) (sym c.in_ok-file.ensures.writes))))
+
+pub returns-clause-others : goal.returns-clause-others
+returns-clause-others g c =
+    others_of_kept c.args.self.now.open.files.items c.take.new.self.open.files.items c.keep.new.self.files.items (Segment c.args.self.now.writes.buffer.seg) c.write_to.new.file
+    (subst (λ n. OthersStayOpen c.args.self.now.open.files.items c.take.new.self.open.files.items (Segment n)) c.seg.ensures c.in_ok-file.ensures.others) c.keep.ensures

@@ -1,0 +1,81 @@
+//! The calls of the system that no clause of the runtime's speaks of, each with a relation by which a clause
+//! names what it was made on. What is written over any relations can show them only by these calls.
+
+ghost use Rattle.std.specs.Prelude.{◌≡◌, ℕ, List, ⊤, IfOk, IfErr, OnOk};
+ghost use Rattle.std.specs.IoError.{error_kind};
+ghost use Rattle.std.specs.declared.fs.options.OpenOptions.{OpenOptions};
+
+use std::fs::{self, OpenFile, OpenOptions};
+use std::io::{self, ErrorKind};
+use std::rt::Files;
+
+/// The calls by a path. Of the system's own files nobody can know more than that they were made.
+pub trait PathCalls: Files {
+    /// The file was opened so, by this path.
+    ghost opened: { OpenOptions → List ℕ → Self.File → Type 0 } = { λ _ _ _. ⊤ };
+
+    /// A call by this path found nothing there.
+    ghost missing: { List ℕ → Type 0 } = { λ _. ⊤ };
+
+    /// What this path names had this length in bytes.
+    ghost measured: { List ℕ → ℕ → Type 0 } = { λ _ _. ⊤ };
+
+    /// The file of this path was removed.
+    ghost removed: { List ℕ → Type 0 } = { λ _. ⊤ };
+
+    /// Opens a file.
+    fn open_at(&self, how: &OpenOptions, path: &str) -> io::Result<Self::File>
+        ensures opens { IfOk result (λ file. opened how.now path.now file) }
+        ensures misses { IfErr result (λ e. error_kind e ≡ ErrorKind.NotFound → missing path.now) };
+
+    /// The length of a file in bytes.
+    fn len_at(&self, path: &str) -> io::Result<u64>
+        ensures measures { IfOk result (λ len. measured path.now len) }
+        ensures misses { IfErr result (λ e. error_kind e ≡ ErrorKind.NotFound → missing path.now) };
+
+    /// Removes a file.
+    fn remove_at(&self, path: &str) -> io::Result<()>
+        ensures removes { OnOk result (removed path.now) }
+        ensures misses { IfErr result (λ e. error_kind e ≡ ErrorKind.NotFound → missing path.now) };
+}
+
+impl<R: Files> PathCalls for R {
+    fn open_at(&self, how: &OpenOptions, path: &str) -> io::Result<R::File> {
+        self.open_file(how, path)
+    }
+
+    fn len_at(&self, path: &str) -> io::Result<u64> {
+        Ok(fs::metadata(self, path)?.len())
+    }
+
+    fn remove_at(&self, path: &str) -> io::Result<()> {
+        fs::remove_file(self, path)
+    }
+}
+
+/// The calls on an open file. Of the system's own files nobody can know more than that they were made.
+pub trait FileCalls: OpenFile {
+    /// The file's bytes and its length were made lasting.
+    ghost synced: { Self → Type 0 } = { λ _. ⊤ };
+
+    /// The file was cut to this length in bytes.
+    ghost cut_to: { Self → ℕ → Type 0 } = { λ _ _. ⊤ };
+
+    /// Makes the file's bytes and its length lasting.
+    fn sync(&self) -> io::Result<()>
+        ensures syncs { OnOk result (synced self.now) };
+
+    /// Cuts the file to this length in bytes.
+    fn cut(&self, len: u64) -> io::Result<()>
+        ensures cuts { OnOk result (cut_to self.now len) };
+}
+
+impl<F: OpenFile> FileCalls for F {
+    fn sync(&self) -> io::Result<()> {
+        self.sync_all()
+    }
+
+    fn cut(&self, len: u64) -> io::Result<()> {
+        self.set_len(len)
+    }
+}
