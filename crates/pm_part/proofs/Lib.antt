@@ -1,4 +1,5 @@
 pub mod AddedRows
+pub mod AdditionSteps
 pub mod CacheIndexes
 pub mod ChangedMaps
 pub mod CountSteps
@@ -7,6 +8,7 @@ pub mod CountedRows
 pub mod DataSteps
 pub mod DroppedRows
 pub mod FirstPages
+pub mod FirstPartitions
 pub mod FreedRoom
 pub mod FullPartitions
 pub mod Gets
@@ -44,14 +46,18 @@ pub mod RemovedKeys
 pub mod RemovedRows
 pub mod ReplacedKeys
 pub mod ReplacedRows
+pub mod ReplacementSteps
+pub mod RowChanges
 pub mod RowItems
 pub mod RowKeys
+pub mod RowLinks
 pub mod RowReplies
 pub mod SameIndexes
 pub mod SortedPairs
 pub mod SoundPairs
 pub mod SpareLaw
 pub mod SpotReads
+pub mod StoredPartitions
 pub mod SwappedRows
 pub mod Swaps
 pub mod ToldPairs

@@ -16,7 +16,7 @@ ghost use Rattle.pm_part.specs.Reads.{ReadsPages};
 ghost use Rattle.pm_part.specs.Commands.{IsPartCmd, cache_of, AppendsReply};
 ghost use Rattle.pm_part.specs.Faults.{HasPartCause};
 ghost use Rattle.pm_part.specs.PairFaults.{HasPairsCause, NamesNoBadPage};
-ghost use Rattle.pm_part.specs.Runs.{IsPartitionOf, RunsCmd, IsGet, IsGetOrRemove};
+ghost use Rattle.pm_part.specs.Runs.{IsPartitionOf, RunsCmd, IsGet};
 ghost use Rattle.pm_part.specs.Puts.{IsPartFor};
 ghost use Rattle.pm_types.specs.declared.shape.Shape.{Shape};
 ghost use Rattle.pm_model.specs.declared.line.Cmd.TheVariants.{Put, Get, Remove};
@@ -61,7 +61,8 @@ impl Part {
         self.part
     }
 
-    /// Does a put, get or remove of this partition, and appends its reply. No memory is taken.
+    /// Does a put, get or remove of this partition, and appends its reply. No memory is taken. A
+    /// well-formed partition stays one.
     pub fn run<P: Pages>(
         &self,
         cmd: &Cmd,
@@ -83,7 +84,7 @@ impl Part {
         ensures gets { IsGet cmd.now → LooksAtPages P.tells (P.seen pages.old) (P.seen pages.new) 10 }
         ensures runs { P.tells → IsPartitionOf self.now.shape (P.seen pages.old)
             → (P.seen pages.old).part ≡ self.now.part
-            → OnOk result ((IsGetOrRemove cmd.now → IsPartitionOf self.now.shape (P.seen pages.new))
+            → OnOk result (IsPartitionOf self.now.shape (P.seen pages.new)
             × RunsCmd self.now.shape self.now.part cmd.now (P.seen pages.old).pages
             (P.seen pages.new).pages replies.old replies.new) }
     {
@@ -154,7 +155,8 @@ fn run_put<P: Pages>(
     ensures unchanged { OnErr result (replies.new ≡ replies.old) }
     ensures cause { HasPartCause P.tells (P.seen pages.old) (P.seen pages.new) cache result }
     ensures puts { P.tells → (shape : Shape) → IsPartFor shape (P.seen pages.old) max_rows key.now
-        → OnOk result (RunsCmd shape (P.seen pages.old).part (Put cache key.now value.now)
+        → OnOk result (IsPartitionOf shape (P.seen pages.new)
+        × RunsCmd shape (P.seen pages.old).part (Put cache key.now value.now)
         (P.seen pages.old).pages (P.seen pages.new).pages replies.old replies.new) }
 {
     if put(pages, max_rows, cache, key, value)? {

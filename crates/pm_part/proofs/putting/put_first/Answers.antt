@@ -1,4 +1,5 @@
 use Rattle.pm_part.proofs.ReplacedKeys.{first_added}
+use Rattle.pm_part.proofs.FirstPartitions.{takes_row}
 use Rattle.std.proofs.Common.{refl}
 use Rattle.std.proofs.Common.{arith}
 use Rattle.std.proofs.lemmas.Result.{err_from_is_err_and}
@@ -40,3 +41,10 @@ returns-clause-adds g c = (
       let d = g.P.Pages.seen c.add_row.new.pages in
       first_added T a b d.pages 1 c.args.cache c.args.row.now c.requires.cache none c.in_ok-make_meta.ensures.edits c.in_ok-make_meta.ensures.meta c.make_meta.ensures.readable c.in_ok-make_meta.ensures.new (c.in_ok-add_row.ensures.adds t),
 )
+
+pub returns-clause-stays : goal.returns-clause-stays
+returns-clause-stays g c = λ t shape most for value row_is.
+    let a = g.P.Pages.seen c.args.pages.now in
+    let b = g.P.Pages.seen c.make_meta.new.pages in
+    let may = takes_row a b shape for.partition c.in_ok-make_meta.ensures.edits.same c.in_ok-make_meta.ensures.meta c.make_meta.ensures.readable c.in_ok-make_meta.ensures.new most c.args.cache c.args.key.now c.requires.cache for in
+    c.in_ok-add_row.ensures.stays t shape may value row_is

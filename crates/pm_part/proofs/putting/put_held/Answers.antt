@@ -43,5 +43,8 @@ returns-clause-puts g c = λ t shape is value row_is.
     let d = g.P.Pages.seen c.replace_row.new.pages in
     let looks = c.find_row.ensures.looks in
     let is_b = partition_looked T a b 1 shape t looks is in
-    puts_looked T a b 1 shape d.pages c.args.cache c.args.key.now value true t looks
-    (held_put shape b d.pages c.in_ok-spot.spot c.args.cache c.args.key.now value is_b (meta_looked T a b 1 looks c.requires.entry.meta) c.in_ok-spot.ensures.row (c.in_ok-replace_row.ensures.replaces t shape is_b value row_is))
+    let made = c.in_ok-replace_row.ensures.replaces t shape is_b value row_is in (
+      made.0,
+      puts_looked T a b 1 shape d.pages c.args.cache c.args.key.now value true t looks
+          (held_put shape b d.pages c.in_ok-spot.spot c.args.cache c.args.key.now value is_b (meta_looked T a b 1 looks c.requires.entry.meta) c.in_ok-spot.ensures.row made.1),
+    )

@@ -7,8 +7,8 @@ use Rattle.std.proofs.lemmas.Result.{IfOk-weaker}
 use Rattle.std.proofs.Common.{◌≡◌, None, Option, sym, subst}
 use Rattle.std.proofs.Common.{arith}
 use Rattle.std.proofs.lemmas.Result.{on_ok_weaker, err_from_is_err_and}
-use Rattle.pm_part.proofs.PartCauses.{cause_passed, cause_looked, cause_look, cause_page}
-use Rattle.pm_part.proofs.Swaps.{edits_after_look, pages_after_look, edits_look}
+use Rattle.pm_part.proofs.PartCauses.{cause_passed, cause_looked, cause_look}
+use Rattle.pm_part.proofs.Swaps.{edits_after_look, pages_after_look}
 use Rattle.pm_part.proofs.putting.put_row.Goals as goal
 
 pub returns-in-None-clause-changes : goal.returns-in-None-clause-changes
@@ -67,7 +67,8 @@ returns-in-None-clause-puts g c =
     let looks = c.find_entry.ensures.looks in
     IfOk-weaker c.put_new.result _ _ (λ done puts t shape for value row_is.
     let none = lacks_looked T a b 9 c.args.cache key t looks (record { none = λ height nodes items index. sym (subst (λ (e : Option Entry). word_of e ≡ get_in items key) {y = None} c.in-None.is (c.in_ok-find_entry.ensures.gets t height nodes items index)) }) in
-    puts_looked T a b 9 shape d.pages c.args.cache key value done t looks (puts t shape (for_looked T a b 9 shape c.args.max_rows key t looks for) none value row_is)) c.put_new.ensures.puts
+    let made = puts t shape (for_looked T a b 9 shape c.args.max_rows key t looks for) none value row_is in
+    (made.0, puts_looked T a b 9 shape d.pages c.args.cache key value done t looks made.1)) c.put_new.ensures.puts
 
 pub returns-in-Some-clause-puts : goal.returns-in-Some-clause-puts
 returns-in-Some-clause-puts g c =
@@ -77,4 +78,5 @@ returns-in-Some-clause-puts g c =
     let d = g.P.Pages.seen c.put_held.new.pages in
     let looks = c.find_entry.ensures.looks in
     IfOk-weaker c.put_held.result _ _ (λ done puts t shape for value row_is.
-    puts_looked T a b 9 shape d.pages c.args.cache c.args.key.now value done t looks (puts t shape (partition_looked T a b 9 shape t looks for.partition) value row_is)) c.put_held.ensures.puts
+    let made = puts t shape (partition_looked T a b 9 shape t looks for.partition) value row_is in
+    (made.0, puts_looked T a b 9 shape d.pages c.args.cache c.args.key.now value done t looks made.1)) c.put_held.ensures.puts
