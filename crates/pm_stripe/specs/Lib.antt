@@ -1,0 +1,3 @@
+pub mod ChangedPages
+pub mod Listings
+pub mod PlacedPages
