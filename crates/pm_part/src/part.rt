@@ -1,6 +1,6 @@
 //! One partition of a store.
 
-ghost use Rattle.std.specs.Prelude.{◌≡◌, ℕ, ◌^◌, ◌-◌, ◌<◌, ◌≤◌, [], ◌∷◌, ◌++◌, OnOk, OnErr, IsTrue};
+ghost use Rattle.std.specs.Prelude.{◌≡◌, ℕ, ◌^◌, ◌-◌, ◌<◌, ◌≤◌, [], ◌∷◌, ◌++◌, OnOk, IsTrue};
 ghost use Rattle.pm_types.specs.declared.limits.TheConstants.{CACHES, OP_PAGES, ROWS_MAX};
 ghost use Rattle.pm_types.specs.declared.limits.TheConstants.{PARTITIONS_MAX};
 ghost use Rattle.pm_types.specs.Keys.{HasKeyLength, HasValueLength};
@@ -13,7 +13,7 @@ ghost use Rattle.pm_pages.specs.Rows.{rows_of};
 ghost use Rattle.pm_pages.specs.RowMaps.{map_of};
 ghost use Rattle.pm_model.specs.Eval.{pairs_of};
 ghost use Rattle.pm_part.specs.Reads.{ReadsPages};
-ghost use Rattle.pm_part.specs.Commands.{IsPartCmd, cache_of, AppendsReply};
+ghost use Rattle.pm_part.specs.Commands.{IsPartCmd, cache_of, RepliesOnce};
 ghost use Rattle.pm_part.specs.Faults.{HasPartCause};
 ghost use Rattle.pm_part.specs.PairFaults.{HasPairsCause, NamesNoBadPage};
 ghost use Rattle.pm_part.specs.Runs.{IsPartitionOf, RunsCmd, IsGet, IsGetOrRemove};
@@ -77,8 +77,7 @@ impl Part {
         ensures readable { AllReadable (P.seen pages.new) }
         ensures changes { OnOk result (EditsPages P.tells (P.seen pages.old) (P.seen pages.new)
             (λ j. IsTrue ((P.seen pages.new).asked j)) OP_PAGES) }
-        ensures replied { OnOk result (AppendsReply replies.old replies.new) }
-        ensures unchanged { OnErr result (replies.new ≡ replies.old) }
+        ensures replied { RepliesOnce replies.old replies.new result }
         ensures cause { HasPartCause P.tells (P.seen pages.old) (P.seen pages.new) (cache_of cmd.now) result }
         ensures gets { IsGet cmd.now → LooksAtPages P.tells (P.seen pages.old) (P.seen pages.new) 10 }
         ensures runs { P.tells → IsPartitionOf self.now.shape (P.seen pages.old)
@@ -150,8 +149,7 @@ fn run_put<P: Pages>(
     ensures readable { AllReadable (P.seen pages.new) }
     ensures changes { OnOk result (EditsPages P.tells (P.seen pages.old) (P.seen pages.new)
         (λ j. IsTrue ((P.seen pages.new).asked j)) 32) }
-    ensures replied { OnOk result (AppendsReply replies.old replies.new) }
-    ensures unchanged { OnErr result (replies.new ≡ replies.old) }
+    ensures replied { RepliesOnce replies.old replies.new result }
     ensures cause { HasPartCause P.tells (P.seen pages.old) (P.seen pages.new) cache result }
     ensures puts { P.tells → (shape : Shape) → IsPartFor shape (P.seen pages.old) max_rows key.now
         → OnOk result (RunsCmd shape (P.seen pages.old).part (Put cache key.now value.now)
@@ -180,8 +178,7 @@ fn run_get<P: Pages>(
     ensures readable { AllReadable (P.seen pages.new) }
     ensures changes { OnOk result (EditsPages P.tells (P.seen pages.old) (P.seen pages.new)
         (λ j. IsTrue ((P.seen pages.new).asked j)) 32) }
-    ensures replied { OnOk result (AppendsReply replies.old replies.new) }
-    ensures unchanged { OnErr result (replies.new ≡ replies.old) }
+    ensures replied { RepliesOnce replies.old replies.new result }
     ensures cause { HasPartCause P.tells (P.seen pages.old) (P.seen pages.new) cache result }
     ensures looks { LooksAtPages P.tells (P.seen pages.old) (P.seen pages.new) 10 }
     ensures gets { P.tells → (shape : Shape) → IsPartitionOf shape (P.seen pages.old)
@@ -213,8 +210,7 @@ fn run_remove<P: Pages>(
     ensures readable { AllReadable (P.seen pages.new) }
     ensures changes { OnOk result (EditsPages P.tells (P.seen pages.old) (P.seen pages.new)
         (λ j. IsTrue ((P.seen pages.new).asked j)) 32) }
-    ensures replied { OnOk result (AppendsReply replies.old replies.new) }
-    ensures unchanged { OnErr result (replies.new ≡ replies.old) }
+    ensures replied { RepliesOnce replies.old replies.new result }
     ensures cause { HasPartCause P.tells (P.seen pages.old) (P.seen pages.new) cache result }
     ensures removes { P.tells → (shape : Shape) → IsPartitionOf shape (P.seen pages.old)
         → OnOk result (IsPartitionOf shape (P.seen pages.new)
