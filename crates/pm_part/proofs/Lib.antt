@@ -48,7 +48,9 @@ pub mod RowKeys
 pub mod RowReplies
 pub mod SameIndexes
 pub mod SortedPairs
+pub mod SoundGets
 pub mod SoundPairs
+pub mod SoundRemovals
 pub mod SpareLaw
 pub mod SpotReads
 pub mod SwappedRows

@@ -9,5 +9,6 @@ pub mod Puts
 pub mod Reads
 pub mod Removals
 pub mod RowBytes
+pub mod RowNames
 pub mod Runs
 pub mod Spots

@@ -11,6 +11,7 @@ ghost use Rattle.pm_pages.specs.Paged.{AllReadable, NoneLent};
 ghost use Rattle.pm_pages.specs.Edits.{LooksAtPages, EditsPages};
 ghost use Rattle.pm_pages.specs.Rows.{rows_of};
 ghost use Rattle.pm_pages.specs.RowMaps.{map_of};
+ghost use Rattle.pm_pages.specs.SoundPages.{NoBadPage};
 ghost use Rattle.pm_model.specs.Eval.{pairs_of};
 ghost use Rattle.pm_part.specs.Reads.{ReadsPages};
 ghost use Rattle.pm_part.specs.Commands.{IsPartCmd, cache_of, RepliesOnce};
@@ -61,7 +62,16 @@ impl Part {
         self.part
     }
 
-    /// Does a put, get or remove of this partition, and appends its reply. No memory is taken.
+    /// Does a put, get or remove of this partition, and appends its reply. At most 32 pages are
+    /// asked for, and no memory is taken.
+    ///
+    /// Where the store reports its pages and they are those of a well-formed partition, the reply
+    /// and the rows are those of the evaluation: `Full` comes exactly where the key is new and the
+    /// partition has as many rows as it may have, over all caches. A get changes no page.
+    ///
+    /// `Failed` comes only where a call on the disk failed. `BadPage` names a page that is bad, or
+    /// one that names a wrong page or row; of a well-formed partition it never comes of a get or a
+    /// removal. After an error no reply was appended, and some pages may be half changed.
     pub fn run<P: Pages>(
         &self,
         cmd: &Cmd,
@@ -85,6 +95,8 @@ impl Part {
             → OnOk result ((IsGetOrRemove cmd.now → IsPartitionOf self.now.shape (P.seen pages.new))
             × RunsCmd self.now.shape self.now.part cmd.now (P.seen pages.old).pages
             (P.seen pages.new).pages replies.old replies.new) }
+        ensures sound { P.tells → IsPartitionOf self.now.shape (P.seen pages.old) → IsGetOrRemove cmd.now
+            → NoBadPage result }
     {
         match cmd {
             Cmd::Put { cache, key, value } => {
@@ -185,6 +197,7 @@ fn run_get<P: Pages>(
         → OnOk result (IsPartitionOf shape (P.seen pages.new)
         × RunsCmd shape (P.seen pages.old).part (Get cache key.now) (P.seen pages.old).pages
         (P.seen pages.new).pages replies.old replies.new) }
+    ensures sound { P.tells → (shape : Shape) → IsPartitionOf shape (P.seen pages.old) → NoBadPage result }
 {
     match find_entry(pages, cache, key)? {
         None => {
@@ -216,6 +229,7 @@ fn run_remove<P: Pages>(
         → OnOk result (IsPartitionOf shape (P.seen pages.new)
         × RunsCmd shape (P.seen pages.old).part (Remove cache key.now) (P.seen pages.old).pages
         (P.seen pages.new).pages replies.old replies.new) }
+    ensures sound { P.tells → (shape : Shape) → IsPartitionOf shape (P.seen pages.old) → NoBadPage result }
 {
     let was = remove(pages, cache, key)?;
     replies.push(Reply::Was(was));
