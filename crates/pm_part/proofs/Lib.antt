@@ -50,6 +50,7 @@ pub mod SameIndexes
 pub mod SortedPairs
 pub mod SoundGets
 pub mod SoundPairs
+pub mod SoundPuts
 pub mod SoundRemovals
 pub mod SpareLaw
 pub mod SpotReads

@@ -6,7 +6,8 @@ ghost use Rattle.pm_data.specs.Rows.{IsRow};
 ghost use Rattle.pm_data.specs.DataPages.{rows_of, row_at, room_of, IsDataPage, AddsRow};
 ghost use Rattle.pm_pages.specs.Paged.{AllReadable, IsLent};
 ghost use Rattle.pm_pages.specs.Edits.{LooksAtPages, EditsPages, RewritesPage, HasMeta, HasDiskCause};
-ghost use Rattle.pm_free.specs.Placed.{HasItemAt};
+ghost use Rattle.pm_free.specs.Placed.{HasItemAt, HasChains};
+ghost use Rattle.pm_pages.specs.SoundPages.{IsSound, NoBadPage, MayTake};
 ghost use Rattle.pm_free.specs.Causes.{HasChainCause};
 ghost use Rattle.pm_part.specs.declared.overwriting.Way.TheVariants.{InPlace, SamePage};
 ghost use Rattle.pm_part.specs.Changes.{ChangesPages, IsWayOn, IsWayIn, WritesOver};
@@ -87,6 +88,8 @@ pub fn overwrite<P: Pages>(pages: &mut P, spot: Spot, row: &[u8]) -> Result<Link
     ensures cause { HasChainCause P.tells (P.seen pages.old) (P.seen pages.new) result }
     ensures rows { IfOk result (λ link. P.tells → OverwritesRow (P.seen pages.old).part (P.seen pages.old).pages
         (P.seen pages.new).pages spot row.now link) }
+    ensures sound { MayTake P.tells (P.seen pages.old) → HasChains (P.seen pages.old).pages
+        → NoBadPage result }
 {
     let link = spot.link(pages.part());
     match find_way(pages, spot, row.len())? {
@@ -117,6 +120,8 @@ fn swap<P: Pages>(pages: &mut P, spot: Spot, row: &[u8]) -> Result<Link, PageFau
     ensures cause { HasChainCause P.tells (P.seen pages.old) (P.seen pages.new) result }
     ensures rows { IfOk result (λ link. P.tells → OverwritesRow (P.seen pages.old).part (P.seen pages.old).pages
         (P.seen pages.new).pages spot row.now link) }
+    ensures sound { P.tells → IsSound (P.seen pages.old) → HasChains (P.seen pages.old).pages
+        → NoBadPage result }
 {
     let seat = seat_at(pages, spot.at)?;
     make_edit(pages, spot.at, Edit::Remove(spot.item), b"")?;
