@@ -11,4 +11,5 @@ pub mod Removals
 pub mod RowBytes
 pub mod RowNames
 pub mod Runs
+pub mod SoundPuts
 pub mod Spots

@@ -14,6 +14,8 @@ ghost use Rattle.pm_part.specs.Changes.{ChangesPages};
 ghost use Rattle.pm_part.specs.NewMeta.{IsNewMeta, HasNewMeta};
 ghost use Rattle.pm_part.specs.RowBytes.{IsRowOf};
 ghost use Rattle.pm_part.specs.Runs.{IsPartitionOf};
+ghost use Rattle.pm_part.specs.SoundPuts.{MayTakeRow};
+ghost use Rattle.pm_pages.specs.SoundPages.{NoBadPage};
 ghost use Rattle.pm_part.specs.Puts.{ReplacesKey, AddsKey, IsPartFor, PutsKey, LacksItem};
 ghost use Rattle.pm_types.specs.declared.shape.Shape.{Shape};
 ghost use Rattle.pm_btpage.specs.IndexPages.{Item};
@@ -239,6 +241,7 @@ fn put_next<P: Pages>(
         → (value : List ℕ) → IsRowOf cache key.now value row.now
         → PutsKey shape (P.seen pages.old).part (P.seen pages.old).pages (P.seen pages.new).pages
         cache key.now value done) }
+    ensures sound { P.tells → (shape : Shape) → IsPartitionOf shape (P.seen pages.old) → NoBadPage result }
 {
     if rows >= max_rows {
         return Ok(false);
@@ -272,6 +275,7 @@ fn add_row<P: Pages>(
         → IsIndex (P.seen pages.old).pages (root_of (P.seen pages.old).pages cache) height nodes items
         → AddsKey (P.seen pages.old).part (P.seen pages.old).pages (P.seen pages.new).pages
         row.now (rows + 1)) }
+    ensures sound { P.tells → MayTakeRow (P.seen pages.old) cache → NoBadPage result }
 {
     let link = place(pages, row)?;
     tree_put(pages, cache, key, link)?;
