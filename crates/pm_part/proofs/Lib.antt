@@ -1,8 +1,6 @@
 pub mod AddedRows
 pub mod CacheIndexes
-pub mod ChangedMaps
 pub mod CountSteps
-pub mod CountedKeys
 pub mod CountedRows
 pub mod DataSteps
 pub mod DroppedRows
@@ -59,7 +57,6 @@ pub mod Swaps
 pub mod ToldPairs
 pub mod Totals
 pub mod TreeLeaves
-pub mod TreeRows
 pub mod TreeSizes
 pub mod TreeSteps
 pub mod WellLaidOut
