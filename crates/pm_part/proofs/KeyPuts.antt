@@ -1,13 +1,13 @@
 -- A partition stays laid out where a key is put into the index of a cache, and its rows are as they were.
-use Rattle.std.proofs.Common.{◌≡◌, ◌≢◌, ℕ, zero, suc, ◌+◌, ◌<◌, ◌≤◌, ◌⊎◌, List, [], Option, refl, sym, ap, subst, ◌∙◌, inl, inr, arith}
-use Rattle.std.proofs.lemmas.Bool.{cases_eq, cases_lt}
+use Rattle.std.proofs.Common.{◌≡◌, ◌≢◌, ℕ, ◌+◌, ◌<◌, ◌≤◌, List, [], Option, sym, ap, subst, ◌∙◌, inl, inr, arith}
+use Rattle.std.proofs.lemmas.Bool.{cases_lt}
 use Rattle.pm_types.specs.declared.limits.TheConstants.{CACHES}
 use Rattle.pm_types.specs.declared.page_id.Link.{Link}
 use Rattle.pm_btpage.specs.IndexPages.{Item}
 use Rattle.pm_data.specs.declared.layout.TheConstants.{DATA_KIND}
-use Rattle.pm_meta.specs.declared.layout.TheConstants.{BUCKETS, REUSE_KIND}
+use Rattle.pm_meta.specs.declared.layout.TheConstants.{REUSE_KIND}
 use Rattle.pm_meta.specs.declared.slots.MetaSlot.TheVariants.{Root, Bucket}
-use Rattle.pm_pages.specs.Rows.{Partition, page_at, page_count, number_in, kind_of}
+use Rattle.pm_pages.specs.Rows.{Partition, page_at, page_count, kind_of}
 use Rattle.pm_pages.specs.Chains.{times, reuse_chain}
 use Rattle.pm_pages.specs.SpareChains.{HasSpare}
 use Rattle.pm_pages.specs.Trees.{root_of}
@@ -17,10 +17,11 @@ use Rattle.pm_tree.specs.Indexes.{IsIndex}
 use Rattle.pm_tree.specs.Roots.{PutsIndex}
 use Rattle.pm_tree.specs.Nodes.{nodes_in}
 use Rattle.pm_tree.specs.Puts.{IsSpare}
-use Rattle.pm_part.proofs.JoinedLists.{joined, times_set, one_in, in_one}
-use Rattle.pm_part.proofs.SameIndexes.{index_stays, index_kind, index_below, page_stays}
-use Rattle.pm_part.proofs.Layouts.{IsLaidOut, is_data, data_one, in_index, no_index, none_past, added, added_old, added_new, each_after}
-use Rattle.pm_part.proofs.TreeSteps.{KeepsDataAt, KeepsData, NoDataFirst, data_kept, chains_stay, set_at, set_here, set_other, two_in, index_set, past_none, no_data}
+use Rattle.pm_part.specs.LaidOut.{joined, IsLaidOut}
+use Rattle.pm_part.proofs.JoinedLists.{times_set, one_in}
+use Rattle.pm_part.proofs.SameIndexes.{index_stays, index_kind, page_stays}
+use Rattle.pm_part.proofs.Layouts.{data_one, in_index, added_old, added_new, each_after}
+use Rattle.pm_part.proofs.TreeSteps.{KeepsData, NoDataFirst, data_kept, chains_stay, set_at, set_here, set_other, two_in, index_set, past_none, no_data}
 
 -- the data pages are as they were, and there are no others
 module _ (old new : Partition) (cache height : ℕ) (nodes : List ℕ) (list : List Item) (key : List ℕ) (word : ℕ) (was : Option Link) (spare : HasSpare old) (first : NoDataFirst old new)

@@ -1,14 +1,13 @@
 -- A partition stays laid out where a key is removed from the index of a cache, and its rows are as they were.
-use Rattle.std.proofs.Common.{◌≡◌, ◌≢◌, ℕ, zero, suc, ◌+◌, ◌<◌, ◌≤◌, ◌⊎◌, List, [], Option, refl, sym, ap, subst, ◌∙◌, inl, inr, arith}
-use Rattle.std.proofs.lemmas.Bool.{cases_eq, cases_lt}
+use Rattle.std.proofs.Common.{◌≡◌, ◌≢◌, ℕ, ◌+◌, ◌<◌, ◌≤◌, List, [], Option, sym, ap, subst, ◌∙◌, inl, inr, arith}
+use Rattle.std.proofs.lemmas.Bool.{cases_lt}
 use Rattle.pm_types.specs.declared.limits.TheConstants.{CACHES}
 use Rattle.pm_types.specs.declared.page_id.Link.{Link}
 use Rattle.pm_btpage.specs.IndexPages.{Item}
 use Rattle.pm_data.specs.declared.layout.TheConstants.{DATA_KIND}
-use Rattle.pm_meta.specs.declared.layout.TheConstants.{BUCKETS, REUSE_KIND}
 use Rattle.pm_meta.specs.declared.slots.MetaSlot.TheVariants.{Root, Bucket}
-use Rattle.pm_pages.specs.Rows.{Partition, page_at, page_count, number_in, kind_of}
-use Rattle.pm_pages.specs.Chains.{times, reuse_chain}
+use Rattle.pm_pages.specs.Rows.{Partition, page_at, page_count, kind_of}
+use Rattle.pm_pages.specs.Chains.{times}
 use Rattle.pm_pages.specs.Trees.{root_of}
 use Rattle.pm_pages.proofs.SpareSteps.{same_at}
 use Rattle.pm_tree.specs.Indexes.{IsIndex}
@@ -16,9 +15,10 @@ use Rattle.pm_tree.specs.Nodes.{nodes_in}
 use Rattle.pm_tree.specs.Puts.{IsSpare}
 use Rattle.pm_tree_del.specs.Maps.{remove_in}
 use Rattle.pm_tree_del.specs.Roots.{RemovesIndex}
-use Rattle.pm_part.proofs.JoinedLists.{joined, times_set, one_in}
+use Rattle.pm_part.specs.LaidOut.{joined, IsLaidOut}
+use Rattle.pm_part.proofs.JoinedLists.{times_set, one_in}
 use Rattle.pm_part.proofs.SameIndexes.{index_stays, index_kind}
-use Rattle.pm_part.proofs.Layouts.{IsLaidOut, in_index, each_after}
+use Rattle.pm_part.proofs.Layouts.{in_index, each_after}
 use Rattle.pm_part.proofs.TreeSteps.{KeepsData, NoDataFirst, data_kept, chains_stay, set_at, set_here, set_other, two_in, index_set, no_data}
 
 -- the data pages are as they were, and there are no others

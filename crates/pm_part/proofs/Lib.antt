@@ -1,10 +1,12 @@
 pub mod AddedRows
+pub mod AdditionSteps
 pub mod CacheIndexes
 pub mod CountSteps
 pub mod CountedRows
 pub mod DataSteps
 pub mod DroppedRows
 pub mod FirstPages
+pub mod FirstPartitions
 pub mod FreedRoom
 pub mod FullPartitions
 pub mod Gets
@@ -41,8 +43,11 @@ pub mod RemovedKeys
 pub mod RemovedRows
 pub mod ReplacedKeys
 pub mod ReplacedRows
+pub mod ReplacementSteps
+pub mod RowChanges
 pub mod RowItems
 pub mod RowKeys
+pub mod RowLinks
 pub mod RowReplies
 pub mod SameIndexes
 pub mod SortedPairs
@@ -52,6 +57,7 @@ pub mod SoundPuts
 pub mod SoundRemovals
 pub mod SpareLaw
 pub mod SpotReads
+pub mod StoredPartitions
 pub mod SwappedRows
 pub mod Swaps
 pub mod ToldPairs

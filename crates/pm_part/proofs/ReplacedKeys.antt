@@ -109,7 +109,7 @@ held_put shape p new spot cache key value is meta has replaces =
     puts_done shape p.part p.pages new cache key value (full_there shape (rows_of p.part p.pages) cache key is.well_formed.keys_once.once (holds_weaker (HasValue cache key (row_value has.row)) (HasKey cache key) (rows_of p.part p.pages) (λ row h. h.has) (row_there p spot cache key meta has))) replaces.rows
 
 -- a key that wasn't there
-lacks : (shape : Shape) (p : Paged) (cache : ℕ) (key : List ℕ) → cache < CACHES → IsPartitionOf shape p → LacksItem p.pages cache key → HasNoRow (rows_of p.part p.pages) cache key
+pub lacks : (shape : Shape) (p : Paged) (cache : ℕ) (key : List ℕ) → cache < CACHES → IsPartitionOf shape p → LacksItem p.pages cache key → HasNoRow (rows_of p.part p.pages) cache key
 lacks shape p cache key few is none = (let ix = index_of shape p cache is.page_size is.max_rows is.well_formed few in no_row (rows_of p.part p.pages) cache key ix.items ix.lists (none.none ix.height ix.nodes ix.items ix.index))
 
 full_is : (shape : Shape) (p : Paged) (max_rows cache : ℕ) (key : List ℕ) → cache < CACHES → IsPartFor shape p max_rows key → LacksItem p.pages cache key → is_full shape (cache_key cache key) (map_of (rows_of p.part p.pages)) ≡ nat_le shape.max_rows (length (rows_of p.part p.pages))

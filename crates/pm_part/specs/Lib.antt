@@ -2,6 +2,7 @@ pub mod Changes
 pub mod Commands
 pub mod Entries
 pub mod Faults
+pub mod LaidOut
 pub mod NewMeta
 pub mod PairFaults
 pub mod PairReads

@@ -17,7 +17,7 @@ ghost use Rattle.pm_part.specs.Reads.{ReadsPages};
 ghost use Rattle.pm_part.specs.Commands.{IsPartCmd, cache_of, RepliesOnce};
 ghost use Rattle.pm_part.specs.Faults.{HasPartCause};
 ghost use Rattle.pm_part.specs.PairFaults.{HasPairsCause, NamesNoBadPage};
-ghost use Rattle.pm_part.specs.Runs.{IsPartitionOf, RunsCmd, IsGet, IsGetOrRemove};
+ghost use Rattle.pm_part.specs.Runs.{IsPartitionOf, RunsCmd, IsGet};
 ghost use Rattle.pm_part.specs.Puts.{IsPartFor};
 ghost use Rattle.pm_types.specs.declared.shape.Shape.{Shape};
 ghost use Rattle.pm_model.specs.declared.line.Cmd.TheVariants.{Put, Get, Remove};
@@ -67,11 +67,12 @@ impl Part {
     ///
     /// Where the store reports its pages and they are those of a well-formed partition, the reply
     /// and the rows are those of the evaluation: `Full` comes exactly where the key is new and the
-    /// partition has as many rows as it may have, over all caches. A get changes no page.
+    /// partition has as many rows as it may have, over all caches. The partition stays well formed.
+    /// A get changes no page.
     ///
     /// `Failed` comes only where a call on the disk failed. `BadPage` names a page that is bad, or
-    /// one that names a wrong page or row; of a well-formed partition it never comes of a get or a
-    /// removal. After an error no reply was appended, and some pages may be half changed.
+    /// one that names a wrong page or row; it never comes of a well-formed partition. After an error
+    /// no reply was appended, and some pages may be half changed.
     pub fn run<P: Pages>(
         &self,
         cmd: &Cmd,
@@ -92,11 +93,10 @@ impl Part {
         ensures gets { IsGet cmd.now → LooksAtPages P.tells (P.seen pages.old) (P.seen pages.new) 10 }
         ensures runs { P.tells → IsPartitionOf self.now.shape (P.seen pages.old)
             → (P.seen pages.old).part ≡ self.now.part
-            → OnOk result ((IsGetOrRemove cmd.now → IsPartitionOf self.now.shape (P.seen pages.new))
+            → OnOk result (IsPartitionOf self.now.shape (P.seen pages.new)
             × RunsCmd self.now.shape self.now.part cmd.now (P.seen pages.old).pages
             (P.seen pages.new).pages replies.old replies.new) }
-        ensures sound { P.tells → IsPartitionOf self.now.shape (P.seen pages.old) → IsGetOrRemove cmd.now
-            → NoBadPage result }
+        ensures sound { P.tells → IsPartitionOf self.now.shape (P.seen pages.old) → NoBadPage result }
     {
         match cmd {
             Cmd::Put { cache, key, value } => {
@@ -164,8 +164,10 @@ fn run_put<P: Pages>(
     ensures replied { RepliesOnce replies.old replies.new result }
     ensures cause { HasPartCause P.tells (P.seen pages.old) (P.seen pages.new) cache result }
     ensures puts { P.tells → (shape : Shape) → IsPartFor shape (P.seen pages.old) max_rows key.now
-        → OnOk result (RunsCmd shape (P.seen pages.old).part (Put cache key.now value.now)
+        → OnOk result (IsPartitionOf shape (P.seen pages.new)
+        × RunsCmd shape (P.seen pages.old).part (Put cache key.now value.now)
         (P.seen pages.old).pages (P.seen pages.new).pages replies.old replies.new) }
+    ensures sound { P.tells → (shape : Shape) → IsPartitionOf shape (P.seen pages.old) → NoBadPage result }
 {
     if put(pages, max_rows, cache, key, value)? {
         replies.push(Reply::Done);

@@ -139,7 +139,8 @@ fn has_row<P: Pages>(pages: &mut P, spot: Spot, cache: u8, key: &[u8]) -> Result
 /// Where the row of a key stands, of which this is the entry.
 ///
 /// `Failed` comes only where a call on the disk failed. `BadPage` names the leaf where its link
-/// names no row of the key, or the page that it names where that is bad.
+/// names no row of the key, or the page that it names where that is bad; it never comes where the
+/// link names a row of the key in a well-formed partition.
 pub fn find_row<P: Pages>(
     pages: &mut P,
     entry: Entry,
