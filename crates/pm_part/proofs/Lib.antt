@@ -1,9 +1,7 @@
 pub mod AddedRows
 pub mod AdditionSteps
 pub mod CacheIndexes
-pub mod ChangedMaps
 pub mod CountSteps
-pub mod CountedKeys
 pub mod CountedRows
 pub mod DataSteps
 pub mod DroppedRows
@@ -54,7 +52,10 @@ pub mod RowLinks
 pub mod RowReplies
 pub mod SameIndexes
 pub mod SortedPairs
+pub mod SoundGets
 pub mod SoundPairs
+pub mod SoundPuts
+pub mod SoundRemovals
 pub mod SpareLaw
 pub mod SpotReads
 pub mod StoredPartitions
@@ -63,7 +64,6 @@ pub mod Swaps
 pub mod ToldPairs
 pub mod Totals
 pub mod TreeLeaves
-pub mod TreeRows
 pub mod TreeSizes
 pub mod TreeSteps
 pub mod WellLaidOut

@@ -25,7 +25,7 @@ use Rattle.pm_part.specs.Puts.{OverwritesRow}
 use Rattle.pm_part.proofs.FreedRoom.{is_live}
 use Rattle.pm_part.proofs.DataSteps.{laid_place, laid_take, laid_kept}
 use Rattle.pm_part.proofs.OverwrittenRows.{rows_with, one_item}
-use Rattle.pm_part.proofs.TreeRows.{rows_alike}
+use Rattle.pm_part.proofs.KeptRows.{rows_alike}
 
 free_few : (rows : List (Option (List ℕ))) → free_item rows ≤ length rows
 free_few rows = prefix_len-le-length (λ (x : Option (List ℕ)). not (is_none x)) rows

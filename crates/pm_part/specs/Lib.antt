@@ -11,5 +11,7 @@ pub mod Puts
 pub mod Reads
 pub mod Removals
 pub mod RowBytes
+pub mod RowNames
 pub mod Runs
+pub mod SoundPuts
 pub mod Spots

@@ -14,6 +14,10 @@ ghost use Rattle.pm_part.specs.Changes.{ChangesPages};
 ghost use Rattle.pm_part.specs.NewMeta.{IsNewMeta, HasNewMeta};
 ghost use Rattle.pm_part.specs.RowBytes.{IsRowOf};
 ghost use Rattle.pm_part.specs.Runs.{IsPartitionOf};
+ghost use Rattle.pm_part.specs.SoundPuts.{MayTakeRow};
+ghost use Rattle.pm_part.specs.RowNames.{NamesRow};
+ghost use Rattle.pm_pages.specs.SoundPages.{NoBadPage};
+ghost use Rattle.pm_tree.specs.Indexes.{as_link};
 ghost use Rattle.pm_part.specs.Puts.{ReplacesKey, AddsKey, IsPartFor, PutsKey, LacksItem, MayAddRow};
 ghost use Rattle.pm_types.specs.declared.shape.Shape.{Shape};
 ghost use Rattle.pm_btpage.specs.IndexPages.{Item};
@@ -36,6 +40,8 @@ use pm_types::{PageFault, PageId};
 
 /// Sets the value of a key of a cache. `false` comes where the key is new and the partition has as
 /// many rows as it may have; nothing is changed then. A well-formed partition stays one.
+///
+/// Errors come as in `remove`: `BadPage` never comes of a well-formed partition.
 pub fn put<P: Pages>(
     pages: &mut P,
     max_rows: u32,
@@ -60,6 +66,7 @@ pub fn put<P: Pages>(
         → IsPartitionOf shape (P.seen pages.new)
         × PutsKey shape (P.seen pages.old).part (P.seen pages.old).pages (P.seen pages.new).pages
         cache key.now value.now done) }
+    ensures sound { P.tells → (shape : Shape) → IsPartitionOf shape (P.seen pages.old) → NoBadPage result }
 {
     let mut room = [0; ROW_MAX];
     let len = write_row(&mut room, cache, key, value);
@@ -91,6 +98,7 @@ fn put_row<P: Pages>(
         → IsPartitionOf shape (P.seen pages.new)
         × PutsKey shape (P.seen pages.old).part (P.seen pages.old).pages (P.seen pages.new).pages
         cache key.now value done) }
+    ensures sound { P.tells → (shape : Shape) → IsPartitionOf shape (P.seen pages.old) → NoBadPage result }
 {
     match find_entry(pages, cache, key)? {
         None => put_new(pages, max_rows, cache, key, row),
@@ -121,6 +129,9 @@ fn put_held<P: Pages>(
         → IsPartitionOf shape (P.seen pages.new)
         × PutsKey shape (P.seen pages.old).part (P.seen pages.old).pages (P.seen pages.new).pages
         cache key.now value done) }
+    ensures sound { P.tells → (shape : Shape) → IsPartitionOf shape (P.seen pages.old)
+        → NamesRow (P.seen pages.old).part (P.seen pages.old).pages (as_link entry.word) cache key.now
+        → NoBadPage result }
 {
     let spot = find_row(pages, entry, cache, key)?;
     replace_row(pages, cache, key, spot, row)?;
@@ -152,6 +163,7 @@ fn replace_row<P: Pages>(
         → IsPartitionOf shape (P.seen pages.new)
         × ReplacesKey (P.seen pages.old).part (P.seen pages.old).pages (P.seen pages.new).pages
         cache key.now value) }
+    ensures sound { P.tells → (shape : Shape) → IsPartitionOf shape (P.seen pages.old) → NoBadPage result }
 {
     let old = spot.link(pages.part());
     let link = overwrite(pages, spot, row)?;
@@ -188,6 +200,7 @@ fn put_new<P: Pages>(
         → IsPartitionOf shape (P.seen pages.new)
         × PutsKey shape (P.seen pages.old).part (P.seen pages.old).pages (P.seen pages.new).pages
         cache key.now value done) }
+    ensures sound { P.tells → (shape : Shape) → IsPartitionOf shape (P.seen pages.old) → NoBadPage result }
 {
     match find_number(pages, MetaSlot::Rows)? {
         None => put_first(pages, cache, key, row),
@@ -213,6 +226,8 @@ fn put_first<P: Pages>(pages: &mut P, cache: u8, key: &[u8], row: &[u8]) -> Resu
         → IsPartFor shape (P.seen pages.old) max_rows key.now
         → (value : List ℕ) → IsRowOf cache key.now value row.now
         → IsPartitionOf shape (P.seen pages.new)) }
+    ensures sound { P.tells → (shape : Shape) → IsPartitionOf shape (P.seen pages.old)
+        → (P.seen pages.old).pages 0 ≡ None → NoBadPage result }
 {
     make_meta(pages)?;
     add_row(pages, 0, cache, key, row)?;
@@ -249,6 +264,7 @@ fn put_next<P: Pages>(
         → IsPartitionOf shape (P.seen pages.new)
         × PutsKey shape (P.seen pages.old).part (P.seen pages.old).pages (P.seen pages.new).pages
         cache key.now value done) }
+    ensures sound { P.tells → (shape : Shape) → IsPartitionOf shape (P.seen pages.old) → NoBadPage result }
 {
     if rows >= max_rows {
         return Ok(false);
@@ -286,6 +302,7 @@ fn add_row<P: Pages>(
         → MayAddRow shape (P.seen pages.old) rows cache key.now
         → (value : List ℕ) → IsRowOf cache key.now value row.now
         → IsPartitionOf shape (P.seen pages.new)) }
+    ensures sound { P.tells → MayTakeRow (P.seen pages.old) cache → NoBadPage result }
 {
     let link = place(pages, row)?;
     tree_put(pages, cache, key, link)?;

@@ -1,3 +1,8 @@
+use Rattle.pm_pages.proofs.PassingLooks.{bad_passed}
+use Rattle.pm_pages.proofs.SoundPages.{sound_looked, no_bad_passed}
+use Rattle.pm_pages.proofs.ToldPages.{pages_told}
+use Rattle.pm_free.specs.Placed.{HasChains}
+use Rattle.pm_part.proofs.SoundPuts.{may_place_moved}
 use Rattle.pm_part.proofs.RowChanges.{rows_overwritten, rows_over, rows_moved, over_stored, keeps_looked, keeps_moved}
 use Rattle.pm_pages.proofs.StoredPages.{stored_looked}
 use Rattle.pm_part.specs.Puts.{OverwritesRow}
@@ -120,3 +125,42 @@ returns-in_ok-take_out-in-Moved-clause-passes g c =
     let d = g.P.Pages.seen c.take_out.new.pages in
     let e = g.P.Pages.seen c.place.new.pages in
     on_ok_weaker c.place.result (λ passes t. keeps_looked T a b e 0 1 t c.find_way.ensures.looks (keeps_moved T b d e 3 _ t c.in_ok-take_out-in-Moved.ensures.takes (c.in_ok-take_out-in-Moved.ensures.passes t) (passes t))) c.place.ensures.passes
+
+pub returns-in_err-find_way-clause-sound : goal.returns-in_err-find_way-clause-sound
+returns-in_err-find_way-clause-sound g c = λ may right id h.
+    let p = err_from_is_err_and c.from_residual.result c.from_residual.ensures.1 in
+    c.find_way.ensures.cause.not_bad id (bad_passed c.find_way.result c.from_residual.result c.in_err-find_way.field-0.0 p.0 c.in_err-find_way.was p.1 p.2 id h)
+
+pub returns-in_err-write_over-in-InPlace-clause-sound : goal.returns-in_err-write_over-in-InPlace-clause-sound
+returns-in_err-write_over-in-InPlace-clause-sound g c = λ may right id h.
+    let p = err_from_is_err_and c.from_residual-in_err-write_over-in-InPlace.result c.from_residual-in_err-write_over-in-InPlace.ensures.1 in
+    c.write_over.ensures.cause.not_bad id (bad_passed c.write_over.result c.from_residual-in_err-write_over-in-InPlace.result c.in_err-write_over-in-InPlace.field-0.0 p.0 c.in_err-write_over-in-InPlace.was p.1 p.2 id h)
+
+pub returns-in_ok-write_over-in-InPlace-clause-sound : goal.returns-in_ok-write_over-in-InPlace-clause-sound
+returns-in_ok-write_over-in-InPlace-clause-sound g c = λ may right id h. absurd (cc h)
+
+pub returns-in-SamePage-clause-sound : goal.returns-in-SamePage-clause-sound
+returns-in-SamePage-clause-sound g c = λ may right.
+    let T = g.P.Pages.tells in
+    let a = g.P.Pages.seen c.args.pages.now in
+    let b = g.P.Pages.seen c.find_way.new.pages in
+    let looks = c.find_way.ensures.looks in
+    c.swap.ensures.sound may.told (sound_looked T a b 0 may.told looks may.take.sound) (subst HasChains (sym (pages_told T a b 0 may.told looks)) right)
+
+pub returns-in_err-take_out-in-Moved-clause-sound : goal.returns-in_err-take_out-in-Moved-clause-sound
+returns-in_err-take_out-in-Moved-clause-sound g c = λ may right.
+    let T = g.P.Pages.tells in
+    let a = g.P.Pages.seen c.args.pages.now in
+    let b = g.P.Pages.seen c.find_way.new.pages in
+    let looks = c.find_way.ensures.looks in
+    let p = err_from_is_err_and c.from_residual-in_err-take_out-in-Moved.result c.from_residual-in_err-take_out-in-Moved.ensures.1 in
+    no_bad_passed c.take_out.result c.from_residual-in_err-take_out-in-Moved.result c.in_err-take_out-in-Moved.field-0.0 p.0 c.in_err-take_out-in-Moved.was p.1 p.2
+    (c.take_out.ensures.sound may.told (sound_looked T a b 0 may.told looks may.take.sound) (subst HasChains (sym (pages_told T a b 0 may.told looks)) right))
+
+pub returns-in_ok-take_out-in-Moved-clause-sound : goal.returns-in_ok-take_out-in-Moved-clause-sound
+returns-in_ok-take_out-in-Moved-clause-sound g c = λ may right.
+    let T = g.P.Pages.tells in
+    let a = g.P.Pages.seen c.args.pages.now in
+    let b = g.P.Pages.seen c.find_way.new.pages in
+    let d = g.P.Pages.seen c.take_out.new.pages in
+    c.place.ensures.sound (may_place_moved T a b d b.part c.link-link.result (length c.args.row.now) 3 may right c.find_way.ensures.looks c.in_ok-take_out-in-Moved.ensures.takes)

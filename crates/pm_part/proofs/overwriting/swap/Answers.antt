@@ -1,3 +1,8 @@
+use Rattle.pm_pages.proofs.PassingLooks.{bad_passed}
+use Rattle.pm_pages.proofs.SoundPages.{no_bad_passed}
+use Rattle.pm_free.specs.Chained.{homes_in}
+use Rattle.pm_free.proofs.PlacedPages.{item_facts}
+use Rattle.pm_part.proofs.SoundPuts.{chains_swapped}
 use Rattle.pm_part.proofs.RowChanges.{rows_overwritten, rows_swapped}
 use Rattle.pm_free.specs.Placed.{ChangesRows}
 use Rattle.pm_free.proofs.StoredRows.{swapped_stored}
@@ -113,3 +118,39 @@ returns-clause-passes g c = λ t stored.
     let put = edits_page T d e at c.args.row.now Insert _ out.meta (out.stay at item.is) c.make_edit-2.ensures.edits c.in_ok-item.ensures.edited in
     let settles = c.in_ok-settle.ensures.settles in
     swapped_stored b d e f at _ c.args.spot.item c.args.row.now meta (out.told t) (put.told t) (same_then b e f (same_then b d e out.edits.same put.edits.same) settles.edits.same) (settles.told t) (stored_looked T a b 0 t looks stored)
+
+pub returns-in_err-seat-clause-sound : goal.returns-in_err-seat-clause-sound
+returns-in_err-seat-clause-sound g c = λ t sound right id h.
+    let p = err_from_is_err_and c.from_residual.result c.from_residual.ensures.1 in
+    c.seat_at.ensures.cause.not_bad id (bad_passed c.seat_at.result c.from_residual.result c.in_err-seat.field-0.0 p.0 c.in_err-seat.was p.1 p.2 id h)
+
+pub returns-in_err-make_edit-clause-sound : goal.returns-in_err-make_edit-clause-sound
+returns-in_err-make_edit-clause-sound g c = λ t sound right id h.
+    let p = err_from_is_err_and c.from_residual-in_err-make_edit.result c.from_residual-in_err-make_edit.ensures.1 in
+    c.make_edit.ensures.cause.not_bad id (bad_passed c.make_edit.result c.from_residual-in_err-make_edit.result c.in_err-make_edit.field-0.0 p.0 c.in_err-make_edit.was p.1 p.2 id h)
+
+pub returns-in_err-item-clause-sound : goal.returns-in_err-item-clause-sound
+returns-in_err-item-clause-sound g c = λ t sound right id h.
+    let p = err_from_is_err_and c.from_residual-in_err-item.result c.from_residual-in_err-item.ensures.1 in
+    c.make_edit-2.ensures.cause.not_bad id (bad_passed c.make_edit-2.result c.from_residual-in_err-item.result c.in_err-item.field-0.0 p.0 c.in_err-item.was p.1 p.2 id h)
+
+pub returns-in_err-settle-clause-sound : goal.returns-in_err-settle-clause-sound
+returns-in_err-settle-clause-sound g c = λ t sound right.
+    let T = g.P.Pages.tells in
+    let a = g.P.Pages.seen c.args.pages.now in
+    let b = g.P.Pages.seen c.seat_at.new.pages in
+    let d = g.P.Pages.seen c.make_edit.new.pages in
+    let e = g.P.Pages.seen c.make_edit-2.new.pages in
+    let at = c.args.spot.at in
+    let row = c.args.row.now in
+    let looks = c.seat_at.ensures.looks in
+    let p = err_from_is_err_and c.from_residual-in_err-settle.result c.from_residual-in_err-settle.ensures.1 in
+    let facts = item_facts T a b 0 at c.args.spot.item c.in_ok-seat.seat t c.requires.meta c.requires.item looks c.in_ok-seat.ensures.seat in
+    let item = item_looked T a b 0 at c.args.spot.item c.requires.meta c.requires.item looks in
+    let out = edits_page T b d at [] (Remove c.args.spot.item) _ (meta_looked T a b 0 looks c.requires.meta) item.is c.make_edit.ensures.edits c.in_ok-make_edit.ensures.edited in
+    let put = edits_page T d e at row Insert _ out.meta (out.stay at item.is) c.make_edit-2.ensures.edits c.in_ok-item.ensures.edited in
+    no_bad_passed c.settle.result c.from_residual-in_err-settle.result c.in_err-settle.field-0.0 p.0 c.in_err-settle.was p.1 p.2
+    (c.settle.ensures.sound (homes_in a.pages) (chains_swapped T a b d e at c.args.spot.item row t sound right looks (out.told t) (put.told t) (out.sound t) (put.sound t)) facts.home)
+
+pub returns-clause-sound : goal.returns-clause-sound
+returns-clause-sound g c = λ t sound right id h. absurd (cc h)

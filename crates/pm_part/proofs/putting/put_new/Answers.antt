@@ -1,3 +1,6 @@
+use Rattle.pm_pages.proofs.PassingLooks.{bad_passed, meta_not_bad}
+use Rattle.pm_part.proofs.DroppedRows.{partition_looked}
+use Rattle.pm_part.proofs.SoundGets.{passes_all}
 use Rattle.pm_pages.specs.Rows.{Partition}
 use Rattle.std.proofs.Common.{ℕ}
 use Rattle.pm_part.proofs.ReplacedKeys.{rows_none, new_put, puts_looked, for_looked, lacks_looked}
@@ -94,3 +97,26 @@ returns-in-None-clause-puts g c =
       subst (PutsKey shape a.part a.pages d.pages c.args.cache c.args.key.now value) (sym adds.0)
           (new_put shape a d.pages c.args.max_rows c.args.cache 1 c.args.key.now value c.args.row.now c.requires.cache for none row_is (omega (arith, none_is, for.some)) adds_a),
     )) (if_ok_both c.put_first.result _ _ c.put_first.ensures.adds c.put_first.ensures.stays)
+
+pub returns-in_err-find_number-clause-sound : goal.returns-in_err-find_number-clause-sound
+returns-in_err-find_number-clause-sound g c = λ t shape is id h.
+    let T = g.P.Pages.tells in
+    let a = g.P.Pages.seen c.args.pages.now in
+    let p = err_from_is_err_and c.from_residual.result c.from_residual.ensures.1 in
+    meta_not_bad T a id t (passes_all shape a is) (c.find_number.ensures.cause.bad id (bad_passed c.find_number.result c.from_residual.result c.in_err-find_number.field-0.0 p.0 c.in_err-find_number.was p.1 p.2 id h))
+
+pub returns-in-None-clause-sound : goal.returns-in-None-clause-sound
+returns-in-None-clause-sound g c = λ t shape is.
+    let T = g.P.Pages.tells in
+    let a = g.P.Pages.seen c.args.pages.now in
+    let b = g.P.Pages.seen c.find_number.new.pages in
+    let looks = c.find_number.ensures.looks in
+    let absent = (subst (λ o. IfNone o (IsFirstAbsent T a 0)) {y = None} c.in-None.is c.in_ok-find_number.ensures.none).absent (inl t) in
+    c.put_first.ensures.sound t shape (partition_looked T a b 1 shape t looks is) (ap (λ q. q 0) (pages_told T a b 1 t looks) ∙ absent)
+
+pub returns-in-Some-clause-sound : goal.returns-in-Some-clause-sound
+returns-in-Some-clause-sound g c = λ t shape is.
+    let T = g.P.Pages.tells in
+    let a = g.P.Pages.seen c.args.pages.now in
+    let b = g.P.Pages.seen c.find_number.new.pages in
+    c.put_next.ensures.sound t shape (partition_looked T a b 1 shape t c.find_number.ensures.looks is)

@@ -1,3 +1,8 @@
+use Rattle.std.proofs.lemmas.Result.{err_from_is_err_and}
+use Rattle.pm_pages.proofs.SoundPages.{no_bad_passed}
+use Rattle.pm_part.proofs.CacheIndexes.{index_of}
+use Rattle.pm_part.proofs.KeptIndexes.{index_overwritten}
+use Rattle.pm_part.proofs.SoundPuts.{may_take_row, may_take_page, link_there, overwritten_passes}
 use Rattle.pm_part.proofs.ReplacedKeys.{replaced_key, rows_relinked}
 use Rattle.pm_part.proofs.ReplacementSteps.{replacement_kept, replacement_moved}
 use Rattle.pm_types.specs.Ids.{page_id, link}
@@ -67,3 +72,24 @@ returns-clause-replaces g c =
       replaced_key shape a b.pages d.pages c.args.spot c.args.cache c.args.key.now value c.args.row.now c.in_ok-link.link is c.requires.meta c.requires.has row_is (rows.told t) same,
     ))
     (both_ok c.relink.result _ _ c.relink.ensures.changes c.relink.ensures.links)
+
+pub returns-in_err-link-clause-sound : goal.returns-in_err-link-clause-sound
+returns-in_err-link-clause-sound g c = λ t shape is.
+    let T = g.P.Pages.tells in
+    let a = g.P.Pages.seen c.args.pages.now in
+    let p = err_from_is_err_and c.from_residual.result c.from_residual.ensures.1 in
+    no_bad_passed c.overwrite.result c.from_residual.result c.in_err-link.field-0.0 p.0 c.in_err-link.was p.1 p.2
+    (c.overwrite.ensures.sound (may_take_page T a c.args.cache t c.requires.meta (may_take_row shape a c.args.cache c.requires.cache is c.requires.meta)) is.well_formed.chains)
+
+pub returns-then-eq-clause-sound : goal.returns-then-eq-clause-sound
+returns-then-eq-clause-sound g c = λ t shape is id h. absurd (cc h)
+
+pub returns-clause-sound : goal.returns-clause-sound
+returns-clause-sound g c = λ t shape is.
+    let a = g.P.Pages.seen c.args.pages.now in
+    let b = g.P.Pages.seen c.overwrite.new.pages in
+    let ix = index_of shape a c.args.cache is.page_size is.max_rows is.well_formed c.requires.cache in
+    let held = link_there a c.args.spot c.args.cache c.args.key.now c.requires.meta c.requires.has ix in
+    let rows = c.in_ok-link.ensures.rows.told t in
+    c.relink.ensures.sound t (overwritten_passes shape a b c.args.cache c.requires.cache is c.requires.meta (c.in_ok-link.ensures.passes t)) ix.height ix.nodes ix.items
+    (index_overwritten a b.pages c.args.cache ix.height ix.nodes ix.items c.requires.readable c.requires.meta c.requires.cache ix.index a.part c.args.spot c.args.row.now c.in_ok-link.link rows) held.0 held.1
