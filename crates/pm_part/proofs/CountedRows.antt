@@ -1,5 +1,5 @@
 -- All pages of a partition pass their checks still, once its row count was set.
-use Rattle.std.proofs.Common.{◌≡◌, ◌≢◌, ℕ, ◌<◌, ◌≤◌, ◌⊎◌, sym, ◌∙◌, inl, inr, arith}
+use Rattle.std.proofs.Common.{◌≡◌, ℕ, ◌≤◌, sym, ◌∙◌, inl, arith}
 use Rattle.std.proofs.lemmas.Bool.{cases_eq}
 use Rattle.pm_meta.specs.declared.slots.MetaSlot.TheVariants.{Rows, Pages}
 use Rattle.pm_pages.specs.Rows.{page_count}
@@ -7,7 +7,6 @@ use Rattle.pm_pages.specs.Paged.{Paged}
 use Rattle.pm_pages.specs.Edits.{EditsPages}
 use Rattle.pm_pages.specs.SparePages.{SetsNumber, MetaBecomes}
 use Rattle.pm_pages.specs.SoundPages.{PassesAll}
-use Rattle.pm_pages.specs.StoredPages.{IsStoredPage}
 use Rattle.pm_pages.proofs.PassingPages.{meta_sets, all_kept}
 use Rattle.pm_pages.proofs.PassingLooks.{page_there, page_passes}
 use Rattle.pm_pages.proofs.SpareSteps.{number_by}

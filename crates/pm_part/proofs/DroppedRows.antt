@@ -1,8 +1,8 @@
 -- A row that is taken out of a partition, with its item and its count.
-use Rattle.std.proofs.Common.{◌≡◌, ◌≢◌, ℕ, ◌-◌, ◌<◌, ◌≤◌, List, [], ◌∷◌, refl, sym, ap, subst, ◌∙◌, inl, inr, arith}
-use Rattle.std.specs.Prelude.{◌^◌, Option, Some, IsSome, IfSome, AllPairs}
+use Rattle.std.proofs.Common.{◌≡◌, ◌≢◌, ℕ, ◌-◌, ◌<◌, ◌≤◌, List, sym, ap, subst, ◌∙◌, inl, inr, arith}
+use Rattle.std.specs.Prelude.{◌^◌, Option, Some, IfSome}
 use Rattle.std.specs.FinMap as map
-use Rattle.std.proofs.lemmas.Bool.{cases_eq, cases_lt, le-ltb}
+use Rattle.std.proofs.lemmas.Bool.{cases_lt}
 use Rattle.pm_types.specs.declared.limits.TheConstants.{CACHES}
 use Rattle.pm_types.specs.declared.shape.Shape.{Shape}
 use Rattle.pm_types.specs.declared.page_id.Link.{Link}
@@ -14,7 +14,7 @@ use Rattle.pm_data.specs.DataPages.{row_at}
 use Rattle.pm_meta.specs.declared.slots.MetaSlot.{MetaSlot}
 use Rattle.pm_meta.specs.declared.slots.MetaSlot.TheVariants.{Root, Pages, Rows}
 use Rattle.pm_meta.specs.MetaPages.{IsSlot, IsMetaPage}
-use Rattle.pm_model.specs.Eval.{Pairs, cache_key}
+use Rattle.pm_model.specs.Eval.{cache_key}
 use Rattle.pm_pages.specs.declared.row.Row.{Row}
 use Rattle.pm_pages.specs.Rows.{Partition, page_at, page_count, bytes_of, number_of, number_in, kind_of, rows_of, row_of}
 use Rattle.pm_pages.specs.RowMaps.{map_of}
@@ -22,13 +22,11 @@ use Rattle.pm_pages.specs.Trees.{root_of}
 use Rattle.pm_pages.specs.Paged.{Paged, AllReadable}
 use Rattle.pm_pages.specs.Edits.{LooksAtPages, EditsPages, HasMeta, IsNumberIn}
 use Rattle.pm_pages.specs.SparePages.{SetsNumber, MetaBecomes}
-use Rattle.pm_pages.specs.WellFormed.{IsWellFormed, AreDifferent}
+use Rattle.pm_pages.specs.WellFormed.{IsWellFormed}
 use Rattle.pm_pages.proofs.EditedPages.{some_bytes}
 use Rattle.pm_pages.proofs.PageReads.{page_at-below}
-use Rattle.pm_pages.proofs.PassingPages.{count_within}
 use Rattle.pm_pages.proofs.StoredPages.{meta_there, count_small}
 use Rattle.pm_pages.proofs.ToldPages.{number_told, pages_told}
-use Rattle.pm_pages.specs.SoundPages.{PassesAll}
 use Rattle.pm_tree.specs.Indexes.{IsIndex}
 use Rattle.pm_tree.proofs.Told.{below_count}
 use Rattle.pm_tree_del.specs.Roots.{RemovesIndex}
@@ -36,10 +34,9 @@ use Rattle.pm_free.specs.Placed.{HasOneMore, TakesRow}
 use Rattle.pm_part.specs.declared.spots.Spot.{Spot}
 use Rattle.pm_part.specs.Spots.{HasRowIn}
 use Rattle.pm_part.specs.Runs.{IsPartitionOf}
-use Rattle.pm_part.specs.Removals.{LosesItem, DropsKey}
+use Rattle.pm_part.specs.Removals.{DropsKey}
 use Rattle.pm_part.proofs.MappedRows.{map_taken}
 use Rattle.pm_part.proofs.NamedRows.{one_named}
-use Rattle.pm_pages.specs.Rows.{rows_on}
 use Rattle.pm_part.proofs.TreeSteps.{past_none}
 use Rattle.pm_part.proofs.KeptRows.{rows_kept}
 use Rattle.pm_part.proofs.KeyRemovals.{removal_keeps}

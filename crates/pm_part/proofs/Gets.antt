@@ -1,7 +1,6 @@
 -- The replies to gets.
-use Rattle.std.proofs.Common.{◌≡◌, ℕ, List, [], ◌∷◌, Some, None, sym, ap, subst, ◌∙◌}
+use Rattle.std.proofs.Common.{◌≡◌, ℕ, List, [], ◌∷◌, None, sym, ap, subst, ◌∙◌}
 use Rattle.std.specs.FinMap as finmap
-use Rattle.pm_types.specs.declared.limits.TheConstants.{CACHES}
 use Rattle.pm_types.specs.declared.shape.Shape.{Shape}
 use Rattle.pm_data.specs.Rows.{row_value}
 use Rattle.pm_model.specs.declared.reply.Reply.{Reply}
@@ -22,7 +21,7 @@ use Rattle.pm_part.specs.Runs.{IsPartitionOf, RunsCmd}
 use Rattle.pm_part.proofs.KeyedRows.{HasValue, get_there, get_absent}
 use Rattle.pm_part.proofs.Quantified.{Holds}
 use Rattle.pm_part.proofs.ReadRows.{row_is_there}
-use Rattle.pm_part.proofs.CacheIndexes.{HasIndex, index_of, no_row}
+use Rattle.pm_part.proofs.CacheIndexes.{HasIndex, no_row}
 
 -- looks answer a get, and change nothing
 got : (T : Type 0) (a d : Paged) (m : ℕ) (shape : Shape) (cache : ℕ) (key : List ℕ) (reply : Reply) (was now : ReplyList) → T → LooksAtPages T a d m → IsPartitionOf shape a → reply ≡ found (finmap.get (map_of (rows_of a.part a.pages)) (cache_key cache key)) → now ≡ with_replies (reply ∷ []) was → RunsCmd shape a.part (Get cache key) a.pages d.pages was now

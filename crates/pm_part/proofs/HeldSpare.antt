@@ -1,5 +1,5 @@
 -- The pages of a well-formed partition that can be taken.
-use Rattle.std.proofs.Common.{◌≡◌, ℕ, ◌≤◌, ◌<◌, List, ◌++◌, arith}
+use Rattle.std.proofs.Common.{ℕ, ◌≤◌, ◌<◌, ◌++◌, arith}
 use Rattle.std.specs.List.{flat_map, range_with_len}
 use Rattle.pm_types.specs.declared.limits.TheConstants.{CACHES}
 use Rattle.pm_types.specs.declared.shape.Shape.{Shape}

@@ -1,6 +1,6 @@
 -- The indexes of all caches together have no more items than there are rows.
-use Rattle.std.proofs.Common.{◌≡◌, ◌≢◌, ℕ, zero, suc, ◌+◌, ◌<◌, ◌≤◌, List, [], ◌∷◌, length, refl, sym, ap, subst, ◌∙◌, inl, inr, arith}
-use Rattle.std.specs.Prelude.{AllPairs, All, Any}
+use Rattle.std.proofs.Common.{◌≡◌, ℕ, ◌+◌, ◌<◌, ◌≤◌, List, [], ◌∷◌, length, refl, sym, ap, inl, inr, arith}
+use Rattle.std.specs.Prelude.{AllPairs, Any}
 use Rattle.std.specs.declared.cmp.Ordering.{Ordering}
 use Rattle.std.specs.declared.cmp.Ordering.TheVariants.{Less, Equal, Greater}
 use Rattle.std.specs.Ordering.{nat_cmp}
@@ -14,7 +14,7 @@ use Rattle.pm_pages.specs.WellFormed.{AreDifferent}
 use Rattle.pm_tree.specs.Maps.{by_order}
 use Rattle.pm_tree_del.specs.Maps.{remove_in}
 use Rattle.pm_free.specs.Placed.{HasOneMore}
-use Rattle.pm_part.proofs.Quantified.{Holds, Each, each_of, holds_of}
+use Rattle.pm_part.proofs.Quantified.{Each, each_of, holds_of}
 use Rattle.pm_part.proofs.RowKeys.{once_less}
 use Rattle.pm_part.proofs.ListedRows.{lists_taken, lists_other_taken}
 use Rattle.pm_part.proofs.TreeSteps.{set_at, set_here, set_other, lists_set}

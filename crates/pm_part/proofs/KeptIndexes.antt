@@ -5,7 +5,6 @@ use Rattle.pm_types.specs.declared.limits.TheConstants.{CACHES}
 use Rattle.pm_types.specs.declared.page_id.Link.{Link}
 use Rattle.pm_btpage.specs.IndexPages.{Item}
 use Rattle.pm_data.specs.declared.layout.TheConstants.{DATA_KIND}
-use Rattle.pm_meta.specs.declared.layout.TheConstants.{REUSE_KIND}
 use Rattle.pm_meta.specs.declared.slots.MetaSlot.TheVariants.{Root}
 use Rattle.pm_pages.specs.Rows.{Partition, page_at, page_count, kind_of}
 use Rattle.pm_pages.specs.Chains.{times}

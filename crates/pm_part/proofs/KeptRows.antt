@@ -1,11 +1,9 @@
 -- The rows of a partition whose data pages are as they were.
-use Rattle.std.proofs.Common.{◌≡◌, ◌≢◌, ℕ, zero, suc, ◌+◌, ◌-◌, ◌<◌, ◌≤◌, ◌++◌, List, [], refl, sym, ap, subst, ◌∙◌, inl, inr, arith}
+use Rattle.std.proofs.Common.{◌≡◌, ℕ, zero, suc, ◌+◌, ◌-◌, ◌≤◌, ◌++◌, List, [], refl, sym, ap, ◌∙◌, inl, inr, arith}
 use Rattle.std.specs.List.{flat_map, range_with_len}
-use Rattle.std.proofs.lemmas.Bool.{cases_lt, le-ltb}
 use Rattle.pm_types.specs.Ids.{page_id}
-use Rattle.pm_data.specs.declared.layout.TheConstants.{DATA_KIND}
 use Rattle.pm_pages.specs.declared.row.Row.{Row}
-use Rattle.pm_pages.specs.Rows.{Partition, page_at, page_count, kind_of, rows_on, rows_of}
+use Rattle.pm_pages.specs.Rows.{Partition, page_at, page_count, rows_on, rows_of}
 use Rattle.pm_free.proofs.RowLists.{rows_end}
 use Rattle.pm_free.proofs.Views.{meta_rows}
 use Rattle.pm_part.proofs.TreeSteps.{KeepsData, past_none}

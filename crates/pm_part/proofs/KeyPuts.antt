@@ -20,7 +20,7 @@ use Rattle.pm_tree.specs.Puts.{IsSpare}
 use Rattle.pm_part.specs.LaidOut.{joined, IsLaidOut}
 use Rattle.pm_part.proofs.JoinedLists.{times_set, one_in}
 use Rattle.pm_part.proofs.SameIndexes.{index_stays, index_kind, page_stays}
-use Rattle.pm_part.proofs.Layouts.{data_one, in_index, added_old, added_new, each_after}
+use Rattle.pm_part.proofs.Layouts.{in_index, added_old, added_new, each_after}
 use Rattle.pm_part.proofs.TreeSteps.{KeepsData, NoDataFirst, data_kept, chains_stay, set_at, set_here, set_other, two_in, index_set, past_none, no_data}
 
 -- the data pages are as they were, and there are no others

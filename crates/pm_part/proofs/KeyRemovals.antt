@@ -11,8 +11,6 @@ use Rattle.pm_pages.specs.Chains.{times}
 use Rattle.pm_pages.specs.Trees.{root_of}
 use Rattle.pm_pages.proofs.SpareSteps.{same_at}
 use Rattle.pm_tree.specs.Indexes.{IsIndex}
-use Rattle.pm_tree.specs.Nodes.{nodes_in}
-use Rattle.pm_tree.specs.Puts.{IsSpare}
 use Rattle.pm_tree_del.specs.Maps.{remove_in}
 use Rattle.pm_tree_del.specs.Roots.{RemovesIndex}
 use Rattle.pm_part.specs.LaidOut.{joined, IsLaidOut}

@@ -1,8 +1,8 @@
 -- The levels that are counted from a tree's root are those of the tree.
-use Rattle.std.proofs.Common.{◌≡◌, ℕ, zero, suc, ◌+◌, ◌-◌, ◌<◌, ◌≤◌, ap, ◌∙◌, inl, inr, arith}
-use Rattle.pm_btpage.specs.IndexPages.{capacity_of, items_of}
+use Rattle.std.proofs.Common.{◌≡◌, ℕ, zero, suc, ◌+◌, ◌-◌, ◌≤◌, ap, ◌∙◌, inr, arith}
+use Rattle.pm_btpage.specs.IndexPages.{capacity_of}
 use Rattle.std.specs.Prelude.{length, ◌/◌}
-use Rattle.pm_pages.specs.Rows.{Partition, page_at, kind_of}
+use Rattle.pm_pages.specs.Rows.{Partition, page_at}
 use Rattle.pm_pages.specs.Trees.{IsTree, levels_from, child_of}
 use Rattle.pm_pages.proofs.BelowTrees.{child_tree, levels-none, levels-inner}
 

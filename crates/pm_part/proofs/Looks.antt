@@ -1,5 +1,5 @@
 -- Where a key stands in a page of a tree, as what the page says of the key.
-use Rattle.std.proofs.Common.{◌≡◌, ℕ, List, Some, None, sym, ap, ◌∙◌, inl, inr}
+use Rattle.std.proofs.Common.{ℕ, List, Some, None, sym, ap, ◌∙◌, inl, inr}
 use Rattle.pm_btpage.specs.IndexPages.{items_of}
 use Rattle.pm_pages.specs.Paged.{Paged}
 use Rattle.pm_tree.specs.declared.places.Place.{Place}

@@ -1,10 +1,10 @@
 -- A meta page that was made.
-use Rattle.std.proofs.Common.{◌≡◌, ◌≢◌, ℕ, List, sym, subst, ◌∙◌, inl, inr, arith}
-use Rattle.std.specs.Prelude.{IfSome, IsTrue, Some}
+use Rattle.std.proofs.Common.{◌≢◌, ℕ, List, sym, subst, ◌∙◌, inl, inr}
+use Rattle.std.specs.Prelude.{IfSome, IsTrue}
 use Rattle.std.proofs.lemmas.Bool.{cases_eq, eq-eqb, ne_eqb}
 use Rattle.pm_meta.specs.MetaPages.{IsMetaPage}
 use Rattle.pm_pages.specs.PageLists.{ReadsAt}
-use Rattle.pm_pages.specs.Paged.{Paged, AllReadable, WritesPage, with_page}
+use Rattle.pm_pages.specs.Paged.{Paged, AllReadable, WritesPage}
 
 -- every page reads as what it says once the first one is a meta page
 pub readable_meta : (a b : Paged) (page : List ℕ) → ((j : ℕ) → j ≢ 0 → IsTrue (a.known j) → IfSome (a.pages j) (ReadsAt j)) → WritesPage a b 0 page → IsMetaPage page → AllReadable b

@@ -1,6 +1,6 @@
 -- Why a call on a partition failed, after other calls.
-use Rattle.std.proofs.Common.{◌≡◌, ℕ, ◌+◌, ◌≤◌, ◌⊎◌, sym, subst, ◌∙◌, inl, inr, arith}
-use Rattle.std.specs.Prelude.{Result, Err, IsErrOf, IsTrue}
+use Rattle.std.proofs.Common.{◌≡◌, ℕ, ◌+◌, ◌⊎◌, sym, subst, ◌∙◌, inl, inr, arith}
+use Rattle.std.specs.Prelude.{Result, Err, IsTrue}
 use Rattle.pm_types.specs.declared.page_id.PageId.{PageId}
 use Rattle.pm_types.specs.declared.fault.PageFault.{PageFault}
 use Rattle.pm_types.specs.declared.fault.PageFault.TheVariants.{BadPage}

@@ -1,5 +1,5 @@
 -- Rows that stand on data pages are rows of the partition.
-use Rattle.std.proofs.Common.{◌≡◌, ◌≢◌, ℕ, zero, suc, ◌+◌, ◌<◌, ◌≤◌, List, [], ◌∷◌, ◌++◌, Option, None, Some, refl, sym, ap, subst, ◌∙◌, inl, inr, arith}
+use Rattle.std.proofs.Common.{◌≡◌, ℕ, zero, suc, ◌+◌, ◌<◌, ◌≤◌, List, [], ◌∷◌, ◌++◌, Option, None, Some, refl, sym, ap, subst, ◌∙◌, inl, inr, arith}
 use Rattle.std.specs.List.{flat_map, range_with_len}
 use Rattle.std.proofs.lemmas.Bool.{cases_eq, cases_lt}
 use Rattle.pm_types.specs.declared.page_id.PageId.{PageId}
@@ -7,7 +7,6 @@ use Rattle.pm_types.specs.Ids.{page_id, link}
 use Rattle.pm_data.specs.Rows.{row_value}
 use Rattle.pm_data.specs.DataPages as data_page
 use Rattle.pm_data.specs.DataPages.{row_at}
-use Rattle.pm_pages.specs.declared.row.Row.{Row}
 use Rattle.pm_pages.specs.Rows.{Partition, bytes_of, page_at, page_count, rows_from, rows_on, rows_of, row_of}
 use Rattle.pm_pages.proofs.RowsFrom.{rows_on-data}
 use Rattle.pm_pages.proofs.PageReads.{page_at-below}

@@ -1,7 +1,6 @@
 -- Words that were set at keys of an index.
-use Rattle.std.proofs.Common.{◌≡◌, ◌≢◌, ℕ, ◌+◌, ◌<◌, List, [], sym, subst, ap, ◌∙◌, inr}
-use Rattle.std.specs.Prelude.{Some, Option}
-use Rattle.std.specs.Option.{option_map}
+use Rattle.std.proofs.Common.{◌≡◌, ◌≢◌, ℕ, ◌<◌, List, [], sym, subst, ◌∙◌, inr}
+use Rattle.std.specs.Prelude.{Some}
 use Rattle.pm_types.specs.declared.limits.TheConstants.{CACHES}
 use Rattle.pm_types.specs.declared.page_id.Link.{Link}
 use Rattle.pm_btpage.specs.IndexPages.{Item}
@@ -14,7 +13,7 @@ use Rattle.pm_tree.specs.Puts.{PutsFor, half_of}
 use Rattle.pm_tree.specs.Divisions.{PutsPages}
 use Rattle.pm_tree.specs.Maps.{get_in}
 use Rattle.pm_tree.specs.SoundPuts.{FindsKey}
-use Rattle.pm_tree.specs.Indexes.{AnswersFrom, IsIndex, as_link, link_in}
+use Rattle.pm_tree.specs.Indexes.{AnswersFrom, IsIndex, link_in}
 use Rattle.pm_tree.specs.Roots.{PutsIndex}
 use Rattle.pm_pages.specs.SoundPages.{PassesAll}
 use Rattle.pm_pages.proofs.ToldPages.{number_told, pages_told}

@@ -1,5 +1,5 @@
 -- A removal from a well-formed partition leaves one.
-use Rattle.std.proofs.Common.{◌≡◌, ◌≢◌, ℕ, ◌-◌, ◌<◌, ◌≤◌, List, refl, sym, ap, subst, ◌∙◌, inl, inr, arith}
+use Rattle.std.proofs.Common.{◌≡◌, ℕ, ◌-◌, ◌<◌, ◌≤◌, List, sym, ap, subst, ◌∙◌, arith}
 use Rattle.std.specs.Prelude.{Option, Some}
 use Rattle.pm_types.specs.declared.limits.TheConstants.{CACHES, ROWS_MAX}
 use Rattle.pm_types.specs.declared.shape.Shape.{Shape}

@@ -1,7 +1,6 @@
 -- The answers of removals.
-use Rattle.std.proofs.Common.{◌≡◌, ℕ, List, None, Some, Option, Bool, true, false, refl, sym, ap, subst, ◌∙◌}
+use Rattle.std.proofs.Common.{◌≡◌, ℕ, List, None, Bool, true, false, sym, ap, subst, ◌∙◌}
 use Rattle.std.specs.Option.{is_some}
-use Rattle.std.specs.FinMap as finmap
 use Rattle.pm_types.specs.declared.shape.Shape.{Shape}
 use Rattle.pm_data.specs.Rows.{row_value}
 use Rattle.pm_model.specs.Eval.{cache_key}

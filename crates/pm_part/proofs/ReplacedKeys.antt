@@ -1,12 +1,12 @@
 -- A key whose row was replaced, or added.
-use Rattle.std.proofs.Common.{◌≡◌, ◌≢◌, ℕ, ◌+◌, ◌<◌, ◌≤◌, List, [], ◌∷◌, Bool, true, false, not, length, refl, sym, ap, subst, ◌∙◌, inl, inr, arith}
+use Rattle.std.proofs.Common.{◌≡◌, ℕ, ◌+◌, ◌<◌, ◌≤◌, List, [], Bool, true, false, not, length, refl, sym, ap, subst, ◌∙◌, inl, inr, arith}
 use Rattle.std.specs.Prelude.{Option, None, Some, nat_le, if◌then◌else◌}
 use Rattle.std.specs.FinMap as map
 use Rattle.std.proofs.lemmas.Bool.{cases_eq, le-leb, lt-leb}
 use Rattle.pm_types.specs.declared.limits.TheConstants.{CACHES}
 use Rattle.pm_types.specs.declared.shape.Shape.{Shape}
 use Rattle.pm_types.specs.declared.page_id.Link.{Link}
-use Rattle.pm_types.specs.Ids.{page_id, link}
+use Rattle.pm_types.specs.Ids.{page_id}
 use Rattle.pm_btpage.specs.IndexPages.{Item}
 use Rattle.pm_data.specs.DataPages as data_page
 use Rattle.pm_data.specs.DataPages.{row_at}
@@ -15,7 +15,6 @@ use Rattle.pm_meta.specs.declared.slots.MetaSlot.TheVariants.{Root, Reuse, Pages
 use Rattle.pm_model.specs.declared.line.Cmd.TheVariants.{Put}
 use Rattle.pm_model.specs.declared.line.Line.TheVariants.{Good}
 use Rattle.pm_model.specs.Eval.{Pairs, cache_key, is_full, after}
-use Rattle.pm_model.specs.Partitions.{part_of}
 use Rattle.pm_pages.specs.declared.row.Row.{Row}
 use Rattle.pm_pages.specs.Rows.{Partition, page_at, page_count, number_of, number_in, kind_of, rows_on, rows_of, row_of}
 use Rattle.pm_pages.specs.RowMaps.{map_of}
@@ -30,7 +29,6 @@ use Rattle.pm_pages.proofs.ChainWalks.{all_stand, walk_none}
 use Rattle.std.specs.List.{flat_map, range_with_len}
 use Rattle.pm_meta.specs.declared.layout.TheConstants.{REUSE_KIND}
 use Rattle.pm_part.specs.NewMeta.{HasNewMeta}
-use Rattle.pm_tree.specs.Maps.{get_in}
 use Rattle.pm_tree.specs.Indexes.{IsIndex}
 use Rattle.pm_tree.specs.Roots.{PutsIndex}
 use Rattle.pm_free.specs.Placed.{HasOneMore, PlacesRow}

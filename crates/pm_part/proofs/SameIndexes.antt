@@ -1,15 +1,14 @@
 -- The index of a cache is the same where none of its pages changed.
-use Rattle.std.proofs.Common.{◌≡◌, ◌≢◌, ℕ, zero, suc, ◌<◌, ◌≤◌, List, [], ◌∷◌, refl, sym, ap, subst, ◌∙◌, inl, inr, arith}
-use Rattle.std.proofs.lemmas.Bool.{cases_lt, le-ltb}
-use Rattle.pm_btpage.specs.declared.layout.TheConstants.{LEAF_KIND, INNER_KIND}
+use Rattle.std.proofs.Common.{◌≡◌, ℕ, zero, suc, ◌<◌, ◌≤◌, List, [], ◌∷◌, sym, ap, subst, ◌∙◌, inl, inr, arith}
+use Rattle.std.proofs.lemmas.Bool.{cases_lt}
 use Rattle.pm_btpage.specs.IndexPages.{Item}
-use Rattle.pm_pages.specs.Rows.{Partition, page_at, page_count, kind_of, bytes_of}
+use Rattle.pm_pages.specs.Rows.{Partition, page_at, page_count, bytes_of}
 use Rattle.pm_pages.specs.Chains.{times}
-use Rattle.pm_pages.specs.Trees.{IsTree, AreLinked, leaves_below, nodes_below, items_below, first_of}
+use Rattle.pm_pages.specs.Trees.{AreLinked, leaves_below}
 use Rattle.pm_pages.proofs.PageReads.{page_at-below}
 use Rattle.pm_pages.proofs.ChainWalks.{times_here, more}
-use Rattle.pm_tree.specs.Indexes.{IsIndex, IsTreeAt}
-use Rattle.pm_tree.specs.Nodes.{Node, node_of, nodes_in, nodes_under, leaves_under, items_under, IsTreeIn}
+use Rattle.pm_tree.specs.Indexes.{IsIndex}
+use Rattle.pm_tree.specs.Nodes.{node_of, nodes_in, nodes_under}
 use Rattle.pm_tree.specs.Puts.{IsSpare}
 use Rattle.pm_tree.proofs.Decoded.{nodes_same, leaves_same, items_same, tree_to, tree_from}
 use Rattle.pm_tree.proofs.Frames.{used, tree_stays, nodes_stay, leaves_stay, items_stay, leaves_few}

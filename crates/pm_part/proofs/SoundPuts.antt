@@ -1,29 +1,24 @@
 -- No bad page comes of a put into a well-formed partition.
 use Rattle.std.proofs.Common.{◌≡◌, ℕ, zero, suc, ◌+◌, ◌*◌, ◌<◌, ◌≤◌, List, [], length, None, refl, sym, ap, subst, inl, inr, arith}
-use Rattle.std.specs.Prelude.{◌^◌, Option, Some}
+use Rattle.std.specs.Prelude.{Option, Some}
 use Rattle.std.specs.Option.{option_map}
 use Rattle.std.proofs.lemmas.Bool.{cases_lt}
 use Rattle.pm_types.specs.declared.limits.TheConstants.{CACHES}
 use Rattle.pm_types.specs.declared.shape.Shape.{Shape}
 use Rattle.pm_types.specs.declared.page_id.Link.{Link}
-use Rattle.pm_btpage.specs.IndexPages.{Item}
 use Rattle.pm_data.specs.Rows.{row_value}
-use Rattle.pm_meta.specs.declared.slots.MetaSlot.TheVariants.{Pages}
 use Rattle.pm_pages.specs.declared.row.Row.{Row}
-use Rattle.pm_pages.specs.Rows.{Partition, page_count, rows_of}
-use Rattle.pm_pages.specs.Paged.{Paged, PassesIn}
+use Rattle.pm_pages.specs.Rows.{rows_of}
+use Rattle.pm_pages.specs.Paged.{Paged}
 use Rattle.pm_pages.specs.Edits.{LooksAtPages, HasMeta}
 use Rattle.pm_pages.specs.SoundPages.{IsSound, PassesAll, MayTake}
 use Rattle.pm_pages.specs.StoredPages.{KeepsStored}
-use Rattle.pm_pages.proofs.EditedPages.{some_bytes}
-use Rattle.pm_pages.proofs.PassingLooks.{meta_passes}
 use Rattle.pm_pages.proofs.SpareRoom.{can_take_less, may_take, may_take_looked}
-use Rattle.pm_pages.proofs.SpareSteps.{number_by}
 use Rattle.pm_pages.proofs.ToldPages.{pages_told}
 use Rattle.pm_tree.specs.Maps.{get_in}
 use Rattle.pm_tree.specs.Indexes.{as_link, link_in}
 use Rattle.pm_tree.specs.SoundPuts.{HasSparePages}
-use Rattle.pm_tree.proofs.GrownTrees.{can_take_spare, limit_small, size_of_pages}
+use Rattle.pm_tree.proofs.GrownTrees.{can_take_spare, limit_small}
 use Rattle.pm_free.specs.declared.edits.Edit.TheVariants.{Insert, Remove}
 use Rattle.pm_free.specs.Changes.{EditsPartition}
 use Rattle.pm_free.specs.Chained.{homes_in}
@@ -41,8 +36,8 @@ use Rattle.pm_part.proofs.ItemCounts.{items_few}
 use Rattle.pm_part.proofs.KeyedRows.{HasKey, HasValue}
 use Rattle.pm_part.proofs.OneMore.{met}
 use Rattle.pm_part.proofs.RemovedKeys.{row_there}
-use Rattle.pm_part.proofs.SoundGets.{passes_all}
 use Rattle.pm_part.proofs.SpareLaw.{has_spare_pages, rows_few}
+use Rattle.pm_part.proofs.StoredPartitions.{stored_of, some_pages, size_of, can_take}
 use Rattle.pm_part.proofs.Totals.{total}
 use Rattle.pm_part.proofs.WellLaidOut.{items_of_cache, laid_of, lists_of}
 
@@ -79,11 +74,8 @@ total_part f from (suc n) at low high = elim (cases_lt from at) [
 -- a well-formed partition takes a row more
 pub may_take_row : (shape : Shape) (p : Paged) (cache : ℕ) → cache < CACHES → IsPartitionOf shape p → HasMeta p → MayTakeRow p cache
 may_take_row shape p cache few is meta =
-    let all = passes_all shape p is in
-    let page = some_bytes (p.pages 0) meta.there in
-    let passes : PassesIn p 0 page.0 = meta_passes p all page.0 page.1 in
-    let some : 1 ≤ page_count p.pages = omega (arith, passes.stored.counts.some, number_by p.pages Pages page.0 page.1) in
-    let size = size_of_pages p meta all in
+    let some = some_pages shape p is meta in
+    let size = size_of p (stored_of shape p is).all some in
     let wf = is.well_formed in
     let items = items_of_cache p.pages in
     let laid = laid_of shape p is.page_size is.max_rows wf some in
@@ -133,7 +125,6 @@ link_there p spot cache key meta has ix = by (get_in ix.items key) refl
     by None e = absurd (met (λ row. HasKey cache key row → ⊥) (HasValue cache key (row_value has.row)) rows (no_row rows cache key ix.items ix.lists e) (row_there p spot cache key meta has) (λ row lacks is. lacks is.has))
 
 -- the pages pass their checks once a row took the place of another one
-pub overwritten_passes : (shape : Shape) (a b : Paged) (cache : ℕ) → cache < CACHES → IsPartitionOf shape a → HasMeta a → KeepsStored a b 1 → PassesAll b
-overwritten_passes shape a b cache few is meta stores =
-    let can = can_take_spare a 18 meta (may_take_row shape a cache few is meta).spare in
-    (stores (2 * a.max_rows + 256) (omega arith) (can_take_less (2 * a.max_rows + 256) a 18 1 (omega arith) can) (record { all = passes_all shape a is; rows = is.rows; part = is.part })).all
+pub overwritten_passes : (shape : Shape) (a b : Paged) → IsPartitionOf shape a → HasMeta a → KeepsStored a b 1 → PassesAll b
+overwritten_passes shape a b is meta stores =
+    (stores (2 * a.max_rows + 256) (omega arith) (can_take shape a is (some_pages shape a is meta) 1 (omega arith)) (stored_of shape a is)).all

@@ -22,7 +22,7 @@ use Rattle.pm_free.specs.DataEdits.{TakesEdit}
 use Rattle.pm_free.specs.Placed.{HasItemAt, HasRowAt}
 use Rattle.pm_part.specs.declared.entries.Entry.{Entry}
 use Rattle.pm_part.specs.declared.spots.Spot.{Spot}
-use Rattle.pm_part.specs.Entries.{IsReached, IsEntryIn}
+use Rattle.pm_part.specs.Entries.{IsEntryIn}
 use Rattle.pm_part.specs.Spots.{IsRowOn, LeadsTo, HasRowIn, HasNoRowIn, NamesNoRow, PushesValue}
 use Rattle.pm_part.specs.Faults.{HasPartCause}
 use Rattle.pm_part.proofs.PartCauses.{cause_after, cause_way}

@@ -1,5 +1,5 @@
 -- A tree has no more pages than items.
-use Rattle.std.proofs.Common.{◌≡◌, ◌≢◌, ℕ, zero, suc, ◌+◌, ◌*◌, ◌<◌, ◌≤◌, List, [], ◌∷◌, ◌++◌, length, refl, sym, ap, subst, ◌∙◌, arith}
+use Rattle.std.proofs.Common.{◌≡◌, ℕ, zero, suc, ◌+◌, ◌*◌, ◌≤◌, List, [], ◌∷◌, ◌++◌, length, sym, ap, subst, ◌∙◌, arith}
 use Rattle.std.proofs.lemmas.List.{length-append, length-map}
 use Rattle.pm_btpage.specs.IndexPages.{Item}
 use Rattle.pm_pages.specs.Rows.{Partition}
@@ -8,7 +8,6 @@ use Rattle.pm_pages.proofs.ChainWalks.{times-append, times_here}
 use Rattle.pm_tree.specs.Nodes.{Node, Entry, entry, entries, nodes_in, nodes_under, items_under, Each, IsTreeIn}
 use Rattle.pm_tree.specs.Puts.{flat}
 use Rattle.pm_tree.specs.Indexes.{IsIndex}
-use Rattle.pm_pages.specs.Trees.{root_of}
 use Rattle.pm_tree.proofs.Decoded.{nodes_same, items_same, tree_to}
 
 -- these pages may have at least twelve items

@@ -1,5 +1,5 @@
 -- What calls on a partition changed of its pages.
-use Rattle.std.specs.Prelude.{◌≡◌, ℕ, ◌≤◌, List, [], Some, IsTrue, IsSomeAnd, length}
+use Rattle.std.specs.Prelude.{◌≡◌, ℕ, List, [], Some, IsTrue, IsSomeAnd, length}
 use Rattle.pm_data.specs.DataPages.{room_of, rows_of, row_at, HasRoomFor, AddsRow}
 use Rattle.pm_pages.specs.Paged.{Paged}
 use Rattle.pm_pages.specs.Edits.{EditsPages, HasMeta}

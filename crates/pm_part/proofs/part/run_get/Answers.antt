@@ -3,11 +3,9 @@ use Rattle.pm_pages.proofs.SoundPages.{no_bad_passed}
 use Rattle.pm_tree.specs.Indexes.{as_link}
 use Rattle.pm_part.proofs.SoundGets.{names_row, names_looked, passes_all}
 use Rattle.pm_part.proofs.DroppedRows.{partition_looked}
-use Rattle.std.proofs.Common.{◌≡◌, ℕ, ◌+◌, ◌≤◌, None, Some, Option, subst, arith}
+use Rattle.std.proofs.Common.{◌≡◌, None, Some, Option, subst, arith}
 use Rattle.std.specs.Prelude.{IfSome}
 use Rattle.std.proofs.lemmas.Result.{on_ok_weaker}
-use Rattle.pm_pages.specs.Paged.{Paged}
-use Rattle.pm_pages.specs.Edits.{LooksAtPages}
 use Rattle.pm_pages.proofs.EditedPages.{looks_then, looks_more}
 use Rattle.pm_pages.proofs.TakenPages.{meta_looked}
 use Rattle.pm_tree.specs.Maps.{get_in}

@@ -91,5 +91,5 @@ returns-clause-sound g c = λ t shape is.
     let ix = index_of shape a c.args.cache is.page_size is.max_rows is.well_formed c.requires.cache in
     let held = link_there a c.args.spot c.args.cache c.args.key.now c.requires.meta c.requires.has ix in
     let rows = c.in_ok-link.ensures.rows.told t in
-    c.relink.ensures.sound t (overwritten_passes shape a b c.args.cache c.requires.cache is c.requires.meta (c.in_ok-link.ensures.passes t)) ix.height ix.nodes ix.items
+    c.relink.ensures.sound t (overwritten_passes shape a b is c.requires.meta (c.in_ok-link.ensures.passes t)) ix.height ix.nodes ix.items
     (index_overwritten a b.pages c.args.cache ix.height ix.nodes ix.items c.requires.readable c.requires.meta c.requires.cache ix.index a.part c.args.spot c.args.row.now c.in_ok-link.link rows) held.0 held.1

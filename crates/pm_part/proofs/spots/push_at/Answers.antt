@@ -1,6 +1,5 @@
 use Rattle.std.proofs.Common.{rules}
 use Rattle.pm_pages.specs.Paged.{IsInHand, IsPageIn}
-use Rattle.pm_pages.proofs.ReadablePages.{readable_asked}
 use Rattle.pm_part.proofs.SpotReads.{pushes}
 use Rattle.pm_part.proofs.spots.push_at.Goals as goal
 

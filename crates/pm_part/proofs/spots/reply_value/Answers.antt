@@ -6,7 +6,7 @@ use Rattle.pm_pages.proofs.TakenPages.{meta_looked, number_looked}
 use Rattle.pm_pages.proofs.PassingLooks.{bad_passed, not_bad}
 use Rattle.std.proofs.Common.{arith}
 use Rattle.std.proofs.lemmas.Result.{err_from_is_err_and}
-use Rattle.std.proofs.Common.{ℕ, None, Some, refl, sym, subst, inl, inr}
+use Rattle.std.proofs.Common.{ℕ, None, Some, refl, sym, subst, inl}
 use Rattle.std.specs.Prelude.{IfSome, IfNone}
 use Rattle.pm_meta.specs.declared.slots.MetaSlot.TheVariants.{Pages}
 use Rattle.pm_pages.specs.Edits.{IsNumberIn}
