@@ -25,12 +25,12 @@ pub passes_at : (page_size max_rows part i : ℕ) (page : List ℕ) → 1 ≤ i 
 passes_at page_size max_rows part zero page some passes = absurd (omega (arith, some))
 passes_at page_size max_rows part (suc i) page some passes = passes
 
-at_passes : (page_size max_rows part i : ℕ) (page : List ℕ) → 1 ≤ i → PassesAt page_size max_rows part i page → Passes page_size max_rows (page_id part i) page
+pub at_passes : (page_size max_rows part i : ℕ) (page : List ℕ) → 1 ≤ i → PassesAt page_size max_rows part i page → Passes page_size max_rows (page_id part i) page
 at_passes page_size max_rows part zero page some passes = absurd (omega (arith, some))
 at_passes page_size max_rows part (suc i) page some passes = passes
 
 -- a data page passes as one
-data_stored : (page_size max_rows : ℕ) (id : PageId) (page : List ℕ) → kind_of page ≡ DATA_KIND → Passes page_size max_rows id page → IsStoredPage id page
+pub data_stored : (page_size max_rows : ℕ) (id : PageId) (page : List ℕ) → kind_of page ≡ DATA_KIND → Passes page_size max_rows id page → IsStoredPage id page
 data_stored page_size max_rows id page kind passes = elim passes.kind [
   | inl meta ↦ absurd (omega (arith, kind, meta.well_made.form.kind))
   | inr r ↦ elim r [

@@ -3,10 +3,11 @@ use Rattle.std.proofs.Common.{◌≡◌, ◌≢◌, ℕ, ◌+◌, ◌*◌, ◌<�
 use Rattle.std.specs.Prelude.{Option, Some}
 use Rattle.std.proofs.lemmas.Bool.{cases_eq}
 use Rattle.pm_types.specs.Ids.{page_id}
-use Rattle.pm_data.specs.DataPages.{DataPage, rows_of, free_item}
+use Rattle.pm_data.specs.DataPages.{DataPage, data_of, rows_of, free_item}
 use Rattle.pm_data.proofs.RowsByItem.{length-rows_of}
 use Rattle.pm_meta.specs.declared.layout.TheConstants.{EXTRA_PAGES, BUCKETS}
 use Rattle.pm_meta.specs.declared.slots.MetaSlot.TheVariants.{Pages}
+use Rattle.pm_pages.specs.Passes.{Passes}
 use Rattle.pm_pages.specs.Rows.{Partition, page_count}
 use Rattle.pm_pages.specs.Paged.{Paged, SamePartition}
 use Rattle.pm_pages.specs.Edits.{LooksAtPages, EditsPages, HasMeta}
@@ -23,7 +24,7 @@ use Rattle.pm_free.specs.Chained.{MovesPage, SettlesPage}
 use Rattle.pm_free.specs.Passing.{KeepsPassing}
 use Rattle.pm_free.specs.Changes.{ChangesData, EditsPartition}
 use Rattle.pm_free.specs.Placed.{DropsPage, ChangesRows, IsFilledIn}
-use Rattle.pm_free.proofs.Passing.{passes_at, keeps_passing_same, keeps_passing_then, edit_passes}
+use Rattle.pm_free.proofs.Passing.{passes_at, at_passes, data_stored, keeps_passing_same, keeps_passing_then, edit_passes}
 use Rattle.pm_free.proofs.Views.{edit_numbers}
 use Rattle.pm_free.proofs.PlacedPages.{InsertsRow, RemovesRow, filled_edits, filled_added}
 
@@ -71,6 +72,45 @@ placed_stored T b d e at bucket item m row t meta inserts settles stored =
     let same = same_then b d e inserts.edits.same settles.edits.same in
     stored_kept b e same meta (y.keeps.numbers Pages tt (λ n z. cc z) ∙ edit_numbers at row Insert b.pages d.pages x Pages)
     (λ i. page_keeps b e same i (keeps_passing_then b.pages d.pages e.pages i (edit_passes at row Insert b.pages d.pages x (λ some. inserted_some at row b.pages d.pages x) i) (y.keeps.passes i))) stored
+
+-- a row was taken out of a page and another one put in, and the page then stood in the chain for its room
+module _ (b d e f : Paged) (at bucket item : ℕ) (row : List ℕ) (meta : HasMeta b) (out : EditsPartition at [] (Remove item) b.pages d.pages) (put : EditsPartition at row Insert d.pages e.pages)
+    (same : SamePartition b f) (settles : SettlesPage e.pages f.pages at bucket) where
+  some : 1 ≤ at
+  some = pos at out.some
+    where
+      pos : (n : ℕ) → n ≢ 0 → 1 ≤ n
+      pos n ne = omega (arith, ne)
+
+  mid : put.was ≡ out.now
+  mid = cc (out.after, put.before)
+
+  both : KeepsPassing b.pages e.pages at
+  both page_size max_rows part there =
+      let passes = subst (Passes page_size max_rows (page_id part at)) (cc (there.1, out.before)) (at_passes page_size max_rows part at there.0 some there.2) in
+      let stored = data_stored page_size max_rows (page_id part at) out.was out.well_made.head.kind passes in (
+        put.now,
+        put.after,
+        passes_at page_size max_rows part at put.now some (record {
+          size = put.edits.size ∙ ap (λ (p : List ℕ). length p) mid ∙ out.edits.size ∙ passes.size;
+          kind = inr (inr (inl (record {
+            own = ap (λ (p : DataPage). p.id) put.edits.says ∙ ap (λ (p : List ℕ). (data_of p).id) mid ∙ ap (λ (p : DataPage). p.id) out.edits.says ∙ stored.own;
+            some = omega (arith, inserted_some at row d.pages e.pages put, length-rows_of put.now);
+            well_made = put.edits.well_made;
+          })));
+        }),
+      )
+
+  each : (j : ℕ) → KeepsPassing b.pages e.pages j
+  each j = elim (cases_eq j at) [
+    | inl here ↦ subst (KeepsPassing b.pages e.pages) (sym here) both
+    | inr ne ↦ keeps_passing_then b.pages d.pages e.pages j (keeps_passing_same b.pages d.pages j (out.others j ne)) (keeps_passing_same d.pages e.pages j (put.others j ne))
+  ]
+
+  pub swapped_stored : IsStored b → IsStored f
+  swapped_stored stored =
+      stored_kept b f same meta (settles.keeps.numbers Pages tt (λ n z. cc z) ∙ edit_numbers at row Insert d.pages e.pages put Pages ∙ edit_numbers at [] (Remove item) b.pages d.pages out Pages)
+      (λ i. page_keeps b f same i (keeps_passing_then b.pages e.pages f.pages i (each i) (settles.keeps.passes i))) stored
 
 -- a row was taken out of a page that has others, which then stood in the chain for its room
 pub kept_stored : (T : Type 0) (b e f : Paged) (at bucket item m : ℕ) → T → HasMeta b → ChangesData T b e 0 (RemovesRow at item (λ rows. rows ≢ [])) → ChangesData T e f m (λ old new. SettlesPage old new at bucket) → IsStored b → IsStored f

@@ -1,6 +1,6 @@
 -- A row of a new key is placed in a partition that is laid out, its link put into the index of its cache, and the row count set:
 -- the partition is well formed, and the rows make the map with the key.
-use Rattle.std.proofs.Common.{◌≡◌, ◌≢◌, ℕ, zero, suc, ◌+◌, ◌<◌, ◌≤◌, List, [], Option, length, sym, ap, subst, ◌∙◌, inl, inr, arith}
+use Rattle.std.proofs.Common.{◌≡◌, ℕ, ◌+◌, ◌<◌, List, Option, length, sym, ap, subst, ◌∙◌, arith}
 use Rattle.std.specs.Prelude.{All, AllPairs}
 use Rattle.pm_types.specs.declared.limits.TheConstants.{CACHES}
 use Rattle.pm_types.specs.declared.shape.Shape.{Shape}
@@ -13,7 +13,7 @@ use Rattle.pm_model.specs.declared.line.Line.TheVariants.{Good}
 use Rattle.pm_model.specs.declared.line.Cmd.TheVariants.{Put}
 use Rattle.pm_model.specs.declared.reply.Reply.TheVariants.{Done}
 use Rattle.pm_pages.specs.declared.row.Row.{Row}
-use Rattle.pm_pages.specs.Rows.{Partition, page_count, number_in, rows_of, row_of}
+use Rattle.pm_pages.specs.Rows.{number_in, rows_of, row_of}
 use Rattle.pm_pages.specs.Trees.{root_of, ListsRows}
 use Rattle.pm_pages.specs.Paged.{Paged}
 use Rattle.pm_pages.specs.Edits.{EditsPages}
@@ -24,7 +24,7 @@ use Rattle.pm_tree.specs.Maps.{put_in}
 use Rattle.pm_tree.specs.Indexes.{IsIndex}
 use Rattle.pm_tree.specs.Roots.{PutsIndex}
 use Rattle.pm_free.specs.Placed.{PlacesRow}
-use Rattle.pm_part.proofs.Layouts.{IsLaidOut}
+use Rattle.pm_part.specs.LaidOut.{IsLaidOut}
 use Rattle.pm_part.proofs.DataSteps.{laid_place}
 use Rattle.pm_part.proofs.TreeSteps.{NoDataFirst, set_at, lists_set}
 use Rattle.pm_part.proofs.KeyPuts.{laid_put, put_keeps_data}
@@ -32,7 +32,7 @@ use Rattle.pm_part.proofs.CountSteps.{laid_count, count_is, count_keeps_data, nu
 use Rattle.pm_part.proofs.KeptRows.{rows_kept}
 use Rattle.pm_part.proofs.KeyedRows.{HasValue}
 use Rattle.pm_part.proofs.ListedRows.{lists_added, lists_other_added}
-use Rattle.pm_part.proofs.RowKeys.{HasNoRow, once_with_new, no_row_like, all_more, length_more}
+use Rattle.pm_part.proofs.RowKeys.{HasNoRow, once_with_new, all_more, length_more}
 use Rattle.pm_part.proofs.RowReplies.{HasEffect, put_of_new}
 use Rattle.pm_part.proofs.LaidOutWell.{well_formed_of}
 

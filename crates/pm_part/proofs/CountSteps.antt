@@ -1,13 +1,12 @@
 -- A partition stays laid out where its row count is set.
-use Rattle.std.proofs.Common.{◌≡◌, ◌≢◌, ℕ, zero, suc, ◌<◌, ◌≤◌, ◌⊎◌, List, [], sym, ap, subst, ◌∙◌, inl, inr, arith}
+use Rattle.std.proofs.Common.{◌≡◌, ◌≢◌, ℕ, ◌<◌, ◌≤◌, List, [], sym, subst, ◌∙◌, inl, inr, arith}
 use Rattle.std.proofs.lemmas.Bool.{cases_eq}
 use Rattle.pm_types.specs.declared.limits.TheConstants.{CACHES}
 use Rattle.pm_btpage.specs.IndexPages.{Item}
-use Rattle.pm_meta.specs.declared.layout.TheConstants.{BUCKETS}
 use Rattle.pm_meta.specs.declared.slots.MetaSlot.{MetaSlot}
 use Rattle.pm_meta.specs.declared.slots.MetaSlot.TheVariants.{Root, Bucket, Rows, Pages}
 use Rattle.pm_meta.specs.MetaPages.{IsSlot}
-use Rattle.pm_pages.specs.Rows.{Partition, page_at, page_count, number_in, kind_of}
+use Rattle.pm_pages.specs.Rows.{page_at, page_count, number_in, kind_of}
 use Rattle.pm_pages.specs.Chains.{times}
 use Rattle.pm_pages.specs.Trees.{root_of}
 use Rattle.pm_pages.specs.Paged.{Paged}
@@ -16,9 +15,10 @@ use Rattle.pm_pages.specs.SparePages.{SetsNumber, MetaBecomes}
 use Rattle.pm_pages.specs.SpareChains.{MovesSpare}
 use Rattle.pm_pages.proofs.SpareSteps.{number_by, moves_number, same_at}
 use Rattle.pm_tree.specs.Indexes.{IsIndex}
-use Rattle.pm_part.proofs.JoinedLists.{joined, one_in}
+use Rattle.pm_part.specs.LaidOut.{joined, IsLaidOut}
+use Rattle.pm_part.proofs.JoinedLists.{one_in}
 use Rattle.pm_part.proofs.SameIndexes.{index_stays}
-use Rattle.pm_part.proofs.Layouts.{IsLaidOut, each_after}
+use Rattle.pm_part.proofs.Layouts.{each_after}
 use Rattle.pm_part.proofs.TreeSteps.{KeepsData, NoDataFirst, data_kept, chains_stay}
 
 module _ (T : Type 0) (a b : Paged) (count m : ℕ) (t : T) (edits : EditsPages T a b (λ j. j ≡ 0) m) (sets : MetaBecomes a b (λ was now. SetsNumber was now Rows count))

@@ -1,5 +1,5 @@
 -- A partition stays laid out where a row is placed or taken out.
-use Rattle.std.proofs.Common.{◌≡◌, ◌≢◌, ℕ, zero, suc, ◌+◌, ◌<◌, ◌≤◌, ◌⊎◌, List, [], refl, sym, ap, subst, ◌∙◌, inl, inr, arith}
+use Rattle.std.proofs.Common.{◌≡◌, ◌≢◌, ℕ, ◌+◌, ◌<◌, ◌≤◌, List, [], sym, subst, ◌∙◌, inl, inr, arith}
 use Rattle.std.proofs.lemmas.Bool.{cases_lt}
 use Rattle.pm_types.specs.declared.limits.TheConstants.{CACHES}
 use Rattle.pm_types.specs.declared.page_id.Link.{Link}
@@ -8,14 +8,15 @@ use Rattle.pm_data.specs.declared.layout.TheConstants.{DATA_KIND}
 use Rattle.pm_meta.specs.declared.layout.TheConstants.{REUSE_KIND}
 use Rattle.pm_meta.specs.declared.slots.MetaSlot.TheVariants.{Root}
 use Rattle.pm_pages.specs.Rows.{Partition, page_at, page_count, kind_of}
-use Rattle.pm_pages.specs.Chains.{times, reuse_chain}
+use Rattle.pm_pages.specs.Chains.{times}
 use Rattle.pm_pages.specs.Trees.{root_of}
-use Rattle.pm_pages.specs.SpareChains.{HasSpare, MovesSpare}
+use Rattle.pm_pages.specs.SpareChains.{MovesSpare}
 use Rattle.pm_tree.specs.Indexes.{IsIndex}
-use Rattle.pm_free.specs.Placed.{PlacesRow, TakesRow, KeepsRoots, IsUnused}
-use Rattle.pm_part.proofs.JoinedLists.{joined, one_in}
+use Rattle.pm_free.specs.Placed.{PlacesRow, TakesRow, KeepsRoots, HasChains}
+use Rattle.pm_part.specs.LaidOut.{joined, IsLaidOut, is_data}
+use Rattle.pm_part.proofs.JoinedLists.{one_in}
 use Rattle.pm_part.proofs.SameIndexes.{index_stays}
-use Rattle.pm_part.proofs.Layouts.{IsLaidOut, is_data, data_one, data_none, data_same, in_index, no_index, none_past, added, added_old, added_new, each_after}
+use Rattle.pm_part.proofs.Layouts.{data_one, data_none, data_same, no_index, none_past, added_old, added_new, each_after}
 
 -- the roots are as they were
 pub roots_stay : (old new : Partition) (cache : ℕ) → cache < CACHES → KeepsRoots old new → root_of new cache ≡ root_of old cache
@@ -104,3 +105,23 @@ module _ (part : ℕ) (old new : Partition) (link : Link) (items : ℕ → List 
     first = laid.first;
     each = each_after old new items laid laid.nodes [] takes.given takes.moves given_data;
   }
+
+-- a partition stays laid out where no page was taken or given back, each page has its kind, and no page changed but the first one and
+-- data pages
+pub laid_kept : (old new : Partition) (items : ℕ → List Item) → IsLaidOut old items → MovesSpare old new [] [] → KeepsRoots old new → (HasChains old → HasChains new)
+    → ((j : ℕ) → kind_of (page_at new j) ≡ kind_of (page_at old j)) → ((j : ℕ) → j ≢ 0 → kind_of (page_at old j) ≢ DATA_KIND → new j ≡ old j) → IsLaidOut new items
+laid_kept old new items laid moves roots chains kinds others = record {
+  some = omega (arith, laid.some, moves.count);
+  heights = laid.heights;
+  nodes = laid.nodes;
+  indexes = indexes_stay old new items laid moves.count roots node_kept;
+  chains = chains laid.chains;
+  spare = moves.sound laid.spare;
+  first = laid.first;
+  each = each_after old new items laid laid.nodes [] [] moves (λ j some lt. omega (arith, data_same old new j (kinds j)));
+}
+  where
+    node_kept : (j : ℕ) → 1 ≤ times j (joined laid.nodes) → new j ≡ old j
+    node_kept j there = others j
+        (λ e. omega (arith, there, subst (λ i. times i (joined laid.nodes) ≡ 0) (sym e) laid.first))
+        (λ kind. omega (arith, there, no_index old items laid j DATA_KIND kind (λ e. absurd (cc e)) (λ e. absurd (cc e))))

@@ -37,10 +37,13 @@ use Rattle.pm_part.specs.declared.spots.Spot.{Spot}
 use Rattle.pm_part.specs.Spots.{HasRowIn}
 use Rattle.pm_part.specs.Runs.{IsPartitionOf}
 use Rattle.pm_part.specs.Removals.{LosesItem, DropsKey}
-use Rattle.pm_part.proofs.ChangedMaps.{removed}
+use Rattle.pm_part.proofs.MappedRows.{map_taken}
 use Rattle.pm_part.proofs.NamedRows.{one_named}
 use Rattle.pm_pages.specs.Rows.{rows_on}
-use Rattle.pm_part.proofs.TreeRows.{rows_alike, rows_removed, same_rows, neither, past_no_data}
+use Rattle.pm_part.proofs.TreeSteps.{past_none}
+use Rattle.pm_part.proofs.KeptRows.{rows_kept}
+use Rattle.pm_part.proofs.KeyRemovals.{removal_keeps}
+use Rattle.pm_part.proofs.CountSteps.{count_keeps_data}
 use Rattle.pm_tree_del.specs.Maps.{remove_in}
 use Rattle.pm_part.proofs.CacheIndexes.{index_of}
 use Rattle.pm_part.proofs.KeptIndexes.{index_taken, index_away}
@@ -52,7 +55,7 @@ meta_no_data p readable meta is =
     let reads : IsMetaPage m.0 = subst (λ o. IfSome o IsMetaPage) m.1 (readable.each 0 meta.known) in
     elim (cases_lt 0 (page_count p.pages)) [
       | inl lt ↦ (let kind : kind_of (page_at p.pages 0) ≡ 1 = ap kind_of (page_at-below p.pages 0 lt ∙ ap bytes_of m.1) ∙ reads.form.kind in omega (arith, is, kind))
-      | inr le ↦ past_no_data p.pages 0 le is
+      | inr le ↦ past_none p.pages 0 le is
     ]
 
 -- a partition of a store has few pages
@@ -72,19 +75,6 @@ partition_looked T a b m shape t looks is = record {
   well_formed = subst (λ (q : ℕ × Partition). IsWellFormed shape q.0 q.1) {x = (a.part, a.pages)} {y = (b.part, b.pages)} (λ k. (sym looks.same.part k, sym (pages_told T a b m t looks) k)) is.well_formed;
 }
 
--- a number of the meta page was set, and no other page changed
-pub rows_set : (part : ℕ) (e f : Partition) (slot : MetaSlot) (value : ℕ) (was now : List ℕ) → e 0 ≡ Some was → f 0 ≡ Some now → SetsNumber was now slot value → Pages ≢ slot → ((j : ℕ) → j ≢ 0 → f j ≡ e j) → kind_of (page_at e 0) ≢ DATA_KIND → kind_of (page_at f 0) ≢ DATA_KIND → rows_of part f ≡ rows_of part e
-rows_set part e f slot value was now before after sets other others meta meta' = rows_alike part e f (omega (arith, count)) (λ j. elim (cases_eq j 0) [
-  | inl z ↦ subst (λ i. rows_on (page_id part i) (page_at f i) ≡ rows_on (page_id part i) (page_at e i)) (sym z) (neither part e f 0 meta meta')
-  | inr ne ↦ elim (cases_lt j (page_count e)) [
-    | inl lt ↦ same_rows part e f j (omega (arith, count)) lt (others j ne)
-    | inr le ↦ neither part e f j (past_no_data e j le) (past_no_data f j (omega (arith, le, count)))
-  ]
-])
-  where
-    count : page_count f ≡ page_count e
-    count = ap (λ o. number_of o Pages) after ∙ sets.others Pages tt other ∙ sym (ap (λ o. number_of o Pages) before)
-
 -- the row of a key stands on its page
 pub stands_on : (p : Paged) (spot : Spot) (cache : ℕ) (key : List ℕ) → HasMeta p → (has : HasRowIn p spot cache key) → (spot.at < page_count p.pages) × (page_at p.pages spot.at ≡ has.page)
 stands_on p spot cache key meta has = (let lt = below_count p spot.at meta has.below in (lt, page_at-below p.pages spot.at lt ∙ ap bytes_of has.in_hand.page))
@@ -95,7 +85,7 @@ row_taken shape p spot cache key less row is meta has one =
     let on = stands_on p spot cache key meta has in
     let live : row_at (data_page.rows_of (page_at p.pages spot.at)) spot.item ≡ Some has.row = ap (λ (page : List ℕ). row_at (data_page.rows_of page) spot.item) on.1 ∙ has.is.live in
     let same = one_named p.part p.pages spot.at spot.item has.row row less is.part (few_pages shape p is) on.0 live one in
-    removed less (rows_of p.part p.pages) (row_of (link (page_id p.part spot.at) spot.item) row) one is.well_formed.keys_once.once
+    map_taken less (rows_of p.part p.pages) (row_of (link (page_id p.part spot.at) spot.item) row) one is.well_formed.keys_once.once
     ∙ (λ k. map.remove (map_of (rows_of p.part p.pages)) (cache_key (same k).cache (same k).key))
     ∙ (λ k. map.remove (map_of (rows_of p.part p.pages)) (cache_key (has.is.cache_is k) (has.is.key_is k)))
 
@@ -117,8 +107,8 @@ dropped T b d e f shape spot cache other rows value key at_link was t few is met
     let count : page_count f.pages ≡ page_count e.pages = number_kept e f Rows Pages (rows - 1) sets tt (λ z. cc z) in
     let root : root_of f.pages cache ≡ root_of e.pages cache = number_kept e f Rows (Root cache) (rows - 1) sets few (λ z. cc z) in
     let index_d = index_taken b d.pages cache ix.height ix.nodes ix.items reads_b meta_b few ix.index part at_link takes in
-    let rows_e = rows_removed part d.pages e.pages cache ix.height ix.nodes ix.items key was (meta_no_data d reads_d meta_d) (meta_no_data e reads_e meta_e) index_d (removes ix.height ix.nodes ix.items index_d) in
-    let rows_f = rows_set part e.pages f.pages Rows (rows - 1) sets.was sets.now sets.before sets.after sets.change (λ z. cc z) others (meta_no_data e reads_e meta_e) (meta_no_data f reads_f meta_f) in
+    let rows_e = rows_kept part d.pages e.pages (omega (arith, (removes ix.height ix.nodes ix.items index_d).gives.count)) (removal_keeps d.pages e.pages cache ix.height ix.nodes ix.items key was (meta_no_data d reads_d meta_d, meta_no_data e reads_e meta_e) index_d (removes ix.height ix.nodes ix.items index_d)) in
+    let rows_f = rows_kept part e.pages f.pages (omega (arith, count)) (count_keeps_data T e f (rows - 1) 0 t edits sets (meta_no_data e reads_e meta_e, meta_no_data f reads_f meta_f)) in
     record {
       rows = ap map_of (rows_f ∙ rows_e) ∙ row_taken shape b spot cache key (rows_of part d.pages) takes'.row is meta_b has takes'.rows;
       items = λ height nodes items index.

@@ -1,15 +1,15 @@
 -- A partition that has a meta page alone is laid out, with no item in any index.
-use Rattle.std.proofs.Common.{◌≡◌, ◌≢◌, ℕ, zero, suc, ◌<◌, ◌≤◌, List, [], ◌∷◌, ◌++◌, Bool, false, length, refl, sym, ap, subst, ◌∙◌, inl, inr, arith}
+use Rattle.std.proofs.Common.{◌≡◌, ◌≢◌, ℕ, ◌<◌, ◌≤◌, List, [], ◌++◌, false, length, refl, sym, ap, subst, ◌∙◌, arith}
 use Rattle.std.specs.Prelude.{if◌then◌else◌, All, Any, AllPairs}
 use Rattle.std.specs.List.{flat_map, range_with_len}
-use Rattle.std.proofs.lemmas.Bool.{cases_eq, cases_lt, ne_eqb}
+use Rattle.std.proofs.lemmas.Bool.{ne_eqb}
 use Rattle.pm_types.specs.declared.limits.TheConstants.{CACHES}
 use Rattle.pm_types.specs.declared.shape.Shape.{Shape}
 use Rattle.pm_types.specs.Ids.{page_id}
 use Rattle.pm_btpage.specs.IndexPages.{Item}
 use Rattle.pm_data.specs.declared.layout.TheConstants.{DATA_KIND}
 use Rattle.pm_meta.specs.declared.layout.TheConstants.{BUCKETS, REUSE_KIND}
-use Rattle.pm_meta.specs.declared.slots.MetaSlot.TheVariants.{Root, Bucket, Reuse, Pages, Rows}
+use Rattle.pm_meta.specs.declared.slots.MetaSlot.TheVariants.{Bucket, Reuse, Rows}
 use Rattle.pm_model.specs.Partitions.{part_of}
 use Rattle.pm_pages.specs.declared.row.Row.{Row}
 use Rattle.pm_pages.specs.Rows.{Partition, page_at, page_count, number_in, kind_of, rows_on, rows_of}
@@ -18,7 +18,7 @@ use Rattle.pm_pages.specs.Trees.{root_of, ListsRows, IsItemOf}
 use Rattle.pm_pages.specs.WellFormed.{HasKeysOnce, AreDifferent}
 use Rattle.pm_pages.proofs.ChainWalks.{walk_none}
 use Rattle.pm_free.proofs.Views.{meta_rows}
-use Rattle.pm_part.proofs.Layouts.{IsLaidOut}
+use Rattle.pm_part.specs.LaidOut.{IsLaidOut}
 
 -- The first page has no data, it is the only page, and every number but the page count is 0.
 pub record IsFirstAlone (pages : Partition) : Type 0 where

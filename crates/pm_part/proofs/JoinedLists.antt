@@ -1,14 +1,11 @@
 -- How often a number stands in lists that are joined, one for each cache, and what becomes of it where one of them changes.
-use Rattle.std.proofs.Common.{◌≡◌, ◌≢◌, ℕ, zero, suc, ◌+◌, ◌<◌, ◌≤◌, List, [], ◌∷◌, ◌++◌, refl, sym, ap, ◌∙◌, inl, inr, arith}
+use Rattle.std.proofs.Common.{◌≡◌, ◌≢◌, ℕ, zero, suc, ◌+◌, ◌<◌, ◌≤◌, List, ◌++◌, refl, ap, ◌∙◌, inl, inr, arith}
 use Rattle.std.specs.List.{flat_map, range_with_len}
 use Rattle.std.proofs.lemmas.Bool.{cases_eq, cases_lt}
 use Rattle.pm_types.specs.declared.limits.TheConstants.{CACHES}
 use Rattle.pm_pages.specs.Chains.{times}
 use Rattle.pm_pages.proofs.ChainWalks.{times-append}
-
--- the lists of all caches, joined
-abbrev pub joined : (ℕ → List ℕ) → List ℕ
-joined lists = flat_map lists (range_with_len 0 CACHES)
+use Rattle.pm_part.specs.LaidOut.{joined}
 
 -- the lists are those of `f` but for one cache
 abbrev pub SameBut : ℕ → (ℕ → List ℕ) → (ℕ → List ℕ) → Type 0

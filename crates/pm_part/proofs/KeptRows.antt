@@ -11,7 +11,7 @@ use Rattle.pm_free.proofs.Views.{meta_rows}
 use Rattle.pm_part.proofs.TreeSteps.{KeepsData, past_none}
 
 -- the rows of each page by index
-abbrev rows_at : ℕ → Partition → ℕ → List Row
+abbrev pub rows_at : ℕ → Partition → ℕ → List Row
 rows_at part pages i = rows_on (page_id part i) (page_at pages i)
 
 page_rows : (part : ℕ) (old new : Partition) → KeepsData old new → (i : ℕ) → rows_at part new i ≡ rows_at part old i
@@ -32,7 +32,11 @@ longer f n zero m is none = ap (λ j. flat_map f (range_with_len 0 j)) (let e : 
 longer f n (suc k) zero is none = absurd (omega (arith, is))
 longer f n (suc k) (suc m) is none = rows_end f 0 m m (omega arith) (none m (omega (arith, is))) ∙ longer f n k m (omega (arith, is)) none
 
-pub rows_kept : (part : ℕ) (old new : Partition) → page_count old ≤ page_count new → KeepsData old new → rows_of part new ≡ rows_of part old
-rows_kept part old new count keeps =
-    same_rows (rows_at part old) (rows_at part new) 0 (page_count new) (page_rows part old new keeps)
+-- where each page has the rows that it had, the partition has
+pub rows_alike : (part : ℕ) (old new : Partition) → page_count old ≤ page_count new → ((i : ℕ) → rows_at part new i ≡ rows_at part old i) → rows_of part new ≡ rows_of part old
+rows_alike part old new count same =
+    same_rows (rows_at part old) (rows_at part new) 0 (page_count new) same
     ∙ longer (rows_at part old) (page_count old) (page_count new - page_count old) (page_count new) (omega (arith, count)) (λ i le. meta_rows (page_id part i) (page_at old i) (past_none old i le))
+
+pub rows_kept : (part : ℕ) (old new : Partition) → page_count old ≤ page_count new → KeepsData old new → rows_of part new ≡ rows_of part old
+rows_kept part old new count keeps = rows_alike part old new count (page_rows part old new keeps)

@@ -1,14 +1,13 @@
 -- A partition stays laid out where a key is removed from the index of a cache, and its rows are as they were.
-use Rattle.std.proofs.Common.{◌≡◌, ◌≢◌, ℕ, zero, suc, ◌+◌, ◌<◌, ◌≤◌, ◌⊎◌, List, [], Option, refl, sym, ap, subst, ◌∙◌, inl, inr, arith}
-use Rattle.std.proofs.lemmas.Bool.{cases_eq, cases_lt}
+use Rattle.std.proofs.Common.{◌≡◌, ◌≢◌, ℕ, ◌+◌, ◌<◌, ◌≤◌, List, [], Option, sym, ap, subst, ◌∙◌, inl, inr, arith}
+use Rattle.std.proofs.lemmas.Bool.{cases_lt}
 use Rattle.pm_types.specs.declared.limits.TheConstants.{CACHES}
 use Rattle.pm_types.specs.declared.page_id.Link.{Link}
 use Rattle.pm_btpage.specs.IndexPages.{Item}
 use Rattle.pm_data.specs.declared.layout.TheConstants.{DATA_KIND}
-use Rattle.pm_meta.specs.declared.layout.TheConstants.{BUCKETS, REUSE_KIND}
 use Rattle.pm_meta.specs.declared.slots.MetaSlot.TheVariants.{Root, Bucket}
-use Rattle.pm_pages.specs.Rows.{Partition, page_at, page_count, number_in, kind_of}
-use Rattle.pm_pages.specs.Chains.{times, reuse_chain}
+use Rattle.pm_pages.specs.Rows.{Partition, page_at, page_count, kind_of}
+use Rattle.pm_pages.specs.Chains.{times}
 use Rattle.pm_pages.specs.Trees.{root_of}
 use Rattle.pm_pages.proofs.SpareSteps.{same_at}
 use Rattle.pm_tree.specs.Indexes.{IsIndex}
@@ -16,31 +15,35 @@ use Rattle.pm_tree.specs.Nodes.{nodes_in}
 use Rattle.pm_tree.specs.Puts.{IsSpare}
 use Rattle.pm_tree_del.specs.Maps.{remove_in}
 use Rattle.pm_tree_del.specs.Roots.{RemovesIndex}
-use Rattle.pm_part.proofs.JoinedLists.{joined, times_set, one_in}
+use Rattle.pm_part.specs.LaidOut.{joined, IsLaidOut}
+use Rattle.pm_part.proofs.JoinedLists.{times_set, one_in}
 use Rattle.pm_part.proofs.SameIndexes.{index_stays, index_kind}
-use Rattle.pm_part.proofs.Layouts.{IsLaidOut, in_index, each_after}
+use Rattle.pm_part.proofs.Layouts.{in_index, each_after}
 use Rattle.pm_part.proofs.TreeSteps.{KeepsData, NoDataFirst, data_kept, chains_stay, set_at, set_here, set_other, two_in, index_set, no_data}
 
-module _ (old new : Partition) (cache : ℕ) (key : List ℕ) (was : Option Link) (items : ℕ → List Item) (laid : IsLaidOut old items) (few : cache < CACHES)
-    (first : NoDataFirst old new) (removes : RemovesIndex old new cache (laid.nodes cache) (items cache) key was) where
-  now_used : (j : ℕ) → 1 ≤ times j removes.nodes_now → IsSpare (nodes_in new j) → ⊥
-  now_used j there = index_kind new (root_of new cache) removes.height removes.nodes_now (remove_in (items cache) key) removes.index j there
-
+-- the data pages are as they were, and there are no others
+module _ (old new : Partition) (cache height : ℕ) (nodes : List ℕ) (list : List Item) (key : List ℕ) (was : Option Link) (first : NoDataFirst old new)
+    (index : IsIndex old (root_of old cache) height nodes list) (removes : RemovesIndex old new cache nodes list key was) where
   -- a page of the index is an index page still, or was given back
-  now_none : (j : ℕ) → 1 ≤ times j (laid.nodes cache) → kind_of (page_at new j) ≢ DATA_KIND
+  now_none : (j : ℕ) → 1 ≤ times j nodes → kind_of (page_at new j) ≢ DATA_KIND
   now_none j there = elim (cases_lt 0 (times j removes.nodes_now)) [
-    | inl stays ↦ no_data new j (now_used j stays)
+    | inl stays ↦ no_data new j (index_kind new (root_of new cache) removes.height removes.nodes_now (remove_in list key) removes.index j stays)
     | inr gone ↦ (let reuse = removes.gives.reuse j (omega (arith, there, gone, removes.counted j)) in λ kind. absurd (cc (sym kind ∙ reuse.1)))
   ]
 
-  pub removal_keeps_data : KeepsData old new
-  removal_keeps_data j = elim (cases_lt 0 j) [
+  pub removal_keeps : KeepsData old new
+  removal_keeps j = elim (cases_lt 0 j) [
     | inr le ↦ (let e : j ≡ 0 = omega (arith, le) in inr (subst (λ i. (kind_of (page_at old i) ≢ DATA_KIND) × (kind_of (page_at new i) ≢ DATA_KIND)) (sym e) first))
-    | inl some ↦ elim (cases_lt 0 (times j (laid.nodes cache))) [
-      | inl there ↦ inr (no_data old j (in_index old items laid j (omega (arith, there, one_in laid.nodes cache j few))).0, now_none j there)
+    | inl some ↦ elim (cases_lt 0 (times j nodes)) [
+      | inl there ↦ inr (no_data old j (index_kind old (root_of old cache) height nodes list index j there), now_none j there)
       | inr apart ↦ inl (same_at old new j removes.gives.count (removes.others j (λ e. omega (arith, e, some)) (omega (arith, apart))))
     ]
   ]
+
+module _ (old new : Partition) (cache : ℕ) (key : List ℕ) (was : Option Link) (items : ℕ → List Item) (laid : IsLaidOut old items) (few : cache < CACHES)
+    (first : NoDataFirst old new) (removes : RemovesIndex old new cache (laid.nodes cache) (items cache) key was) where
+  pub removal_keeps_data : KeepsData old new
+  removal_keeps_data = removal_keeps old new cache (laid.heights cache) (laid.nodes cache) (items cache) key was first (laid.indexes cache few) removes
 
   other_stays : (c : ℕ) → c ≢ cache → c < CACHES → (j : ℕ) → 1 ≤ times j (laid.nodes c) → new j ≡ old j
   other_stays c other few_c j there =

@@ -1,42 +1,42 @@
 -- A partition that is laid out, whose pages pass their checks and whose indexes list its rows, each key once, is well formed.
-use Rattle.std.proofs.Common.{◌≡◌, ◌≢◌, ℕ, zero, suc, ◌+◌, ◌-◌, ◌*◌, ◌/◌, ◌<◌, ◌≤◌, ◌⊎◌, ◌==◌, ◌++◌, List, [], ◌∷◌, Bool, true, false, length, refl, sym, ap, subst, ◌∙◌, inl, inr, arith}
-use Rattle.std.specs.Prelude.{if◌then◌else◌, nat_le, nat_lt, All, Any, Option, None, Some, IfSome, IsSomeAnd}
+use Rattle.std.proofs.Common.{◌≡◌, ◌≢◌, ℕ, zero, suc, ◌+◌, ◌-◌, ◌*◌, ◌<◌, ◌≤◌, ◌++◌, List, [], ◌∷◌, Bool, true, false, length, refl, sym, ap, subst, ◌∙◌, inl, inr, arith}
+use Rattle.std.specs.Prelude.{if◌then◌else◌, nat_le, nat_lt, All, Any, IfSome, IsSomeAnd}
 use Rattle.std.specs.List.{flat_map, range_with_len}
 use Rattle.std.proofs.Math.Nat.{div-lt_iff_lt-mul}
-use Rattle.std.proofs.lemmas.Bool.{cases_eq, cases_lt, cases_Bool, eq-eqb, ne_eqb, le-leb, lt-leb}
+use Rattle.std.proofs.lemmas.Bool.{cases_eq, cases_lt, eq-eqb, ne_eqb, le-leb}
 use Rattle.pm_types.specs.declared.limits.TheConstants.{CACHES}
 use Rattle.pm_types.specs.declared.shape.Shape.{Shape}
 use Rattle.pm_types.specs.PageSizes.{IsPageSize}
 use Rattle.pm_types.specs.Ids.{page_id}
-use Rattle.pm_btpage.specs.IndexPages.{Item, capacity_of}
-use Rattle.pm_btpage.specs.declared.layout.TheConstants.{LEAF_KIND, INNER_KIND}
+use Rattle.pm_btpage.specs.IndexPages.{Item}
 use Rattle.pm_data.specs.declared.layout.TheConstants.{DATA_KIND}
 use Rattle.pm_data.specs.DataPages.{IsDataPage, room_of, free_item, rows_of as items_of_page, low_of, count_of}
-use Rattle.pm_meta.specs.declared.layout.TheConstants.{BUCKETS, REUSE_KIND}
-use Rattle.pm_meta.specs.declared.slots.MetaSlot.TheVariants.{Bucket, Reuse}
+use Rattle.pm_meta.specs.declared.layout.TheConstants.{BUCKETS}
+use Rattle.pm_meta.specs.declared.slots.MetaSlot.TheVariants.{Bucket}
 use Rattle.pm_pages.specs.declared.row.Row.{Row}
 use Rattle.pm_pages.specs.declared.limits.TheConstants.{LEVELS_MAX}
 use Rattle.pm_pages.specs.Rows.{Partition, page_at, page_count, number_in, kind_of, bytes_of, rows_of}
-use Rattle.pm_pages.specs.Chains.{times, bucket_of, bucket_chain, reuse_chain, reuse_next_of, next_of}
+use Rattle.pm_pages.specs.Chains.{times, bucket_of, bucket_chain, reuse_chain, next_of}
 use Rattle.pm_pages.specs.Trees.{root_of, levels_of, nodes_of, nodes_below, ListsRows, IsItemOf, HasTree, IsTreeOf}
 use Rattle.pm_pages.specs.Passes.{Passes, PassesAsMeta}
 use Rattle.pm_pages.specs.Paged.{Paged, PassesIn}
 use Rattle.pm_pages.specs.SoundPages.{PassesAll}
-use Rattle.pm_pages.specs.WellFormed.{AllPass, IsWellFormed, HasKeysOnce, placed_pages, EachOnce}
+use Rattle.pm_pages.specs.WellFormed.{AllPass, IsWellFormed, HasKeysOnce, placed_pages}
 use Rattle.pm_pages.proofs.ChainWalks.{stands, all_stand, walk_some}
 use Rattle.pm_pages.proofs.PageReads.{page_at-below}
 use Rattle.pm_pages.proofs.PassingLooks.{page_passes, page_there}
 use Rattle.pm_tree.specs.Indexes.{IsIndex}
-use Rattle.pm_tree.specs.Nodes.{nodes_in, nodes_under, items_under}
+use Rattle.pm_tree.specs.Nodes.{nodes_in, nodes_under}
 use Rattle.pm_tree.specs.Puts.{half_of}
 use Rattle.pm_tree.proofs.Decoded.{nodes_same, items_same, tree_to}
 use Rattle.pm_tree.proofs.PartedKeys.{tree_some}
-use Rattle.pm_part.proofs.JoinedLists.{joined, in_one}
-use Rattle.pm_part.proofs.SameIndexes.{index_below, index_kind}
-use Rattle.pm_part.proofs.Layouts.{IsLaidOut, is_data, data_one, data_none, in_index}
+use Rattle.pm_part.specs.LaidOut.{joined, IsLaidOut, is_data}
+use Rattle.pm_part.proofs.JoinedLists.{in_one}
+use Rattle.pm_part.proofs.SameIndexes.{index_below}
+use Rattle.pm_part.proofs.Layouts.{data_one, data_none, in_index}
 use Rattle.pm_part.proofs.Levels.{levels_are}
 use Rattle.pm_part.proofs.PlacedPages.{all_chains, chains_none, chains_once, placed_times}
-use Rattle.pm_part.proofs.Quantified.{Holds, Each, each_of, all_of, holds_of, any_of}
+use Rattle.pm_part.proofs.Quantified.{Holds, Each, each_of, holds_of}
 
 abbrev bit : Bool → ℕ
 bit b = if b then 1 else 0

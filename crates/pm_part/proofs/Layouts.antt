@@ -1,40 +1,20 @@
--- How a partition's pages are laid out: each page but the first stands once, in the index of a cache, in the chain of a bucket or
--- in the reuse chain. The items of the indexes may be any.
-use Rattle.std.proofs.Common.{◌≡◌, ◌≢◌, ℕ, zero, suc, ◌+◌, ◌<◌, ◌≤◌, ◌⊎◌, ◌==◌, List, [], true, false, Bool, refl, sym, ap, subst, ◌∙◌, inl, inr, arith}
-use Rattle.std.specs.Prelude.{if◌then◌else◌, nat_le, nat_lt, ◌&&◌}
-use Rattle.std.proofs.lemmas.Bool.{cases_eq, cases_lt, ne_eqb, eq-eqb, le-leb, lt-ltb, lt-leb, le-ltb}
-use Rattle.pm_types.specs.declared.limits.TheConstants.{CACHES}
+-- Where a page of a partition that is laid out stands, and that each page still stands once after pages were taken and given back.
+use Rattle.std.proofs.Common.{◌≡◌, ◌≢◌, ℕ, ◌+◌, ◌<◌, ◌≤◌, ◌==◌, List, refl, sym, ap, ◌∙◌, inl, inr, arith}
+use Rattle.std.specs.Prelude.{if◌then◌else◌}
+use Rattle.std.proofs.lemmas.Bool.{cases_lt, ne_eqb, eq-eqb, le-leb, lt-ltb, lt-leb, le-ltb}
 use Rattle.pm_btpage.specs.IndexPages.{Item}
 use Rattle.pm_btpage.specs.declared.layout.TheConstants.{LEAF_KIND, INNER_KIND}
 use Rattle.pm_data.specs.declared.layout.TheConstants.{DATA_KIND}
-use Rattle.pm_meta.specs.declared.layout.TheConstants.{REUSE_KIND}
 use Rattle.pm_pages.specs.Rows.{Partition, page_at, page_count, kind_of}
 use Rattle.pm_pages.specs.Chains.{times, reuse_chain}
 use Rattle.pm_pages.specs.Trees.{root_of}
-use Rattle.pm_pages.specs.SpareChains.{HasSpare, MovesSpare, is_added}
+use Rattle.pm_pages.specs.SpareChains.{MovesSpare, is_added}
 use Rattle.pm_pages.proofs.ChainWalks.{stands}
-use Rattle.pm_tree.specs.Indexes.{IsIndex}
 use Rattle.pm_tree.specs.Nodes.{nodes_in}
 use Rattle.pm_tree.specs.Puts.{IsSpare}
-use Rattle.pm_free.specs.Placed.{HasChains}
-use Rattle.pm_part.proofs.JoinedLists.{joined, in_one, one_in}
+use Rattle.pm_part.specs.LaidOut.{joined, is_data, IsLaidOut}
+use Rattle.pm_part.proofs.JoinedLists.{in_one}
 use Rattle.pm_part.proofs.SameIndexes.{index_kind, index_below}
-
--- 1 for a data page, 0 for any other
-abbrev pub is_data : Partition → ℕ → ℕ
-is_data pages j = if kind_of (page_at pages j) == DATA_KIND then 1 else 0
-
--- Each cache has an index with these items, the chains of the buckets and the reuse chain are right, and each page but the first
--- stands once in them.
-pub record IsLaidOut (pages : Partition) (items : ℕ → List Item) : Type 0 where
-  pub some : 1 ≤ page_count pages
-  pub heights : ℕ → ℕ
-  pub nodes : ℕ → List ℕ
-  pub indexes : (cache : ℕ) → cache < CACHES → IsIndex pages (root_of pages cache) (heights cache) (nodes cache) (items cache)
-  pub chains : HasChains pages
-  pub spare : HasSpare pages
-  pub first : times 0 (joined nodes) ≡ 0
-  pub each : (j : ℕ) → 1 ≤ j → j < page_count pages → times j (joined nodes) + is_data pages j + times j (reuse_chain pages) ≡ 1
 
 pub data_one : (pages : Partition) (j : ℕ) → kind_of (page_at pages j) ≡ DATA_KIND → is_data pages j ≡ 1
 data_one pages j kind = simp (eq-eqb (kind_of (page_at pages j)) DATA_KIND kind) refl

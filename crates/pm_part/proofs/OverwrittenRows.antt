@@ -1,5 +1,5 @@
 -- The rows of a partition of which one page has a row in the place of another one.
-use Rattle.std.proofs.Common.{◌≡◌, ◌≢◌, ℕ, ◌+◌, ◌*◌, ◌/◌, ◌<◌, ◌≤◌, List, [], ◌∷◌, length, refl, sym, ap, subst, ◌∙◌, inl, inr, arith}
+use Rattle.std.proofs.Common.{◌≡◌, ◌≢◌, ℕ, ◌+◌, ◌*◌, ◌/◌, ◌<◌, ◌≤◌, List, [], length, refl, sym, ap, subst, ◌∙◌, inl, inr, arith}
 use Rattle.std.specs.Prelude.{Option, None, Some, if◌then◌else◌, ◌==◌}
 use Rattle.std.specs.List.{flat_map, range_with_len}
 use Rattle.std.proofs.lemmas.Bool.{cases_eq, eq-eqb, ne_eqb}
@@ -17,9 +17,10 @@ use Rattle.pm_pages.specs.Paged.{Paged}
 use Rattle.pm_pages.specs.Edits.{EditsPages, HasMeta}
 use Rattle.pm_pages.proofs.PageReads.{page_at-below}
 use Rattle.pm_pages.proofs.RowsFrom.{rows_on-data}
+use Rattle.pm_pages.specs.SpareChains.{MovesSpare}
 use Rattle.pm_pages.proofs.SpareMoves.{moves_none}
 use Rattle.pm_free.specs.Chained.{home_of, homes_in}
-use Rattle.pm_free.specs.Placed.{HasOneMore, HasChains, HasItemAt}
+use Rattle.pm_free.specs.Placed.{HasOneMore, HasChains, HasItemAt, KeepsRoots}
 use Rattle.pm_free.proofs.Changed.{below_count}
 use Rattle.pm_free.proofs.RowLists.{items_more, rows_more}
 use Rattle.pm_free.proofs.PlacedRows.{chains_in, chains_out, chained_same}
@@ -29,6 +30,7 @@ use Rattle.pm_part.specs.declared.spots.Spot.{Spot}
 use Rattle.pm_part.specs.Changes.{WritesOver}
 use Rattle.pm_part.specs.Puts.{OverwritesRow}
 use Rattle.pm_part.proofs.FreedRoom.{is_live}
+use Rattle.pm_part.proofs.DataSteps.{laid_kept}
 
 -- the rows but for one page, which has these items
 abbrev pub rows_with : ℕ → Partition → ℕ → List (Option (List ℕ)) → List Row
@@ -65,49 +67,85 @@ same_chains a b at count heads others next before home has =
     ]
 
 -- a row was written over one that has as many bytes
-pub overwritten : (T : Type 0) (a b : Paged) (spot : Spot) (row : List ℕ) → T → HasMeta a → HasItemAt a spot.at spot.item → EditsPages T a b (λ j. j ≡ spot.at) 0 → WritesOver a b spot.at spot.item row → OverwritesRow a.part a.pages b.pages spot row (link (page_id a.part spot.at) spot.item)
-overwritten T a b spot row t meta has edits over =
-    let at = spot.at in
-    let item = spot.item in
-    let lt : at < page_count a.pages = below_count a at meta has.is in
-    let not_at : 0 ≡ at → ⊥ = λ e. omega (arith, e, has.is.some) in
-    let first : b.pages 0 ≡ a.pages 0 = edits.others 0 (inl t) not_at in
-    let count : page_count b.pages ≡ page_count a.pages = ap (λ o. number_of o Pages) first in
-    let was : page_at a.pages at ≡ over.was = page_at-below a.pages at lt ∙ ap bytes_of over.before in
-    let now : page_at b.pages at ≡ over.now = page_at-below b.pages at (omega (arith, lt, count)) ∙ ap bytes_of over.after in
-    let same : has.is.page ≡ over.was = cc (has.is.is.in_hand.page, over.before) in
-    let old_page : IsDataPage over.was = subst IsDataPage same has.is.is.well_made in
-    let live : row_at (data_page.rows_of over.was) item ≡ Some has.row = ap (λ (p : List ℕ). row_at (data_page.rows_of p) item) (sym same) ∙ has.live in
-    let le : item ≤ length (data_page.rows_of over.was) = omega (arith, is_live (data_page.rows_of over.was) item has.row live) in
-    let items = with_row (data_page.rows_of over.was) item None in
-    let gone : row_at items item ≡ None = row_at-with_row_here (data_page.rows_of over.was) item None le in
-    let rest : (k : ℕ) → k ≢ item → row_at items k ≡ row_at (data_page.rows_of over.was) k = λ k ne. row_at-with_row_other (data_page.rows_of over.was) item k None le ne in
-    let others : (j : ℕ) → j ≢ at → page_at b.pages j ≡ page_at a.pages j = λ j ne. same_page a.pages b.pages j count (edits.others j (inl t) ne) in
-    let kind_a : kind_of (page_at a.pages at) ≡ DATA_KIND = ap kind_of was ∙ old_page.head.kind in
-    let kind_b : kind_of (page_at b.pages at) ≡ DATA_KIND = ap kind_of now ∙ over.adds.well_made.head.kind in
-    let rows_a : data_page.rows_of (page_at a.pages at) ≡ data_page.rows_of over.was = ap data_page.rows_of was in
-    let rows_b : data_page.rows_of (page_at b.pages at) ≡ data_page.rows_of over.now = ap data_page.rows_of now in
-    record {
-      was = row_of (link (page_id a.part at) item) has.row;
-      others = rows_with a.part a.pages at items;
-      named = refl;
-      before = one_item a.part a.pages a.pages at item items has.row refl lt (λ j ne. refl) kind_a gone (ap (λ (l : List (Option (List ℕ))). row_at l item) rows_a ∙ live) (λ k ne. ap (λ (l : List (Option (List ℕ))). row_at l k) rows_a ∙ sym (rest k ne));
-      now = one_item a.part a.pages b.pages at item items row count lt others kind_b gone (ap (λ (l : List (Option (List ℕ))). row_at l item) rows_b ∙ over.adds.here)
-          (λ k ne. ap (λ (l : List (Option (List ℕ))). row_at l k) rows_b ∙ over.adds.others k ne ∙ sym (rest k ne));
-      chains = same_chains a.pages b.pages at count (λ bucket. ap (λ o. number_of o (Bucket bucket)) first) others
-          (ap next_of now ∙ data_next over.now over.adds.well_made ∙ ap (λ (d : DataPage). d.next) over.adds.says ∙ sym (ap next_of was ∙ data_next over.was old_page))
-          (ap before_of now ∙ data_before over.now over.adds.well_made ∙ ap (λ (d : DataPage). d.prev) over.adds.says ∙ sym (ap before_of was ∙ data_before over.was old_page))
-          (ap home_of now ∙ data_home over.now over.adds.well_made ∙ (λ i. over.room i * BUCKETS / over.size i) ∙ sym (ap home_of was ∙ data_home over.was old_page));
-      spare = (moves_none a.pages b.pages (ap (λ o. number_of o Reuse) first) count
-          (λ j nz. elim (cases_eq j at) [
-            | inl e ↦ subst (λ i. reuse_next_of (page_at b.pages i) ≡ reuse_next_of (page_at a.pages i)) (sym e) (no_reuse (page_at b.pages at) (λ z. omega (arith, z, kind_b)) ∙ sym (no_reuse (page_at a.pages at) (λ z. omega (arith, z, kind_a))))
-            | inr ne ↦ ap reuse_next_of (others j ne)
-          ])
-          (λ j nz kind. elim (cases_eq j at) [
-            | inl e ↦ absurd (omega (arith, kind_a, sym (ap (λ n. kind_of (page_at a.pages n)) e) ∙ kind))
-            | inr ne ↦ ap kind_of (others j ne) ∙ kind
-          ])).sound;
-      count = omega (arith, count);
-      stays = λ j nz kind used. edits.others j (inl t) (λ e. kind (ap (λ i. kind_of (page_at a.pages i)) e ∙ kind_a));
-      numbers = λ slot is not_reuse not_pages not_bucket. ap (λ o. number_of o slot) first;
-    }
+module _ (T : Type 0) (a b : Paged) (spot : Spot) (row : List ℕ) (t : T) (meta : HasMeta a) (has : HasItemAt a spot.at spot.item) (edits : EditsPages T a b (λ j. j ≡ spot.at) 0) (over : WritesOver a b spot.at spot.item row) where
+  lt : spot.at < page_count a.pages
+  lt = below_count a spot.at meta has.is
+
+  pub first_stays : b.pages 0 ≡ a.pages 0
+  first_stays = edits.others 0 (inl t) (λ e. omega (arith, e, has.is.some))
+
+  pub count_stays : page_count b.pages ≡ page_count a.pages
+  count_stays = ap (λ o. number_of o Pages) first_stays
+
+  page_was : page_at a.pages spot.at ≡ over.was
+  page_was = page_at-below a.pages spot.at lt ∙ ap bytes_of over.before
+
+  page_now : page_at b.pages spot.at ≡ over.now
+  page_now = page_at-below b.pages spot.at (omega (arith, lt, count_stays)) ∙ ap bytes_of over.after
+
+  same : has.is.page ≡ over.was
+  same = cc (has.is.is.in_hand.page, over.before)
+
+  pub well_made : IsDataPage over.was
+  well_made = subst IsDataPage same has.is.is.well_made
+
+  elsewhere : (j : ℕ) → j ≢ spot.at → page_at b.pages j ≡ page_at a.pages j
+  elsewhere j ne = same_page a.pages b.pages j count_stays (edits.others j (inl t) ne)
+
+  kind_was : kind_of (page_at a.pages spot.at) ≡ DATA_KIND
+  kind_was = ap kind_of page_was ∙ well_made.head.kind
+
+  kind_now : kind_of (page_at b.pages spot.at) ≡ DATA_KIND
+  kind_now = ap kind_of page_now ∙ over.adds.well_made.head.kind
+
+  -- what is the same of this page is the same of each
+  each_page : (f : List ℕ → ℕ) → f (page_at b.pages spot.at) ≡ f (page_at a.pages spot.at) → (j : ℕ) → f (page_at b.pages j) ≡ f (page_at a.pages j)
+  each_page f here j = elim (cases_eq j spot.at) [
+    | inl e ↦ subst (λ i. f (page_at b.pages i) ≡ f (page_at a.pages i)) (sym e) here
+    | inr ne ↦ ap f (elsewhere j ne)
+  ]
+
+  kinds : (j : ℕ) → kind_of (page_at b.pages j) ≡ kind_of (page_at a.pages j)
+  kinds = each_page kind_of (kind_now ∙ sym kind_was)
+
+  pub overwritten_moves : MovesSpare a.pages b.pages [] []
+  overwritten_moves = moves_none a.pages b.pages (ap (λ o. number_of o Reuse) first_stays) count_stays
+      (λ j nz. each_page reuse_next_of (no_reuse (page_at b.pages spot.at) (λ z. omega (arith, z, kind_now)) ∙ sym (no_reuse (page_at a.pages spot.at) (λ z. omega (arith, z, kind_was)))) j)
+      (λ j nz kind. kinds j ∙ kind)
+
+  roots : KeepsRoots a.pages b.pages
+  roots slot is not_reuse not_pages not_bucket = ap (λ o. number_of o slot) first_stays
+
+  untouched : (j : ℕ) → j ≢ 0 → kind_of (page_at a.pages j) ≢ DATA_KIND → b.pages j ≡ a.pages j
+  untouched j nz kind = edits.others j (inl t) (λ e. kind (ap (λ i. kind_of (page_at a.pages i)) e ∙ kind_was))
+
+  chains_kept : HasChains a.pages → HasChains b.pages
+  chains_kept = same_chains a.pages b.pages spot.at count_stays (λ bucket. ap (λ o. number_of o (Bucket bucket)) first_stays) elsewhere
+      (ap next_of page_now ∙ data_next over.now over.adds.well_made ∙ ap (λ (d : DataPage). d.next) over.adds.says ∙ sym (ap next_of page_was ∙ data_next over.was well_made))
+      (ap before_of page_now ∙ data_before over.now over.adds.well_made ∙ ap (λ (d : DataPage). d.prev) over.adds.says ∙ sym (ap before_of page_was ∙ data_before over.was well_made))
+      (ap home_of page_now ∙ data_home over.now over.adds.well_made ∙ (λ i. over.room i * BUCKETS / over.size i) ∙ sym (ap home_of page_was ∙ data_home over.was well_made))
+
+  pub overwritten : OverwritesRow a.part a.pages b.pages spot row (link (page_id a.part spot.at) spot.item)
+  overwritten =
+      let item = spot.item in
+      let live : row_at (data_page.rows_of over.was) item ≡ Some has.row = ap (λ (p : List ℕ). row_at (data_page.rows_of p) item) (sym same) ∙ has.live in
+      let le : item ≤ length (data_page.rows_of over.was) = omega (arith, is_live (data_page.rows_of over.was) item has.row live) in
+      let items = with_row (data_page.rows_of over.was) item None in
+      let gone : row_at items item ≡ None = row_at-with_row_here (data_page.rows_of over.was) item None le in
+      let rest : (k : ℕ) → k ≢ item → row_at items k ≡ row_at (data_page.rows_of over.was) k = λ k ne. row_at-with_row_other (data_page.rows_of over.was) item k None le ne in
+      let rows_a : data_page.rows_of (page_at a.pages spot.at) ≡ data_page.rows_of over.was = ap data_page.rows_of page_was in
+      let rows_b : data_page.rows_of (page_at b.pages spot.at) ≡ data_page.rows_of over.now = ap data_page.rows_of page_now in
+      record {
+        was = row_of (link (page_id a.part spot.at) item) has.row;
+        others = rows_with a.part a.pages spot.at items;
+        named = refl;
+        before = one_item a.part a.pages a.pages spot.at item items has.row refl lt (λ j ne. refl) kind_was gone (ap (λ (l : List (Option (List ℕ))). row_at l item) rows_a ∙ live) (λ k ne. ap (λ (l : List (Option (List ℕ))). row_at l k) rows_a ∙ sym (rest k ne));
+        now = one_item a.part a.pages b.pages spot.at item items row count_stays lt elsewhere kind_now gone (ap (λ (l : List (Option (List ℕ))). row_at l item) rows_b ∙ over.adds.here)
+            (λ k ne. ap (λ (l : List (Option (List ℕ))). row_at l k) rows_b ∙ over.adds.others k ne ∙ sym (rest k ne));
+        chains = chains_kept;
+        laid = λ items laid. laid_kept a.pages b.pages items laid overwritten_moves roots chains_kept kinds untouched;
+        spare = overwritten_moves.sound;
+        count = omega (arith, count_stays);
+        stays = λ j nz kind used. untouched j nz kind;
+        numbers = roots;
+      }

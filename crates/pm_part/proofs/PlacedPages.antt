@@ -1,19 +1,17 @@
 -- How often a page stands in the chains of all buckets together, and in all that a well-formed partition places.
-use Rattle.std.proofs.Common.{◌≡◌, ◌≢◌, ℕ, zero, suc, ◌+◌, ◌<◌, ◌≤◌, ◌⊎◌, ◌==◌, ◌++◌, List, [], true, false, refl, sym, ap, subst, ◌∙◌, inl, inr, arith}
-use Rattle.std.specs.Prelude.{if◌then◌else◌, ◌&&◌, nat_le}
+use Rattle.std.proofs.Common.{◌≡◌, ◌≢◌, ℕ, zero, suc, ◌+◌, ◌<◌, ◌≤◌, ◌++◌, List, refl, sym, ap, ◌∙◌, inl, inr, arith}
+use Rattle.std.specs.Prelude.{if◌then◌else◌}
 use Rattle.std.specs.List.{flat_map, range_with_len}
 use Rattle.std.proofs.lemmas.Bool.{cases_eq, cases_lt, eq-eqb, ne_eqb}
-use Rattle.pm_types.specs.declared.limits.TheConstants.{CACHES}
 use Rattle.pm_data.specs.declared.layout.TheConstants.{DATA_KIND}
 use Rattle.pm_meta.specs.declared.layout.TheConstants.{BUCKETS}
 use Rattle.pm_pages.specs.Rows.{Partition, page_at, page_count, kind_of}
-use Rattle.pm_pages.specs.Chains.{times, bucket_chain, bucket_of, is_in_bucket, reuse_chain, HasChain}
+use Rattle.pm_pages.specs.Chains.{times, bucket_chain, bucket_of, is_in_bucket, reuse_chain}
 use Rattle.pm_pages.specs.Trees.{nodes_of}
 use Rattle.pm_pages.specs.WellFormed.{placed_pages}
 use Rattle.pm_pages.proofs.ChainWalks.{times-append}
 use Rattle.pm_free.specs.Placed.{HasChains}
-use Rattle.pm_part.proofs.JoinedLists.{joined}
-use Rattle.pm_part.proofs.Layouts.{is_data}
+use Rattle.pm_part.specs.LaidOut.{joined}
 
 cut : (f : ℕ → List ℕ) (from n j : ℕ) → times j (flat_map f (range_with_len from (suc n))) ≡ times j (f from) + times j (flat_map f (range_with_len (from + 1) n))
 cut f from n j =

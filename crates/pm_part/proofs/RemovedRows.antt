@@ -1,8 +1,7 @@
 -- A row is taken out of a well-formed partition, its key removed from the index of its cache, and the row count set: the partition
 -- is well formed, and the rows make the map without the key.
-use Rattle.std.proofs.Common.{◌≡◌, ◌≢◌, ℕ, zero, suc, ◌+◌, ◌-◌, ◌<◌, ◌≤◌, ◌⊎◌, List, [], Option, length, true, sym, ap, subst, ◌∙◌, inl, inr, arith}
+use Rattle.std.proofs.Common.{◌≡◌, ℕ, ◌-◌, ◌<◌, ◌≤◌, List, Option, length, true, sym, ap, subst, ◌∙◌, arith}
 use Rattle.std.specs.Prelude.{All, AllPairs}
-use Rattle.std.proofs.lemmas.Bool.{cases_eq, eq-eqb, ne_eqb}
 use Rattle.pm_types.specs.declared.limits.TheConstants.{CACHES}
 use Rattle.pm_types.specs.declared.shape.Shape.{Shape}
 use Rattle.pm_types.specs.declared.page_id.Link.{Link}
@@ -14,7 +13,7 @@ use Rattle.pm_model.specs.declared.line.Line.TheVariants.{Good}
 use Rattle.pm_model.specs.declared.line.Cmd.TheVariants.{Remove}
 use Rattle.pm_model.specs.declared.reply.Reply.TheVariants.{Was}
 use Rattle.pm_pages.specs.declared.row.Row.{Row}
-use Rattle.pm_pages.specs.Rows.{Partition, page_count, number_in, rows_of, row_of}
+use Rattle.pm_pages.specs.Rows.{page_count, number_in, rows_of, row_of}
 use Rattle.pm_pages.specs.Trees.{root_of, ListsRows}
 use Rattle.pm_pages.specs.Paged.{Paged}
 use Rattle.pm_pages.specs.Edits.{EditsPages}
@@ -24,8 +23,8 @@ use Rattle.pm_pages.specs.WellFormed.{IsWellFormed, HasKeysOnce, AreDifferent}
 use Rattle.pm_tree.specs.Indexes.{IsIndex}
 use Rattle.pm_tree_del.specs.Maps.{remove_in}
 use Rattle.pm_tree_del.specs.Roots.{RemovesIndex}
-use Rattle.pm_free.specs.Placed.{TakesRow, HasOneMore}
-use Rattle.pm_part.proofs.Layouts.{IsLaidOut}
+use Rattle.pm_free.specs.Placed.{TakesRow}
+use Rattle.pm_part.specs.LaidOut.{IsLaidOut}
 use Rattle.pm_part.proofs.DataSteps.{laid_take}
 use Rattle.pm_part.proofs.TreeSteps.{NoDataFirst, set_at, lists_set}
 use Rattle.pm_part.proofs.KeyRemovals.{laid_remove, removal_keeps_data}

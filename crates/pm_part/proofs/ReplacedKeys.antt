@@ -39,15 +39,20 @@ use Rattle.pm_part.specs.Spots.{HasRowIn}
 use Rattle.pm_part.specs.RowBytes.{IsRowOf}
 use Rattle.pm_part.specs.Runs.{IsPartitionOf}
 use Rattle.pm_part.specs.Puts.{OverwritesRow, ReplacesKey, AddsKey, IsPartFor, PutsKey, LacksItem}
-use Rattle.pm_part.proofs.KeyedRows.{HasKey}
-use Rattle.pm_part.proofs.ChangedMaps.{LacksKey, inserted, replaced}
-use Rattle.pm_part.proofs.CountedKeys.{full_absent, full_there}
+use Rattle.pm_part.proofs.KeyedRows.{HasKey, HasValue}
+use Rattle.pm_part.proofs.RowKeys.{HasNoRow, once_with_new}
+use Rattle.pm_part.proofs.OneMore.{holds_weaker}
+use Rattle.pm_part.proofs.MappedRows.{map_added, map_replaced}
+use Rattle.pm_part.proofs.FullPartitions.{full_new, full_there}
 use Rattle.pm_part.proofs.NamedRows.{row_named}
-use Rattle.pm_part.proofs.TreeRows.{rows_put, rows_alike, neither, past_no_data}
+use Rattle.pm_part.proofs.TreeSteps.{past_none}
+use Rattle.pm_part.proofs.KeptRows.{rows_kept}
+use Rattle.pm_part.proofs.KeyPuts.{put_keeps}
+use Rattle.pm_part.proofs.CountSteps.{count_keeps_data}
 use Rattle.pm_part.proofs.CacheIndexes.{index_of, no_row}
 use Rattle.pm_part.proofs.KeptIndexes.{index_placed, index_overwritten}
 use Rattle.pm_part.proofs.HeldSpare.{held_spare}
-use Rattle.pm_part.proofs.DroppedRows.{few_pages, meta_no_data, stands_on, rows_set, partition_looked}
+use Rattle.pm_part.proofs.DroppedRows.{few_pages, meta_no_data, stands_on, number_kept, partition_looked}
 use Rattle.pm_part.proofs.RemovedKeys.{row_there}
 
 -- a row of the key has the place of the one that it had
@@ -56,14 +61,12 @@ replaced_key shape a mid new spot cache key value row at_link is meta has row_is
     let on = stands_on a spot cache key meta has in
     let live : row_at (data_page.rows_of (page_at a.pages spot.at)) spot.item ≡ Some has.row = ap (λ (page : List ℕ). row_at (data_page.rows_of page) spot.item) on.1 ∙ has.is.live in
     let was = row_named a.part a.pages spot.at spot.item has.row rows.was rows.others is.part (few_pages shape a is) on.0 live rows.before rows.named in
-    let same_key : HasKey (row_cache row) (row_key row) rows.was = record {
-      cache_is = ap (λ (r : Row). r.cache) was ∙ has.is.cache_is ∙ sym row_is.cache_is;
-      key_is = ap (λ (r : Row). r.key) was ∙ has.is.key_is ∙ sym row_is.key_is;
-    } in
+    let was_cache = ap (λ (r : Row). r.cache) was ∙ has.is.cache_is in
+    let was_key = ap (λ (r : Row). r.key) was ∙ has.is.key_is in
     record {
       rows = ap map_of same
-          ∙ replaced rows.others (rows_of a.part a.pages) (rows_of a.part mid) rows.was (row_of at_link row) rows.before rows.now same_key is.well_formed.keys_once.once
-          ∙ (λ k. map.insert (map_of (rows_of a.part a.pages)) (cache_key (row_is.cache_is k) (row_is.key_is k)) (row_is.value_is k));
+          ∙ map_replaced rows.others (rows_of a.part a.pages) (rows_of a.part mid) rows.was (row_of at_link row) rows.before rows.now (row_is.cache_is ∙ sym was_cache) (row_is.key_is ∙ sym was_key) is.well_formed.keys_once.once
+          ∙ (λ k. map.insert (map_of (rows_of a.part a.pages)) (cache_key (was_cache k) (was_key k)) (row_is.value_is k));
     }
 
 -- the link of a replaced row was set in the index of its cache
@@ -72,7 +75,8 @@ pub rows_relinked : (a b c : Paged) (shape : Shape) (spot : Spot) (cache word : 
 rows_relinked a b c shape spot cache word key row at_link was few is meta_a meta_b meta_c reads_a reads_b reads_c rows puts =
     let ix = index_of shape a cache is.page_size is.max_rows is.well_formed few in
     let index = index_overwritten a b.pages cache ix.height ix.nodes ix.items reads_a meta_a few ix.index a.part spot row at_link rows in
-    rows_put a.part b.pages c.pages cache ix.height ix.nodes ix.items key word (was ix.items) (rows.spare (held_spare shape a.part a.pages is.well_formed)) (meta_no_data b reads_b meta_b) (meta_no_data c reads_c meta_c) index (puts ix.height ix.nodes ix.items index)
+    let made = puts ix.height ix.nodes ix.items index in
+    rows_kept a.part b.pages c.pages made.moves.count (put_keeps b.pages c.pages cache ix.height ix.nodes ix.items key word (was ix.items) (rows.spare (held_spare shape a.part a.pages is.well_formed)) (meta_no_data b reads_b meta_b, meta_no_data c reads_c meta_c) index made)
 
 -- a row was placed, its item put into the index, and the meta page counts one more
 pub added_key : (T : Type 0) (a b c d : Paged) (size cache count value : ℕ) (key row : List ℕ) (at_link : Link) (was : Option Link) (height : ℕ) (nodes : List ℕ) (items : List Item) → T → cache < CACHES → HasMeta a → HasMeta b → HasMeta c → HasMeta d → AllReadable a → AllReadable b → AllReadable c → AllReadable d → HasSpare a.pages → IsIndex a.pages (root_of a.pages cache) height nodes items
@@ -80,8 +84,9 @@ pub added_key : (T : Type 0) (a b c d : Paged) (size cache count value : ℕ) (k
 added_key T a b c d size cache count value key row at_link was height nodes items t few meta_a meta_b meta_c meta_d reads_a reads_b reads_c reads_d spare index places puts edits sets_value value_is =
     let sets = subst (λ n. MetaBecomes c d (λ w m. SetsNumber w m Rows n)) value_is sets_value in
     let index_b = index_placed a b.pages cache height nodes items reads_a meta_a few index size a.part row at_link places in
-    let rows_c = rows_put a.part b.pages c.pages cache height nodes items key at_link.0 was (places.moves.sound spare) (meta_no_data b reads_b meta_b) (meta_no_data c reads_c meta_c) index_b (puts height nodes items index_b) in
-    let rows_d = rows_set a.part c.pages d.pages Rows count sets.was sets.now sets.before sets.after sets.change (λ z. cc z) (λ j ne. edits.others j (inl t) ne) (meta_no_data c reads_c meta_c) (meta_no_data d reads_d meta_d) in
+    let made = puts height nodes items index_b in
+    let rows_c = rows_kept a.part b.pages c.pages made.moves.count (put_keeps b.pages c.pages cache height nodes items key at_link.0 was (places.moves.sound spare) (meta_no_data b reads_b meta_b, meta_no_data c reads_c meta_c) index_b made) in
+    let rows_d = rows_kept a.part c.pages d.pages (omega (arith, number_kept c d Rows Pages count sets tt (λ z. cc z))) (count_keeps_data T c d count 0 t edits sets (meta_no_data c reads_c meta_c, meta_no_data d reads_d meta_d)) in
     record {
       at_link = at_link;
       added = subst (λ (l : List Row). HasOneMore (rows_of a.part a.pages) l (row_of at_link row)) (sym (rows_d ∙ rows_c)) places.rows;
@@ -101,16 +106,16 @@ puts_full shape part old new cache key value full rows = record { done_is = sym 
 -- a key that was there
 pub held_put : (shape : Shape) (p : Paged) (new : Partition) (spot : Spot) (cache : ℕ) (key value : List ℕ) → IsPartitionOf shape p → HasMeta p → HasRowIn p spot cache key → ReplacesKey p.part p.pages new cache key value → PutsKey shape p.part p.pages new cache key value true
 held_put shape p new spot cache key value is meta has replaces =
-    puts_done shape p.part p.pages new cache key value (full_there shape cache key _ (rows_of p.part p.pages) is.well_formed.keys_once.once (row_there p spot cache key meta has)) replaces.rows
+    puts_done shape p.part p.pages new cache key value (full_there shape (rows_of p.part p.pages) cache key is.well_formed.keys_once.once (holds_weaker (HasValue cache key (row_value has.row)) (HasKey cache key) (rows_of p.part p.pages) (λ row h. h.has) (row_there p spot cache key meta has))) replaces.rows
 
 -- a key that wasn't there
-lacks : (shape : Shape) (p : Paged) (cache : ℕ) (key : List ℕ) → cache < CACHES → IsPartitionOf shape p → LacksItem p.pages cache key → LacksKey cache key (rows_of p.part p.pages)
+pub lacks : (shape : Shape) (p : Paged) (cache : ℕ) (key : List ℕ) → cache < CACHES → IsPartitionOf shape p → LacksItem p.pages cache key → HasNoRow (rows_of p.part p.pages) cache key
 lacks shape p cache key few is none = (let ix = index_of shape p cache is.page_size is.max_rows is.well_formed few in no_row (rows_of p.part p.pages) cache key ix.items ix.lists (none.none ix.height ix.nodes ix.items ix.index))
 
 full_is : (shape : Shape) (p : Paged) (max_rows cache : ℕ) (key : List ℕ) → cache < CACHES → IsPartFor shape p max_rows key → LacksItem p.pages cache key → is_full shape (cache_key cache key) (map_of (rows_of p.part p.pages)) ≡ nat_le shape.max_rows (length (rows_of p.part p.pages))
 full_is shape p max_rows cache key few for none =
     let once = for.partition.well_formed.keys_once in
-    full_absent shape p.part cache key (rows_of p.part p.pages) once.once once.of_part (lacks shape p cache key few for.partition none) for.mine
+    full_new shape p.part (rows_of p.part p.pages) cache key once.once once.of_part for.mine (lacks shape p cache key few for.partition none)
 
 pub refused : (shape : Shape) (p : Paged) (max_rows cache : ℕ) (key value : List ℕ) → cache < CACHES → IsPartFor shape p max_rows key → LacksItem p.pages cache key → max_rows ≤ number_in p.pages Rows → PutsKey shape p.part p.pages p.pages cache key value false
 refused shape p max_rows cache key value few for none many =
@@ -119,9 +124,9 @@ refused shape p max_rows cache key value few for none many =
 pub new_put : (shape : Shape) (p : Paged) (new : Partition) (max_rows cache count : ℕ) (key value row : List ℕ) → cache < CACHES → IsPartFor shape p max_rows key → LacksItem p.pages cache key → IsRowOf cache key value row → length (rows_of p.part p.pages) < max_rows → AddsKey p.part p.pages new row count → PutsKey shape p.part p.pages new cache key value true
 new_put shape p new max_rows cache count key value row few for none row_is room adds =
     let rows = rows_of p.part p.pages in
-    let none' : LacksKey (row_cache row) (row_key row) rows = subst (λ (k : ℕ × List ℕ). LacksKey k.0 k.1 rows) {x = (cache, key)} {y = (row_cache row, row_key row)} (λ k. (sym row_is.cache_is k, sym row_is.key_is k)) (lacks shape p cache key few for.partition none) in
+    let none' : HasNoRow rows (row_cache row) (row_key row) = subst (λ (k : ℕ × List ℕ). HasNoRow rows k.0 k.1) {x = (cache, key)} {y = (row_cache row, row_key row)} (λ k. (sym row_is.cache_is k, sym row_is.key_is k)) (lacks shape p cache key few for.partition none) in
     puts_done shape p.part p.pages new cache key value (full_is shape p max_rows cache key few for none ∙ lt-leb shape.max_rows (length rows) (omega (arith, room, for.most)))
-    (inserted rows (rows_of p.part new) (row_of adds.at_link row) adds.added none' ∙ (λ k. map.insert (map_of rows) (cache_key (row_is.cache_is k) (row_is.key_is k)) (row_is.value_is k)))
+    (map_added rows (rows_of p.part new) (row_of adds.at_link row) adds.added (once_with_new rows (rows_of p.part new) (row_of adds.at_link row) adds.added none' for.partition.well_formed.keys_once.once) ∙ (λ k. map.insert (map_of rows) (cache_key (row_is.cache_is k) (row_is.key_is k)) (row_is.value_is k)))
 
 -- the same before pages were looked at
 pub puts_looked : (T : Type 0) (a b : Paged) (m : ℕ) (shape : Shape) (new : Partition) (cache : ℕ) (key value : List ℕ) (done : Bool) → T → LooksAtPages T a b m → PutsKey shape b.part b.pages new cache key value done → PutsKey shape a.part a.pages new cache key value done
@@ -143,10 +148,13 @@ rows_none part a none = ap (λ n. flat_map (λ i. rows_on (page_id part i) (page
 rows_made : (part : ℕ) (a : Partition) (b : Paged) → a 0 ≡ None → HasMeta b → AllReadable b → HasNewMeta b → rows_of part b.pages ≡ rows_of part a
 rows_made part a b none meta reads made =
     let count : page_count b.pages ≡ 1 = ap (λ o. number_of o Pages) made.here ∙ made.is.pages in
-    rows_alike part a b.pages (omega (arith, no_pages a none)) (λ j. elim (cases_eq j 0) [
-      | inl e ↦ neither part a b.pages j (past_no_data a j (omega (arith, no_pages a none))) (λ z. meta_no_data b reads meta (ap (λ i. kind_of (page_at b.pages i)) (sym e) ∙ z))
-      | inr ne ↦ neither part a b.pages j (past_no_data a j (omega (arith, no_pages a none))) (past_no_data b.pages j (omega (arith, count, ne)))
-    ])
+    rows_kept part a b.pages (omega (arith, no_pages a none)) (λ j. inr (
+      past_none a j (omega (arith, no_pages a none)),
+      elim (cases_eq j 0) [
+        | inl e ↦ (λ z. meta_no_data b reads meta (ap (λ i. kind_of (page_at b.pages i)) (sym e) ∙ z))
+        | inr ne ↦ past_none b.pages j (omega (arith, count, ne))
+      ],
+    ))
 
 none_spare : (b : Paged) → HasNewMeta b → HasSpare b.pages
 none_spare b made =

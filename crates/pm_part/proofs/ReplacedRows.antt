@@ -1,8 +1,7 @@
 -- A row takes the place of that which its key has, and where its link is another one the index of its cache gets it: the partition
 -- is well formed, and the rows make the map with the new value.
-use Rattle.std.proofs.Common.{◌≡◌, ◌≢◌, ℕ, zero, suc, ◌<◌, ◌≤◌, List, [], Option, length, sym, ap, subst, ◌∙◌, inl, inr, arith}
+use Rattle.std.proofs.Common.{◌≡◌, ℕ, ◌<◌, ◌≤◌, List, Option, length, sym, ap, subst, ◌∙◌}
 use Rattle.std.specs.Prelude.{All, AllPairs}
-use Rattle.std.proofs.lemmas.Bool.{cases_eq}
 use Rattle.pm_types.specs.declared.limits.TheConstants.{CACHES}
 use Rattle.pm_types.specs.declared.shape.Shape.{Shape}
 use Rattle.pm_types.specs.declared.page_id.Link.{Link}
@@ -14,7 +13,7 @@ use Rattle.pm_model.specs.declared.line.Line.TheVariants.{Good}
 use Rattle.pm_model.specs.declared.line.Cmd.TheVariants.{Put}
 use Rattle.pm_model.specs.declared.reply.Reply.TheVariants.{Done}
 use Rattle.pm_pages.specs.declared.row.Row.{Row}
-use Rattle.pm_pages.specs.Rows.{Partition, page_count, number_in, rows_of, row_of}
+use Rattle.pm_pages.specs.Rows.{Partition, page_count, rows_of}
 use Rattle.pm_pages.specs.Trees.{root_of, ListsRows}
 use Rattle.pm_pages.specs.Paged.{Paged}
 use Rattle.pm_pages.specs.SoundPages.{PassesAll}
@@ -23,7 +22,7 @@ use Rattle.pm_tree.specs.Maps.{put_in}
 use Rattle.pm_tree.specs.Indexes.{IsIndex}
 use Rattle.pm_tree.specs.Roots.{PutsIndex}
 use Rattle.pm_free.specs.Placed.{HasOneMore, KeepsRoots}
-use Rattle.pm_part.proofs.Layouts.{IsLaidOut}
+use Rattle.pm_part.specs.LaidOut.{IsLaidOut}
 use Rattle.pm_part.proofs.TreeSteps.{NoDataFirst, set_at, lists_set}
 use Rattle.pm_part.proofs.KeyPuts.{laid_put, put_keeps_data}
 use Rattle.pm_part.proofs.KeptRows.{rows_kept}
@@ -86,17 +85,17 @@ module _ (shape : Shape) (a b : Paged) (cache : ℕ) (key value : List ℕ) (row
     kept_effect = effect_b
 
   -- the link is another one, and the index has it
-  module _ (c : Paged) (was : Option Link) (few : cache < CACHES) (first : NoDataFirst b.pages c.pages)
-      (puts : (height : ℕ) (nodes : List ℕ) (items : List Item) → IsIndex b.pages (root_of b.pages cache) height nodes items → PutsIndex b.pages c.pages cache nodes items key other.link.0 was)
+  module _ (c : Paged) (was : List Item → Option Link) (few : cache < CACHES) (first : NoDataFirst b.pages c.pages)
+      (puts : (height : ℕ) (nodes : List ℕ) (items : List Item) → IsIndex b.pages (root_of b.pages cache) height nodes items → PutsIndex b.pages c.pages cache nodes items key other.link.0 (was items))
       (size : IsPageSize c.page_size) (page_size_c : shape.page_size ≡ c.page_size) (max_rows_c : shape.max_rows ≡ c.max_rows) (part_c : c.part ≡ a.part) (passes : PassesAll c) where
-    put : PutsIndex b.pages c.pages cache (laid_b.nodes cache) (items cache) key other.link.0 was
+    put : PutsIndex b.pages c.pages cache (laid_b.nodes cache) (items cache) key other.link.0 (was (items cache))
     put = puts (laid_b.heights cache) (laid_b.nodes cache) (items cache) (laid_b.indexes cache few)
 
     abbrev items_now : ℕ → List Item
     items_now = set_at items cache (put_in (items cache) key other.link.0)
 
     rows_now : rows_of a.part c.pages ≡ rows_of a.part b.pages
-    rows_now = rows_kept a.part b.pages c.pages put.moves.count (put_keeps_data b.pages c.pages cache key other.link.0 was items laid_b few first put)
+    rows_now = rows_kept a.part b.pages c.pages put.moves.count (put_keeps_data b.pages c.pages cache key other.link.0 (was (items cache)) items laid_b few first put)
 
     lists_now : (k : ℕ) → k < CACHES → ListsRows (rows_of a.part b.pages) k (items_now k)
     lists_now = lists_set (rows_of a.part b.pages) items cache (put_in (items cache) key other.link.0)
@@ -116,7 +115,7 @@ module _ (shape : Shape) (a b : Paged) (cache : ℕ) (key value : List ℕ) (row
     pub moved_well_formed : IsWellFormed shape a.part c.pages
     moved_well_formed =
         subst (λ n. IsWellFormed shape n c.pages) part_c
-        (well_formed_of shape c page_size_c max_rows_c passes size items_now (laid_put b.pages c.pages cache key other.link.0 was items laid_b few first put)
+        (well_formed_of shape c page_size_c max_rows_c passes size items_now (laid_put b.pages c.pages cache key other.link.0 (was (items cache)) items laid_b few first put)
         (λ k few_k. subst (λ (rows : List Row). ListsRows rows k (items_now k)) (sym (ap (λ n. rows_of n c.pages) part_c ∙ rows_now)) (lists_now k few_k))
         (subst (λ n. HasKeysOnce shape n c.pages) (sym part_c) keys_now))
 

@@ -1,9 +1,8 @@
 -- In a well-formed partition there is room for more pages than an operation takes: its trees have no more pages than it has rows, nor
 -- has it more data pages.
-use Rattle.std.proofs.Common.{◌≡◌, ◌≢◌, ℕ, zero, suc, ◌+◌, ◌-◌, ◌*◌, ◌<◌, ◌≤◌, ◌⊎◌, ◌==◌, List, [], ◌∷◌, length, Option, None, Some, true, false, refl, sym, ap, subst, ◌∙◌, inl, inr, arith}
-use Rattle.std.specs.Prelude.{if◌then◌else◌, All, get_or, drop}
-use Rattle.std.specs.List.{flat_map, range_with_len}
-use Rattle.std.proofs.lemmas.Bool.{cases_eq, cases_lt, eq-eqb, ne_eqb}
+use Rattle.std.proofs.Common.{◌≡◌, ℕ, zero, suc, ◌+◌, ◌-◌, ◌<◌, ◌≤◌, List, [], ◌∷◌, length, Option, None, Some, refl, sym, ap, subst, ◌∙◌, inl, inr, arith}
+use Rattle.std.specs.Prelude.{get_or}
+use Rattle.std.proofs.lemmas.Bool.{cases_eq}
 use Rattle.pm_types.specs.declared.limits.TheConstants.{CACHES, ROWS_MAX}
 use Rattle.pm_types.specs.declared.shape.Shape.{Shape}
 use Rattle.pm_types.specs.declared.page_id.PageId.{PageId}
@@ -15,13 +14,12 @@ use Rattle.pm_data.specs.declared.layout.TheConstants.{DATA_KIND}
 use Rattle.pm_data.specs.DataPages.{IsStoredPage, count_of, slot_at, row_in}
 use Rattle.pm_data.specs.DataPages as data_page
 use Rattle.pm_data.proofs.RowsByItem.{length-rows_of, get_or-rows_of, row_in_live}
-use Rattle.pm_meta.specs.declared.layout.TheConstants.{EXTRA_PAGES}
 use Rattle.pm_meta.specs.declared.slots.MetaSlot.TheVariants.{Rows}
 use Rattle.pm_pages.specs.declared.row.Row.{Row}
-use Rattle.pm_pages.specs.Rows.{Partition, page_at, page_count, number_in, kind_of, rows_from, rows_on, rows_of}
+use Rattle.pm_pages.specs.Rows.{page_at, page_count, kind_of, rows_from, rows_on, rows_of}
 use Rattle.pm_pages.specs.Chains.{times, reuse_chain}
-use Rattle.pm_pages.specs.Trees.{root_of, ListsRows, nodes_of}
-use Rattle.pm_pages.specs.Paged.{Paged, PassesIn}
+use Rattle.pm_pages.specs.Trees.{root_of}
+use Rattle.pm_pages.specs.Paged.{Paged}
 use Rattle.pm_pages.specs.SoundPages.{PassesAll}
 use Rattle.pm_pages.specs.WellFormed.{IsWellFormed}
 use Rattle.pm_pages.proofs.ChainWalks.{stands}
@@ -29,12 +27,11 @@ use Rattle.pm_pages.proofs.PassingLooks.{page_there, meta_passes}
 use Rattle.pm_pages.proofs.RowsFrom.{rows_on-data}
 use Rattle.pm_pages.proofs.SpareSteps.{number_by}
 use Rattle.pm_tree.specs.SoundPuts.{HasSparePages}
-use Rattle.pm_tree.specs.Nodes.{nodes_in}
-use Rattle.pm_part.proofs.JoinedLists.{joined, in_one}
+use Rattle.pm_part.specs.LaidOut.{joined, IsLaidOut, is_data}
 use Rattle.pm_part.proofs.SameIndexes.{index_below}
-use Rattle.pm_part.proofs.Layouts.{IsLaidOut, is_data, data_one, data_none, in_index}
+use Rattle.pm_part.proofs.Layouts.{data_one, data_none, in_index}
 use Rattle.pm_part.proofs.LaidOutWell.{here_passes, large}
-use Rattle.pm_part.proofs.Totals.{total, total_le, total_add, total_one, total_none, total_flat, total_times}
+use Rattle.pm_part.proofs.Totals.{total, total_le, total_add, total_one, total_flat, total_times}
 use Rattle.pm_part.proofs.TreeSizes.{index_size}
 use Rattle.pm_part.proofs.ItemCounts.{items_few}
 use Rattle.pm_part.proofs.WellLaidOut.{items_of_cache, laid_of, lists_of}

@@ -1,5 +1,5 @@
 -- A row that was put on the page of another one, which was taken out, or placed anew.
-use Rattle.std.proofs.Common.{◌≡◌, ◌≢◌, ℕ, ◌+◌, ◌<◌, ◌≤◌, List, [], ◌∷◌, length, refl, sym, ap, subst, ◌∙◌, inl, inr, arith}
+use Rattle.std.proofs.Common.{◌≡◌, ◌≢◌, ℕ, ◌≤◌, List, [], length, refl, sym, ap, subst, ◌∙◌, inl, inr, arith}
 use Rattle.std.specs.Prelude.{Option, None, Some, is_none, not}
 use Rattle.std.proofs.lemmas.Bool.{cases_lt}
 use Rattle.std.proofs.lemmas.List.Sums.{prefix_len-le-length}
@@ -9,25 +9,23 @@ use Rattle.pm_data.specs.declared.layout.TheConstants.{DATA_KIND}
 use Rattle.pm_data.specs.DataPages as data_page
 use Rattle.pm_data.specs.DataPages.{DataPage, data_of, row_at, with_row, without_row, free_item, IsDataPage}
 use Rattle.pm_data.proofs.RowLaws.{row_at-with_row_here, row_at-with_row_other, row_at-without_row_here, row_at-without_row_other}
-use Rattle.pm_meta.specs.declared.layout.TheConstants.{REUSE_KIND}
-use Rattle.pm_meta.specs.declared.slots.MetaSlot.TheVariants.{Bucket, Reuse, Pages}
+use Rattle.pm_meta.specs.declared.slots.MetaSlot.TheVariants.{Pages}
 use Rattle.pm_pages.specs.declared.row.Row.{Row}
-use Rattle.pm_pages.specs.Rows.{Partition, page_at, page_count, kind_of, rows_on, rows_of, row_of}
-use Rattle.pm_pages.specs.Chains.{times, next_of, before_of}
-use Rattle.pm_pages.specs.Paged.{Paged}
-use Rattle.pm_pages.specs.Edits.{LooksAtPages}
-use Rattle.pm_pages.proofs.ToldPages.{pages_told}
+use Rattle.pm_pages.specs.Rows.{Partition, page_at, page_count, kind_of, rows_of, row_of}
+use Rattle.pm_pages.specs.Chains.{times}
+use Rattle.pm_pages.specs.SpareChains.{MovesSpare}
 use Rattle.pm_free.specs.declared.edits.Edit.TheVariants.{Insert, Remove}
 use Rattle.pm_free.specs.Chained.{home_of, homes_in, SettlesPage}
 use Rattle.pm_free.specs.Changes.{EditsPartition}
-use Rattle.pm_free.specs.Placed.{HasOneMore, PlacesRow, TakesRow, IsUnused}
-use Rattle.pm_free.proofs.PlacedRows.{ViewsRows, views_rows, kept_chains, kept_count, kept_moves, kept_others, free_none}
-use Rattle.pm_free.proofs.Views.{data_home, was_page, now_page}
+use Rattle.pm_free.specs.Placed.{HasOneMore, PlacesRow, TakesRow, IsUnused, KeepsRoots}
+use Rattle.pm_free.proofs.PlacedRows.{ViewsRows, views_rows, kept_chains, kept_count, kept_kinds, kept_moves, kept_others, free_none}
+use Rattle.pm_free.proofs.Views.{was_page, now_page}
 use Rattle.pm_part.specs.declared.spots.Spot.{Spot}
 use Rattle.pm_part.specs.Puts.{OverwritesRow}
 use Rattle.pm_part.proofs.FreedRoom.{is_live}
+use Rattle.pm_part.proofs.DataSteps.{laid_place, laid_take, laid_kept}
 use Rattle.pm_part.proofs.OverwrittenRows.{rows_with, one_item}
-use Rattle.pm_part.proofs.TreeRows.{rows_alike}
+use Rattle.pm_part.proofs.KeptRows.{rows_alike}
 
 free_few : (rows : List (Option (List ℕ))) → free_item rows ≤ length rows
 free_few rows = prefix_len-le-length (λ (x : Option (List ℕ)). not (is_none x)) rows
@@ -45,6 +43,14 @@ views_then x y z at v w = record {
   was = v.was;
   now = w.now;
 }
+
+-- no page was taken or given back, where a row was taken out of a page and another one put in, and the page settled in the chain for its room
+pub swapped_moves : (b d e f : Partition) (spot : Spot) (bucket : ℕ) (row page : List ℕ) → EditsPartition spot.at [] (Remove spot.item) b d → EditsPartition spot.at row Insert d e → SettlesPage e f spot.at bucket → b spot.at ≡ Some page → bucket ≡ home_of page → MovesSpare b f [] []
+swapped_moves b d e f spot bucket row page out put s here bucket_is =
+    let at = spot.at in
+    let v = views_then b d e at (views_rows at [] (Remove spot.item) b d out refl refl) (views_rows at row Insert d e put refl refl) in
+    let was : out.was ≡ page = cc (out.before, here) in
+    kept_moves b e f at bucket v s (ap home_of (was_page at [] (Remove spot.item) b d out ∙ was) ∙ sym bucket_is)
 
 -- a row was taken out of a page, and another one put in; then the page was settled in the chain for its room
 pub swapped_rows : (part : ℕ) (b d e f : Partition) (spot : Spot) (n bucket : ℕ) (row : List ℕ) (old page : List ℕ) → (out : EditsPartition spot.at [] (Remove spot.item) b d) → (put : EditsPartition spot.at row Insert d e) → SettlesPage e f spot.at bucket → b spot.at ≡ Some page → bucket ≡ home_of page → row_at (data_page.rows_of page) spot.item ≡ Some old → n ≡ free_item (data_page.rows_of put.was)
@@ -69,6 +75,7 @@ swapped_rows part b d e f spot n bucket row old page out put s here bucket_is li
     let free_le : free_item items ≤ length items = free_few items in
     let gone : row_at items item ≡ None = row_at-without_row_here olds item (omega (arith, lt)) in
     let count : page_count f ≡ page_count b = kept_count b e f at bucket v s home_is in
+    let roots : KeepsRoots b f = λ slot is not_reuse not_pages not_bucket. s.keeps.numbers slot is not_bucket ∙ v.numbers slot in
     let rows_f : rows_of part f ≡ rows_of part e = rows_alike part e f (omega (arith, s.keeps.numbers Pages tt (λ k z. cc z))) (λ j. (s.keeps.pages j).rows (page_id part j)) in
     record {
       was = row_of (link (page_id part at) item) old;
@@ -81,10 +88,11 @@ swapped_rows part b d e f spot n bucket row old page out put s here bucket_is li
           (ap (λ (p : List ℕ). row_at (data_page.rows_of p) n) page_e ∙ (λ k. row_at (news k) (n_free k)) ∙ row_at-with_row_here items (free_item items) (Some row) free_le)
           (λ k ne. ap (λ (p : List ℕ). row_at (data_page.rows_of p) k) page_e ∙ ap (λ (l : List (Option (List ℕ))). row_at l k) news ∙ row_at-with_row_other items (free_item items) k (Some row) free_le (λ z. ne (z ∙ sym n_free))));
       chains = kept_chains b e f at bucket v s home_is;
+      laid = λ items laid. laid_kept b f items laid (kept_moves b e f at bucket v s home_is) roots (kept_chains b e f at bucket v s home_is) (kept_kinds b e f at bucket v s home_is) (kept_others b e f at bucket v s home_is);
       spare = (kept_moves b e f at bucket v s home_is).sound;
       count = omega (arith, count);
       stays = λ j nz kind used. kept_others b e f at bucket v s home_is j nz kind;
-      numbers = λ slot is not_reuse not_pages not_bucket. s.keeps.numbers slot is not_bucket ∙ v.numbers slot;
+      numbers = roots;
     }
 
 -- a row was taken out, and another one placed
@@ -96,6 +104,7 @@ moved_rows page_size part b d e spot row old new old_is takes places = record {
   before = takes.rows;
   now = places.rows;
   chains = λ has. places.chains (takes.chains has);
+  laid = λ items laid. laid_place page_size part d e row new items (laid_take part b d old items laid takes) places;
   spare = λ has. places.moves.sound (takes.moves.sound has);
   count = omega (arith, takes.moves.count, places.moves.count);
   stays = λ j nz kind used.
@@ -120,7 +129,3 @@ moved_rows page_size part b d e spot row old new old_is takes places = record {
       ]))
       | inr none ↦ omega (arith, none)
     ]
-
--- the same before pages were looked at
-pub overwrites_looked : (T : Type 0) (a b : Paged) (m : ℕ) (new : Partition) (spot : Spot) (row : List ℕ) (at_link : Link) → T → LooksAtPages T a b m → OverwritesRow b.part b.pages new spot row at_link → OverwritesRow a.part a.pages new spot row at_link
-overwrites_looked T a b m new spot row at_link t looks rows = subst (λ (q : ℕ × Partition). OverwritesRow q.0 q.1 new spot row at_link) {x = (b.part, b.pages)} {y = (a.part, a.pages)} (λ k. (looks.same.part k, pages_told T a b m t looks k)) rows

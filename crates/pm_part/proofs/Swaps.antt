@@ -1,7 +1,6 @@
 -- A row that takes the place of another one on its page.
 use Rattle.std.proofs.Common.{◌≡◌, ℕ, ◌+◌, ◌≤◌, ◌⊎◌, List, [], length, refl, sym, subst, ◌∙◌, inl, inr, arith}
 use Rattle.std.specs.Prelude.{IsTrue, IsSome, Some, Result, Ok, Err, IfOk, OnOk}
-use Rattle.pm_types.specs.Ids.{page_id, link}
 use Rattle.pm_data.specs.Rows.{IsRow}
 use Rattle.pm_data.specs.DataPages.{HasRoomFor}
 use Rattle.pm_pages.specs.Rows.{Partition}
@@ -14,7 +13,7 @@ use Rattle.pm_free.specs.Changes.{ChangesData}
 use Rattle.pm_free.specs.Placed.{HasItemAt, ChangesRows}
 use Rattle.pm_free.proofs.Changed.{edits_page, changes_then}
 use Rattle.pm_free.proofs.PlacedPages.{item_removed}
-use Rattle.pm_pages.specs.SparePages.{SetsNumber, MetaBecomes}
+use Rattle.pm_pages.specs.SparePages.{MetaBecomes}
 use Rattle.pm_tree.specs.Divisions.{PutsPages}
 use Rattle.pm_tree.specs.Roots.{PutsRootPages}
 use Rattle.pm_meta.specs.declared.slots.MetaSlot.TheVariants.{Pages}
@@ -37,13 +36,6 @@ pub swapped : (T : Type 0) (a b d e : Paged) (at item n m : ℕ) (row : List ℕ
 swapped T a b d e at item n m row meta has looks edits takes edits' takes' =
     let x = item_removed T a b d 0 at item n meta has.is looks edits takes in
     changes_then T a d e 0 0 (λ old new. Unit {0}) _ (λ old new. Unit {0}) (λ p q r h k. tt) x (edits_page T d e at row Insert m x.meta (x.stay at has.is) edits' takes')
-
-pub changes_data : (T : Type 0) (a e f : Paged) (m n k : ℕ) (R S : Partition → Partition → Type 0) → m + n ≤ k → ChangesData T a e m R → ChangesData T e f n S → ChangesPages T a f k
-changes_data T a e f m n k R S le x y = record {
-  edits = edits_more T a f (λ j. IsTrue (e.asked j) ⊎ IsTrue (f.asked j)) (λ j. IsTrue (f.asked j)) (m + n) k (λ j h. elim h [ inl z ↦ y.edits.asked j z | inr z ↦ z ]) le
-      (edits_then T a e f (λ j. IsTrue (e.asked j)) (λ j. IsTrue (f.asked j)) m n x.edits y.edits);
-  meta = y.meta;
-}
 
 -- changes of pages, one after the other
 pub pages_then : (T : Type 0) (a b c : Paged) (m n k : ℕ) → m + n ≤ k → ChangesPages T a b m → ChangesPages T b c n → ChangesPages T a c k
@@ -103,6 +95,7 @@ pages_removed T a b cache m meta x =
     let is = x.numbers.others Pages tt (λ e. absurd (cc e)) (λ e. absurd (cc e)) n.0 n.1 in
     record { edits = x.edits; meta = record { known = is.in_hand.known; asked = is.in_hand.asked; there = subst IsSome (sym is.in_hand.page) refl } }
 
-pub on_ok_from : {A E : Type 0} (r : Result A E) (P : A → Type 0) (Q : Type 0) → ((x : A) → P x → Q) → IfOk r P → OnOk r Q
-on_ok_from (Ok x) P Q f h = f x h
-on_ok_from (Err e) P Q f h = h
+-- two facts on a value, if there is one
+pub if_ok_both : {A E : Type 0} (r : Result A E) (P : A → Type 0) (Q : Type 0) → IfOk r P → OnOk r Q → IfOk r (λ x. P x × Q)
+if_ok_both (Ok x) P Q h k = (h, k)
+if_ok_both (Err e) P Q h k = h

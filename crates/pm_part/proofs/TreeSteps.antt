@@ -1,31 +1,28 @@
 -- A partition stays laid out where a key is put into the index of a cache, or removed from it, and its rows are as they were.
-use Rattle.std.proofs.Common.{◌≡◌, ◌≢◌, ℕ, zero, suc, ◌+◌, ◌<◌, ◌≤◌, ◌⊎◌, ◌==◌, List, [], Option, refl, sym, ap, subst, ◌∙◌, inl, inr, arith}
+use Rattle.std.proofs.Common.{◌≡◌, ◌≢◌, ℕ, ◌+◌, ◌<◌, ◌≤◌, ◌⊎◌, ◌==◌, List, [], refl, sym, ap, subst, ◌∙◌, inl, inr, arith}
 use Rattle.std.specs.Prelude.{if◌then◌else◌}
-use Rattle.std.proofs.lemmas.Bool.{cases_eq, cases_lt, eq-eqb, ne_eqb, le-ltb}
+use Rattle.std.proofs.lemmas.Bool.{cases_eq, eq-eqb, ne_eqb, le-ltb}
 use Rattle.pm_types.specs.declared.limits.TheConstants.{CACHES}
-use Rattle.pm_types.specs.declared.page_id.Link.{Link}
 use Rattle.pm_btpage.specs.IndexPages.{Item}
 use Rattle.pm_data.specs.declared.layout.TheConstants.{DATA_KIND}
-use Rattle.pm_meta.specs.declared.layout.TheConstants.{BUCKETS, REUSE_KIND}
-use Rattle.pm_meta.specs.declared.slots.MetaSlot.TheVariants.{Root, Bucket}
+use Rattle.pm_meta.specs.declared.layout.TheConstants.{BUCKETS}
+use Rattle.pm_meta.specs.declared.slots.MetaSlot.TheVariants.{Bucket}
 use Rattle.pm_pages.specs.Rows.{Partition, page_at, page_count, number_in, kind_of}
-use Rattle.pm_pages.specs.Chains.{times, next_of, before_of, reuse_chain}
+use Rattle.pm_pages.specs.Chains.{times, next_of, before_of}
 use Rattle.pm_pages.specs.Trees.{root_of, ListsRows}
 use Rattle.pm_pages.specs.declared.row.Row.{Row}
-use Rattle.pm_pages.specs.SpareChains.{HasSpare, MovesSpare}
-use Rattle.pm_pages.proofs.ChainWalks.{stands}
 use Rattle.pm_tree.specs.Indexes.{IsIndex}
 use Rattle.pm_tree.specs.Nodes.{nodes_in}
 use Rattle.pm_tree.specs.Puts.{IsSpare}
-use Rattle.pm_free.specs.Chained.{homes_in, home_of, AreChained}
+use Rattle.pm_free.specs.Chained.{homes_in, home_of}
 use Rattle.pm_free.specs.Placed.{HasChains}
 use Rattle.pm_free.proofs.NewPages.{chained_away}
 use Rattle.pm_free.proofs.PlacedRows.{chains_in, chains_out}
 use Rattle.pm_free.proofs.Settled.{chained_as}
 use Rattle.pm_free.proofs.Views.{other_next, other_before, other_home}
-use Rattle.pm_part.proofs.JoinedLists.{joined, SameBut, times_set, one_in, in_one}
-use Rattle.pm_part.proofs.SameIndexes.{index_stays, index_kind, index_below}
-use Rattle.pm_part.proofs.Layouts.{IsLaidOut, is_data, data_one, data_none, data_same, in_index, no_index, none_past, added, added_old, added_new, each_after}
+use Rattle.pm_part.specs.LaidOut.{joined, is_data}
+use Rattle.pm_part.proofs.JoinedLists.{times_set, one_in}
+use Rattle.pm_part.proofs.Layouts.{data_none, data_same}
 
 -- a page has the bytes that it had, or it wasn't a data page and isn't one
 abbrev pub KeepsDataAt : Partition → Partition → ℕ → Type 0

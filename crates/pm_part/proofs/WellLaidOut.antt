@@ -1,6 +1,6 @@
 -- A well-formed partition is laid out, and its indexes list its rows.
-use Rattle.std.proofs.Common.{◌≡◌, ◌≢◌, ℕ, zero, suc, ◌+◌, ◌<◌, ◌≤◌, ◌⊎◌, ◌==◌, List, [], ◌∷◌, Bool, true, false, refl, sym, ap, subst, ◌∙◌, inl, inr, arith}
-use Rattle.std.specs.Prelude.{if◌then◌else◌, nat_le, All, Any}
+use Rattle.std.proofs.Common.{◌≡◌, ◌≢◌, ℕ, suc, ◌<◌, ◌≤◌, ◌⊎◌, ◌==◌, List, [], ◌∷◌, Bool, true, false, refl, sym, ap, subst, ◌∙◌, inl, inr, arith}
+use Rattle.std.specs.Prelude.{if◌then◌else◌, nat_le, Any}
 use Rattle.std.proofs.lemmas.Bool.{cases_eq, cases_lt, eq-eqb, ne_eqb, le-leb}
 use Rattle.pm_types.specs.declared.limits.TheConstants.{CACHES}
 use Rattle.pm_types.specs.declared.shape.Shape.{Shape}
@@ -22,10 +22,11 @@ use Rattle.pm_tree.specs.Nodes.{nodes_in}
 use Rattle.pm_tree.specs.Puts.{IsSpare}
 use Rattle.pm_tree.proofs.SoundLooks.{tree_some}
 use Rattle.pm_pages.specs.SoundPages.{PassesAll}
-use Rattle.pm_part.proofs.Quantified.{Holds, Each, each_of, all_of, holds_of, any_of}
-use Rattle.pm_part.proofs.JoinedLists.{joined, in_one, one_in}
+use Rattle.pm_part.specs.LaidOut.{joined, IsLaidOut, is_data}
+use Rattle.pm_part.proofs.Quantified.{Holds, Each, all_of, any_of}
+use Rattle.pm_part.proofs.JoinedLists.{in_one, one_in}
 use Rattle.pm_part.proofs.SameIndexes.{index_kind}
-use Rattle.pm_part.proofs.Layouts.{IsLaidOut, is_data, data_one, data_none}
+use Rattle.pm_part.proofs.Layouts.{data_one, data_none}
 use Rattle.pm_part.proofs.PlacedPages.{all_chains, chains_none, chains_past, chains_once, placed_times}
 
 -- how many levels of pages the index of a cache has

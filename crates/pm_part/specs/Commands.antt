@@ -1,7 +1,8 @@
 -- The commands of a partition.
-use Rattle.std.specs.Prelude.{◌≡◌, ℕ, ◌<◌, [], ◌∷◌}
+use Rattle.std.specs.Prelude.{◌≡◌, ℕ, ◌<◌, [], ◌∷◌, Result, OnOk, OnErr}
 use Rattle.pm_types.specs.declared.limits.TheConstants.{CACHES}
 use Rattle.pm_types.specs.declared.shape.Shape.{Shape}
+use Rattle.pm_types.specs.declared.fault.PageFault.{PageFault}
 use Rattle.pm_model.specs.declared.line.Cmd.{Cmd}
 use Rattle.pm_model.specs.declared.line.Cmd.TheVariants.{Put, Get, Remove, Scan, Checkpoint}
 use Rattle.pm_model.specs.declared.reply.Reply.{Reply}
@@ -28,3 +29,8 @@ cache_of Checkpoint = 0
 pub record AppendsReply (was now : ReplyList) : Type 0 where
   pub reply : Reply
   pub appended : now ≡ with_replies (reply ∷ []) was
+
+-- a command has one reply, and none where it failed
+pub record RepliesOnce {R : Type 0} (was now : ReplyList) (result : Result R PageFault) : Type 0 where
+  pub appended : OnOk result (AppendsReply was now)
+  pub kept : OnErr result (now ≡ was)

@@ -2,6 +2,7 @@ pub mod Changes
 pub mod Commands
 pub mod Entries
 pub mod Faults
+pub mod LaidOut
 pub mod NewMeta
 pub mod PairFaults
 pub mod PairReads
@@ -9,5 +10,7 @@ pub mod Puts
 pub mod Reads
 pub mod Removals
 pub mod RowBytes
+pub mod RowNames
 pub mod Runs
+pub mod SoundPuts
 pub mod Spots

@@ -1,5 +1,5 @@
 -- What a put does to the rows of a partition.
-use Rattle.std.specs.Prelude.{◌≡◌, ◌≢◌, ℕ, ◌≤◌, List, Bool, None, not}
+use Rattle.std.specs.Prelude.{◌≡◌, ◌≢◌, ℕ, ◌<◌, ◌≤◌, List, Bool, None, not}
 use Rattle.std.specs.FinMap as map
 use Rattle.pm_types.specs.declared.page_id.Link.{Link}
 use Rattle.pm_types.specs.declared.shape.Shape.{Shape}
@@ -22,10 +22,12 @@ use Rattle.pm_tree.specs.Indexes.{IsIndex}
 use Rattle.pm_free.specs.Placed.{HasOneMore, HasChains, KeepsRoots, IsUnused}
 use Rattle.pm_part.specs.declared.spots.Spot.{Spot}
 use Rattle.pm_part.specs.Runs.{IsPartitionOf}
+use Rattle.pm_part.specs.LaidOut.{IsLaidOut}
 
 -- A row, which has this link now, is in the place of the one at a spot; the others are as they were. The
--- chains of the buckets and the reuse chain are right where they were. But for data pages and pages that
--- can be taken only the meta page changed, and of that no root and not the row count.
+-- chains of the buckets and the reuse chain are right where they were, and a partition that was laid out is
+-- so still. But for data pages and pages that can be taken only the meta page changed, and of that no root
+-- and not the row count.
 pub record OverwritesRow (part : ℕ) (old new : Partition) (spot : Spot) (row : List ℕ)
     (at_link : Link) : Type 0 where
   pub was : Row
@@ -34,6 +36,7 @@ pub record OverwritesRow (part : ℕ) (old new : Partition) (spot : Spot) (row :
   pub before : HasOneMore others (rows_of part old) was
   pub now : HasOneMore others (rows_of part new) (row_of at_link row)
   pub chains : HasChains old → HasChains new
+  pub laid : (items : ℕ → List Item) → IsLaidOut old items → IsLaidOut new items
   pub spare : HasSpare old → HasSpare new
   pub count : page_count old ≤ page_count new
   pub stays : (j : ℕ) → j ≢ 0 → kind_of (page_at old j) ≢ DATA_KIND → (IsUnused old j → ⊥) → new j ≡ old j
@@ -66,3 +69,12 @@ pub record PutsKey (shape : Shape) (part : ℕ) (old new : Partition) (cache : �
 pub record LacksItem (pages : Partition) (cache : ℕ) (key : List ℕ) : Type 0 where
   pub none : (height : ℕ) (nodes : List ℕ) (items : List Item)
       → IsIndex pages (root_of pages cache) height nodes items → get_in items key ≡ None
+
+-- a well-formed partition of a store of this shape, which has so many rows, fewer than it may have; the key
+-- belongs to it and has no row
+pub record MayAddRow (shape : Shape) (p : Paged) (rows cache : ℕ) (key : List ℕ) : Type 0 where
+  pub partition : IsPartitionOf shape p
+  pub counted : number_in p.pages Rows ≡ rows
+  pub few : rows < p.max_rows
+  pub mine : part_of key shape.partitions ≡ p.part
+  pub lacks : LacksItem p.pages cache key

@@ -34,11 +34,3 @@ IsGet (Get cache key) = Unit {0}
 IsGet (Remove cache key) = ⊥
 IsGet (Scan cache) = ⊥
 IsGet Checkpoint = ⊥
-
--- the command is a get or a removal
-abbrev pub IsGetOrRemove : Cmd → Type 0
-IsGetOrRemove (Put cache key value) = ⊥
-IsGetOrRemove (Get cache key) = Unit {0}
-IsGetOrRemove (Remove cache key) = Unit {0}
-IsGetOrRemove (Scan cache) = ⊥
-IsGetOrRemove Checkpoint = ⊥

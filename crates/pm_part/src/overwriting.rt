@@ -6,10 +6,12 @@ ghost use Rattle.pm_data.specs.Rows.{IsRow};
 ghost use Rattle.pm_data.specs.DataPages.{rows_of, row_at, room_of, IsDataPage, AddsRow};
 ghost use Rattle.pm_pages.specs.Paged.{AllReadable, IsLent};
 ghost use Rattle.pm_pages.specs.Edits.{LooksAtPages, EditsPages, RewritesPage, HasMeta, HasDiskCause};
-ghost use Rattle.pm_free.specs.Placed.{HasItemAt};
+ghost use Rattle.pm_pages.specs.StoredPages.{IsStored, KeepsStored};
+ghost use Rattle.pm_pages.specs.SoundPages.{IsSound, NoBadPage, MayTake};
+ghost use Rattle.pm_free.specs.Placed.{HasItemAt, HasChains, ChangesRows};
 ghost use Rattle.pm_free.specs.Causes.{HasChainCause};
 ghost use Rattle.pm_part.specs.declared.overwriting.Way.TheVariants.{InPlace, SamePage};
-ghost use Rattle.pm_part.specs.Changes.{ChangesPages, IsWayOn, IsWayIn, WritesOver};
+ghost use Rattle.pm_part.specs.Changes.{IsWayOn, IsWayIn, WritesOver};
 ghost use Rattle.pm_part.specs.Puts.{OverwritesRow};
 
 use crate::spots::Spot;
@@ -73,7 +75,11 @@ fn find_way<P: Pages>(pages: &mut P, spot: Spot, len: usize) -> Result<Way, Page
 ///
 /// Where it has as many bytes it is written over the old one, which changes that page alone. Where
 /// it fits the page once the old one is out it stays there, and the page changes its chain only
-/// where its bucket changed. Else the old row is taken out, and the new one placed.
+/// where its bucket changed. Else the old row is taken out, and the new one placed. Of the pages that
+/// can be taken at most one is, and where one could be, pages that passed their checks pass them.
+///
+/// `BadPage` comes as from `take_out` and `place` of `pm_free`; it never comes of sound pages in chains
+/// that are right, where a page can be taken.
 pub fn overwrite<P: Pages>(pages: &mut P, spot: Spot, row: &[u8]) -> Result<Link, PageFault>
     requires ready { P.ready pages.old }
     requires meta { HasMeta (P.seen pages.old) }
@@ -83,10 +89,12 @@ pub fn overwrite<P: Pages>(pages: &mut P, spot: Spot, row: &[u8]) -> Result<Link
     requires row { IsRow row.now }
     ensures kept { P.kept pages.old pages.new }
     ensures readable { AllReadable (P.seen pages.new) }
-    ensures changes { OnOk result (ChangesPages P.tells (P.seen pages.old) (P.seen pages.new) 7) }
+    ensures rows { IfOk result (λ link. ChangesRows P.tells (P.seen pages.old) (P.seen pages.new) 7 1
+        (λ old new. OverwritesRow (P.seen pages.old).part old new spot row.now link)) }
     ensures cause { HasChainCause P.tells (P.seen pages.old) (P.seen pages.new) result }
-    ensures rows { IfOk result (λ link. P.tells → OverwritesRow (P.seen pages.old).part (P.seen pages.old).pages
-        (P.seen pages.new).pages spot row.now link) }
+    ensures passes { OnOk result (P.tells → KeepsStored (P.seen pages.old) (P.seen pages.new) 1) }
+    ensures sound { MayTake P.tells (P.seen pages.old) → HasChains (P.seen pages.old).pages
+        → NoBadPage result }
 {
     let link = spot.link(pages.part());
     match find_way(pages, spot, row.len())? {
@@ -113,10 +121,12 @@ fn swap<P: Pages>(pages: &mut P, spot: Spot, row: &[u8]) -> Result<Link, PageFau
     requires fits { IsWayIn (P.seen pages.old) spot.at spot.item (length row.now) SamePage }
     ensures kept { P.kept pages.old pages.new }
     ensures readable { AllReadable (P.seen pages.new) }
-    ensures changes { OnOk result (ChangesPages P.tells (P.seen pages.old) (P.seen pages.new) 3) }
+    ensures rows { IfOk result (λ link. ChangesRows P.tells (P.seen pages.old) (P.seen pages.new) 3 0
+        (λ old new. OverwritesRow (P.seen pages.old).part old new spot row.now link)) }
     ensures cause { HasChainCause P.tells (P.seen pages.old) (P.seen pages.new) result }
-    ensures rows { IfOk result (λ link. P.tells → OverwritesRow (P.seen pages.old).part (P.seen pages.old).pages
-        (P.seen pages.new).pages spot row.now link) }
+    ensures passes { OnOk result (P.tells → IsStored (P.seen pages.old) → IsStored (P.seen pages.new)) }
+    ensures sound { P.tells → IsSound (P.seen pages.old) → HasChains (P.seen pages.old).pages
+        → NoBadPage result }
 {
     let seat = seat_at(pages, spot.at)?;
     make_edit(pages, spot.at, Edit::Remove(spot.item), b"")?;

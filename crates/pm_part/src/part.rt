@@ -1,6 +1,6 @@
 //! One partition of a store.
 
-ghost use Rattle.std.specs.Prelude.{◌≡◌, ℕ, ◌^◌, ◌-◌, ◌<◌, ◌≤◌, [], ◌∷◌, ◌++◌, OnOk, OnErr, IsTrue};
+ghost use Rattle.std.specs.Prelude.{◌≡◌, ℕ, ◌^◌, ◌-◌, ◌<◌, ◌≤◌, [], ◌∷◌, ◌++◌, OnOk, IsTrue};
 ghost use Rattle.pm_types.specs.declared.limits.TheConstants.{CACHES, OP_PAGES, ROWS_MAX};
 ghost use Rattle.pm_types.specs.declared.limits.TheConstants.{PARTITIONS_MAX};
 ghost use Rattle.pm_types.specs.Keys.{HasKeyLength, HasValueLength};
@@ -11,12 +11,13 @@ ghost use Rattle.pm_pages.specs.Paged.{AllReadable, NoneLent};
 ghost use Rattle.pm_pages.specs.Edits.{LooksAtPages, EditsPages};
 ghost use Rattle.pm_pages.specs.Rows.{rows_of};
 ghost use Rattle.pm_pages.specs.RowMaps.{map_of};
+ghost use Rattle.pm_pages.specs.SoundPages.{NoBadPage};
 ghost use Rattle.pm_model.specs.Eval.{pairs_of};
 ghost use Rattle.pm_part.specs.Reads.{ReadsPages};
-ghost use Rattle.pm_part.specs.Commands.{IsPartCmd, cache_of, AppendsReply};
+ghost use Rattle.pm_part.specs.Commands.{IsPartCmd, cache_of, RepliesOnce};
 ghost use Rattle.pm_part.specs.Faults.{HasPartCause};
 ghost use Rattle.pm_part.specs.PairFaults.{HasPairsCause, NamesNoBadPage};
-ghost use Rattle.pm_part.specs.Runs.{IsPartitionOf, RunsCmd, IsGet, IsGetOrRemove};
+ghost use Rattle.pm_part.specs.Runs.{IsPartitionOf, RunsCmd, IsGet};
 ghost use Rattle.pm_part.specs.Puts.{IsPartFor};
 ghost use Rattle.pm_types.specs.declared.shape.Shape.{Shape};
 ghost use Rattle.pm_model.specs.declared.line.Cmd.TheVariants.{Put, Get, Remove};
@@ -61,7 +62,17 @@ impl Part {
         self.part
     }
 
-    /// Does a put, get or remove of this partition, and appends its reply. No memory is taken.
+    /// Does a put, get or remove of this partition, and appends its reply. At most 32 pages are
+    /// asked for, and no memory is taken.
+    ///
+    /// Where the store reports its pages and they are those of a well-formed partition, the reply
+    /// and the rows are those of the evaluation: `Full` comes exactly where the key is new and the
+    /// partition has as many rows as it may have, over all caches. The partition stays well formed.
+    /// A get changes no page.
+    ///
+    /// `Failed` comes only where a call on the disk failed. `BadPage` names a page that is bad, or
+    /// one that names a wrong page or row; it never comes of a well-formed partition. After an error
+    /// no reply was appended, and some pages may be half changed.
     pub fn run<P: Pages>(
         &self,
         cmd: &Cmd,
@@ -77,15 +88,15 @@ impl Part {
         ensures readable { AllReadable (P.seen pages.new) }
         ensures changes { OnOk result (EditsPages P.tells (P.seen pages.old) (P.seen pages.new)
             (λ j. IsTrue ((P.seen pages.new).asked j)) OP_PAGES) }
-        ensures replied { OnOk result (AppendsReply replies.old replies.new) }
-        ensures unchanged { OnErr result (replies.new ≡ replies.old) }
+        ensures replied { RepliesOnce replies.old replies.new result }
         ensures cause { HasPartCause P.tells (P.seen pages.old) (P.seen pages.new) (cache_of cmd.now) result }
         ensures gets { IsGet cmd.now → LooksAtPages P.tells (P.seen pages.old) (P.seen pages.new) 10 }
         ensures runs { P.tells → IsPartitionOf self.now.shape (P.seen pages.old)
             → (P.seen pages.old).part ≡ self.now.part
-            → OnOk result ((IsGetOrRemove cmd.now → IsPartitionOf self.now.shape (P.seen pages.new))
+            → OnOk result (IsPartitionOf self.now.shape (P.seen pages.new)
             × RunsCmd self.now.shape self.now.part cmd.now (P.seen pages.old).pages
             (P.seen pages.new).pages replies.old replies.new) }
+        ensures sound { P.tells → IsPartitionOf self.now.shape (P.seen pages.old) → NoBadPage result }
     {
         match cmd {
             Cmd::Put { cache, key, value } => {
@@ -150,12 +161,13 @@ fn run_put<P: Pages>(
     ensures readable { AllReadable (P.seen pages.new) }
     ensures changes { OnOk result (EditsPages P.tells (P.seen pages.old) (P.seen pages.new)
         (λ j. IsTrue ((P.seen pages.new).asked j)) 32) }
-    ensures replied { OnOk result (AppendsReply replies.old replies.new) }
-    ensures unchanged { OnErr result (replies.new ≡ replies.old) }
+    ensures replied { RepliesOnce replies.old replies.new result }
     ensures cause { HasPartCause P.tells (P.seen pages.old) (P.seen pages.new) cache result }
     ensures puts { P.tells → (shape : Shape) → IsPartFor shape (P.seen pages.old) max_rows key.now
-        → OnOk result (RunsCmd shape (P.seen pages.old).part (Put cache key.now value.now)
+        → OnOk result (IsPartitionOf shape (P.seen pages.new)
+        × RunsCmd shape (P.seen pages.old).part (Put cache key.now value.now)
         (P.seen pages.old).pages (P.seen pages.new).pages replies.old replies.new) }
+    ensures sound { P.tells → (shape : Shape) → IsPartitionOf shape (P.seen pages.old) → NoBadPage result }
 {
     if put(pages, max_rows, cache, key, value)? {
         replies.push(Reply::Done);
@@ -180,14 +192,14 @@ fn run_get<P: Pages>(
     ensures readable { AllReadable (P.seen pages.new) }
     ensures changes { OnOk result (EditsPages P.tells (P.seen pages.old) (P.seen pages.new)
         (λ j. IsTrue ((P.seen pages.new).asked j)) 32) }
-    ensures replied { OnOk result (AppendsReply replies.old replies.new) }
-    ensures unchanged { OnErr result (replies.new ≡ replies.old) }
+    ensures replied { RepliesOnce replies.old replies.new result }
     ensures cause { HasPartCause P.tells (P.seen pages.old) (P.seen pages.new) cache result }
     ensures looks { LooksAtPages P.tells (P.seen pages.old) (P.seen pages.new) 10 }
     ensures gets { P.tells → (shape : Shape) → IsPartitionOf shape (P.seen pages.old)
         → OnOk result (IsPartitionOf shape (P.seen pages.new)
         × RunsCmd shape (P.seen pages.old).part (Get cache key.now) (P.seen pages.old).pages
         (P.seen pages.new).pages replies.old replies.new) }
+    ensures sound { P.tells → (shape : Shape) → IsPartitionOf shape (P.seen pages.old) → NoBadPage result }
 {
     match find_entry(pages, cache, key)? {
         None => {
@@ -213,13 +225,13 @@ fn run_remove<P: Pages>(
     ensures readable { AllReadable (P.seen pages.new) }
     ensures changes { OnOk result (EditsPages P.tells (P.seen pages.old) (P.seen pages.new)
         (λ j. IsTrue ((P.seen pages.new).asked j)) 32) }
-    ensures replied { OnOk result (AppendsReply replies.old replies.new) }
-    ensures unchanged { OnErr result (replies.new ≡ replies.old) }
+    ensures replied { RepliesOnce replies.old replies.new result }
     ensures cause { HasPartCause P.tells (P.seen pages.old) (P.seen pages.new) cache result }
     ensures removes { P.tells → (shape : Shape) → IsPartitionOf shape (P.seen pages.old)
         → OnOk result (IsPartitionOf shape (P.seen pages.new)
         × RunsCmd shape (P.seen pages.old).part (Remove cache key.now) (P.seen pages.old).pages
         (P.seen pages.new).pages replies.old replies.new) }
+    ensures sound { P.tells → (shape : Shape) → IsPartitionOf shape (P.seen pages.old) → NoBadPage result }
 {
     let was = remove(pages, cache, key)?;
     replies.push(Reply::Was(was));

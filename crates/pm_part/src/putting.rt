@@ -14,7 +14,11 @@ ghost use Rattle.pm_part.specs.Changes.{ChangesPages};
 ghost use Rattle.pm_part.specs.NewMeta.{IsNewMeta, HasNewMeta};
 ghost use Rattle.pm_part.specs.RowBytes.{IsRowOf};
 ghost use Rattle.pm_part.specs.Runs.{IsPartitionOf};
-ghost use Rattle.pm_part.specs.Puts.{ReplacesKey, AddsKey, IsPartFor, PutsKey, LacksItem};
+ghost use Rattle.pm_part.specs.SoundPuts.{MayTakeRow};
+ghost use Rattle.pm_part.specs.RowNames.{NamesRow};
+ghost use Rattle.pm_pages.specs.SoundPages.{NoBadPage};
+ghost use Rattle.pm_tree.specs.Indexes.{as_link};
+ghost use Rattle.pm_part.specs.Puts.{ReplacesKey, AddsKey, IsPartFor, PutsKey, LacksItem, MayAddRow};
 ghost use Rattle.pm_types.specs.declared.shape.Shape.{Shape};
 ghost use Rattle.pm_btpage.specs.IndexPages.{Item};
 ghost use Rattle.pm_meta.specs.declared.slots.MetaSlot.TheVariants.{Rows};
@@ -35,7 +39,9 @@ use pm_tree::tree_put;
 use pm_types::{PageFault, PageId};
 
 /// Sets the value of a key of a cache. `false` comes where the key is new and the partition has as
-/// many rows as it may have; nothing is changed then.
+/// many rows as it may have; nothing is changed then. A well-formed partition stays one.
+///
+/// Errors come as in `remove`: `BadPage` never comes of a well-formed partition.
 pub fn put<P: Pages>(
     pages: &mut P,
     max_rows: u32,
@@ -57,8 +63,10 @@ pub fn put<P: Pages>(
     ensures cause { HasPartCause P.tells (P.seen pages.old) (P.seen pages.new) cache result }
     ensures puts { IfOk result (λ done. P.tells → (shape : Shape)
         → IsPartFor shape (P.seen pages.old) max_rows key.now
-        → PutsKey shape (P.seen pages.old).part (P.seen pages.old).pages (P.seen pages.new).pages
+        → IsPartitionOf shape (P.seen pages.new)
+        × PutsKey shape (P.seen pages.old).part (P.seen pages.old).pages (P.seen pages.new).pages
         cache key.now value.now done) }
+    ensures sound { P.tells → (shape : Shape) → IsPartitionOf shape (P.seen pages.old) → NoBadPage result }
 {
     let mut room = [0; ROW_MAX];
     let len = write_row(&mut room, cache, key, value);
@@ -87,8 +95,10 @@ fn put_row<P: Pages>(
     ensures puts { IfOk result (λ done. P.tells → (shape : Shape)
         → IsPartFor shape (P.seen pages.old) max_rows key.now
         → (value : List ℕ) → IsRowOf cache key.now value row.now
-        → PutsKey shape (P.seen pages.old).part (P.seen pages.old).pages (P.seen pages.new).pages
+        → IsPartitionOf shape (P.seen pages.new)
+        × PutsKey shape (P.seen pages.old).part (P.seen pages.old).pages (P.seen pages.new).pages
         cache key.now value done) }
+    ensures sound { P.tells → (shape : Shape) → IsPartitionOf shape (P.seen pages.old) → NoBadPage result }
 {
     match find_entry(pages, cache, key)? {
         None => put_new(pages, max_rows, cache, key, row),
@@ -116,8 +126,12 @@ fn put_held<P: Pages>(
     ensures cause { HasPartCause P.tells (P.seen pages.old) (P.seen pages.new) cache result }
     ensures puts { IfOk result (λ done. P.tells → (shape : Shape) → IsPartitionOf shape (P.seen pages.old)
         → (value : List ℕ) → IsRowOf cache key.now value row.now
-        → PutsKey shape (P.seen pages.old).part (P.seen pages.old).pages (P.seen pages.new).pages
+        → IsPartitionOf shape (P.seen pages.new)
+        × PutsKey shape (P.seen pages.old).part (P.seen pages.old).pages (P.seen pages.new).pages
         cache key.now value done) }
+    ensures sound { P.tells → (shape : Shape) → IsPartitionOf shape (P.seen pages.old)
+        → NamesRow (P.seen pages.old).part (P.seen pages.old).pages (as_link entry.word) cache key.now
+        → NoBadPage result }
 {
     let spot = find_row(pages, entry, cache, key)?;
     replace_row(pages, cache, key, spot, row)?;
@@ -146,8 +160,10 @@ fn replace_row<P: Pages>(
     ensures cause { HasPartCause P.tells (P.seen pages.old) (P.seen pages.new) cache result }
     ensures replaces { OnOk result (P.tells → (shape : Shape) → IsPartitionOf shape (P.seen pages.old)
         → (value : List ℕ) → IsRowOf cache key.now value row.now
-        → ReplacesKey (P.seen pages.old).part (P.seen pages.old).pages (P.seen pages.new).pages
+        → IsPartitionOf shape (P.seen pages.new)
+        × ReplacesKey (P.seen pages.old).part (P.seen pages.old).pages (P.seen pages.new).pages
         cache key.now value) }
+    ensures sound { P.tells → (shape : Shape) → IsPartitionOf shape (P.seen pages.old) → NoBadPage result }
 {
     let old = spot.link(pages.part());
     let link = overwrite(pages, spot, row)?;
@@ -181,8 +197,10 @@ fn put_new<P: Pages>(
         → IsPartFor shape (P.seen pages.old) max_rows key.now
         → LacksItem (P.seen pages.old).pages cache key.now
         → (value : List ℕ) → IsRowOf cache key.now value row.now
-        → PutsKey shape (P.seen pages.old).part (P.seen pages.old).pages (P.seen pages.new).pages
+        → IsPartitionOf shape (P.seen pages.new)
+        × PutsKey shape (P.seen pages.old).part (P.seen pages.old).pages (P.seen pages.new).pages
         cache key.now value done) }
+    ensures sound { P.tells → (shape : Shape) → IsPartitionOf shape (P.seen pages.old) → NoBadPage result }
 {
     match find_number(pages, MetaSlot::Rows)? {
         None => put_first(pages, cache, key, row),
@@ -204,6 +222,12 @@ fn put_first<P: Pages>(pages: &mut P, cache: u8, key: &[u8], row: &[u8]) -> Resu
     ensures cause { HasPartCause P.tells (P.seen pages.old) (P.seen pages.new) cache result }
     ensures adds { IfOk result (λ done. (done ≡ true) × (P.tells → (P.seen pages.old).pages 0 ≡ None
         → AddsKey (P.seen pages.old).part (P.seen pages.old).pages (P.seen pages.new).pages row.now 1)) }
+    ensures stays { OnOk result (P.tells → (shape : Shape) → (max_rows : ℕ)
+        → IsPartFor shape (P.seen pages.old) max_rows key.now
+        → (value : List ℕ) → IsRowOf cache key.now value row.now
+        → IsPartitionOf shape (P.seen pages.new)) }
+    ensures sound { P.tells → (shape : Shape) → IsPartitionOf shape (P.seen pages.old)
+        → (P.seen pages.old).pages 0 ≡ None → NoBadPage result }
 {
     make_meta(pages)?;
     add_row(pages, 0, cache, key, row)?;
@@ -237,8 +261,10 @@ fn put_next<P: Pages>(
         → IsPartFor shape (P.seen pages.old) max_rows key.now
         → LacksItem (P.seen pages.old).pages cache key.now
         → (value : List ℕ) → IsRowOf cache key.now value row.now
-        → PutsKey shape (P.seen pages.old).part (P.seen pages.old).pages (P.seen pages.new).pages
+        → IsPartitionOf shape (P.seen pages.new)
+        × PutsKey shape (P.seen pages.old).part (P.seen pages.old).pages (P.seen pages.new).pages
         cache key.now value done) }
+    ensures sound { P.tells → (shape : Shape) → IsPartitionOf shape (P.seen pages.old) → NoBadPage result }
 {
     if rows >= max_rows {
         return Ok(false);
@@ -272,6 +298,11 @@ fn add_row<P: Pages>(
         → IsIndex (P.seen pages.old).pages (root_of (P.seen pages.old).pages cache) height nodes items
         → AddsKey (P.seen pages.old).part (P.seen pages.old).pages (P.seen pages.new).pages
         row.now (rows + 1)) }
+    ensures stays { OnOk result (P.tells → (shape : Shape)
+        → MayAddRow shape (P.seen pages.old) rows cache key.now
+        → (value : List ℕ) → IsRowOf cache key.now value row.now
+        → IsPartitionOf shape (P.seen pages.new)) }
+    ensures sound { P.tells → MayTakeRow (P.seen pages.old) cache → NoBadPage result }
 {
     let link = place(pages, row)?;
     tree_put(pages, cache, key, link)?;

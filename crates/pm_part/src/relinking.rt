@@ -17,6 +17,9 @@ ghost use Rattle.pm_tree.specs.Puts.{PutsFor, half_of};
 ghost use Rattle.pm_tree.specs.Divisions.{PutsPages};
 ghost use Rattle.pm_tree.specs.Indexes.{IsIndex, link_in};
 ghost use Rattle.pm_tree.specs.Roots.{PutsIndex};
+ghost use Rattle.pm_tree.specs.SoundPuts.{FindsKey};
+ghost use Rattle.pm_types.specs.declared.page_id.Link.{Link};
+ghost use Rattle.pm_pages.specs.SoundPages.{PassesAll, NoBadPage};
 ghost use Rattle.pm_part.specs.Faults.{HasPartCause};
 
 use pm_btpage::set_word;
@@ -26,6 +29,9 @@ use pm_tree::{Place, find_place};
 use pm_types::{Link, PageFault, PageId, Patch};
 
 /// Sets the link of a key that a cache's index has. Only its leaf is changed.
+///
+/// `BadPage` names a page that is bad, or one on the way that names a wrong one, or the leaf where it
+/// has no item of the key; it never comes where all pages pass their checks and the index has the key.
 pub fn relink<P: Pages>(pages: &mut P, cache: u8, key: &[u8], link: Link) -> Result<(), PageFault>
     requires ready { P.ready pages.old }
     requires meta { HasMeta (P.seen pages.old) }
@@ -41,6 +47,9 @@ pub fn relink<P: Pages>(pages: &mut P, cache: u8, key: &[u8], link: Link) -> Res
         → PutsIndex (P.seen pages.old).pages (P.seen pages.new).pages cache nodes items key.now link.0
         (link_in items key.now)) }
     ensures cause { HasPartCause P.tells (P.seen pages.old) (P.seen pages.new) cache result }
+    ensures sound { P.tells → PassesAll (P.seen pages.old) → (height : ℕ) (nodes : List ℕ) (items : List Item)
+        → IsIndex (P.seen pages.old).pages (root_of (P.seen pages.old).pages cache) height nodes items
+        → (held : Link) → link_in items key.now ≡ Some held → NoBadPage result }
 {
     let count = number(pages, MetaSlot::Pages)?;
     let root = number(pages, MetaSlot::Root(cache))?;
@@ -75,6 +84,7 @@ fn relink_at<P: Pages>(
         levels at key.now word (Kept (Some was))) }
     ensures some { OnOk result (1 ≤ at) }
     ensures cause { HasPartCause P.tells (P.seen pages.old) (P.seen pages.new) cache result }
+    ensures sound { FindsKey P.tells (P.seen pages.old) levels at key.now → NoBadPage result }
 {
     if levels == 0 {
         return Err(PageFault::BadPage(PageId::new(pages.part(), from)));

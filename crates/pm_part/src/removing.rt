@@ -11,6 +11,9 @@ ghost use Rattle.pm_part.specs.Changes.{ChangesPages};
 ghost use Rattle.pm_part.specs.Faults.{HasPartCause};
 ghost use Rattle.pm_part.specs.Removals.{DropsKey, RemovesKey};
 ghost use Rattle.pm_part.specs.Runs.{IsPartitionOf};
+ghost use Rattle.pm_part.specs.RowNames.{NamesRow};
+ghost use Rattle.pm_pages.specs.SoundPages.{NoBadPage};
+ghost use Rattle.pm_tree.specs.Indexes.{as_link};
 
 use crate::entries::{Entry, find_entry};
 use crate::spots::{Spot, find_row};
@@ -21,6 +24,10 @@ use pm_tree_del::tree_remove;
 use pm_types::PageFault;
 
 /// Takes a key of a cache out, and says whether it was there.
+///
+/// `Failed` comes only where a call on the disk failed. `BadPage` names a page that is bad, or one
+/// that names a wrong page or row; it never comes of a well-formed partition. After an error some
+/// pages may be half changed.
 pub fn remove<P: Pages>(pages: &mut P, cache: u8, key: &[u8]) -> Result<bool, PageFault>
     requires ready { P.ready pages.old }
     requires room { 29 ≤ (P.seen pages.old).spare }
@@ -35,6 +42,7 @@ pub fn remove<P: Pages>(pages: &mut P, cache: u8, key: &[u8]) -> Result<bool, Pa
         → IsPartitionOf shape (P.seen pages.new)
         × RemovesKey (P.seen pages.old).part (P.seen pages.old).pages (P.seen pages.new).pages
         cache key.now was) }
+    ensures sound { P.tells → (shape : Shape) → IsPartitionOf shape (P.seen pages.old) → NoBadPage result }
 {
     match find_entry(pages, cache, key)? {
         None => Ok(false),
@@ -62,6 +70,9 @@ fn remove_held<P: Pages>(
         → IsPartitionOf shape (P.seen pages.new)
         × RemovesKey (P.seen pages.old).part (P.seen pages.old).pages (P.seen pages.new).pages
         cache key.now was) }
+    ensures sound { P.tells → (shape : Shape) → IsPartitionOf shape (P.seen pages.old)
+        → NamesRow (P.seen pages.old).part (P.seen pages.old).pages (as_link entry.word) cache key.now
+        → NoBadPage result }
 {
     let spot = find_row(pages, entry, cache, key)?;
     drop_row(pages, cache, key, spot)?;
@@ -84,6 +95,7 @@ fn drop_row<P: Pages>(pages: &mut P, cache: u8, key: &[u8], spot: Spot) -> Resul
         → IsPartitionOf shape (P.seen pages.new)
         × DropsKey (P.seen pages.old).part (P.seen pages.old).pages (P.seen pages.new).pages
         cache key.now) }
+    ensures sound { P.tells → (shape : Shape) → IsPartitionOf shape (P.seen pages.old) → NoBadPage result }
 {
     let rows = number(pages, MetaSlot::Rows)?;
     let link = spot.link(pages.part());

@@ -20,6 +20,10 @@ ghost use Rattle.pm_part.specs.Spots.{IsRowOn, HasNoRowOn, LeadsTo, LeadsNowhere
 ghost use Rattle.pm_part.specs.Spots.{PushesValue};
 ghost use Rattle.pm_part.specs.declared.spots.Spot.{Spot};
 ghost use Rattle.pm_part.specs.Faults.{HasPartCause};
+ghost use Rattle.pm_part.specs.RowNames.{NamesRow};
+ghost use Rattle.pm_part.specs.Runs.{IsPartitionOf};
+ghost use Rattle.pm_pages.specs.SoundPages.{NoBadPage};
+ghost use Rattle.pm_types.specs.declared.shape.Shape.{Shape};
 ghost use Rattle.pm_part.specs.PairReads.{SinceReads, ReadPair};
 ghost use Rattle.pm_part.specs.PairFaults.{HadNoRow, WasBadAt, HasReadCause};
 
@@ -135,7 +139,8 @@ fn has_row<P: Pages>(pages: &mut P, spot: Spot, cache: u8, key: &[u8]) -> Result
 /// Where the row of a key stands, of which this is the entry.
 ///
 /// `Failed` comes only where a call on the disk failed. `BadPage` names the leaf where its link
-/// names no row of the key, or the page that it names where that is bad.
+/// names no row of the key, or the page that it names where that is bad; it never comes where the
+/// link names a row of the key in a well-formed partition.
 pub fn find_row<P: Pages>(
     pages: &mut P,
     entry: Entry,
@@ -153,6 +158,9 @@ pub fn find_row<P: Pages>(
     ensures link { IfOk result (λ spot.
         as_link entry.word ≡ link (page_id (P.seen pages.old).part spot.at) spot.item) }
     ensures cause { HasPartCause P.tells (P.seen pages.old) (P.seen pages.new) cache result }
+    ensures sound { P.tells → (shape : Shape) → IsPartitionOf shape (P.seen pages.old)
+        → NamesRow (P.seen pages.old).part (P.seen pages.old).pages (as_link entry.word) cache key.now
+        → NoBadPage result }
 {
     match find_spot(pages, entry.link())? {
         None => Err(PageFault::BadPage(PageId::new(pages.part(), entry.leaf))),
@@ -234,6 +242,9 @@ pub fn reply_value<P: Pages>(
         × PushesValue (P.seen pages.new) spot cache key.now replies.old replies.new) }
     ensures unchanged { OnErr result (replies.new ≡ replies.old) }
     ensures cause { HasPartCause P.tells (P.seen pages.old) (P.seen pages.new) cache result }
+    ensures sound { P.tells → (shape : Shape) → IsPartitionOf shape (P.seen pages.old)
+        → NamesRow (P.seen pages.old).part (P.seen pages.old).pages (as_link entry.word) cache key.now
+        → NoBadPage result }
 {
     match find_spot(pages, entry.link())? {
         None => Err(PageFault::BadPage(PageId::new(pages.part(), entry.leaf))),

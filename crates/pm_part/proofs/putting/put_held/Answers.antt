@@ -1,3 +1,4 @@
+use Rattle.pm_pages.proofs.SoundPages.{no_bad_passed}
 use Rattle.pm_part.proofs.ReplacedKeys.{held_put, puts_looked}
 use Rattle.pm_part.proofs.DroppedRows.{partition_looked}
 use Rattle.std.proofs.Common.{true}
@@ -43,5 +44,24 @@ returns-clause-puts g c = λ t shape is value row_is.
     let d = g.P.Pages.seen c.replace_row.new.pages in
     let looks = c.find_row.ensures.looks in
     let is_b = partition_looked T a b 1 shape t looks is in
-    puts_looked T a b 1 shape d.pages c.args.cache c.args.key.now value true t looks
-    (held_put shape b d.pages c.in_ok-spot.spot c.args.cache c.args.key.now value is_b (meta_looked T a b 1 looks c.requires.entry.meta) c.in_ok-spot.ensures.row (c.in_ok-replace_row.ensures.replaces t shape is_b value row_is))
+    let made = c.in_ok-replace_row.ensures.replaces t shape is_b value row_is in (
+      made.0,
+      puts_looked T a b 1 shape d.pages c.args.cache c.args.key.now value true t looks
+          (held_put shape b d.pages c.in_ok-spot.spot c.args.cache c.args.key.now value is_b (meta_looked T a b 1 looks c.requires.entry.meta) c.in_ok-spot.ensures.row made.1),
+    )
+
+pub returns-in_err-spot-clause-sound : goal.returns-in_err-spot-clause-sound
+returns-in_err-spot-clause-sound g c = λ t shape is names.
+    let p = err_from_is_err_and c.from_residual.result c.from_residual.ensures.1 in
+    no_bad_passed c.find_row.result c.from_residual.result c.in_err-spot.field-0.0 p.0 c.in_err-spot.was p.1 p.2 (c.find_row.ensures.sound t shape is names)
+
+pub returns-in_err-replace_row-clause-sound : goal.returns-in_err-replace_row-clause-sound
+returns-in_err-replace_row-clause-sound g c = λ t shape is names.
+    let T = g.P.Pages.tells in
+    let a = g.P.Pages.seen c.args.pages.now in
+    let b = g.P.Pages.seen c.find_row.new.pages in
+    let p = err_from_is_err_and c.from_residual-in_err-replace_row.result c.from_residual-in_err-replace_row.ensures.1 in
+    no_bad_passed c.replace_row.result c.from_residual-in_err-replace_row.result c.in_err-replace_row.field-0.0 p.0 c.in_err-replace_row.was p.1 p.2 (c.replace_row.ensures.sound t shape (partition_looked T a b 1 shape t c.find_row.ensures.looks is))
+
+pub returns-clause-sound : goal.returns-clause-sound
+returns-clause-sound g c = λ t shape is names id h. absurd (cc h)

@@ -1,3 +1,7 @@
+use Rattle.pm_pages.proofs.EditedPages.{looks_at_none}
+use Rattle.pm_pages.proofs.PassingLooks.{bad_passed, passes_looked}
+use Rattle.pm_tree.proofs.SoundLooks.{answers_not_bad, answers_end}
+use Rattle.pm_tree.proofs.SoundPuts.{no_gap, child_has, place_is_node}
 use Rattle.std.proofs.Common.{◌≡◌, ◌+◌, ◌-◌, refl, subst, ap, ◌∙◌, inl, inr, arith}
 use Rattle.std.specs.Prelude.{Some}
 use Rattle.std.proofs.lemmas.Result.{on_ok_weaker, err_from_is_err_and}
@@ -281,3 +285,61 @@ returns-in_err-i-clause-cause g t c =
     let b = g.P.Pages.seen c.find_place.new.pages in
     let p = err_from_is_err_and c.from_residual.result c.from_residual.ensures.1 in
     cause_passed T a b c.args.cache c.find_place.result c.from_residual.result c.in_err-i.field-0.0 p.0 c.in_err-i.was p.1 p.2 (cause_page T a b c.args.cache c.args.at c.find_place.result c.find_place.ensures.cause)
+
+pub returns-then-levels-eq0-clause-sound : goal.returns-then-levels-eq0-clause-sound
+returns-then-levels-eq0-clause-sound g t c = λ finds id e. answers_end (g.P.Pages.seen c.args.pages.now) c.args.levels c.args.at c.args.key.now (Some finds.held) c.if-levels-eq0.true finds.answers
+
+pub returns-in_err-i-clause-sound : goal.returns-in_err-i-clause-sound
+returns-in_err-i-clause-sound g t c = λ finds id e.
+    let T = g.P.Pages.tells in
+    let a = g.P.Pages.seen c.args.pages.now in
+    let p = err_from_is_err_and c.from_residual.result c.from_residual.ensures.1 in
+    let bad = c.find_place.ensures.cause.bad id (bad_passed c.find_place.result c.from_residual.result c.in_err-i.field-0.0 p.0 c.in_err-i.was p.1 p.2 id e) in
+    answers_not_bad T a a 0 c.args.levels c.args.at c.args.key.now (Some finds.held) id finds.told finds.all (looks_at_none T a) finds.answers bad
+
+pub returns-in-Held-clause-sound : goal.returns-in-Held-clause-sound
+returns-in-Held-clause-sound g t c = λ finds. c.set_item.ensures.cause.not_bad
+
+pub returns-in-Gap-clause-sound : goal.returns-in-Gap-clause-sound
+returns-in-Gap-clause-sound g t c = λ finds id e.
+    let T = g.P.Pages.tells in
+    let a = g.P.Pages.seen c.args.pages.now in
+    let b = g.P.Pages.seen c.find_place.new.pages in
+    let looks = c.find_place.ensures.looks in
+    let number = number_looked T a b 1 Pages c.args.count looks c.requires.count in
+    let found = at_place b c.args.count c.args.at c.args.key.now (Gap c.in-Gap._i) (λ e. absurd (cc e)) (subst (IsPlace b c.args.count c.args.at c.args.key.now) {y = Gap c.in-Gap._i} c.in-Gap.is c.in_ok-i.ensures.place) in
+    no_gap T a b 1 c.args.count c.args.at c.args.levels c.in-Gap._i finds.held c.args.key.now found.1.page finds.told looks number found.0 found.1.in_hand found.1.is.0 finds.answers
+
+pub returns-in-Full-clause-sound : goal.returns-in-Full-clause-sound
+returns-in-Full-clause-sound g t c = λ finds id e.
+    let T = g.P.Pages.tells in
+    let a = g.P.Pages.seen c.args.pages.now in
+    let b = g.P.Pages.seen c.find_place.new.pages in
+    let looks = c.find_place.ensures.looks in
+    let number = number_looked T a b 1 Pages c.args.count looks c.requires.count in
+    let found = at_place b c.args.count c.args.at c.args.key.now (Full c.in-Full._i) (λ e. absurd (cc e)) (subst (IsPlace b c.args.count c.args.at c.args.key.now) {y = Full c.in-Full._i} c.in-Full.is c.in_ok-i.ensures.place) in
+    no_gap T a b 1 c.args.count c.args.at c.args.levels c.in-Full._i finds.held c.args.key.now found.1.page finds.told looks number found.0 found.1.in_hand found.1.is.0 finds.answers
+
+pub returns-in-Below-clause-sound : goal.returns-in-Below-clause-sound
+returns-in-Below-clause-sound g t c = λ finds.
+    let T = g.P.Pages.tells in
+    let a = g.P.Pages.seen c.args.pages.now in
+    let b = g.P.Pages.seen c.find_place.new.pages in
+    let looks = c.find_place.ensures.looks in
+    let number = number_looked T a b 1 Pages c.args.count looks c.requires.count in
+    let found = at_place b c.args.count c.args.at c.args.key.now (Below c.in-Below._i c.in-Below.child) (λ e. absurd (cc e)) (subst (IsPlace b c.args.count c.args.at c.args.key.now) {y = Below c.in-Below._i c.in-Below.child} c.in-Below.is c.in_ok-i.ensures.place) in
+    c.relink_at.ensures.sound (record {
+      told = finds.told;
+      all = passes_looked T a b 1 finds.told looks finds.all;
+      held = finds.held;
+      answers = child_has T a b 1 c.args.count c.args.at c.args.levels c.in-Below._i c.in-Below.child finds.held c.args.key.now finds.told looks number found.0 found.1 finds.answers;
+    })
+
+pub returns-in-Other-clause-sound : goal.returns-in-Other-clause-sound
+returns-in-Other-clause-sound g t c = λ finds id e.
+    let T = g.P.Pages.tells in
+    let a = g.P.Pages.seen c.args.pages.now in
+    let b = g.P.Pages.seen c.find_place.new.pages in
+    let looks = c.find_place.ensures.looks in
+    let number = number_looked T a b 1 Pages c.args.count looks c.requires.count in
+    place_is_node T a b 1 c.args.count c.args.levels c.args.at finds.held c.args.key.now finds.told finds.all looks number finds.answers (subst (IsPlace b c.args.count c.args.at c.args.key.now) {y = Other} c.in-Other.is c.in_ok-i.ensures.place)

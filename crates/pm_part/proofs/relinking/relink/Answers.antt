@@ -1,13 +1,14 @@
 use Rattle.std.proofs.Common.{◌≢◌, refl, arith}
 use Rattle.std.specs.Prelude.{Some}
-use Rattle.std.proofs.lemmas.Result.{on_ok_weaker}
+use Rattle.std.proofs.lemmas.Result.{on_ok_weaker, err_from_is_err_and}
 use Rattle.pm_meta.specs.declared.slots.MetaSlot.TheVariants.{Pages}
 use Rattle.pm_pages.proofs.TakenPages.{number_looked}
 use Rattle.pm_tree.specs.declared.put.Put.TheVariants.{Kept}
 use Rattle.pm_pages.proofs.EditedPages.{looks_then}
 use Rattle.pm_tree.proofs.Climbs.{link_then, puts_looked}
 use Rattle.pm_free.proofs.PlacedPages.{both_ok}
-use Rattle.pm_part.proofs.Relinked.{root_before, relinks}
+use Rattle.pm_pages.proofs.PassingLooks.{bad_passed}
+use Rattle.pm_part.proofs.Relinked.{root_before, relinks, finds_key}
 use Rattle.pm_part.proofs.PartCauses.{cause_looked}
 use Rattle.pm_part.proofs.relinking.relink.Goals as goal
 
@@ -53,3 +54,23 @@ returns-clause-cause g c =
     let d = g.P.Pages.seen c.number-2.new.pages in
     let looks = looks_then T a b d 0 0 c.number.ensures.looks c.number-2.ensures.looks in
     cause_looked T a d (g.P.Pages.seen c.relink_at.new.pages) 0 c.args.cache c.relink_at.result looks c.relink_at.ensures.cause
+
+pub returns-in_err-count-clause-sound : goal.returns-in_err-count-clause-sound
+returns-in_err-count-clause-sound g c = λ t all height nodes items index held there id e.
+    let p = err_from_is_err_and c.from_residual.result c.from_residual.ensures.1 in
+    c.number.ensures.cause.not_bad id (bad_passed c.number.result c.from_residual.result c.in_err-count.field-0.0 p.0 c.in_err-count.was p.1 p.2 id e)
+
+pub returns-in_err-root-clause-sound : goal.returns-in_err-root-clause-sound
+returns-in_err-root-clause-sound g c = λ t all height nodes items index held there id e.
+    let p = err_from_is_err_and c.from_residual-in_err-root.result c.from_residual-in_err-root.ensures.1 in
+    c.number-2.ensures.cause.not_bad id (bad_passed c.number-2.result c.from_residual-in_err-root.result c.in_err-root.field-0.0 p.0 c.in_err-root.was p.1 p.2 id e)
+
+pub returns-clause-sound : goal.returns-clause-sound
+returns-clause-sound g c = λ t all height nodes items index held there.
+    let T = g.P.Pages.tells in
+    let a = g.P.Pages.seen c.args.pages.now in
+    let b = g.P.Pages.seen c.number.new.pages in
+    let d = g.P.Pages.seen c.number-2.new.pages in
+    let looks = looks_then T a b d 0 0 c.number.ensures.looks c.number-2.ensures.looks in
+    let number = root_before T a d c.in_ok-root.root c.args.cache looks c.requires.meta c.in_ok-root.ensures.number in
+    c.relink_at.ensures.sound (finds_key T a d 0 c.args.cache c.in_ok-root.root height nodes items c.args.key.now held t all looks number index there)

@@ -1,13 +1,15 @@
+use Rattle.pm_pages.proofs.PassingLooks.{bad_passed}
+use Rattle.pm_pages.proofs.SoundPages.{sound_all, no_bad_passed}
+use Rattle.pm_part.proofs.SoundGets.{passes_all}
+use Rattle.pm_part.proofs.SoundRemovals.{tree_sound}
 use Rattle.pm_part.proofs.RemovalSteps.{removal_stays}
 use Rattle.pm_part.proofs.DroppedRows.{partition_looked, dropped}
 use Rattle.pm_part.proofs.SpotReads.{row_looked}
 use Rattle.pm_part.specs.Removals.{DropsKey}
 use Rattle.pm_pages.proofs.ToldPages.{pages_told}
 use Rattle.pm_pages.specs.Rows.{Partition}
-use Rattle.pm_pages.specs.SparePages.{SetsNumber, MetaBecomes}
-use Rattle.pm_meta.specs.declared.slots.MetaSlot.TheVariants.{Rows}
-use Rattle.std.proofs.Common.{ℕ, ◌-◌, subst}
-use Rattle.std.proofs.Common.{◌∙◌, ap, sym, arith}
+use Rattle.std.proofs.Common.{ℕ, subst}
+use Rattle.std.proofs.Common.{◌∙◌, ap, arith}
 use Rattle.std.proofs.lemmas.Result.{on_ok_weaker, err_from_is_err_and}
 use Rattle.pm_types.specs.Ids.{page_id, link}
 use Rattle.pm_pages.proofs.TakenPages.{meta_looked}
@@ -109,3 +111,33 @@ returns-clause-drops g c =
     c.number.ensures.readable c.take_out.ensures.readable c.tree_remove.ensures.readable c.set_number.ensures.readable c.in_ok-take_out.ensures.takes.edits.same second.edits.same c.set_number.ensures.edits.same row at_is
     (c.in_ok-take_out.ensures.takes.told t) (c.in_ok-tree_remove.ensures.removes t) c.set_number.ensures.edits sets c.in_ok-rows.ensures.number (omega arith) (omega (arith, c.saturating_sub.ensures)) (c.in_ok-take_out.ensures.passes t) (c.in_ok-tree_remove.ensures.passes t) in
     (stays, subst (λ (q : ℕ × Partition). DropsKey q.0 q.1 f.pages c.args.cache c.args.key.now) {x = (b.part, b.pages)} {y = (a.part, a.pages)} (λ k. (looks.same.part k, pages_told T a b 0 t looks k)) made)) c.set_number.ensures.sets
+
+pub returns-in_err-rows-clause-sound : goal.returns-in_err-rows-clause-sound
+returns-in_err-rows-clause-sound g c = λ t shape is id h.
+    let p = err_from_is_err_and c.from_residual.result c.from_residual.ensures.1 in
+    c.number.ensures.cause.not_bad id (bad_passed c.number.result c.from_residual.result c.in_err-rows.field-0.0 p.0 c.in_err-rows.was p.1 p.2 id h)
+
+pub returns-in_err-take_out-clause-sound : goal.returns-in_err-take_out-clause-sound
+returns-in_err-take_out-clause-sound g c = λ t shape is.
+    let T = g.P.Pages.tells in
+    let a = g.P.Pages.seen c.args.pages.now in
+    let b = g.P.Pages.seen c.number.new.pages in
+    let is_b = partition_looked T a b 0 shape t c.number.ensures.looks is in
+    let p = err_from_is_err_and c.from_residual-in_err-take_out.result c.from_residual-in_err-take_out.ensures.1 in
+    no_bad_passed c.take_out.result c.from_residual-in_err-take_out.result c.in_err-take_out.field-0.0 p.0 c.in_err-take_out.was p.1 p.2
+    (c.take_out.ensures.sound t (sound_all b (passes_all shape b is_b)) is_b.well_formed.chains)
+
+pub returns-in_err-tree_remove-clause-sound : goal.returns-in_err-tree_remove-clause-sound
+returns-in_err-tree_remove-clause-sound g c = λ t shape is.
+    let T = g.P.Pages.tells in
+    let a = g.P.Pages.seen c.args.pages.now in
+    let b = g.P.Pages.seen c.number.new.pages in
+    let d = g.P.Pages.seen c.take_out.new.pages in
+    let looks = c.number.ensures.looks in
+    let p = err_from_is_err_and c.from_residual-in_err-tree_remove.result c.from_residual-in_err-tree_remove.ensures.1 in
+    no_bad_passed c.tree_remove.result c.from_residual-in_err-tree_remove.result c.in_err-tree_remove.field-0.0 p.0 c.in_err-tree_remove.was p.1 p.2
+    (tree_sound b d shape c.args.cache _ c.link-link.result c.tree_remove.result c.requires.cache (partition_looked T a b 0 shape t looks is) (meta_looked T a b 0 looks c.requires.meta) c.number.ensures.readable
+    (c.in_ok-take_out.ensures.takes.told t) (c.in_ok-take_out.ensures.passes t) (omega arith) (c.tree_remove.ensures.sound t))
+
+pub returns-clause-sound : goal.returns-clause-sound
+returns-clause-sound g c = λ t shape is. c.set_number.ensures.cause.not_bad

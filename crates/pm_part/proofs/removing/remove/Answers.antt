@@ -1,3 +1,7 @@
+use Rattle.std.proofs.Common.{sym}
+use Rattle.pm_pages.proofs.SoundPages.{no_bad_passed}
+use Rattle.pm_tree.specs.Indexes.{as_link}
+use Rattle.pm_part.proofs.SoundGets.{names_row, names_looked, passes_all}
 use Rattle.pm_part.proofs.RemovedKeys.{none_removed, removes_looked}
 use Rattle.pm_part.proofs.DroppedRows.{partition_looked}
 use Rattle.pm_part.proofs.CacheIndexes.{index_of}
@@ -5,11 +9,11 @@ use Rattle.pm_part.specs.Entries.{word_of}
 use Rattle.pm_part.specs.declared.entries.Entry.{Entry}
 use Rattle.pm_tree.specs.Maps.{get_in}
 use Rattle.std.proofs.lemmas.Result.{IfOk-weaker}
-use Rattle.std.proofs.Common.{◌≡◌, None, Option, subst}
+use Rattle.std.proofs.Common.{◌≡◌, None, Some, Option, subst}
 use Rattle.std.proofs.Common.{arith}
 use Rattle.std.proofs.lemmas.Result.{on_ok_weaker, err_from_is_err_and}
-use Rattle.pm_part.proofs.PartCauses.{cause_passed, cause_looked, cause_look, cause_page}
-use Rattle.pm_part.proofs.Swaps.{edits_after_look, pages_after_look, edits_look}
+use Rattle.pm_part.proofs.PartCauses.{cause_passed, cause_looked, cause_look}
+use Rattle.pm_part.proofs.Swaps.{pages_after_look, edits_look}
 use Rattle.pm_part.proofs.removing.remove.Goals as goal
 
 pub returns-in-Some-clause-changes : goal.returns-in-Some-clause-changes
@@ -60,3 +64,24 @@ returns-in-None-clause-removes g c = λ t shape is.
     let ix = index_of shape a c.args.cache is.page_size is.max_rows is.well_formed c.requires.cache in
     let none : None ≡ get_in ix.items key = subst (λ (e : Option Entry). word_of e ≡ get_in ix.items key) {y = None} c.in-None.is (c.in_ok-find_entry.ensures.gets t ix.height ix.nodes ix.items ix.index) in
     (partition_looked T a b 9 shape t c.find_entry.ensures.looks is, none_removed T a b 9 c.args.cache key t c.find_entry.ensures.looks ix none)
+
+pub returns-in_err-find_entry-clause-sound : goal.returns-in_err-find_entry-clause-sound
+returns-in_err-find_entry-clause-sound g c = λ t shape is.
+    let a = g.P.Pages.seen c.args.pages.now in
+    let p = err_from_is_err_and c.from_residual.result c.from_residual.ensures.1 in
+    let ix = index_of shape a c.args.cache is.page_size is.max_rows is.well_formed c.requires.cache in
+    no_bad_passed c.find_entry.result c.from_residual.result c.in_err-find_entry.field-0.0 p.0 c.in_err-find_entry.was p.1 p.2 (c.find_entry.ensures.sound t (passes_all shape a is) ix.height ix.nodes ix.items ix.index)
+
+pub returns-in-None-clause-sound : goal.returns-in-None-clause-sound
+returns-in-None-clause-sound g c = λ t shape is id h. absurd (cc h)
+
+pub returns-in-Some-clause-sound : goal.returns-in-Some-clause-sound
+returns-in-Some-clause-sound g c = λ t shape is.
+    let T = g.P.Pages.tells in
+    let a = g.P.Pages.seen c.args.pages.now in
+    let b = g.P.Pages.seen c.find_entry.new.pages in
+    let key = c.args.key.now in
+    let looks = c.find_entry.ensures.looks in
+    let ix = index_of shape a c.args.cache is.page_size is.max_rows is.well_formed c.requires.cache in
+    let word : Some c.in-Some.entry.word ≡ get_in ix.items key = subst (λ (e : Option Entry). word_of e ≡ get_in ix.items key) {y = Some c.in-Some.entry} c.in-Some.is (c.in_ok-find_entry.ensures.gets t ix.height ix.nodes ix.items ix.index) in
+    c.remove_held.ensures.sound t shape (partition_looked T a b 9 shape t looks is) (names_looked T a b 9 (as_link c.in-Some.entry.word) c.args.cache key t looks (names_row a c.args.cache key c.in-Some.entry.word ix (sym word)))

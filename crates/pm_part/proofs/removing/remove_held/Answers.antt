@@ -1,3 +1,4 @@
+use Rattle.pm_pages.proofs.SoundPages.{no_bad_passed}
 use Rattle.pm_part.proofs.RemovedKeys.{held_removed, removes_looked}
 use Rattle.std.proofs.Common.{true}
 use Rattle.pm_part.proofs.DroppedRows.{partition_looked}
@@ -49,3 +50,19 @@ returns-clause-removes g c = λ t shape is.
       removes_looked T a b 1 c.args.cache c.args.key.now d.pages true t looks
           (held_removed shape b d.pages c.in_ok-spot.spot c.args.cache c.args.key.now is_b meta c.in_ok-spot.ensures.row dropped.1),
     )
+
+pub returns-in_err-spot-clause-sound : goal.returns-in_err-spot-clause-sound
+returns-in_err-spot-clause-sound g c = λ t shape is names.
+    let p = err_from_is_err_and c.from_residual.result c.from_residual.ensures.1 in
+    no_bad_passed c.find_row.result c.from_residual.result c.in_err-spot.field-0.0 p.0 c.in_err-spot.was p.1 p.2 (c.find_row.ensures.sound t shape is names)
+
+pub returns-in_err-drop_row-clause-sound : goal.returns-in_err-drop_row-clause-sound
+returns-in_err-drop_row-clause-sound g c = λ t shape is names.
+    let T = g.P.Pages.tells in
+    let a = g.P.Pages.seen c.args.pages.now in
+    let b = g.P.Pages.seen c.find_row.new.pages in
+    let p = err_from_is_err_and c.from_residual-in_err-drop_row.result c.from_residual-in_err-drop_row.ensures.1 in
+    no_bad_passed c.drop_row.result c.from_residual-in_err-drop_row.result c.in_err-drop_row.field-0.0 p.0 c.in_err-drop_row.was p.1 p.2 (c.drop_row.ensures.sound t shape (partition_looked T a b 1 shape t c.find_row.ensures.looks is))
+
+pub returns-clause-sound : goal.returns-clause-sound
+returns-clause-sound g c = λ t shape is names id h. absurd (cc h)
