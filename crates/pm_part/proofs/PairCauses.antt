@@ -2,6 +2,7 @@
 use Rattle.std.proofs.Common.{◌≡◌, ℕ, ◌<◌, ◌⊎◌, List, refl, sym, ap, subst, ◌∙◌, inl, inr, arith}
 use Rattle.std.specs.Prelude.{Result, Err, IsErrOf}
 use Rattle.pm_types.specs.declared.page_id.PageId.{PageId}
+use Rattle.pm_types.specs.declared.place.Place.{Place}
 use Rattle.pm_types.specs.declared.page_id.Link.{Link}
 use Rattle.pm_types.specs.declared.fault.PageFault.{PageFault}
 use Rattle.pm_types.specs.declared.fault.PageFault.TheVariants as page
@@ -28,6 +29,10 @@ bad_of : (fault : PageFault) (id : PageId) → store_fault_of fault ≡ store.Ba
 bad_of page.Failed id e = absurd (cc e)
 bad_of (page.BadPage other) id e = (let same : other ≡ id = cc e in ap (λ i. page.BadPage i) same)
 
+no_record_of : (fault : PageFault) (place : Place) → store_fault_of fault ≡ store.BadRecord place → ⊥
+no_record_of page.Failed place e = absurd (cc e)
+no_record_of (page.BadPage id) place e = absurd (cc e)
+
 -- A fault that is passed on, after pages that were read before. What the fault is there, it is here.
 abbrev pub Weaker : Type 0 → Paged → (Paged → PageId → Type 0) → (Paged → PageId → Type 0) → Type 0
 Weaker T a F G = (start : Paged) → ReadsPages T start a → (id : PageId) → F start id → G start id
@@ -38,6 +43,7 @@ cause_on T a b d F G r s f e is_r is_s same reads weaker cause = record {
   bad = λ start since id h.
       let since' = reads_then T start a b since reads in
       weaker start since id (cause.bad start since' id (store_err r s f e is_r is_s same (store.BadPage id) h));
+  no_record = λ place h. cause.no_record place (store_err r s f e is_r is_s same (store.BadRecord place) h);
 }
 
 pub page_cause_on : {R S : Type 0} (T : Type 0) (a b d : Paged) (F G : Paged → PageId → Type 0) (r : Result R PageFault) (s : Result S PageFault) (f e : PageFault) → r ≡ Err f → s ≡ Err e → e ≡ f → ReadsPages T a b → Weaker T a F G → HasPageReadCause T b d F r → HasPageReadCause T a d G s
@@ -57,6 +63,7 @@ store_cause_on T a b d F G r s f e is_r is_s same reads weaker cause =
       bad = λ start since id h.
           let since' = reads_then T start a b since reads in
           weaker start since id (cause.bad start since' id (is_r ∙ ap (λ (y : PageFault). Err y) (bad_of f id (is (store.BadPage id) h))));
+      no_record = λ place h. no_record_of f place (is (store.BadRecord place) h);
     }
 
 -- the result of a call, passed on as it is
@@ -64,6 +71,7 @@ pub cause_same : {R : Type 0} (T : Type 0) (a b d : Paged) (F G : Paged → Page
 cause_same T a b d F G r reads weaker cause = record {
   failed = λ h. omega (arith, cause.failed h, reads.same.faults);
   bad = λ start since id h. weaker start since id (cause.bad start (reads_then T start a b since reads) id h);
+  no_record = cause.no_record;
 }
 
 -- an error that names a page
@@ -71,6 +79,7 @@ pub cause_named : {R : Type 0} (T : Type 0) (a d : Paged) (G : Paged → PageId 
 cause_named T a d G id s is fault = record {
   failed = λ h. absurd (cc (is, h));
   bad = λ start since other h. (let same : id ≡ other = cc (sym is ∙ h) in subst (G start) same (fault start since));
+  no_record = λ place h. absurd (cc (is, h));
 }
 
 pub page_cause_named : {R : Type 0} (T : Type 0) (a d : Paged) (G : Paged → PageId → Type 0) (id : PageId) (s : Result R PageFault) → s ≡ Err (page.BadPage id) → ((start : Paged) → ReadsPages T start a → G start id) → HasPageReadCause T a d G s
@@ -97,7 +106,7 @@ disk_only T b d F r cause = record { failed = cause.failed; bad = λ start since
 
 -- as seen from the first moment
 pub pairs_cause : {R : Type 0} (T : Type 0) (a d : Paged) (cache : ℕ) (r : Result R StoreFault) → NoneLent a → HasReadCause T a d (λ start id. WasBad T start 0 id ⊎ IsPairsFault T start cache id) r → HasPairsCause T a d cache r
-pairs_cause T a d cache r none cause = record { failed = cause.failed; bad = λ id h. cause.bad a (reads_none T a none) id h }
+pairs_cause T a d cache r none cause = record { failed = cause.failed; bad = λ id h. cause.bad a (reads_none T a none) id h; no_record = cause.no_record }
 
 -- the name of a page, as the part says that it has at a later moment
 pub named_at : (T : Type 0) (start a b : Paged) (part at : ℕ) (id : PageId) → ReadsPages T start a → ReadsPages T a b → part ≡ b.part → id ≡ page_id part at → id ≡ page_id start.part at

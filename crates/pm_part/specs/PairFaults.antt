@@ -2,6 +2,7 @@
 use Rattle.std.specs.Prelude.{◌≡◌, ◌≢◌, ℕ, ◌<◌, ◌≤◌, ◌⊎◌, List, Result, IsErrOf, length}
 use Rattle.pm_types.specs.declared.page_id.Link.{Link}
 use Rattle.pm_types.specs.declared.page_id.PageId.{PageId}
+use Rattle.pm_types.specs.declared.place.Place.{Place}
 use Rattle.pm_types.specs.declared.fault.PageFault.{PageFault}
 use Rattle.pm_types.specs.declared.fault.PageFault.TheVariants as page_fault
 use Rattle.pm_types.specs.declared.fault.StoreFault.{StoreFault}
@@ -126,12 +127,13 @@ pub record IsPairsFault (T : Type 0) (start : Paged) (cache : ℕ) (id : PageId)
       × IsLeavesFault T start count cache first id)
 
 -- A call of the disk failed, or there was such a fault, also as seen from a moment since which
--- pages were only read.
+-- pages were only read. No record of the log is named.
 pub record HasReadCause {R : Type 0} (T : Type 0) (old new : Paged)
     (fault : Paged → PageId → Type 0) (result : Result R StoreFault) : Type 0 where
   pub failed : IsErrOf result store_fault.Failed → HasRisen old.faults new.faults
   pub bad : (start : Paged) → ReadsPages T start old → (id : PageId)
       → IsErrOf result (store_fault.BadPage id) → fault start id
+  pub no_record : (place : Place) → IsErrOf result (store_fault.BadRecord place) → ⊥
 
 -- the same of a call that takes no memory
 pub record HasPageReadCause {R : Type 0} (T : Type 0) (old new : Paged)
@@ -140,12 +142,13 @@ pub record HasPageReadCause {R : Type 0} (T : Type 0) (old new : Paged)
   pub bad : (start : Paged) → ReadsPages T start old → (id : PageId)
       → IsErrOf result (page_fault.BadPage id) → fault start id
 
--- a call of the disk failed, the meta page was bad, or there was such a fault
+-- a call of the disk failed, the meta page was bad, or there was such a fault; no record of the log is named
 pub record HasPairsCause {R : Type 0} (T : Type 0) (old new : Paged) (cache : ℕ)
     (result : Result R StoreFault) : Type 0 where
   pub failed : IsErrOf result store_fault.Failed → HasRisen old.faults new.faults
   pub bad : (id : PageId) → IsErrOf result (store_fault.BadPage id)
       → WasBad T old 0 id ⊎ IsPairsFault T old cache id
+  pub no_record : (place : Place) → IsErrOf result (store_fault.BadRecord place) → ⊥
 
 -- no page is answered as bad
 abbrev pub NamesNoBadPage : {R : Type 0} → Result R StoreFault → Type 0
