@@ -1,7 +1,11 @@
 pub mod DeltaRooms
+pub mod Hands
+pub mod LostPages
 pub mod NextPages
 pub mod Operations
 pub mod PageRooms
 pub mod PlacedPages
 pub mod Spelling
+pub mod TakenPages
+pub mod Tries
 pub mod WrittenPages
