@@ -154,6 +154,7 @@ module _ (locks : LockTable) (k : Kept) (id : PageId) (f tag : ℕ) (seat' : Sig
     shape = refl;
     number = refl;
     free = refl;
+    staying = λ j is. record { frame = is.frame; tag = is.tag; entry = is.entry; kept = rest j (stay_name j is.frame is.tag is.entry is.kept is.at is.stay) ∙ is.kept; at = puts is.frame ∙ is.at; stay = is.stay };
     added = λ e. absurd (let q : false ≡ true = e in cc q);
     lost = λ _. (refl, gone);
   }

@@ -156,6 +156,7 @@ module _ (locks : LockTable) (k : Kept) (new : Held) (seat' : Sight) (room' : �
     shape = refl;
     number = refl;
     free = refl;
+    staying = λ j is. record { frame = is.frame; tag = is.tag; entry = is.entry; kept = is.kept; at = puts is.frame ∙ is.at; stay = is.stay };
     added = λ _. record {
       page = new;
       added = refl;

@@ -249,6 +249,15 @@ pub record AddsPage (k k' : Kept) (id : PageId) : Type 0 where
   pub bare : page.patch ≡ None
   pub passes : IsTrue (is_known k id) ⊎ Passes k.shape id page.lease.bytes
 
+-- the page is in a frame that isn't given to another page
+pub record IsStaying (k : Kept) (id : PageId) : Type 0 where
+  pub frame : ℕ
+  pub tag : ℕ
+  pub entry : Entry
+  pub kept : place_of k id ≡ Some (frame, tag)
+  pub at : last_put k frame ≡ Some entry
+  pub stay : IsTrue (stays entry.flag)
+
 -- A page was taken from the frame that keeps it, or that was given to another page and keeps it no more.
 pub record TakesPage (locks : LockTable) (k k' : Kept) (id : PageId) (found : Bool) : Type 0 where
   pub holds : Holds locks k'
@@ -256,5 +265,6 @@ pub record TakesPage (locks : LockTable) (k k' : Kept) (id : PageId) (found : Bo
   pub shape : k'.shape ≡ k.shape
   pub number : k'.number ≡ k.number
   pub free : k'.free ≡ k.free
+  pub staying : (j : PageId) → IsStaying k j → IsStaying k' j
   pub added : found ≡ true → AddsPage k k' id
   pub lost : found ≡ false → (k'.held ≡ k.held) × (place_of k' id ≡ None)

@@ -1,5 +1,6 @@
 pub mod Bounds
 pub mod ChangedPages
+pub mod Fetches
 pub mod Kept
 pub mod Listings
 pub mod PlacedPages

@@ -1,6 +1,6 @@
 -- What contracts see of a stripe and of one that is bound to a seat.
-use Rattle.std.specs.Prelude.{◌≡◌, ℕ, ◌≤◌, Bool, false, List, [], length, None, Some}
-use Rattle.std.specs.Prelude.{if◌then◌else◌, Option, IsTrue}
+use Rattle.std.specs.Prelude.{◌≡◌, ℕ, ◌≤◌, Bool, false, List, [], length, None}
+use Rattle.std.specs.Prelude.{if◌then◌else◌, Option}
 use Rattle.std.specs.FinMap as map
 use Rattle.std.specs.Vec.{vec_capacity}
 use Rattle.pm_types.specs.declared.limits.TheConstants.{OP_PAGES}
@@ -9,10 +9,9 @@ use Rattle.pm_types.specs.declared.shape.Shape.{Shape}
 use Rattle.pm_disk.specs.Moments.{History}
 use Rattle.pm_disk.specs.States.{DeviceState, IsUsable}
 use Rattle.pm_locks.specs.Sight.{Sight, LockTable}
-use Rattle.pm_locks.specs.declared.view.Entry.{Entry}
 use Rattle.pm_stripe.specs.declared.stripe.Stripe.{Stripe}
 use Rattle.pm_stripe.specs.Reads.{stored}
-use Rattle.pm_stripe.specs.Kept.{Kept, place_of, last_put, stays, IsPageOf, Holds}
+use Rattle.pm_stripe.specs.Kept.{Kept, IsPageOf, IsStaying, Holds}
 
 -- what a stripe keeps of its pages, with this seat
 abbrev pub kept : Stripe → Sight → Kept
@@ -78,15 +77,6 @@ pub record IsAtRest (locks : LockTable) (k : Kept) : Type 0 where
   pub holds : Holds locks k
   pub none_held : k.held ≡ []
   pub none_free : k.free ≡ []
-
--- the page is in a frame that isn't given to another page
-pub record IsStaying (k : Kept) (id : PageId) : Type 0 where
-  pub frame : ℕ
-  pub tag : ℕ
-  pub entry : Entry
-  pub kept : place_of k id ≡ Some (frame, tag)
-  pub at : last_put k frame ≡ Some entry
-  pub stay : IsTrue (stays entry.flag)
 
 -- the reader may read each page of the worker's that isn't in such a frame
 pub record MayReadOthers (workers : ℕ) (state : DeviceState) (k : Kept) : Type 0 where

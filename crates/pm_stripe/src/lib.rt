@@ -2,12 +2,14 @@
 #![tactic(auto)]
 
 mod bound;
+mod fetching;
 mod held;
 mod limits;
 mod operation;
 mod outbox;
 mod places;
 mod read;
+mod reading;
 mod record;
 mod stripe;
 mod take;
