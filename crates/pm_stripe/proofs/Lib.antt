@@ -8,6 +8,7 @@ pub mod PageRooms
 pub mod PlacedPages
 pub mod ReadPages
 pub mod Spelling
+pub mod StolenFrames
 pub mod TakenPages
 pub mod Tries
 pub mod WrittenPages

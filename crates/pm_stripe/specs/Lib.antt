@@ -5,5 +5,6 @@ pub mod Kept
 pub mod Listings
 pub mod PlacedPages
 pub mod Reads
+pub mod Steals
 pub mod Stripes
 pub mod Takes

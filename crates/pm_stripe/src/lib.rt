@@ -11,6 +11,7 @@ mod places;
 mod read;
 mod reading;
 mod record;
+mod stealing;
 mod stripe;
 mod take;
 mod taking;
