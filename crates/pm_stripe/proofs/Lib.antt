@@ -1,7 +1,14 @@
 pub mod DeltaRooms
+pub mod Fetched
+pub mod Hands
+pub mod LostPages
 pub mod NextPages
 pub mod Operations
 pub mod PageRooms
 pub mod PlacedPages
+pub mod ReadPages
 pub mod Spelling
+pub mod StolenFrames
+pub mod TakenPages
+pub mod Tries
 pub mod WrittenPages

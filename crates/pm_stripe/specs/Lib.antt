@@ -1,3 +1,10 @@
+pub mod Bounds
 pub mod ChangedPages
+pub mod Fetches
+pub mod Kept
 pub mod Listings
 pub mod PlacedPages
+pub mod Reads
+pub mod Steals
+pub mod Stripes
+pub mod Takes

@@ -1,11 +1,23 @@
 //! One worker's pages over page frames that are shared under locks, and what it hands to the log writer.
 #![tactic(auto)]
 
+mod bound;
+mod fetching;
 mod held;
 mod limits;
 mod operation;
 mod outbox;
 mod places;
+mod read;
+mod reading;
 mod record;
+mod stealing;
+mod stripe;
+mod take;
+mod taking;
+
+pub use bound::Bound;
+pub use stripe::Stripe;
+
 #[cfg(test)]
 mod tests;
