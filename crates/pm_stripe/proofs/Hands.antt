@@ -1,5 +1,5 @@
 -- Lists of pages and frames in hand.
-use Rattle.std.proofs.Common.{◌≡◌, ◌≢◌, ℕ, Bool, true, false, List, [], ◌∷◌, ◌++◌, ◌⊎◌, ⊎_elim, inl, inr, cond, eqb, Option, Some, None, sym, refl, ap, ◌∙◌, eq-eqb, ne_eqb}
+use Rattle.std.proofs.Common.{eqb-true, ◌≡◌, ◌≢◌, ℕ, Bool, true, false, List, [], ◌∷◌, ◌++◌, ◌⊎◌, ⊎_elim, inl, inr, cond, eqb, Option, Some, None, sym, refl, ap, ◌∙◌, eq-eqb, ne_eqb}
 use Rattle.std.specs.Prelude.{slice_get, zero, suc}
 use Rattle.pm_types.specs.declared.flag.Flag.{Flag}
 use Rattle.pm_types.specs.declared.flag.Flag.TheVariants as flag
@@ -55,3 +55,12 @@ stays_or_clean flag.Clean some = inr refl
 stays_or_clean flag.Dirty some = inl refl
 stays_or_clean flag.Due some = inl refl
 stays_or_clean flag.Done some = inl refl
+
+-- a page that is found stands somewhere, under its name
+pub found_at : (hs : List Held) (id : ℕ) (h : Held) → held_at hs id ≡ Some h → (i : ℕ) × (slice_get hs i ≡ Some h) × (h.page.0 ≡ id)
+found_at [] id h is = absurd (cc is)
+found_at (x ∷ hs) id h is = found_by (λ e. found_at hs id h e) (eqb x.page.0 id) refl is
+  where
+    found_by : (held_at hs id ≡ Some h → (i : ℕ) × (slice_get hs i ≡ Some h) × (h.page.0 ≡ id)) → (b : Bool) → eqb x.page.0 id ≡ b → cond b (Some x) (held_at hs id) ≡ Some h → (i : ℕ) × (slice_get (x ∷ hs) i ≡ Some h) × (h.page.0 ≡ id)
+    found_by further true t e = let same : x ≡ h = cc e in (zero, e, ap (λ (z : Held). z.page.0) (sym same) ∙ eqb-true x.page.0 id t)
+    found_by further false t e = let y = further e in (suc y.0, y.1, y.2)

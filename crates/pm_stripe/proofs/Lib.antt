@@ -6,6 +6,7 @@ pub mod NextPages
 pub mod Operations
 pub mod PageRooms
 pub mod PlacedPages
+pub mod PutPages
 pub mod ReadPages
 pub mod Spelling
 pub mod StolenFrames

@@ -4,6 +4,7 @@ pub mod Fetches
 pub mod Kept
 pub mod Listings
 pub mod PlacedPages
+pub mod Puts
 pub mod Reads
 pub mod Steals
 pub mod Stripes

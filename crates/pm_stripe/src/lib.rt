@@ -8,6 +8,7 @@ mod limits;
 mod operation;
 mod outbox;
 mod places;
+mod putting;
 mod read;
 mod reading;
 mod record;

@@ -1,0 +1,53 @@
+-- What putting a page back does to what a worker keeps.
+use Rattle.std.specs.Prelude.{◌≡◌, ℕ, Bool, true, false, ◌&&◌, not, if◌then◌else◌, List, [], ◌∷◌, ◌++◌, Option, Some, IsTrue}
+use Rattle.std.specs.Prelude.{slice_get}
+use Rattle.pm_types.specs.declared.flag.Flag.{Flag}
+use Rattle.pm_types.specs.declared.flag.Flag.TheVariants as flag
+use Rattle.pm_types.specs.declared.page_id.PageId.{PageId}
+use Rattle.pm_types.specs.Pages.{SameOutside}
+use Rattle.pm_pages.specs.Paged.{CoversByte}
+use Rattle.pm_locks.specs.Sight.{LockTable}
+use Rattle.pm_stripe.specs.declared.held.Held.{Held}
+use Rattle.pm_stripe.specs.ChangedPages.{is_changed}
+use Rattle.pm_stripe.specs.Kept.{Kept, stays, page_bytes, is_known, Holds, AreClean}
+
+-- a frame with this flag has no page
+abbrev pub is_empty : Flag → Bool
+is_empty flag.Empty = true
+is_empty flag.Clean = false
+is_empty flag.Dirty = false
+is_empty flag.Due = false
+is_empty flag.Done = false
+
+-- Dirty where the page was changed; Empty where it may have been written and nothing says what; Clean where it was
+-- read; and else the flag that it had
+abbrev pub put_flag : Held → Flag
+put_flag h =
+    if is_changed h.patch then flag.Dirty
+    else if h.is_lent && not (stays h.flag) then flag.Empty
+    else if h.is_read then flag.Clean
+    else h.flag
+
+-- outside its patch the page has the bytes that it had
+abbrev pub IsCovered : Held → Type 0
+IsCovered h = SameOutside (CoversByte h.patch) h.was.value.bytes h.lease.bytes
+
+-- each page in hand is so, or each that stays
+abbrev pub AreCovered : List Held → Type 0
+AreCovered held = (i : ℕ) (h : Held) → slice_get held i ≡ Some h → IsCovered h
+
+abbrev pub AreStayingCovered : List Held → Type 0
+AreStayingCovered held = (i : ℕ) (h : Held) → slice_get held i ≡ Some h → IsTrue (stays h.flag) → IsCovered h
+
+-- The last page in hand was put back. What is at hand then is as it was, and where what is Clean is as the files
+-- have it, and each page is covered by its patch, all pages are.
+pub record PutsLast (locks : LockTable) (k k' : Kept) : Type 0 where
+  pub holds : Holds locks k'
+  pub last : Held
+  pub held : k.held ≡ k'.held ++ last ∷ []
+  pub free : k'.free ≡ k.free
+  pub at_hand : (file : PageId → Option (List ℕ)) (id : PageId) → IsTrue (is_known k' id)
+      → page_bytes file k' id ≡ page_bytes file k id
+  pub clean : (file : PageId → Option (List ℕ)) → AreClean file k → AreCovered k.held → AreClean file k'
+  pub told : (file : PageId → Option (List ℕ)) (id : PageId) → AreClean file k → AreCovered k.held
+      → page_bytes file k' id ≡ page_bytes file k id
