@@ -10,7 +10,7 @@ use Rattle.pm_disk_fs.specs.OpenFiles.{IsTakenOut, OthersStayOpen, after_oldest}
 use Rattle.pm_disk_fs.specs.declared.open_files.TheConstants.{OPEN_MAX}
 
 -- the only element of a list of one
-only_one : {X : Type 0} (x y : X) → Contains (x ∷ []) y → x ≡ y
+pub only_one : {X : Type 0} (x y : X) → Contains (x ∷ []) y → x ≡ y
 only_one x y at = let none : at.0 ≡ 0 = omega (arith, at.1) in subst (λ k. slice_index_or (x ∷ []) k y ≡ y) none at.2
 
 others_left : {F : Type 0} (before after : List (Opened F)) (out file : Opened F) (name : StoreFile) → out.name ≡ name → file.name ≢ name → Contains (before ++ out ∷ after) file → Contains (before ++ after) file

@@ -8,7 +8,7 @@ ghost use Rattle.pm_disk_fs.specs.Failures.{IsFailureOn, IsOn, IsCallOn, IsOnFil
 ghost use Rattle.pm_disk_fs.specs.Failures.{IsOnFileOrFolder};
 ghost use Rattle.pm_disk_fs.specs.OpenFiles.{AreSorted, OthersStayOpen, IsNotOpen, IsTakenOut};
 ghost use Rattle.pm_disk_fs.specs.Calls.{IsMadeAt, IsOpenedToChange, IsSyncedAt, DoNamesLast, to_make};
-ghost use Rattle.pm_disk_fs.specs.Calls.{AreNamesSynced};
+ghost use Rattle.pm_disk_fs.specs.Calls.{AreNamesSynced, WasThere};
 ghost use Rattle.pm_disk_fs.specs.Positions.{IsChangedLast, WasForced, IsWritten};
 ghost use Rattle.pm_disk_fs.specs.Writes.{ChangesFile, FlushesBuffer};
 
@@ -143,7 +143,9 @@ impl<R: PathCalls<File: FileCalls> + AllocGlobal + Drop> Store<R> {
         bytes: &[u8],
     ) -> Result<(), Failure>
         ensures changes { ChangesFile self.old.writes self.new.writes result }
-        ensures names { IsTrue self.new.names_last → IsTrue self.old.names_last }
+        ensures names { IsTrue self.new.names_last → IsTrue self.old.names_last
+            × OnOk result (WasThere R.opened (option_map string_bytes folder.now.dir)
+            self.old.open.files.items name) }
         ensures wrote { OnOk result (IsWritten R.File.contents self.new.open.files.items
             name at bytes.now) }
         ensures others { OnOk result (OthersStayOpen self.old.open.files.items
@@ -160,7 +162,9 @@ impl<R: PathCalls<File: FileCalls> + AllocGlobal + Drop> Store<R> {
     /// Cuts the file to this length in bytes, and makes it where it isn't there.
     pub fn cut(&mut self, folder: &Folder<R>, name: StoreFile, len: u64) -> Result<(), Failure>
         ensures changes { ChangesFile self.old.writes self.new.writes result }
-        ensures names { IsTrue self.new.names_last → IsTrue self.old.names_last }
+        ensures names { IsTrue self.new.names_last → IsTrue self.old.names_last
+            × OnOk result (WasThere R.opened (option_map string_bytes folder.now.dir)
+            self.old.open.files.items name) }
         ensures cut { OnOk result (IsChangedLast self.new.open.files.items name) }
         ensures others { OnOk result (OthersStayOpen self.old.open.files.items
             self.new.open.files.items name) }
@@ -201,6 +205,7 @@ impl<R: PathCalls<File: FileCalls> + AllocGlobal + Drop> Store<R> {
     pub fn remove(&mut self, folder: &Folder<R>, name: StoreFile) -> Result<(), Failure>
         ensures changes { ChangesFile self.old.writes self.new.writes result }
         ensures names { OnOk result (self.new.names_last ≡ false) }
+        ensures closed { OnOk result (IsNotOpen self.new.open.files.items name) }
         ensures removed { OnOk result (IsMadeAt (option_map string_bytes folder.now.dir) name
             (λ path. R.removed path ⊎ R.missing path)) }
         ensures others { OnOk result (OthersStayOpen self.old.open.files.items
@@ -210,7 +215,7 @@ impl<R: PathCalls<File: FileCalls> + AllocGlobal + Drop> Store<R> {
     {
         self.writes.begin()?;
         self.names_last = false;
-        let _ = self.open.take(name);
+        self.open.close(name);
         folder.remove(name)?;
         self.writes.is_poisoned = false;
         Ok(())
@@ -225,7 +230,9 @@ impl<R: PathCalls<File: FileCalls> + AllocGlobal + Drop> Store<R> {
         bytes: &[u8],
     ) -> Result<(), Failure>
         ensures writes { self.new.writes ≡ self.old.writes }
-        ensures names { IsTrue self.new.names_last → IsTrue self.old.names_last }
+        ensures names { IsTrue self.new.names_last → IsTrue self.old.names_last
+            × OnOk result (WasThere R.opened (option_map string_bytes folder.now.dir)
+            self.old.open.files.items name) }
         ensures wrote { OnOk result (IsWritten R.File.contents self.new.open.files.items
             name at bytes.now) }
         ensures others { OnOk result (OthersStayOpen self.old.open.files.items
