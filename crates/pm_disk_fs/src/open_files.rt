@@ -4,7 +4,7 @@ ghost use Rattle.std.specs.Prelude.{◌≡◌, ◌<◌, ◌≤◌, ◌+◌, ◌+
 ghost use Rattle.std.specs.Prelude.{◌⊎◌, IfSome, IsSomeAnd, OnSome, IsTrue};
 ghost use Rattle.std.specs.Prelude.{IfOk, IfErr, IfNone, OnOk, OnErr, slice_get, vec_len, vec_capacity};
 ghost use Rattle.pm_disk_fs.specs.Failures.{IsSystemFailure, IsSync};
-ghost use Rattle.pm_disk_fs.specs.OpenFiles.{AreSorted, AreForced};
+ghost use Rattle.pm_disk_fs.specs.OpenFiles.{AreSorted, AreJoined, AreForced};
 
 use crate::calls::FileCalls;
 use crate::failure::Failure;
@@ -120,6 +120,8 @@ impl<F: Write + Seek + FileCalls + Drop> OpenFiles<F> {
     /// Takes the files in, after those that are open. Where as many are open as may be, the one that was
     /// changed longest ago is forced and closed. After a failure a file may be closed that wasn't forced.
     pub fn keep_all(&mut self, more: OpenFiles<F>) -> Result<(), Failure>
+        ensures kept { OnOk result (length self.old.files.items + length more.files.items ≤ OPEN_MAX
+            → self.new.files.items ≡ self.old.files.items ++ more.files.items) }
         ensures failed { IfErr result (IsSystemFailure IsSync) }
     {
         for file in more.files {
@@ -127,6 +129,17 @@ impl<F: Write + Seek + FileCalls + Drop> OpenFiles<F> {
             self.keep(file);
         }
         Ok(())
+    }
+
+    /// Takes the files of two parts in, after those that are open. After a failure a file may be closed that
+    /// wasn't forced.
+    pub fn join(&mut self, segments: OpenFiles<F>, pages: OpenFiles<F>) -> Result<(), Failure>
+        ensures joined { OnOk result (AreJoined self.old.files.items segments.files.items
+            pages.files.items self.new.files.items) }
+        ensures failed { IfErr result (IsSystemFailure IsSync) }
+    {
+        self.keep_all(segments)?;
+        self.keep_all(pages)
     }
 
     // Where the file of this name stands among the open ones: the one of them that was changed last.

@@ -6,7 +6,8 @@ ghost use Rattle.std.specs.String.{string_bytes};
 ghost use Rattle.pm_disk.specs.declared.names.StoreFile.TheVariants.{Segment};
 ghost use Rattle.pm_disk_fs.specs.Failures.{IsFailureOn, IsOn, IsCallOn, IsOnFile, IsOnFileOrSync};
 ghost use Rattle.pm_disk_fs.specs.Failures.{IsOnFileOrFolder};
-ghost use Rattle.pm_disk_fs.specs.OpenFiles.{AreSorted, OthersStayOpen, IsNotOpen, IsTakenOut};
+ghost use Rattle.pm_disk_fs.specs.OpenFiles.{AreSorted, AreJoined, OthersStayOpen, IsNotOpen};
+ghost use Rattle.pm_disk_fs.specs.OpenFiles.{IsTakenOut};
 ghost use Rattle.pm_disk_fs.specs.Calls.{IsMadeAt, IsOpenedToChange, IsSyncedAt, DoNamesLast, to_make};
 ghost use Rattle.pm_disk_fs.specs.Calls.{AreNamesSynced, WasThere};
 ghost use Rattle.pm_disk_fs.specs.Positions.{IsChangedLast, WasForced, IsWritten};
@@ -114,6 +115,8 @@ impl<R: PathCalls<File: FileCalls> + AllocGlobal + Drop> Store<R> {
     /// open.
     pub fn join(&mut self, log: Store<R>, pages: Store<R>)
         ensures buffer { self.new.writes.buffer ≡ log.writes.buffer }
+        ensures files { IsTrue self.new.writes.is_poisoned ⊎ AreJoined self.old.open.files.items
+            log.open.files.items pages.open.files.items self.new.open.files.items }
         ensures names { IsTrue self.new.names_last
             → IsTrue log.names_last × IsTrue pages.names_last }
         ensures still_poisoned { IsTrue self.old.writes.is_poisoned
@@ -122,14 +125,13 @@ impl<R: PathCalls<File: FileCalls> + AllocGlobal + Drop> Store<R> {
         ensures pages_poisoned { IsTrue pages.writes.is_poisoned
             → IsTrue self.new.writes.is_poisoned }
     {
-        let segments_kept = self.open.keep_all(log.open).is_ok();
-        let pages_kept = self.open.keep_all(pages.open).is_ok();
+        let are_kept = self.open.join(log.open, pages.open).is_ok();
         self.names_last = log.names_last && pages.names_last;
         let was_poisoned = self.writes.is_poisoned
             || log.writes.is_poisoned
             || pages.writes.is_poisoned;
         self.writes = Writes {
-            is_poisoned: was_poisoned || !segments_kept || !pages_kept,
+            is_poisoned: was_poisoned || !are_kept,
             buffer: log.writes.buffer,
         };
     }
