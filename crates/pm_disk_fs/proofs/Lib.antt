@@ -1,7 +1,9 @@
+pub mod Closing
 pub mod Fills
 pub mod ForcedSegments
 pub mod JoinedReaders
 pub mod Names
+pub mod Openings
 pub mod SortingOut
 pub mod StayingOpen
 pub mod TakingBack

@@ -1,5 +1,5 @@
 -- Each file of another name stays open when a file is taken out and put after the others.
-use Rattle.std.proofs.Common.{◌≡◌, List, ◌∷◌, ◌++◌, [], length, sym, ◌∙◌, ap, subst, arith}
+use Rattle.std.proofs.Common.{◌≡◌, ◌+◌, ◌≤◌, List, ◌∷◌, ◌++◌, [], length, sym, ◌∙◌, ap, subst, arith, length-append, append_assoc}
 use Rattle.std.specs.Prelude.{◌≢◌, ◌==◌, Contains, slice_index_or, remove, false, if◌then◌else◌}
 use Rattle.std.proofs.lemmas.Bool.Decides.{nat_tests}
 use Rattle.std.proofs.Common.{inl, inr}
@@ -10,7 +10,7 @@ use Rattle.pm_disk_fs.specs.OpenFiles.{IsTakenOut, OthersStayOpen, after_oldest}
 use Rattle.pm_disk_fs.specs.declared.open_files.TheConstants.{OPEN_MAX}
 
 -- the only element of a list of one
-only_one : {X : Type 0} (x y : X) → Contains (x ∷ []) y → x ≡ y
+pub only_one : {X : Type 0} (x y : X) → Contains (x ∷ []) y → x ≡ y
 only_one x y at = let none : at.0 ≡ 0 = omega (arith, at.1) in subst (λ k. slice_index_or (x ∷ []) k y ≡ y) none at.2
 
 others_left : {F : Type 0} (before after : List (Opened F)) (out file : Opened F) (name : StoreFile) → out.name ≡ name → file.name ≢ name → Contains (before ++ out ∷ after) file → Contains (before ++ after) file
@@ -52,3 +52,13 @@ others_of_kept old mid new name more stays is = record {
 -- the files are those that were left
 pub others_still : {F : Type 0} (old mid new : List (Opened F)) (name : StoreFile) → OthersStayOpen old mid name → new ≡ mid → OthersStayOpen old new name
 others_still old mid new name stays same = subst (λ files. OthersStayOpen old files name) (sym same) stays
+
+-- one more of those that are taken in stands after the others
+pub still_all : {F : Type 0} (first taken old mid new : List (Opened F)) (file : Opened F) → length first + length (taken ++ file ∷ []) ≤ OPEN_MAX → (length first + length taken ≤ OPEN_MAX → old ≡ first ++ taken) → mid ≡ after_oldest old → new ≡ mid ++ file ∷ []
+    → new ≡ first ++ (taken ++ file ∷ [])
+still_all first taken old mid new file fits so_far room kept =
+    let count = length-append taken (file ∷ []) in
+    let is = so_far (omega (arith, fits, count)) in
+    let long = ap (λ (l : List (Opened _)). length l) is ∙ length-append first taken in
+    let full : (length old == OPEN_MAX) ≡ false = grind (arith, nat_tests) in
+    kept ∙ ap (λ l. l ++ file ∷ []) (room ∙ ap (λ b. if b then remove old 0 else old) full ∙ is) ∙ append_assoc first taken (file ∷ [])

@@ -1,7 +1,10 @@
 -- A list is what stands before an element, the element, and what follows.
-use Rattle.std.proofs.Common.{◌≡◌, ◌<◌, ◌+◌, ℕ, suc, List, ◌∷◌, ◌++◌, [], length, take, drop, get_or, sym, ◌∙◌, ap, subst, add-one}
+use Rattle.std.proofs.Common.{◌≡◌, ◌<◌, ◌+◌, ℕ, suc, List, ◌∷◌, ◌++◌, [], length, take, drop, get_or, sym, ◌∙◌, ap, subst, add-one, arith}
 use Rattle.std.specs.Prelude.{Option, Some, slice_get, IfSome}
-use Rattle.std.proofs.lemmas.List.{take-append-drop}
+use Rattle.std.specs.Iterator.{Yields}
+use Rattle.std.specs.Vec.Iter.{into_iter_items, into_iter_len, into_iter_steps}
+use Rattle.std.specs.declared.vec.IntoIter.{IntoIter}
+use Rattle.std.proofs.lemmas.List.{take-append-drop, append-nil, nil_from_length}
 use Rattle.std.proofs.lemmas.Option.{slice_get-get_or}
 use Rattle.std.proofs.Math.Seq.{drop-cons}
 use Rattle.pm_disk.specs.declared.names.StoreFile.{StoreFile}
@@ -34,3 +37,14 @@ written_last contents files before file was name at bytes last has same = record
   last = last;
   has = record { named = has.named ∙ same; handed = has.handed; noted = has.noted; unforced = has.unforced };
 }
+
+-- what the iterator of a vector has given, and what is left of it, are its items
+pub taken_front : {X A : Type 0} (s : IntoIter X A) (xs : List X) (t : IntoIter X A) → Yields into_iter_steps s xs t → into_iter_items s ≡ xs ++ into_iter_items t
+taken_front s [] t y = ap into_iter_items y
+taken_front s (x ∷ xs) t y = y.1.0 ∙ ap (λ ys. x ∷ ys) (taken_front y.0 xs t y.2)
+
+-- all of them, where none is left
+pub taken_all : {X A : Type 0} (s : IntoIter X A) (xs : List X) (t : IntoIter X A) → Yields into_iter_steps s xs t → into_iter_len t ≡ 0 → xs ≡ into_iter_items s
+taken_all s xs t y none =
+    let empty : into_iter_items t ≡ [] = nil_from_length (into_iter_items t) (omega (arith, t.rest.ok.0, none)) in
+    sym (append-nil xs) ∙ ap (λ l. xs ++ l) (sym empty) ∙ sym (taken_front s xs t y)

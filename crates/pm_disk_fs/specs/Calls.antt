@@ -1,10 +1,11 @@
 -- What calls of the system were made on.
 use Rattle.std.specs.Prelude.{◌≡◌, ◌⊎◌, ℕ, List, [], ◌∷◌, codes, Option, Some, IsSomeAnd}
-use Rattle.std.specs.Prelude.{Bool, true, false, IsTrue}
+use Rattle.std.specs.Prelude.{Bool, true, false, IsTrue, Contains}
 use Rattle.std.specs.Path.{path_join}
 use Rattle.std.specs.declared.fs.options.OpenOptions.{OpenOptions}
 use Rattle.std.specs.Fs.{new_options, with_read, with_write, with_create_new}
 use Rattle.pm_disk.specs.declared.names.StoreFile.{StoreFile}
+use Rattle.pm_disk_fs.specs.declared.opened.Opened.{Opened}
 use Rattle.pm_disk_fs.specs.Paths.{IsPathOf}
 
 -- how a file is opened that is only read
@@ -49,6 +50,12 @@ abbrev pub IsOpenedToChange : {F : Type 0} → (OpenOptions → List ℕ → F �
     → Bool → F → Type 0
 IsOpenedToChange opened folder name names_last file = IsMadeAt folder name (λ path. opened to_change path file)
     ⊎ (IsMadeAt folder name (λ path. opened to_make path file) × (names_last ≡ false))
+
+-- The file of this name was there before: it was open, or was opened to be changed, and not made.
+abbrev pub WasThere : {F : Type 0} → (OpenOptions → List ℕ → F → Type 0) → Option (List ℕ)
+    → List (Opened F) → StoreFile → Type 0
+WasThere {F} opened folder files name = ((file : Opened F) × Contains files file × (file.name ≡ name))
+    ⊎ ((file : F) × IsMadeAt folder name (λ path. opened to_change path file))
 
 -- At the path of this name there was no file, or the file there was opened, and its bytes and its length were
 -- made lasting.

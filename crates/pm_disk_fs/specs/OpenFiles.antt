@@ -1,5 +1,5 @@
 -- The files that are open since they were changed.
-use Rattle.std.specs.Prelude.{◌≡◌, ◌≢◌, ◌<◌, ◌∷◌, ◌++◌, Bool, true, false, List, length, filter, ◌==◌}
+use Rattle.std.specs.Prelude.{◌≡◌, ◌≢◌, ◌<◌, ◌≤◌, ◌+◌, ◌∷◌, ◌++◌, Bool, true, false, List, length, filter, ◌==◌}
 use Rattle.std.specs.Prelude.{if◌then◌else◌, remove, Contains, All, IsTrue}
 use Rattle.pm_disk.specs.declared.names.StoreFile.{StoreFile}
 use Rattle.pm_disk.specs.declared.names.StoreFile.TheVariants.{Config, Marks, Segment, Pages}
@@ -60,3 +60,8 @@ pub record AreSorted {F : Type 0} (files segments pages others : List (Opened F)
   pub segments_are : segments ≡ filter (λ file. is_segment file.name) files
   pub pages_are : pages ≡ filter (λ file. is_pages file.name) files
   pub others_are : others ≡ filter (λ file. is_other file.name) files
+
+-- The files of two parts stand after those that stayed, unless there are more than may be open.
+pub record AreJoined {F : Type 0} (stayed segments pages files : List (Opened F)) : Type 0 where
+  pub all : length stayed + length segments + length pages ≤ OPEN_MAX
+      → files ≡ (stayed ++ segments) ++ pages

@@ -1,10 +1,10 @@
 //! The files that are open since they were changed.
 
 ghost use Rattle.std.specs.Prelude.{◌≡◌, ◌<◌, ◌≤◌, ◌+◌, ◌++◌, ◌∷◌, [], length, drop, MatchOption};
-ghost use Rattle.std.specs.Prelude.{IfSome, OnSome};
+ghost use Rattle.std.specs.Prelude.{◌⊎◌, IfSome, IsSomeAnd, OnSome, IsTrue};
 ghost use Rattle.std.specs.Prelude.{IfOk, IfErr, IfNone, OnOk, OnErr, slice_get, vec_len, vec_capacity};
 ghost use Rattle.pm_disk_fs.specs.Failures.{IsSystemFailure, IsSync};
-ghost use Rattle.pm_disk_fs.specs.OpenFiles.{AreSorted, AreForced};
+ghost use Rattle.pm_disk_fs.specs.OpenFiles.{AreSorted, AreJoined, AreForced};
 
 use crate::calls::FileCalls;
 use crate::failure::Failure;
@@ -54,6 +54,9 @@ impl<F: Write + Seek + FileCalls + Drop> OpenFiles<F> {
     /// forced and closed.
     pub fn make_room(&mut self) -> Result<(), Failure>
         ensures oldest { OnOk result (self.new.files.items ≡ after_oldest self.old.files.items) }
+        ensures synced { OnOk result (length self.old.files.items ≡ OPEN_MAX
+            → IsSomeAnd (slice_get self.old.files.items 0)
+            (λ file. IsTrue file.is_forced ⊎ F.synced file.file)) }
         ensures room { OnOk result (vec_len self.new.files < vec_capacity self.new.files) }
         ensures failed { IfErr result (IsSystemFailure IsSync) }
     {
@@ -72,6 +75,14 @@ impl<F: Write + Seek + FileCalls + Drop> OpenFiles<F> {
         self.files.push_reserved(file);
     }
 
+    /// Closes each file of this name.
+    pub fn close(&mut self, name: StoreFile)
+        ensures closed { IsNotOpen self.new.files.items name }
+        ensures others { OthersStayOpen self.old.files.items self.new.files.items name }
+    {
+        self.files.retain(|file| file.name != name);
+    }
+
     /// Forgets each open file, which closes it.
     pub fn clear(&mut self)
         ensures { self.new.files.items ≡ [] }
@@ -82,6 +93,7 @@ impl<F: Write + Seek + FileCalls + Drop> OpenFiles<F> {
     /// Forces each open file.
     pub fn force(&mut self) -> Result<(), Failure>
         ensures forced { OnOk result (AreForced self.new.files.items) }
+        ensures kept { length self.new.files.items ≡ length self.old.files.items }
         ensures failed { IfErr result (IsSystemFailure IsSync) }
     {
         force_all(&mut self.files)
@@ -108,6 +120,8 @@ impl<F: Write + Seek + FileCalls + Drop> OpenFiles<F> {
     /// Takes the files in, after those that are open. Where as many are open as may be, the one that was
     /// changed longest ago is forced and closed. After a failure a file may be closed that wasn't forced.
     pub fn keep_all(&mut self, more: OpenFiles<F>) -> Result<(), Failure>
+        ensures kept { OnOk result (length self.old.files.items + length more.files.items ≤ OPEN_MAX
+            → self.new.files.items ≡ self.old.files.items ++ more.files.items) }
         ensures failed { IfErr result (IsSystemFailure IsSync) }
     {
         for file in more.files {
@@ -115,6 +129,17 @@ impl<F: Write + Seek + FileCalls + Drop> OpenFiles<F> {
             self.keep(file);
         }
         Ok(())
+    }
+
+    /// Takes the files of two parts in, after those that are open. After a failure a file may be closed that
+    /// wasn't forced.
+    pub fn join(&mut self, segments: OpenFiles<F>, pages: OpenFiles<F>) -> Result<(), Failure>
+        ensures joined { OnOk result (AreJoined self.old.files.items segments.files.items
+            pages.files.items self.new.files.items) }
+        ensures failed { IfErr result (IsSystemFailure IsSync) }
+    {
+        self.keep_all(segments)?;
+        self.keep_all(pages)
     }
 
     // Where the file of this name stands among the open ones: the one of them that was changed last.

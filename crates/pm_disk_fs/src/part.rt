@@ -12,6 +12,7 @@ ghost use Rattle.pm_disk_fs.specs.Failures.{IsOnEitherOrFolder};
 ghost use Rattle.pm_disk_fs.specs.Faults.{KeepsFirst};
 ghost use Rattle.pm_disk_fs.specs.Parts.{state_of_part, IsPartFailure};
 ghost use Rattle.pm_disk_fs.specs.OpenViews.{WrittenLast, ChangedLast, ForcedLast, NoneOpen, SegmentForced};
+ghost use Rattle.pm_disk_fs.specs.OpenViews.{open_views};
 ghost use Rattle.pm_disk.specs.Worlds.{page_at};
 ghost use Rattle.pm_disk_fs.specs.WriteBuffer.{IsBufferedOrWritten, FitsAfter, IsAppended};
 ghost use Rattle.pm_disk_fs.specs.Writes.{ChangesFile, ChangesLog, FlushesBuffer, PoisonsOnFailure};
@@ -59,6 +60,7 @@ impl<R: Files + Drop> FsPart<R> {
     pub fn new(folder: Folder<R>, store: Store<R>, due: &Vec<PageId>) -> FsPart<R>
         ensures folder { result.folder ≡ option_map string_bytes folder.dir }
         ensures writes { result.writes ≡ store.writes }
+        ensures files { result.files ≡ open_views store.open.files.items }
         ensures unfailed { result.faults.count ≡ 0 }
         ensures due { result.due ≡ due.now.items }
     {

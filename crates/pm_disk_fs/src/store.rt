@@ -6,9 +6,10 @@ ghost use Rattle.std.specs.String.{string_bytes};
 ghost use Rattle.pm_disk.specs.declared.names.StoreFile.TheVariants.{Segment};
 ghost use Rattle.pm_disk_fs.specs.Failures.{IsFailureOn, IsOn, IsCallOn, IsOnFile, IsOnFileOrSync};
 ghost use Rattle.pm_disk_fs.specs.Failures.{IsOnFileOrFolder};
-ghost use Rattle.pm_disk_fs.specs.OpenFiles.{AreSorted, OthersStayOpen, IsNotOpen, IsTakenOut};
+ghost use Rattle.pm_disk_fs.specs.OpenFiles.{AreSorted, AreJoined, OthersStayOpen, IsNotOpen};
+ghost use Rattle.pm_disk_fs.specs.OpenFiles.{IsTakenOut};
 ghost use Rattle.pm_disk_fs.specs.Calls.{IsMadeAt, IsOpenedToChange, IsSyncedAt, DoNamesLast, to_make};
-ghost use Rattle.pm_disk_fs.specs.Calls.{AreNamesSynced};
+ghost use Rattle.pm_disk_fs.specs.Calls.{AreNamesSynced, WasThere};
 ghost use Rattle.pm_disk_fs.specs.Positions.{IsChangedLast, WasForced, IsWritten};
 ghost use Rattle.pm_disk_fs.specs.Writes.{ChangesFile, FlushesBuffer};
 
@@ -114,6 +115,8 @@ impl<R: PathCalls<File: FileCalls> + AllocGlobal + Drop> Store<R> {
     /// open.
     pub fn join(&mut self, log: Store<R>, pages: Store<R>)
         ensures buffer { self.new.writes.buffer ≡ log.writes.buffer }
+        ensures files { IsTrue self.new.writes.is_poisoned ⊎ AreJoined self.old.open.files.items
+            log.open.files.items pages.open.files.items self.new.open.files.items }
         ensures names { IsTrue self.new.names_last
             → IsTrue log.names_last × IsTrue pages.names_last }
         ensures still_poisoned { IsTrue self.old.writes.is_poisoned
@@ -122,14 +125,13 @@ impl<R: PathCalls<File: FileCalls> + AllocGlobal + Drop> Store<R> {
         ensures pages_poisoned { IsTrue pages.writes.is_poisoned
             → IsTrue self.new.writes.is_poisoned }
     {
-        let segments_kept = self.open.keep_all(log.open).is_ok();
-        let pages_kept = self.open.keep_all(pages.open).is_ok();
+        let are_kept = self.open.join(log.open, pages.open).is_ok();
         self.names_last = log.names_last && pages.names_last;
         let was_poisoned = self.writes.is_poisoned
             || log.writes.is_poisoned
             || pages.writes.is_poisoned;
         self.writes = Writes {
-            is_poisoned: was_poisoned || !segments_kept || !pages_kept,
+            is_poisoned: was_poisoned || !are_kept,
             buffer: log.writes.buffer,
         };
     }
@@ -143,7 +145,9 @@ impl<R: PathCalls<File: FileCalls> + AllocGlobal + Drop> Store<R> {
         bytes: &[u8],
     ) -> Result<(), Failure>
         ensures changes { ChangesFile self.old.writes self.new.writes result }
-        ensures names { IsTrue self.new.names_last → IsTrue self.old.names_last }
+        ensures names { IsTrue self.new.names_last → IsTrue self.old.names_last
+            × OnOk result (WasThere R.opened (option_map string_bytes folder.now.dir)
+            self.old.open.files.items name) }
         ensures wrote { OnOk result (IsWritten R.File.contents self.new.open.files.items
             name at bytes.now) }
         ensures others { OnOk result (OthersStayOpen self.old.open.files.items
@@ -160,7 +164,9 @@ impl<R: PathCalls<File: FileCalls> + AllocGlobal + Drop> Store<R> {
     /// Cuts the file to this length in bytes, and makes it where it isn't there.
     pub fn cut(&mut self, folder: &Folder<R>, name: StoreFile, len: u64) -> Result<(), Failure>
         ensures changes { ChangesFile self.old.writes self.new.writes result }
-        ensures names { IsTrue self.new.names_last → IsTrue self.old.names_last }
+        ensures names { IsTrue self.new.names_last → IsTrue self.old.names_last
+            × OnOk result (WasThere R.opened (option_map string_bytes folder.now.dir)
+            self.old.open.files.items name) }
         ensures cut { OnOk result (IsChangedLast self.new.open.files.items name) }
         ensures others { OnOk result (OthersStayOpen self.old.open.files.items
             self.new.open.files.items name) }
@@ -201,6 +207,7 @@ impl<R: PathCalls<File: FileCalls> + AllocGlobal + Drop> Store<R> {
     pub fn remove(&mut self, folder: &Folder<R>, name: StoreFile) -> Result<(), Failure>
         ensures changes { ChangesFile self.old.writes self.new.writes result }
         ensures names { OnOk result (self.new.names_last ≡ false) }
+        ensures closed { OnOk result (IsNotOpen self.new.open.files.items name) }
         ensures removed { OnOk result (IsMadeAt (option_map string_bytes folder.now.dir) name
             (λ path. R.removed path ⊎ R.missing path)) }
         ensures others { OnOk result (OthersStayOpen self.old.open.files.items
@@ -210,7 +217,7 @@ impl<R: PathCalls<File: FileCalls> + AllocGlobal + Drop> Store<R> {
     {
         self.writes.begin()?;
         self.names_last = false;
-        let _ = self.open.take(name);
+        self.open.close(name);
         folder.remove(name)?;
         self.writes.is_poisoned = false;
         Ok(())
@@ -225,7 +232,9 @@ impl<R: PathCalls<File: FileCalls> + AllocGlobal + Drop> Store<R> {
         bytes: &[u8],
     ) -> Result<(), Failure>
         ensures writes { self.new.writes ≡ self.old.writes }
-        ensures names { IsTrue self.new.names_last → IsTrue self.old.names_last }
+        ensures names { IsTrue self.new.names_last → IsTrue self.old.names_last
+            × OnOk result (WasThere R.opened (option_map string_bytes folder.now.dir)
+            self.old.open.files.items name) }
         ensures wrote { OnOk result (IsWritten R.File.contents self.new.open.files.items
             name at bytes.now) }
         ensures others { OnOk result (OthersStayOpen self.old.open.files.items

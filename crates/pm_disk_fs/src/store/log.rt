@@ -2,7 +2,9 @@
 //! system as one before any other call on the log.
 
 ghost use Rattle.std.specs.Prelude.{◌≡◌, ◌<◌, ◌≤◌, ◌+◌, ◌⊎◌, [], false, length, IsTrue, IsErr, OnOk};
-ghost use Rattle.std.specs.Prelude.{OnErr, IfOk, IfErr, None};
+ghost use Rattle.std.specs.Prelude.{OnErr, IfOk, IfErr, None, option_map};
+ghost use Rattle.std.specs.String.{string_bytes};
+ghost use Rattle.pm_disk_fs.specs.Calls.{WasThere};
 ghost use Rattle.pm_disk_fs.specs.Failures.{IsFailureOn, IsOnFileOrSync, IsOnEither, IsOnEitherOrFolder};
 ghost use Rattle.pm_disk_fs.specs.WriteBuffer.{FitsAfter, IsAlone, IsAppended};
 ghost use Rattle.pm_disk_fs.specs.Positions.{IsChangedLast, IsWrittenInOrder, IsStretchWritten, IsWritten};
@@ -24,7 +26,10 @@ impl<R: PathCalls<File: FileCalls> + AllocGlobal + Drop> Store<R> {
         ensures writes { FlushesBuffer self.old.writes self.new.writes result }
         ensures wrote { OnOk result (0 < length self.old.writes.buffer.bytes
             → IsStretchWritten R.File.contents self.new.open.files.items self.old.writes.buffer) }
-        ensures names { IsTrue self.new.names_last → IsTrue self.old.names_last }
+        ensures names { IsTrue self.new.names_last → IsTrue self.old.names_last
+            × OnOk result (0 < length self.old.writes.buffer.bytes
+            → WasThere R.opened (option_map string_bytes folder.now.dir)
+            self.old.open.files.items (Segment self.old.writes.buffer.seg)) }
         ensures idle { self.old.writes.buffer.bytes ≡ [] → self.new.open ≡ self.old.open }
         ensures others { OnOk result (OthersStayOpen self.old.open.files.items
             self.new.open.files.items (Segment self.old.writes.buffer.seg)) }
@@ -46,6 +51,7 @@ impl<R: PathCalls<File: FileCalls> + AllocGlobal + Drop> Store<R> {
     /// The length of a segment's file in bytes, none where it isn't there.
     pub fn seg_len(&mut self, folder: &Folder<R>, seg: u64) -> Result<Option<u64>, Failure>
         ensures writes { FlushesBuffer self.old.writes self.new.writes result }
+        ensures names { IsTrue self.new.names_last → IsTrue self.old.names_last }
         ensures failed { IfErr result (IsFailureOn
             (IsOnEither (Segment seg) (Segment self.old.writes.buffer.seg))
             (folder.now.dir ≡ None) (IsTrue self.old.writes.is_poisoned)) }
@@ -65,6 +71,7 @@ impl<R: PathCalls<File: FileCalls> + AllocGlobal + Drop> Store<R> {
     ) -> Result<usize, Failure>
         ensures bound { IfOk result (λ n. n ≤ length into.new) }
         ensures writes { FlushesBuffer self.old.writes self.new.writes result }
+        ensures names { IsTrue self.new.names_last → IsTrue self.old.names_last }
         ensures failed { IfErr result (IsFailureOn
             (IsOnEither (Segment seg) (Segment self.old.writes.buffer.seg))
             (folder.now.dir ≡ None) (IsTrue self.old.writes.is_poisoned)) }
@@ -87,6 +94,7 @@ impl<R: PathCalls<File: FileCalls> + AllocGlobal + Drop> Store<R> {
             self.old.writes.buffer self.new.writes.buffer self.new.open.files.items seg at bytes.now) }
         ensures appended { OnOk result (FitsAfter self.old.writes.buffer seg at bytes.now
             → IsAppended self.old.writes.buffer self.new.writes.buffer seg at bytes.now) }
+        ensures names { IsTrue self.new.names_last → IsTrue self.old.names_last }
         ensures failed { IfErr result (IsFailureOn
             (IsOnEither (Segment seg) (Segment self.old.writes.buffer.seg))
             (folder.now.dir ≡ None) (IsTrue self.old.writes.is_poisoned)) }
@@ -102,6 +110,7 @@ impl<R: PathCalls<File: FileCalls> + AllocGlobal + Drop> Store<R> {
     pub fn cut_log(&mut self, folder: &Folder<R>, seg: u64, len: u64) -> Result<(), Failure>
         ensures changes { ChangesLog self.old.writes self.new.writes result }
         ensures cut { OnOk result (IsChangedLast self.new.open.files.items (Segment seg)) }
+        ensures names { IsTrue self.new.names_last → IsTrue self.old.names_last }
         ensures failed { IfErr result (IsFailureOn
             (IsOnEither (Segment seg) (Segment self.old.writes.buffer.seg))
             (folder.now.dir ≡ None) (IsTrue self.old.writes.is_poisoned)) }
@@ -149,6 +158,7 @@ impl<R: PathCalls<File: FileCalls> + AllocGlobal + Drop> Store<R> {
         ensures appended { OnOk result (FitsAfter self.old.writes.buffer seg at bytes.now
             → IsAppended self.old.writes.buffer self.new.writes.buffer seg at bytes.now) }
         ensures same { self.new.writes.is_poisoned ≡ self.old.writes.is_poisoned }
+        ensures names { IsTrue self.new.names_last → IsTrue self.old.names_last }
         ensures failed { IfErr result (IsFailureOn
             (IsOnEither (Segment seg) (Segment self.old.writes.buffer.seg))
             (folder.now.dir ≡ None) ⊥) }
@@ -175,6 +185,7 @@ impl<R: PathCalls<File: FileCalls> + AllocGlobal + Drop> Store<R> {
             ⊎ ((self.new.writes.buffer.bytes ≡ [])
             × IsWritten R.File.contents self.new.open.files.items (Segment seg) at bytes.now)) }
         ensures same { self.new.writes.is_poisoned ≡ self.old.writes.is_poisoned }
+        ensures names { IsTrue self.new.names_last → IsTrue self.old.names_last }
         ensures failed { IfErr result (IsFailureOn
             (IsOnFileOrSync (Segment seg))
             (folder.now.dir ≡ None) ⊥) }
@@ -190,7 +201,10 @@ impl<R: PathCalls<File: FileCalls> + AllocGlobal + Drop> Store<R> {
         ensures written { OnOk result (self.new.writes.buffer.bytes ≡ []) }
         ensures wrote { OnOk result (0 < length self.old.writes.buffer.bytes
             → IsStretchWritten R.File.contents self.new.open.files.items self.old.writes.buffer) }
-        ensures names { IsTrue self.new.names_last → IsTrue self.old.names_last }
+        ensures names { IsTrue self.new.names_last → IsTrue self.old.names_last
+            × OnOk result (0 < length self.old.writes.buffer.bytes
+            → WasThere R.opened (option_map string_bytes folder.now.dir)
+            self.old.open.files.items (Segment self.old.writes.buffer.seg)) }
         ensures idle { self.old.writes.buffer.bytes ≡ [] → self.new.open ≡ self.old.open }
         ensures others { OnOk result (OthersStayOpen self.old.open.files.items
             self.new.open.files.items (Segment self.old.writes.buffer.seg)) }
