@@ -3,9 +3,11 @@
 
 mod apply;
 mod engine;
+mod laws;
 mod open;
 mod record;
 mod replay;
 mod stored_shape;
 
 pub use engine::Engine;
+pub use laws::a_store_is_its_partitions;
