@@ -5,6 +5,7 @@ pub mod DoneLines
 pub mod Forcing
 pub mod JoinedPairs
 pub mod LeftLines
+pub mod MergedLists
 pub mod Opening
 pub mod OpeningMoments
 pub mod ReadShapes

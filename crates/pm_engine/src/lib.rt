@@ -4,6 +4,7 @@
 mod apply;
 mod engine;
 mod laws;
+mod merging;
 mod open;
 mod record;
 mod replay;
