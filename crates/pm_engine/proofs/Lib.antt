@@ -8,6 +8,9 @@ pub mod LeftLines
 pub mod MergedLists
 pub mod Opening
 pub mod OpeningMoments
+pub mod PagedLines
+pub mod PartitionPairs
+pub mod PlainPartitions
 pub mod ReadShapes
 pub mod Replaying
 pub mod Results
