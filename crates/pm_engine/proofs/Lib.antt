@@ -3,10 +3,17 @@ pub mod Applying
 pub mod Batching
 pub mod DoneLines
 pub mod Forcing
+pub mod JoinedPairs
 pub mod LeftLines
+pub mod MergedLists
 pub mod Opening
 pub mod OpeningMoments
+pub mod PagedLines
+pub mod PartitionPairs
+pub mod PlainPartitions
 pub mod ReadShapes
 pub mod Replaying
 pub mod Results
+pub mod RisingPairs
+pub mod StoreMaps
 pub mod Trying

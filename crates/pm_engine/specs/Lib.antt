@@ -1,6 +1,9 @@
 pub mod Batches
 pub mod Crashes
 pub mod Engines
+pub mod Merges
 pub mod Openings
+pub mod PagedMaps
+pub mod PagedStores
 pub mod Records
 pub mod StoredShapes

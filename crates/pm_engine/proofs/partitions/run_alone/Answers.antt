@@ -1,0 +1,18 @@
+use Rattle.std.proofs.Common.{sym, subst}
+use Rattle.pm_engine.specs.PagedMaps.{IsPlainPartition}
+use Rattle.pm_part.specs.Runs.{RunsCmd}
+use Rattle.pm_pages.specs.Plain.{plain_seen}
+use Rattle.pm_engine.proofs.PlainPartitions.{made_ready, runs_since}
+use Rattle.pm_engine.proofs.partitions.run_alone.Goals as goal
+
+pub run_ready-requires-clause-partition : goal.run_ready-requires-clause-partition
+run_ready-requires-clause-partition c =
+    subst (λ shape. IsPlainPartition shape c.new.result.part c.ready.new.self) (sym c.new.ensures.shape)
+    (subst (λ part. IsPlainPartition c.args.shape part c.ready.new.self) (sym c.new.ensures.part)
+    (made_ready c.args.shape c.args.part c.args.pages.now c.ready.new.self c.in_ok-ready.ensures.plain c.in_ok-ready.ensures.makes_ready c.requires.partition))
+
+pub returns-clause-runs : goal.returns-clause-runs
+returns-clause-runs c =
+    runs_since c.args.shape c.args.part c.args.cmd.now (plain_seen c.args.pages.now).pages (plain_seen c.ready.new.self).pages (plain_seen c.run_ready.new.pages).pages c.args.replies.now c.run_ready.new.replies c.in_ok-ready.ensures.makes_ready.pages
+    (subst (λ shape. RunsCmd shape c.args.part c.args.cmd.now (plain_seen c.ready.new.self).pages (plain_seen c.run_ready.new.pages).pages c.args.replies.now c.run_ready.new.replies) c.new.ensures.shape
+    (subst (λ part. RunsCmd c.new.result.shape part c.args.cmd.now (plain_seen c.ready.new.self).pages (plain_seen c.run_ready.new.pages).pages c.args.replies.now c.run_ready.new.replies) c.new.ensures.part c.run_ready.ensures.runs))

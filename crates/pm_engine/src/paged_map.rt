@@ -1,0 +1,267 @@
+//! The pairs of all caches in pages, and how they answer lines.
+
+ghost use Rattle.std.specs.Prelude.{◌≡◌, ◌<◌, List, ◌∷◌, [], ◌++◌, IfOk, OnOk, OnErr, length};
+ghost use Rattle.std.specs.FinMap as map;
+ghost use Rattle.pm_types.specs.declared.limits.TheConstants.{CACHES};
+ghost use Rattle.pm_types.specs.Shapes.{IsShape};
+ghost use Rattle.pm_model.specs.declared.line.Line.TheVariants.{Good};
+ghost use Rattle.pm_model.specs.declared.reply.Reply.{Reply};
+ghost use Rattle.pm_model.specs.Batches.{HasCache};
+ghost use Rattle.pm_model.specs.Eval.{pairs_of, reply_to, after, is_accepted};
+ghost use Rattle.pm_model.specs.ReplyLists.{with_replies};
+ghost use Rattle.pm_engine.specs.PagedMaps.{accepts, IsKeyOf};
+
+use crate::merging::join_by_key;
+use crate::partitions::{empty_partitions, pairs_by_partition, run_on};
+use pm_model::{Cmd, Line, PairList, Replies, Reply, part_of};
+use pm_pages::PlainPages;
+use pm_types::Shape;
+use std::alloc::{AllocError, Global};
+use std::marker::Model;
+
+/// A map from cache and key to value, whose rows stand in pages, in the partition of their key.
+#[derive(Drop)]
+pub struct PagedMap {
+    shape: Shape,
+    // The pages of each partition.
+    lists: Vec<PlainPages>,
+}
+
+impl Model for PagedMap {
+    ghost use Rattle.std.specs.Coded.{codes};
+    ghost use Rattle.pm_types.specs.Shapes.{IsShape};
+    ghost use Rattle.pm_model.specs.Eval.{coded_pairs};
+    ghost use Rattle.pm_core.specs.Held.{pairs_in};
+    ghost use Rattle.pm_engine.specs.PagedMaps.{PagedStore, ArePlainPartitions, pages_of_lists};
+
+    ghost Value = { PagedStore };
+
+    ghost coded = { Prim.hlevel (codes, coded_pairs) };
+
+    ghost view = { λ m. record {
+      shape = m.shape;
+      pairs = pairs_in m.shape.partitions (pages_of_lists m.lists.items);
+    } };
+
+    ghost invariant = { λ m. IsShape m.shape × ArePlainPartitions m.shape m.lists.items };
+}
+
+impl PagedMap {
+    /// A map with no pair in it, and no page.
+    pub fn new(alloc: Global, shape: Shape) -> Result<PagedMap, AllocError>
+        requires { IsShape shape }
+        ensures { IfOk result (λ made. made ≡ record { shape = shape; pairs = map.empty }) }
+    {
+        let lists = empty_partitions(alloc, shape)?;
+        Ok(PagedMap { shape, lists })
+    }
+
+    /// Answers a line: appends its reply, and says whether the line was accepted.
+    ///
+    /// Where memory ran out the map is as before, and no reply was appended.
+    pub fn answer(
+        &mut self,
+        alloc: Global,
+        line: &Line,
+        replies: &mut Replies,
+    ) -> Result<bool, AllocError>
+        requires cache { HasCache line.now }
+        requires room { 0 < replies.old.spare }
+        ensures shape { self.new.shape ≡ self.old.shape }
+        ensures replied { OnOk result (replies.new ≡ with_replies
+            (reply_to self.old.shape line.now self.old.pairs ∷ []) replies.old) }
+        ensures accepted { IfOk result
+            (λ is. is ≡ is_accepted self.old.shape line.now self.old.pairs) }
+        ensures after { OnOk result
+            (self.new.pairs ≡ after self.old.shape line.now self.old.pairs) }
+        ensures unchanged { OnErr result (self.new ≡ self.old) }
+        ensures no_reply { OnErr result (replies.new ≡ replies.old) }
+    {
+        match line {
+            Line::Good(cmd) => self.run(alloc, cmd, replies),
+            Line::Bad => {
+                replies.push(Reply::BadLine);
+                Ok(false)
+            }
+            Line::Long => {
+                replies.push(Reply::LongLine);
+                Ok(false)
+            }
+        }
+    }
+
+    // Runs a command.
+    fn run(&mut self, alloc: Global, cmd: &Cmd, replies: &mut Replies) -> Result<bool, AllocError>
+        requires cache { HasCache (Good cmd.now) }
+        requires room { 0 < replies.old.spare }
+        ensures shape { self.new.shape ≡ self.old.shape }
+        ensures replied { OnOk result (replies.new ≡ with_replies
+            (reply_to self.old.shape (Good cmd.now) self.old.pairs ∷ []) replies.old) }
+        ensures accepted { IfOk result
+            (λ is. is ≡ is_accepted self.old.shape (Good cmd.now) self.old.pairs) }
+        ensures after { OnOk result
+            (self.new.pairs ≡ after self.old.shape (Good cmd.now) self.old.pairs) }
+        ensures unchanged { OnErr result (self.new ≡ self.old) }
+        ensures no_reply { OnErr result (replies.new ≡ replies.old) }
+    {
+        match cmd {
+            Cmd::Put { key, .. } => self.run_at(alloc, key.bytes(), cmd, replies),
+            Cmd::Get { key, .. } => self.run_at(alloc, key.bytes(), cmd, replies),
+            Cmd::Remove { key, .. } => self.run_at(alloc, key.bytes(), cmd, replies),
+            Cmd::Scan { cache } => {
+                let pairs = self.pairs_of(alloc, *cache)?;
+                replies.push(Reply::Pairs(pairs));
+                Ok(false)
+            }
+            Cmd::Checkpoint => {
+                replies.push(Reply::Done);
+                Ok(false)
+            }
+        }
+    }
+
+    // Runs a command of this key.
+    fn run_at(
+        &mut self,
+        alloc: Global,
+        key: &[u8],
+        cmd: &Cmd,
+        replies: &mut Replies,
+    ) -> Result<bool, AllocError>
+        requires cache { HasCache (Good cmd.now) }
+        requires key { IsKeyOf key.now cmd.now }
+        requires room { 0 < replies.old.spare }
+        ensures shape { self.new.shape ≡ self.old.shape }
+        ensures replied { OnOk result (replies.new ≡ with_replies
+            (reply_to self.old.shape (Good cmd.now) self.old.pairs ∷ []) replies.old) }
+        ensures accepted { IfOk result
+            (λ is. is ≡ is_accepted self.old.shape (Good cmd.now) self.old.pairs) }
+        ensures after { OnOk result
+            (self.new.pairs ≡ after self.old.shape (Good cmd.now) self.old.pairs) }
+        ensures unchanged { OnErr result (self.new ≡ self.old) }
+        ensures no_reply { OnErr result (replies.new ≡ replies.old) }
+    {
+        let part = part_of(key, self.shape.partitions);
+        run_on(alloc, self.shape, part, cmd, &mut self.lists, replies)?;
+        Ok(was_accepted(cmd, replies))
+    }
+
+    // The pairs of a cache, by rising key.
+    fn pairs_of(&mut self, alloc: Global, cache: u8) -> Result<PairList, AllocError>
+        requires { cache < CACHES }
+        ensures pairs { IfOk result (λ list. list ≡ pairs_of cache self.old.pairs) }
+        ensures unchanged { self.new ≡ self.old }
+    {
+        let lists = pairs_by_partition(alloc, self.shape, cache, &mut self.lists)?;
+        let pairs = join_by_key(alloc, lists)?;
+        Ok(PairList { pairs })
+    }
+}
+
+// Whether a command, whose reply was appended last, was accepted.
+fn was_accepted(cmd: &Cmd, replies: &Replies) -> bool
+    requires { 0 < length replies.now.replies }
+    ensures { (before : List Reply) (reply : Reply) → replies.now.replies ≡ before ++ reply ∷ []
+        → result ≡ accepts cmd.now reply }
+{
+    is_accepted(cmd, replies.get(replies.len() - 1))
+}
+
+// Whether a command with this reply was accepted.
+fn is_accepted(cmd: &Cmd, reply: &Reply) -> bool
+    ensures { result ≡ accepts cmd.now reply.now }
+{
+    match (cmd, reply) {
+        (Cmd::Put { .. }, Reply::Done) => true,
+        (Cmd::Remove { .. }, Reply::Was(was)) => *was,
+        _ => false,
+    }
+}
+
+#[cfg(test)]
+mod tests {
+    use super::*;
+    use pm_model::PlainMap;
+    use pm_types::{Key, Value};
+    use std::test::Fail;
+
+    // Three partitions with four rows at most.
+    const SMALL: Shape = Shape {
+        page_size: 1_024,
+        partitions: 3,
+        version: 1,
+        max_rows: 4,
+        segment_bytes: 65_536,
+    };
+
+    fn same_pairs(a: &PairList, b: &PairList) -> bool {
+        if a.pairs.len() != b.pairs.len() {
+            return false;
+        }
+        for i in 0..a.pairs.len().min(b.pairs.len()) {
+            if a.pairs[i].0 != b.pairs[i].0 || a.pairs[i].1.bytes() != b.pairs[i].1.bytes() {
+                return false;
+            }
+        }
+        true
+    }
+
+    fn same(a: &Reply, b: &Reply) -> bool {
+        match (a, b) {
+            (Reply::Done, Reply::Done) => true,
+            (Reply::Full, Reply::Full) => true,
+            (Reply::Absent, Reply::Absent) => true,
+            (Reply::BadLine, Reply::BadLine) => true,
+            (Reply::LongLine, Reply::LongLine) => true,
+            (Reply::Was(a), Reply::Was(b)) => a == b,
+            (Reply::Found(a), Reply::Found(b)) => a.bytes() == b.bytes(),
+            (Reply::Pairs(a), Reply::Pairs(b)) => same_pairs(a, b),
+            _ => false,
+        }
+    }
+
+    // A line of a script in which keys come again, are removed and meet full partitions.
+    fn line_of(alloc: Global, number: u8) -> Result<Line, AllocError>
+        ensures { IfOk result HasCache }
+    {
+        let cache = number % 2;
+        let key = Key::of(alloc, &[b'k', number % 23])?;
+        let value = Value::of(alloc, &[number; 40])?;
+        Ok(match number % 8 {
+            0 => Line::Good(Cmd::Scan { cache }),
+            1 => Line::Good(Cmd::Remove { cache, key }),
+            2 => Line::Good(Cmd::Get { cache, key }),
+            3 => Line::Bad,
+            _ => Line::Good(Cmd::Put { cache, key, value }),
+        })
+    }
+
+    // Answers a line from both maps, and says whether they agree.
+    fn agree(
+        alloc: Global,
+        paged: &mut PagedMap,
+        plain: &mut PlainMap,
+        number: u8,
+    ) -> Result<bool, AllocError> {
+        let line = line_of(alloc, number)?;
+        let mut replies = Replies::with_room(alloc, 1)?;
+        let is_accepted = paged.answer(alloc, &line, &mut replies)?;
+        let answer = plain.answer(alloc, SMALL, line)?;
+        Ok(
+            is_accepted == answer.is_accepted
+                && replies.len() == 1
+                && same(replies.get(0), &answer.reply),
+        )
+    }
+
+    #[test]
+    fn lines_are_answered_as_a_plain_map_answers_them(rt: HostRuntime) -> Result<(), Fail> {
+        let alloc = rt.alloc();
+        let mut paged = PagedMap::new(alloc, SMALL)?;
+        let mut plain = PlainMap::new(alloc);
+        for number in 0..200 {
+            assert!(rt; agree(alloc, &mut paged, &mut plain, number)?, "{number}");
+        }
+        Ok(())
+    }
+}
