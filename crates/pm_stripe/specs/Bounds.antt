@@ -8,7 +8,8 @@ use Rattle.pm_stripe.specs.Stripes.{kept, file_of, MayReadOthers}
 
 module _ {Q R : Type 0} where
   -- What holds between any two calls, where the reader tells its content, and of which history and state it is.
-  pub record IsBound (tells : Type 0) (history : R → History) (state : R → DeviceState) (b : Bound Q R) : Type 0 where
+  pub record IsBound (tells : Type 0) (history : R → History) (state : R → DeviceState) (b : Bound Q R)
+      : Type 0 where
     pub holds : Holds b.locks.now (kept b.stripe b.seat)
     pub reads : MayReadOthers b.locks.now.workers (state b.reader) (kept b.stripe b.seat)
     pub clean : tells → AreClean (file_of b.stripe (history b.reader)) (kept b.stripe b.seat)

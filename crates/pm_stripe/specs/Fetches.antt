@@ -36,7 +36,8 @@ pub record ReadsFrame (locks : LockTable) (k k' : Kept) (id : PageId) (tells : T
   pub added : result ≡ Ok true → AddsPage k k' id
   pub not_added : (result ≡ Ok true → ⊥) → k'.held ≡ k.held
   pub absent : result ≡ Ok false → tells → stored ≡ None
-  pub bad : (named : PageId) → IsErrOf result (BadPage named) → (named ≡ id) × (tells → FailsCheck k.shape id stored)
+  pub bad : (named : PageId) → IsErrOf result (BadPage named)
+      → (named ≡ id) × (tells → FailsCheck k.shape id stored)
 
 -- A page was asked for: at true it is in hand; at false it is in no frame, and its file doesn't have it.
 pub record Fetches (locks : LockTable) (k k' : Kept) (id : PageId) (tells : Type 0) (stored : Option (List ℕ))
@@ -49,9 +50,11 @@ pub record Fetches (locks : LockTable) (k k' : Kept) (id : PageId) (tells : Type
   pub staying : (j : PageId) → IsStaying k j → IsStaying k' j
   pub held : (k'.held ≡ k.held) ⊎ AddsPage k k' id
   pub found : result ≡ Ok true → IsSome (held_at k'.held id.0)
-  pub not_found : (result ≡ Ok true → ⊥) → (k'.held ≡ k.held) × (held_at k.held id.0 ≡ None) × (place_of k' id ≡ None)
+  pub not_found : (result ≡ Ok true → ⊥)
+      → (k'.held ≡ k.held) × (held_at k.held id.0 ≡ None) × (place_of k' id ≡ None)
   pub absent : result ≡ Ok false → tells → stored ≡ None
-  pub bad : (named : PageId) → IsErrOf result (BadPage named) → (named ≡ id) × (tells → FailsCheck k.shape id stored)
+  pub bad : (named : PageId) → IsErrOf result (BadPage named)
+      → (named ≡ id) × (tells → FailsCheck k.shape id stored)
 
 -- A page was sought in the frame that keeps it: at true it is in hand, and at false no frame keeps it.
 pub record TakesHome (locks : LockTable) (k k' : Kept) (id : PageId) (found : Bool) : Type 0 where

@@ -129,7 +129,8 @@ pub record IsKeptPage (locks : LockTable) (shape : Shape) (n : ℕ) (put : Optio
   pub passes : entry.flag ≡ flag.Clean → Passes shape id entry.bytes
 
 -- A page was taken from the frame that keeps it, with the bytes that were last put there.
-pub record IsFromFrame (place : Option (ℕ × ℕ)) (put : Option Entry) (held : Option Out) (h : Held) : Type 0 where
+pub record IsFromFrame (place : Option (ℕ × ℕ)) (put : Option Entry) (held : Option Out) (h : Held)
+    : Type 0 where
   pub kept : place ≡ Some (h.frame, h.tag)
   pub follows : (e : Entry) → put ≡ Some e → IsReachedFrom e.flag h.flag
   pub last : (e : Entry) → put ≡ Some e → h.was.value.bytes ≡ e.bytes
@@ -226,7 +227,8 @@ pub record AreClean (file : PageId → Option (List ℕ)) (k : Kept) : Type 0 wh
   pub read : (i : ℕ) (h : Held) → slice_get k.held i ≡ Some h → h.is_read ≡ true → is_changed h.patch ≡ false
       → file h.page ≡ Some h.was.value.bytes
 
--- All pages are as they were: those at hand, which stay so, and where what is Clean is as the files have it each.
+-- All pages are as they were: those at hand, which stay so, and, where what is Clean is as the files have it,
+-- each.
 pub record KeepsPages (k k' : Kept) : Type 0 where
   pub known : (id : PageId) → IsTrue (is_known k id) → IsTrue (is_known k' id)
   pub at_hand : (file : PageId → Option (List ℕ)) (id : PageId) → IsTrue (is_known k id)

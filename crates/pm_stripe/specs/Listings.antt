@@ -61,7 +61,8 @@ pub record IsChangedFrom (h : Held) (low high : ℕ) : Type 0 where
 
 -- a changed page's name is below `low`, or the page isn't changed
 abbrev pub NoneFrom : List Held → ℕ → Type 0
-NoneFrom held low = (i : ℕ) (h : Held) → slice_get held i ≡ Some h → IsTrue (is_changed h.patch) → h.page.0 < low
+NoneFrom held low =
+    (i : ℕ) (h : Held) → slice_get held i ≡ Some h → IsTrue (is_changed h.patch) → h.page.0 < low
 
 -- of the changed pages with a name from `low` on, the one in this place has the least
 pub record IsNextFrom (held : List Held) (low place : ℕ) : Type 0 where

@@ -1,5 +1,6 @@
 -- What putting a page back does to what a worker keeps.
-use Rattle.std.specs.Prelude.{◌≡◌, ℕ, Bool, true, false, ◌&&◌, not, if◌then◌else◌, List, [], ◌∷◌, ◌++◌, Option, Some, IsTrue}
+use Rattle.std.specs.Prelude.{◌≡◌, ℕ, Bool, true, false, ◌&&◌, not, if◌then◌else◌, List, []}
+use Rattle.std.specs.Prelude.{◌∷◌, ◌++◌, Option, Some, IsTrue}
 use Rattle.std.specs.Prelude.{slice_get}
 use Rattle.pm_types.specs.declared.flag.Flag.{Flag}
 use Rattle.pm_types.specs.declared.flag.Flag.TheVariants as flag
@@ -19,8 +20,8 @@ is_empty flag.Dirty = false
 is_empty flag.Due = false
 is_empty flag.Done = false
 
--- Dirty where the page was changed; Empty where it may have been written and nothing says what; Clean where it was
--- read; and else the flag that it had
+-- Dirty where the page was changed; Empty where it may have been written and nothing says what; Clean where
+-- it was read; and else the flag that it had
 abbrev pub put_flag : Held → Flag
 put_flag h =
     if is_changed h.patch then flag.Dirty
@@ -39,7 +40,8 @@ AreCovered held = (i : ℕ) (h : Held) → slice_get held i ≡ Some h → IsCov
 abbrev pub AreStayingCovered : List Held → Type 0
 AreStayingCovered held = (i : ℕ) (h : Held) → slice_get held i ≡ Some h → IsTrue (stays h.flag) → IsCovered h
 
--- The last page in hand was put back. What is at hand then is as it was, and where what is Clean is as the files
+-- The last page in hand was put back. What is at hand then is as it was, and where what is Clean is as the
+-- files
 -- have it, and each page is covered by its patch, all pages are.
 pub record PutsLast (locks : LockTable) (k k' : Kept) : Type 0 where
   pub holds : Holds locks k'

@@ -35,4 +35,5 @@ pub record ReadsPage (shape : Shape) (id : PageId) (tells : Type 0) (file : Opti
   pub passes : result ≡ Ok true → Passes shape id bytes
   pub whole : result ≡ Ok true → tells → file ≡ Some bytes
   pub absent : result ≡ Ok false → tells → file ≡ None
-  pub bad : (named : PageId) → IsErrOf result (BadPage named) → (named ≡ id) × (tells → FailsCheck shape id file)
+  pub bad : (named : PageId) → IsErrOf result (BadPage named)
+      → (named ≡ id) × (tells → FailsCheck shape id file)

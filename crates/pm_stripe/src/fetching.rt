@@ -28,7 +28,8 @@ pub(crate) fn place(held: &[Held], page: PageId) -> usize
 }
 
 impl Stripe {
-    // Takes the page from the frame that keeps it, if one does. A frame that was given to another page is forgotten.
+    // Takes the page from the frame that keeps it, if one does. A frame that was given to another page is
+    // forgotten.
     pub(crate) fn take_home<Q: Wait>(
         &mut self,
         rt: &Q,

@@ -61,7 +61,8 @@ fn write_logical(rec: Option<&LogRecord<'_>>, into: &mut [u8]) -> usize
     requires room { OP_EXTRA ≤ OPERATION_HEAD_LEN + length into.old }
     ensures size { length into.new ≡ length into.old }
     ensures short { OPERATION_HEAD_LEN + result ≤ OP_EXTRA }
-    ensures written { SpellRecords (take result into.new) (after_logical (given_record (option_copied rec.entry)) []) }
+    ensures written { SpellRecords (take result into.new)
+        (after_logical (given_record (option_copied rec.entry)) []) }
 {
     match rec {
         Some(rec) => write_record(rec, into),

@@ -45,7 +45,8 @@ fn record_head(kind: u8, len: u32) -> [u8; RECORD_HEAD_LEN]
 
 /// Writes the record of a page that an operation changed to the front of `into`, and gives where it ends.
 ///
-/// It has the ranges that were changed, or the whole page, where the log has not had it yet or that is its patch.
+/// It has the ranges that were changed, or the whole page, where the log has not had it yet or the patch is
+/// the whole page.
 #[tactic(auto, using(crate::proofs::Spelling::snapshot_long, crate::proofs::Spelling::snapshot_logged))]
 pub(crate) fn write_page(
     page: PageId,
