@@ -5,7 +5,7 @@ use Rattle.pm_disk.specs.Moments.{IsHistory}
 use Rattle.pm_segments.specs.Ends.{EndsThere}
 use Rattle.pm_logger.specs.Fronts.{AppendsAll, Appends, AppendsFront}
 use Rattle.pm_logger.specs.LogCalls.{MakesCalls, BreaksOff, operation_calls, operations_calls, next_since, since_after}
-use Rattle.pm_logger.specs.Operations.{Operation, AreOperations, SpellOperation, operation_bytes, operations_bytes}
+use Rattle.pm_records.specs.Operations.{Operation, AreOperations, SpellOperation, operation_bytes, operations_bytes}
 use Rattle.pm_logger.specs.Writers.{Writer}
 use Rattle.pm_logger.proofs.Chains.{makes_none, makes_then, breaks_then}
 

@@ -12,7 +12,7 @@ use Rattle.pm_logger.specs.Fronts.{AppendsAll, Appends, StandsFirst}
 use Rattle.pm_logger.specs.Inboxes.{kept, taken, AppendsTaken}
 use Rattle.pm_logger.specs.LogCalls.{lines_in, operations_calls}
 use Rattle.pm_logger.specs.Merges.{Entry, operations_in, of_worker, AreOfWorkers, HandsOver, Merges, AppendsMerge, IsNextKept}
-use Rattle.pm_logger.specs.Operations.{Operation}
+use Rattle.pm_records.specs.Operations.{Operation}
 use Rattle.pm_logger.specs.Writers.{Writer}
 use Rattle.pm_logger.specs.declared.inbox.Inbox.{Inbox}
 use Rattle.pm_logger.proofs.Appending.{appends_none, appends_then, appends_as, operations-append, bytes_then}

@@ -3,7 +3,7 @@ use Rattle.std.proofs.Common.{◌≡◌, ℕ, ◌+◌, ◌^◌, ◌<◌, ◌≤�
 use Rattle.std.proofs.lemmas.List.{append_assoc, take_at, length-take-le}
 use Rattle.pm_types.specs.declared.limits.TheConstants.{OUTBOX}
 use Rattle.pm_frame.specs.Frames.{Frame}
-use Rattle.pm_logger.specs.Operations.{record_bytes, records_bytes, operation_head, operation_bytes, AreLogged, AreRecords, Operation, IsOperation, BeginsWithNone, IsBad}
+use Rattle.pm_records.specs.Operations.{record_bytes, records_bytes, operation_head, operation_bytes, AreLogged, AreRecords, Operation, IsOperation, BeginsWithNone, IsBad}
 use Rattle.pm_logger.specs.Fronts.{IsWholeFront}
 use Rattle.pm_logger.proofs.RecordBytes.{length-operation_head, operation_head-same, same_front, one_record, record_longer}
 

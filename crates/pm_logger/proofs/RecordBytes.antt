@@ -6,7 +6,7 @@ use Rattle.std.proofs.lemmas.Nat.{from_le_bytes-to_le_bytes_4}
 use Rattle.std.proofs.lemmas.List.{append_assoc, take_at, drop_at}
 use Rattle.pm_frame.specs.Frames.{Frame}
 use Rattle.pm_frame.proofs.Bytes.{AreBytes, cells, written_out, four_back}
-use Rattle.pm_logger.specs.Operations.{frame_of, record_head, record_bytes, records_bytes, operation_head, IsLogged, AreLogged, AreRecords, BeginsWithNoRecord}
+use Rattle.pm_records.specs.Operations.{frame_of, record_head, record_bytes, records_bytes, operation_head, IsLogged, AreLogged, AreRecords, BeginsWithNoRecord}
 
 pub length-record_head : (kind len : ℕ) → length (record_head kind len) ≡ 5
 unfolding record_head

@@ -7,7 +7,7 @@ use Rattle.pm_frame.specs.Frames.{Frame}
 use Rattle.pm_disk.specs.Moments.{IsHistory}
 use Rattle.pm_segments.specs.Ends.{EndsThere}
 use Rattle.pm_logger.specs.LogCalls.{AppendFrame, lines_in, named_line, record_calls, MakesCalls, BreaksOff}
-use Rattle.pm_logger.specs.Operations.{record_bytes, records_bytes, IsLogged, AreLogged, SpellRecords, AreRecords, BeginsWithNoRecord}
+use Rattle.pm_records.specs.Operations.{record_bytes, records_bytes, IsLogged, AreLogged, SpellRecords, AreRecords, BeginsWithNoRecord}
 use Rattle.pm_logger.specs.Writers.{Writer}
 use Rattle.pm_logger.proofs.Chains.{makes_none, makes_then, breaks_then, breaks_before}
 use Rattle.pm_logger.proofs.OperationBytes.{same_records}

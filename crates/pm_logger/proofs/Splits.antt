@@ -7,7 +7,7 @@ use Rattle.pm_types.specs.declared.limits.TheConstants.{BATCH_LINES_MAX}
 use Rattle.pm_logger.specs.Blocks.{joined}
 use Rattle.pm_logger.specs.Inboxes.{kept, taken, waiting}
 use Rattle.pm_logger.specs.Merges.{HandsOver}
-use Rattle.pm_logger.specs.Operations.{Operation, IsOperation, AreOperations, operation_head, operation_bytes, operations_bytes, records_bytes, BeginsWithNone, IsBad, IsBeginning}
+use Rattle.pm_records.specs.Operations.{Operation, IsOperation, AreOperations, operation_head, operation_bytes, operations_bytes, records_bytes, BeginsWithNone, IsBad, IsBeginning}
 use Rattle.pm_logger.specs.Rings.{IsEmptied, KeepsBeginning, KeepsNothing, GivesTo}
 use Rattle.pm_logger.specs.Writers.{Writer}
 use Rattle.pm_logger.specs.declared.inbox.Inbox.{Inbox}

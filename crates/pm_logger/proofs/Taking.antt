@@ -8,7 +8,7 @@ use Rattle.pm_segments.specs.Ends.{EndsThere}
 use Rattle.pm_logger.specs.Blocks.{joined}
 use Rattle.pm_logger.specs.Fronts.{AppendsFront}
 use Rattle.pm_logger.specs.Inboxes.{taken, kept, Takes, TakesBlock, Looks, KeepsSeen, AppendsTaken, AppendsGiven}
-use Rattle.pm_logger.specs.Operations.{IsBad}
+use Rattle.pm_records.specs.Operations.{IsBad}
 use Rattle.pm_logger.specs.Writers.{Writer}
 use Rattle.pm_logger.specs.declared.inbox.Inbox.{Inbox}
 use Rattle.pm_logger.proofs.Appending.{front_none, front_then}

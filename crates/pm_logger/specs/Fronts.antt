@@ -2,8 +2,8 @@
 use Rattle.std.specs.Prelude.{◌≡◌, ◌≤◌, ◌<◌, ℕ, List, [], ◌∷◌, ◌++◌, length, take, Bool, true, false}
 use Rattle.pm_types.specs.declared.limits.TheConstants.{OUTBOX, BATCH_LINES_MAX}
 use Rattle.pm_logger.specs.LogCalls.{MakesCalls, BreaksOff, operations_calls, since_after}
-use Rattle.pm_logger.specs.Operations.{Operation, IsOperation, AreOperations, operation_bytes}
-use Rattle.pm_logger.specs.Operations.{operations_bytes, IsWhole, BeginsWithNone, IsBad}
+use Rattle.pm_records.specs.Operations.{Operation, IsOperation, AreOperations, operation_bytes}
+use Rattle.pm_records.specs.Operations.{operations_bytes, IsWhole, BeginsWithNone, IsBad}
 use Rattle.pm_logger.specs.Writers.{Writer}
 use Rattle.pm_logger.specs.declared.front.Stop.{Stop}
 use Rattle.pm_logger.specs.declared.front.Stop.TheVariants as stop

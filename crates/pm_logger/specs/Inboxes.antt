@@ -5,7 +5,7 @@ use Rattle.rtrb.specs.Ring.{received, known_items, SameConsumer, IsPair}
 use Rattle.pm_types.specs.declared.limits.TheConstants.{BATCH_LINES_MAX}
 use Rattle.pm_logger.specs.Blocks.{joined}
 use Rattle.pm_logger.specs.Fronts.{AppendsFront}
-use Rattle.pm_logger.specs.Operations.{BeginsWithNone, IsBad}
+use Rattle.pm_records.specs.Operations.{BeginsWithNone, IsBad}
 use Rattle.pm_logger.specs.Writers.{Writer}
 use Rattle.pm_logger.specs.declared.log_end.LogEnd.{LogEnd}
 use Rattle.pm_logger.specs.declared.inbox.Inbox.{Inbox}

@@ -5,6 +5,5 @@ pub mod LogCalls
 pub mod LogEnds
 pub mod Loggers
 pub mod Merges
-pub mod Operations
 pub mod Rings
 pub mod Writers

@@ -7,7 +7,7 @@ use Rattle.pm_disk.specs.Moments.{AllMoments}
 use Rattle.pm_records.specs.LogSteps.{Step, Force, world_after, DoesPrefix}
 use Rattle.pm_segments.specs.Appends.{append_steps, grown, steps_of}
 use Rattle.pm_segments.specs.Ends.{LogEnd, EndsThere}
-use Rattle.pm_logger.specs.Operations.{Operation}
+use Rattle.pm_records.specs.Operations.{Operation}
 use Rattle.pm_logger.specs.Writers.{Writer}
 use Rattle.pm_logger.specs.declared.limits.TheConstants.{FORCE_AFTER}
 

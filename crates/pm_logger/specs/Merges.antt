@@ -5,7 +5,7 @@ use Rattle.std.specs.List.{slice_get}
 use Rattle.pm_logger.specs.Blocks.{joined}
 use Rattle.pm_logger.specs.Fronts.{Appends, StandsFirst}
 use Rattle.pm_logger.specs.Inboxes.{kept, Takes}
-use Rattle.pm_logger.specs.Operations.{Operation, AreOperations, operations_bytes}
+use Rattle.pm_records.specs.Operations.{Operation, AreOperations, operations_bytes}
 use Rattle.pm_logger.specs.Writers.{Writer}
 use Rattle.pm_logger.specs.declared.inbox.Inbox.{Inbox}
 

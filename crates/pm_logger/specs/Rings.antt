@@ -6,7 +6,7 @@ use Rattle.pm_logger.specs.Blocks.{joined}
 use Rattle.pm_logger.specs.Inboxes.{kept, taken, waiting, seen, IsEndOf, IsHalted, IsDrained}
 use Rattle.pm_logger.specs.Inboxes.{AppendsGiven}
 use Rattle.pm_logger.specs.LogEnds.{pushed, free_slots, SameEnd}
-use Rattle.pm_logger.specs.Operations.{Operation, AreOperations, operations_bytes, BeginsWithNone, IsBeginning}
+use Rattle.pm_records.specs.Operations.{Operation, AreOperations, operations_bytes, BeginsWithNone, IsBeginning}
 use Rattle.pm_logger.specs.Writers.{Writer}
 use Rattle.pm_logger.specs.declared.inbox.Inbox.{Inbox}
 use Rattle.pm_logger.specs.declared.log_end.LogEnd.{LogEnd}

@@ -8,8 +8,8 @@ ghost use Rattle.pm_disk.specs.States.{HasCause, IsUsable};
 ghost use Rattle.pm_segments.specs.Ends.{EndsThere};
 ghost use Rattle.pm_logger.specs.LogCalls.{AppendFrame, DoesCalls, named_line};
 ghost use Rattle.pm_logger.specs.LogCalls.{record_calls, force_calls, next_since, operation_calls};
-ghost use Rattle.pm_logger.specs.Operations.{Operation, frame_of, MayBeLogged, SpellRecords};
-ghost use Rattle.pm_logger.specs.Operations.{AreRecords, SpellOperation, IsWhole};
+ghost use Rattle.pm_records.specs.Operations.{Operation, frame_of, MayBeLogged, SpellRecords};
+ghost use Rattle.pm_records.specs.Operations.{AreRecords, SpellOperation, IsWhole};
 ghost use Rattle.pm_logger.specs.Writers.{writer};
 
 use crate::operation::{OPERATION_HEAD_LEN, first_record, operation_head_of};

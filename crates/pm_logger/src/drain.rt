@@ -4,7 +4,7 @@ ghost use Rattle.std.specs.Prelude.{◌≡◌, ◌⊎◌, ◌≤◌, length, tak
 ghost use Rattle.pm_disk.specs.States.{HasCause, IsUsable};
 ghost use Rattle.pm_segments.specs.Ends.{EndsThere};
 ghost use Rattle.pm_logger.specs.Inboxes.{kept, AppendsTaken, AppendsGiven, KeepsSeen, IsHalted, IsDrained};
-ghost use Rattle.pm_logger.specs.Operations.{BeginsWithNone};
+ghost use Rattle.pm_records.specs.Operations.{BeginsWithNone};
 ghost use Rattle.pm_logger.specs.Writers.{writer};
 
 use crate::block::next_cut;

@@ -2,7 +2,7 @@
 
 ghost use Rattle.std.specs.Prelude.{◌≡◌, ◌<◌, ◌≤◌, ◌↔◌, true, IsTrue, length, IfOk, vec_capacity};
 ghost use Rattle.pm_logger.specs.declared.limits.TheConstants.{KEPT_MAX as kept_max};
-ghost use Rattle.pm_logger.specs.Operations.{IsBad};
+ghost use Rattle.pm_records.specs.Operations.{IsBad};
 
 use crate::block::Block;
 use crate::limits::KEPT_MAX;

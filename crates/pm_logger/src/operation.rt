@@ -3,8 +3,8 @@
 ghost use Rattle.std.specs.Prelude.{◌≡◌, ◌≤◌, ◌<◌, ◌+◌, ◌↔◌, ◌++◌, ℕ, List, IsTrue, IfSome, IfNone};
 ghost use Rattle.std.specs.Prelude.{length, take, drop};
 ghost use Rattle.pm_logger.specs.Fronts.{IsFront};
-ghost use Rattle.pm_logger.specs.Operations.{frame_of, record_head, record_bytes, operation_head};
-ghost use Rattle.pm_logger.specs.Operations.{MayBeLogged, IsLogged, AreRecords, BeginsWithNoRecord};
+ghost use Rattle.pm_records.specs.Operations.{frame_of, record_head, record_bytes, operation_head};
+ghost use Rattle.pm_records.specs.Operations.{MayBeLogged, IsLogged, AreRecords, BeginsWithNoRecord};
 
 use pm_frame::{DELTA, LOGICAL, PAYLOAD_MAX};
 use pm_types::OUTBOX;

@@ -1,6 +1,7 @@
 //! The replies of a batch.
 
-ghost use Rattle.std.specs.Prelude.{◌≡◌, ◌≤◌, ◌<◌, ◌+◌, [], ◌∷◌, length, Some, IfOk, slice_get};
+ghost use Rattle.std.specs.Prelude.{◌≡◌, ◌≤◌, ◌<◌, ◌+◌, [], ◌∷◌, length, Some, IfOk, OnOk, slice_get};
+ghost use Rattle.std.specs.Vec.{vec_capacity};
 ghost use Rattle.pm_types.specs.Keys.{HasValueLength};
 ghost use Rattle.pm_model.specs.ReplyLists.{no_replies, with_replies};
 
@@ -12,28 +13,30 @@ use std::marker::Model;
 /// A list of replies with room for more.
 ///
 /// All memory is taken when it is made: for each reply also that of a value, so that an operation
-/// that has begun is answered without taking memory.
+/// that has begun is answered without taking memory. A list that is cleared keeps its memory.
 #[derive(Drop)]
 pub struct Replies {
     replies: Vec<Reply>,
-    // As many as there is room for replies.
-    rooms: Vec<ValueRoom>,
+    // How many replies the list has room for in all.
+    room: usize,
+    // At least as many as replies may still come.
+    values: Vec<ValueRoom>,
 }
 
 impl Model for Replies {
-    ghost use Rattle.std.specs.Prelude.{◌+◌, ◌≤◌, length};
-    ghost use Rattle.std.specs.Vec.{vec_capacity};
+    ghost use Rattle.std.specs.Prelude.{◌+◌, ◌-◌, ◌≤◌, length, vec_capacity};
     ghost use Rattle.pm_model.specs.ReplyLists.{ReplyList};
 
     ghost Value = { ReplyList };
 
     ghost view = { λ list. record {
       replies = list.replies.items;
-      spare = length list.rooms.items;
+      spare = list.room - length list.replies.items;
     } };
 
-    ghost invariant = { λ list. length list.replies.items + length list.rooms.items
-        ≤ vec_capacity list.replies };
+    ghost invariant = { λ list. (length list.replies.items ≤ list.room)
+        × (list.room ≤ vec_capacity list.replies)
+        × (list.room ≤ length list.replies.items + length list.values.items) };
 }
 
 impl Replies {
@@ -42,8 +45,13 @@ impl Replies {
         ensures { IfOk result (λ list. list ≡ no_replies n) }
     {
         let replies = Vec::with_capacity(alloc, n)?;
-        let rooms = some_rooms(alloc, n)?;
-        Ok(Replies { replies, rooms })
+        let mut values = Vec::with_capacity(alloc, n)?;
+        fill_up(alloc, n, &mut values)?;
+        Ok(Replies {
+            replies,
+            room: n,
+            values,
+        })
     }
 
     /// How many replies there are.
@@ -57,7 +65,7 @@ impl Replies {
     pub fn spare(&self) -> usize
         ensures { result ≡ self.now.spare }
     {
-        self.rooms.len()
+        self.room.saturating_sub(self.replies.len())
     }
 
     /// The reply with this number, counted from 0.
@@ -73,7 +81,6 @@ impl Replies {
         requires { 0 < self.old.spare }
         ensures { self.new ≡ with_replies (reply ∷ []) self.old }
     {
-        let _room = self.rooms.pop();
         self.replies.push(reply).unwrap();
     }
 
@@ -83,20 +90,53 @@ impl Replies {
         requires length { HasValueLength value.now }
         ensures { self.new ≡ with_replies (Reply.Found value.now ∷ []) self.old }
     {
-        let room = self.rooms.pop().unwrap();
+        let room = self.values.pop().unwrap();
         self.replies.push(Reply::Found(room.fill(value))).unwrap();
+    }
+
+    /// Takes all replies out, and has room again for as many as in the beginning. The memory of the
+    /// values that were found serves those to come, so that none is taken.
+    ///
+    /// Where memory ran out there is room for no reply.
+    pub fn clear(&mut self, alloc: Global) -> Result<(), AllocError>
+        ensures { OnOk result
+            (self.new ≡ no_replies (length self.old.replies + self.old.spare)) }
+    {
+        let room = self.room;
+        let taken = take_back(alloc, &mut self.replies, &mut self.values);
+        self.room = self.replies.len();
+        taken?;
+        fill_up(alloc, room, &mut self.values)?;
+        self.room = room;
+        Ok(())
     }
 }
 
-// Room for so many values.
-fn some_rooms(alloc: Global, n: usize) -> Result<Vec<ValueRoom>, AllocError>
-    ensures { IfOk result (λ rooms. length rooms.items ≡ n) }
+// Takes all replies out, and keeps the memory of the values that were found.
+fn take_back(
+    alloc: Global,
+    replies: &mut Vec<Reply>,
+    values: &mut Vec<ValueRoom>,
+) -> Result<(), AllocError>
+    ensures none { OnOk result (replies.new.items ≡ []) }
+    ensures room { vec_capacity replies.new ≡ vec_capacity replies.old }
 {
-    let mut rooms = Vec::with_capacity(alloc, n)?;
-    'each: for _ in 0..n {
-        rooms.push(ValueRoom::new(alloc)?)?;
+    'each: while let Some(reply) = replies.pop() {
+        if let Reply::Found(value) = reply {
+            values.push(ValueRoom::of(alloc, value)?)?;
+        }
     }
-    Ok(rooms)
+    Ok(())
+}
+
+// Takes the memory of values until there is room for so many.
+fn fill_up(alloc: Global, n: usize, values: &mut Vec<ValueRoom>) -> Result<(), AllocError>
+    ensures { OnOk result (n ≤ length values.new.items) }
+{
+    'each: while values.len() < n {
+        values.push(ValueRoom::new(alloc)?)?;
+    }
+    Ok(())
 }
 
 #[cfg(test)]
@@ -116,6 +156,21 @@ mod tests {
             Reply::Found(value) => assert!(rt; value.bytes() == b"v".as_slice()),
             _ => assert!(rt; false),
         }
+        Ok(())
+    }
+
+    #[test]
+    fn a_list_that_is_cleared_has_its_room_again(rt: HostRuntime) -> Result<(), Fail> {
+        let mut replies = Replies::with_room(rt.alloc(), 2)?;
+        replies.push_found(b"v");
+        replies.push(Reply::Done);
+        assert_eq!(rt; replies.spare(), 0);
+        replies.clear(rt.alloc())?;
+        assert_eq!(rt; replies.len(), 0);
+        assert_eq!(rt; replies.spare(), 2);
+        replies.push_found(b"w");
+        replies.push_found(b"x");
+        assert_eq!(rt; replies.len(), 2);
         Ok(())
     }
 }

@@ -2,6 +2,7 @@ pub mod FirstRecords
 pub mod LogFiles
 pub mod Logs
 pub mod LogSteps
+pub mod Operations
 pub mod PageNames
 pub mod PageRecords
 pub mod Records

@@ -8,7 +8,7 @@ use Rattle.pm_records.specs.declared.record.LogRecord.{LogRecord}
 use Rattle.pm_records.specs.declared.record.LogRecord.TheVariants as log
 use Rattle.pm_records.specs.Records.{Record, IsRecord, logical_head, payload_of}
 use Rattle.pm_records.specs.Views.{record_view}
-use Rattle.pm_logger.specs.Operations.{operation_head, operation_bytes, record_bytes, IsLogged, SpellRecords, Operation}
+use Rattle.pm_records.specs.Operations.{operation_head, operation_bytes, record_bytes, IsLogged, SpellRecords, Operation}
 use Rattle.pm_stripe.specs.declared.held.Held.{Held}
 use Rattle.pm_stripe.specs.ChangedPages.{frame_for}
 use Rattle.pm_stripe.specs.Listings.{MayBeLogical, after_logical, WritesPages, IsOperationOf, HandsOver, handed_bytes_by}

@@ -12,7 +12,7 @@ use Rattle.pm_types.specs.PageSizes.{IsPageSize}
 use Rattle.pm_types.proofs.PageSizeBounds.{page_size_bounds}
 use Rattle.pm_pages.specs.Deltas.{delta_of}
 use Rattle.pm_stripe.specs.ChangedPages.{frame_for}
-use Rattle.pm_logger.specs.Operations.{record_head, record_bytes, records_bytes, IsLogged, AreLogged, SpellRecords}
+use Rattle.pm_records.specs.Operations.{record_head, record_bytes, records_bytes, IsLogged, AreLogged, SpellRecords}
 
 length-record_head : (kind len : ℕ) → length (record_head kind len) ≡ 5
 unfolding record_head

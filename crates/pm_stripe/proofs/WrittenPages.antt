@@ -8,7 +8,7 @@ use Rattle.std.proofs.lemmas.Bool.{cases_lt}
 use Rattle.std.proofs.lemmas.Option.{get_or_from_slice_get}
 use Rattle.pm_types.specs.Spans.{Coverage}
 use Rattle.pm_frame.specs.Frames.{Frame}
-use Rattle.pm_logger.specs.Operations.{SpellRecords, record_bytes}
+use Rattle.pm_records.specs.Operations.{SpellRecords, record_bytes}
 use Rattle.pm_stripe.specs.declared.limits.TheConstants.{PAGE_EXTRA}
 use Rattle.pm_stripe.specs.declared.held.Held.{Held}
 use Rattle.pm_stripe.specs.ChangedPages.{ChangedPage, page_record, frame_for, has_bytes, is_changed, as_changed}

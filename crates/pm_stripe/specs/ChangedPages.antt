@@ -8,7 +8,7 @@ use Rattle.pm_types.specs.Spans.{Coverage}
 use Rattle.pm_frame.specs.Frames.{Frame}
 use Rattle.pm_records.specs.Records.{Record, Snapshot, Delta, kind_of, payload_of}
 use Rattle.pm_pages.specs.Deltas.{delta_of}
-use Rattle.pm_logger.specs.Operations.{frame_of}
+use Rattle.pm_records.specs.Operations.{frame_of}
 use Rattle.pm_stripe.specs.declared.held.Held.{Held}
 
 -- A page that an operation changed.

@@ -9,8 +9,8 @@ use Rattle.pm_records.specs.Records.{Record, Logical, Snapshot, Delta, CpBegin, 
 use Rattle.pm_records.specs.declared.record.LogRecord.{LogRecord}
 use Rattle.pm_records.specs.Views.{record_view}
 use Rattle.pm_frame.specs.Frames.{Frame}
-use Rattle.pm_logger.specs.Operations.{Operation, IsOperation, IsLogged, SpellRecords, record_bytes}
-use Rattle.pm_logger.specs.Operations.{operation_bytes}
+use Rattle.pm_records.specs.Operations.{Operation, IsOperation, IsLogged, SpellRecords, record_bytes}
+use Rattle.pm_records.specs.Operations.{operation_bytes}
 use Rattle.pm_stripe.specs.declared.limits.TheConstants.{PAGE_EXTRA}
 use Rattle.pm_stripe.specs.declared.held.Held.{Held}
 use Rattle.pm_stripe.specs.ChangedPages.{ChangedPage, page_record, frame_for, has_bytes}

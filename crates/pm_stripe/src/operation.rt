@@ -1,7 +1,7 @@
 //! An operation, as the bytes that the log writer takes.
 
 ghost use Rattle.std.specs.Prelude.{◌≡◌, ◌+◌, ◌≤◌, ◌↔◌, [], length, take, IsTrue, MatchOption};
-ghost use Rattle.pm_logger.specs.Operations.{SpellRecords, operation_head};
+ghost use Rattle.pm_records.specs.Operations.{SpellRecords, operation_head};
 ghost use Rattle.pm_stripe.specs.ChangedPages.{is_changed};
 ghost use Rattle.std.specs.Option.{option_copied};
 ghost use Rattle.pm_stripe.specs.Listings.{IsLoggable, AreLoggable, NoneFrom, IsNextFrom, pages_room};

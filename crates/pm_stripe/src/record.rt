@@ -7,7 +7,7 @@ ghost use Rattle.pm_records.specs.PageNames.{IsPageName};
 ghost use Rattle.pm_records.specs.Records.{Delta, IsRecord, payload_of};
 ghost use Rattle.pm_records.specs.Views.{record_view};
 ghost use Rattle.pm_pages.specs.Deltas.{delta_of, delta_len};
-ghost use Rattle.pm_logger.specs.Operations.{IsLogged, record_head, record_bytes};
+ghost use Rattle.pm_records.specs.Operations.{IsLogged, record_head, record_bytes};
 ghost use Rattle.pm_stripe.specs.ChangedPages.{frame_for, has_bytes, page_record};
 
 use crate::limits::{PAGE_EXTRA, PAGE_NAME_LEN, RECORD_HEAD_LEN};

@@ -25,6 +25,15 @@ impl ValueRoom {
         })
     }
 
+    /// Room of the memory of a value that isn't needed any more. More is taken only where the value
+    /// was made with less.
+    pub fn of(alloc: Global, value: Value) -> Result<ValueRoom, AllocError> {
+        let Value { bytes: mut room } = value;
+        room.clear();
+        room.reserve(VALUE_MAX)?;
+        Ok(ValueRoom { bytes: room })
+    }
+
     /// A copy of the bytes as a value.
     pub fn fill(self, bytes: &[u8]) -> Value
         requires { HasValueLength bytes.now }

@@ -2,7 +2,7 @@ use Rattle.std.proofs.Common.{◌≡◌, ◌<◌, ◌++◌, ◌∷◌, [], ◌�
 use Rattle.std.proofs.lemmas.Result.{err_from_is_err_and}
 use Rattle.pm_frame.specs.Frames.{Frame}
 use Rattle.pm_logger.specs.LogCalls.{AppendFrame, MakesCalls, BreaksOff}
-use Rattle.pm_logger.specs.Operations.{frame_of, record_bytes}
+use Rattle.pm_records.specs.Operations.{frame_of, record_bytes}
 use Rattle.pm_logger.specs.Writers.{writer}
 use Rattle.pm_logger.proofs.LaterStates.{same_state, later_state}
 use Rattle.pm_logger.proofs.RecordBytes.{record_longer}

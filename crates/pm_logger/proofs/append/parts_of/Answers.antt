@@ -1,5 +1,5 @@
 use Rattle.std.proofs.Common.{◌≡◌, ◌<◌, ◌++◌, [], ◌∙◌, sym, ap, arith, rules, length, append-nil, take-append-drop}
-use Rattle.pm_logger.specs.Operations.{operation_bytes, records_bytes}
+use Rattle.pm_records.specs.Operations.{operation_bytes, records_bytes}
 use Rattle.pm_logger.proofs.OperationBytes.{operation_longer, parts}
 use Rattle.pm_logger.proofs.append.parts_of.Goals as goal
 

@@ -2,7 +2,7 @@ use Rattle.std.proofs.Common.{◌≡◌, ◌+◌, ◌-◌, true, drop, take, sym
 use Rattle.std.proofs.lemmas.List.{drop-drop, length-drop, take_rest}
 use Rattle.std.proofs.lemmas.Result.{err_from_is_err_and}
 use Rattle.pm_logger.specs.Fronts.{IsWholeFront, AppendsFront}
-use Rattle.pm_logger.specs.Operations.{SpellOperation}
+use Rattle.pm_records.specs.Operations.{SpellOperation}
 use Rattle.pm_logger.specs.Writers.{writer}
 use Rattle.pm_logger.proofs.Appending.{front_none, front_next, front_one, front_failed}
 use Rattle.pm_logger.proofs.LaterStates.{same_state, later_state}

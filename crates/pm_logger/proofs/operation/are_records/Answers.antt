@@ -1,5 +1,5 @@
 use Rattle.std.proofs.Common.{◌≡◌, ◌<◌, ◌++◌, List, ℕ, ap, rules, arith, length, length-append}
-use Rattle.pm_logger.specs.Operations.{frame_of, record_bytes}
+use Rattle.pm_records.specs.Operations.{frame_of, record_bytes}
 use Rattle.pm_frame.specs.Frames.{Frame}
 use Rattle.pm_logger.proofs.RecordBytes.{not_records, records_after, record_longer}
 use Rattle.pm_logger.proofs.operation.are_records.Goals as goal

@@ -1,5 +1,5 @@
 use Rattle.std.specs.Prelude.{◌↔◌, length}
-use Rattle.pm_logger.specs.Operations.{AreRecords}
+use Rattle.pm_records.specs.Operations.{AreRecords}
 use Rattle.pm_logger.proofs.operation.are_records.Given as goal
 
 -- what is left is records exactly where all is

@@ -1,6 +1,6 @@
 use Rattle.std.proofs.Common.{◌≡◌, ◌++◌, ℕ, Bool, false, sym, ◌∙◌, subst, rules, arith, take-append-drop}
 use Rattle.std.specs.Prelude.{IsTrue}
-use Rattle.pm_logger.specs.Operations.{MayBeLogged}
+use Rattle.pm_records.specs.Operations.{MayBeLogged}
 use Rattle.pm_logger.proofs.RecordBytes.{too_short, no_record, record_from}
 use Rattle.pm_logger.proofs.operation.first_record.Goals as goal
 

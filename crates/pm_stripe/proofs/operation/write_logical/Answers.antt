@@ -1,6 +1,6 @@
 use Rattle.std.proofs.Common.{[], take, sym, subst, arith}
 use Rattle.std.specs.Option.{option_copied}
-use Rattle.pm_logger.specs.Operations.{SpellRecords}
+use Rattle.pm_records.specs.Operations.{SpellRecords}
 use Rattle.pm_stripe.specs.Listings.{MayBeLogical, given_record, after_logical}
 use Rattle.pm_stripe.proofs.Operations.{is_record, is_short, logical_spelled}
 use Rattle.pm_stripe.proofs.operation.write_logical.Goals as goal

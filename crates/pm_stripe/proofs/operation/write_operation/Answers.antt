@@ -1,7 +1,7 @@
 use Rattle.std.proofs.Common.{[], sym, subst, rules, arith}
 use Rattle.std.specs.Option.{option_copied}
 use Rattle.std.proofs.lemmas.List.{length-take-le}
-use Rattle.pm_logger.specs.Operations.{SpellRecords}
+use Rattle.pm_records.specs.Operations.{SpellRecords}
 use Rattle.pm_stripe.specs.Listings.{given_record, after_logical}
 use Rattle.pm_stripe.proofs.Operations.{handed_none, handed_some}
 use Rattle.pm_stripe.proofs.operation.write_operation.Goals as goal
