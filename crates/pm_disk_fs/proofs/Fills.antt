@@ -1,17 +1,37 @@
 -- Reads into a buffer, one after the other.
-use Rattle.std.proofs.Common.{◌≡◌, ◌+◌, ◌≤◌, ℕ, List, ◌++◌, length, take, Option, Some, None, refl, sym, ◌∙◌, ap, arith, length-append, length-take, append_assoc}
+use Rattle.std.proofs.Common.{◌≡◌, ◌+◌, ◌≤◌, ◌<◌, ℕ, List, [], ◌∷◌, ◌++◌, length, take, Option, Some, None, inl, inr, refl, sym, ◌∙◌, ap, subst, arith, length-append, length-take, append_assoc}
+use Rattle.std.specs.Prelude.{◌⊎◌, ◌^◌}
+use Rattle.std.specs.List.{concat}
 use Rattle.std.proofs.Math.Seq.{take-append-add}
-use Rattle.std.proofs.lemmas.List.{take-take}
+use Rattle.std.proofs.lemmas.List.{take-take, append-nil}
+use Rattle.std.proofs.lemmas.List.Folds.{concat-append}
 use Rattle.std.proofs.lemmas.Slice.{take-put_mid}
-use Rattle.std.specs.Io.KnownBytes.{Consumes, Keeps}
+use Rattle.std.specs.Io.KnownBytes.{Keeps}
+use Rattle.pm_disk_fs.specs.Reads.{DidGive, IsGiven}
 use borrow.Rule.Slice.PartMut.{put_mid, post_of}
 
--- what was consumed by one read and by the next
-pub consumes-append : (old mid new : Option (List ℕ)) (xs ys : List ℕ) → Consumes old mid xs → Consumes mid new ys → Consumes old new (xs ++ ys)
-consumes-append None mid new xs ys first next = tt
-consumes-append (Some old) None new xs ys first next = absurd first
-consumes-append (Some old) (Some mid) None xs ys first next = absurd next
-consumes-append (Some old) (Some mid) (Some new) xs ys first next = first ∙ ap (λ (l : List ℕ). xs ++ l) next ∙ sym (append_assoc xs ys new)
+-- what reads gave, and what the next one gave
+pub did_give-push : {F : Type 0} (gave : F → ℕ → List ℕ → Type 0) (file : F) (at : ℕ) (pieces : List (List ℕ)) (piece : List ℕ) → DidGive gave file at pieces → gave file (at + length (concat pieces)) piece → DidGive gave file at (pieces ++ piece ∷ [])
+did_give-push gave file at [] piece given next = (subst (λ n. gave file n piece) (omega arith) next, tt)
+did_give-push gave file at (first ∷ pieces) piece given next = (
+  given.0,
+  did_give-push gave file (at + length first) pieces piece given.1
+      (subst (λ n. gave file n piece) (omega (arith, length-append first (concat pieces))) next),
+)
+
+pub given-push : {F : Type 0} (gave : F → ℕ → List ℕ → Type 0) (file : F) (at : ℕ) (bytes piece : List ℕ) → IsGiven gave file at bytes → gave file (at + length bytes) piece → IsGiven gave file at (bytes ++ piece)
+given-push gave file at bytes piece given next = record {
+  pieces = given.pieces ++ piece ∷ [];
+  given = did_give-push gave file at given.pieces piece given.given (subst (λ l. gave file (at + length l) piece) given.are next);
+  are = ap (λ l. l ++ piece) given.are
+      ∙ ap (λ l. concat given.pieces ++ l) (sym (append-nil piece))
+      ∙ sym (concat-append given.pieces (piece ∷ []));
+}
+
+-- a read after so many bytes that gave some was made there
+pub given-next : {F : Type 0} (gave : F → ℕ → List ℕ → Type 0) (file : F) (at count n : ℕ) (bytes piece : List ℕ) → length bytes ≡ count → 0 < n → gave file (at + count) piece ⊎ ((n ≡ 0) × (2 ^ 64 ≤ at + count)) → gave file (at + length bytes) piece
+given-next gave file at count n bytes piece long some (inl next) = subst (λ m. gave file (at + m) piece) (sym long) next
+given-next gave file at count n bytes piece long some (inr none) = absurd (omega (arith, some, none.0))
 
 -- the front of a buffer whose part from a place on was read into
 pub take-put_mid-add : (a k m : ℕ) (xs ys : List ℕ) → a ≤ length xs → m ≤ length ys → take (a + m) (put_mid a k xs ys) ≡ take a xs ++ take m ys

@@ -6,6 +6,7 @@ pub mod Names
 pub mod Openings
 pub mod SortingOut
 pub mod StayingOpen
+pub mod StillOpened
 pub mod TakingBack
 pub mod TakingOut
 pub mod Viewing

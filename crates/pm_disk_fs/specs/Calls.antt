@@ -1,5 +1,5 @@
 -- What calls of the system were made on.
-use Rattle.std.specs.Prelude.{◌≡◌, ◌⊎◌, ℕ, List, [], ◌∷◌, codes, Option, Some, IsSomeAnd}
+use Rattle.std.specs.Prelude.{◌≡◌, ◌⊎◌, ℕ, List, [], ◌∷◌, codes, Option, Some, IsSomeAnd, MatchOption}
 use Rattle.std.specs.Prelude.{Bool, true, false, IsTrue, Contains}
 use Rattle.std.specs.Path.{path_join}
 use Rattle.std.specs.declared.fs.options.OpenOptions.{OpenOptions}
@@ -25,6 +25,12 @@ pub record IsMadeAt (folder : Option (List ℕ)) (name : StoreFile) (made : List
   pub path : List ℕ
   pub is_path : IsPathOf folder name path
   pub is_made : made path
+
+-- What the file of this name had was measured so, none where it wasn't there.
+abbrev pub IsMeasuredAt : (List ℕ → Type 0) → (List ℕ → ℕ → Type 0) → Option (List ℕ) → StoreFile → Option ℕ
+    → Type 0
+IsMeasuredAt missing measured folder name found =
+    IsMadeAt folder name (λ path. MatchOption found (missing path) (measured path))
 
 -- the path by which the system knows a folder: none is the one where the process runs
 abbrev pub folder_path : List ℕ → List ℕ

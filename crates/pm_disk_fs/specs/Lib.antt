@@ -7,5 +7,6 @@ pub mod OpenViews
 pub mod Parts
 pub mod Paths
 pub mod Positions
+pub mod Reads
 pub mod WriteBuffer
 pub mod Writes

@@ -21,6 +21,10 @@ pub record IsTakenOut {F : Type 0} (old new : List (Opened F)) (name : StoreFile
   pub is : new ≡ before ++ after
   pub latest : IsNotOpen after name
 
+-- Each of the files is among the others.
+pub record AreAmong {F : Type 0} (files others : List (Opened F)) : Type 0 where
+  pub each : All (λ file. Contains others file) files
+
 -- Each of the files was forced since its last change.
 abbrev pub AreForced : {F : Type 0} → List (Opened F) → Type 0
 AreForced files = All (λ file. IsTrue file.is_forced) files

@@ -1,12 +1,13 @@
 //! The calls of the system that no clause of the runtime's speaks of, each with a relation by which a clause
 //! names what it was made on. What is written over any relations can show them only by these calls.
 
-ghost use Rattle.std.specs.Prelude.{◌≡◌, ℕ, List, ⊤, IfOk, IfErr, OnOk};
+ghost use Rattle.std.specs.Prelude.{◌≡◌, ◌<◌, ◌≤◌, ℕ, List, ⊤, length, take, IfOk, IfErr, OnOk};
 ghost use Rattle.std.specs.IoError.{error_kind};
 ghost use Rattle.std.specs.declared.fs.options.OpenOptions.{OpenOptions};
 
 use std::fs::{self, OpenFile, OpenOptions};
 use std::io::{self, ErrorKind};
+use std::os::unix::fs::FileExt;
 use std::rt::Files;
 
 /// The calls by a path. Of the system's own files nobody can know more than that they were made.
@@ -77,5 +78,23 @@ impl<F: OpenFile> FileCalls for F {
 
     fn cut(&self, len: u64) -> io::Result<()> {
         self.set_len(len)
+    }
+}
+
+/// The reads of an open file. Of the system's own files nobody can know more than that they were made.
+pub trait ReadCalls: FileExt {
+    /// A read of this file for a byte or more, from this offset on, gave these bytes.
+    ghost gave: { Self → ℕ → List ℕ → Type 0 } = { λ _ _ _. ⊤ };
+
+    /// Reads once from the offset on, wherever the file stands. Where no byte is there, the file ends.
+    fn read_from(&self, into: &mut [u8], at: u64) -> io::Result<usize>
+        requires some { 0 < length into.old }
+        ensures bound { IfOk result (λ n. n ≤ length into.new) }
+        ensures gives { IfOk result (λ n. gave self.now at (take n into.new)) };
+}
+
+impl<F: FileExt> ReadCalls for F {
+    fn read_from(&self, into: &mut [u8], at: u64) -> io::Result<usize> {
+        self.read_at(into, at)
     }
 }

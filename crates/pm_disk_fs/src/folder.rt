@@ -6,22 +6,23 @@ ghost use Rattle.std.specs.Prelude.{IfErr, IsErrAnd};
 ghost use Rattle.std.specs.Prelude.{OnOk, OnErr, option_map, codes};
 ghost use Rattle.std.specs.IoError.{error_kind};
 ghost use Rattle.std.specs.String.{string_bytes};
-ghost use Rattle.std.specs.Io.KnownBytes.{Consumes, IsAtEnd, ReadConsumes};
 ghost use Rattle.pm_disk_fs.specs.Failures.{IsFailureOn, IsPathFailure, IsLockFailure};
 ghost use Rattle.pm_disk_fs.specs.Failures.{IsOn, IsOnFile, IsCallOn};
 ghost use Rattle.pm_disk_fs.specs.Paths.{IsPathOf};
 ghost use Rattle.pm_disk_fs.specs.Calls.{IsMadeAt, AreNamesSynced, folder_path};
 ghost use Rattle.pm_disk_fs.specs.Calls.{to_read, to_change, to_make};
+ghost use Rattle.pm_disk_fs.specs.Reads.{IsReadAt, IsRange};
 ghost use Rattle.std.specs.Path.{path_join};
 
-use crate::calls::{FileCalls, PathCalls};
+use crate::calls::{FileCalls, PathCalls, ReadCalls};
 use crate::failure::{Failure, Object, SystemCall, named};
 use crate::lock::{Lockable, lock_folder};
 use crate::paths::{file_path, open_folder, sync_above, sync_folder};
+use crate::reading::{fill, whole_or_zeros};
 use pm_disk::StoreFile;
 use std::alloc::AllocError;
 use std::fs::OpenOptions;
-use std::io::{self, ErrorKind, Read, Seek, SeekFrom};
+use std::io::{self, ErrorKind};
 use std::path::Path;
 
 /// The store's folder, once one is bound.
@@ -90,34 +91,6 @@ impl<R: PathCalls<File: FileCalls> + AllocGlobal + Drop> Folder<R> {
     {
         let found = self.rt.len_at(self.path(name)?.as_str());
         named(SystemCall::Stat, Object::File(name), if_there(found))
-    }
-
-    /// Reads a file from the offset on until the buffer is full or the file ends, and answers how many
-    /// bytes there were; 0 where it isn't there.
-    pub fn read(&self, name: StoreFile, at: u64, into: &mut [u8]) -> Result<usize, Failure>
-        ensures bound { IfOk result (λ n. n ≤ length into.new) }
-        ensures failed { IfErr result (IsFailureOn (IsOnFile name) (self.now.dir ≡ None) ⊥) }
-    {
-        let Some(mut file) = self.open(name)? else {
-            return Ok(0);
-        };
-        let sought = file.seek(SeekFrom::Start(at));
-        named(SystemCall::Seek, Object::File(name), sought)?;
-        named(SystemCall::Read, Object::File(name), fill(&mut file, into))
-    }
-
-    /// Reads a whole range of a file from the offset on, and answers true, or, where the file ends before
-    /// it, fills the buffer with zeros and answers false.
-    pub fn read_whole(&self, name: StoreFile, at: u64, into: &mut [u8]) -> Result<bool, Failure>
-        ensures zeros { IfOk result
-            (λ whole. whole ≡ false → into.new ≡ replicate (length into.new) 0) }
-        ensures failed { IfErr result (IsFailureOn (IsOnFile name) (self.now.dir ≡ None) ⊥) }
-    {
-        let is_whole = self.read(name, at, into)? == into.len();
-        if !is_whole {
-            into.fill(0);
-        }
-        Ok(is_whole)
     }
 
     /// Opens a file to be read, none where it isn't there.
@@ -206,6 +179,35 @@ impl<R: PathCalls<File: FileCalls> + AllocGlobal + Drop> Folder<R> {
     }
 }
 
+impl<R: PathCalls<File: FileCalls + ReadCalls> + AllocGlobal + Drop> Folder<R> {
+    /// Reads a file from the offset on until the buffer is full or the file ends, and answers how many
+    /// bytes there were; 0 where it isn't there.
+    pub fn read(&self, name: StoreFile, at: u64, into: &mut [u8]) -> Result<usize, Failure>
+        ensures bound { IfOk result (λ n. n ≤ length into.new) }
+        ensures reads { IfOk result (λ n. IsReadAt R.opened R.missing R.File.gave
+            (option_map string_bytes self.now.dir) name at (length into.new) (take n into.new)) }
+        ensures failed { IfErr result (IsFailureOn (IsOnFile name) (self.now.dir ≡ None) ⊥) }
+    {
+        let Some(file) = self.open(name)? else {
+            return Ok(0);
+        };
+        named(SystemCall::Read, Object::File(name), fill(&file, at, into))
+    }
+
+    /// Reads a whole range of a file from the offset on, and answers true, or, where the file ends before
+    /// it, fills the buffer with zeros and answers false.
+    pub fn read_whole(&self, name: StoreFile, at: u64, into: &mut [u8]) -> Result<bool, Failure>
+        ensures reads { IfOk result (λ whole. IsRange (IsReadAt R.opened R.missing R.File.gave
+            (option_map string_bytes self.now.dir) name at) whole into.new) }
+        ensures zeros { IfOk result
+            (λ whole. whole ≡ false → into.new ≡ replicate (length into.new) 0) }
+        ensures failed { IfErr result (IsFailureOn (IsOnFile name) (self.now.dir ≡ None) ⊥) }
+    {
+        let count = self.read(name, at, into)?;
+        Ok(whole_or_zeros(count, into))
+    }
+}
+
 // What was found, none where there is no such file.
 fn if_there<T>(answer: io::Result<T>) -> io::Result<Option<T>>
     ensures { IfOk result (λ found. MatchOption found
@@ -216,39 +218,4 @@ fn if_there<T>(answer: io::Result<T>) -> io::Result<Option<T>>
         Err(e) if e.kind() == ErrorKind::NotFound => Ok(None),
         Err(e) => Err(e),
     }
-}
-
-// Reads until the buffer is full or the file ends.
-fn fill<F: Read>(from: &mut F, into: &mut [u8]) -> io::Result<usize>
-    ensures bound { IfOk result (λ n. n ≤ length into.new) }
-    ensures front { IfOk result
-        (λ n. Consumes (F.remaining from.old) (F.remaining from.new) (take n into.new)) }
-    ensures end { IfOk result (λ n. n < length into.new → IsAtEnd (F.remaining from.new)) }
-{
-    let mut count = 0;
-    while count < into.len() {
-        let more = read_some(from, &mut into[count..])?;
-        if more == 0 {
-            break;
-        }
-        count += more;
-    }
-    Ok(count)
-}
-
-/// How often a read that a signal interrupts is tried.
-const TRIES: u32 = 1000;
-
-/// Reads once, and again where a signal interrupts that. A reader that is interrupted each time fails.
-pub fn read_some<F: Read>(from: &mut F, into: &mut [u8]) -> io::Result<usize>
-    ensures bound { IfOk result (λ n. n ≤ length into.new) }
-    ensures bytes { ReadConsumes (F.remaining from.old) (F.remaining from.new) result into.new }
-{
-    for _ in 0..TRIES {
-        match from.read(into) {
-            Err(e) if e.kind() == ErrorKind::Interrupted => {}
-            answer => return answer,
-        }
-    }
-    Err(io::Error::from(ErrorKind::Interrupted))
 }

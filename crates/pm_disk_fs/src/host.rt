@@ -1,6 +1,6 @@
 //! The host over the process's files and standard streams.
 
-ghost use Rattle.std.specs.Prelude.{◌≡◌, ◌≤◌, ◌↔◌, [], ◌∷◌, true, false, length, map, vec_len, refl};
+ghost use Rattle.std.specs.Prelude.{◌≡◌, ◌≤◌, ◌↔◌, [], ◌∷◌, true, false, length, take, map, vec_len, refl};
 ghost use Rattle.std.specs.Prelude.{Ok, None, Some, IsTrue, IsErr, IsNone, IsSome, IfOk, OnOk, OnErr};
 ghost use Rattle.std.specs.Prelude.{◌+◌, ◌⊎◌, All, replicate, Err, IfErr};
 ghost use Rattle.std.specs.Io.KnownBytes.{ReadConsumes};
@@ -13,7 +13,8 @@ ghost use Rattle.pm_disk_fs.specs.Writes.{ChangesFile, ChangesLog, FlushesBuffer
 ghost use Rattle.pm_disk.specs.Lending.{reader_lent, PartsLent, Lends, TakesBack};
 ghost use Rattle.pm_disk.specs.declared.names.StoreFile.TheVariants.{Config, Marks, Segment, Pages};
 ghost use Rattle.pm_types.specs.Ids.{part_of_id};
-ghost use Rattle.pm_disk_fs.specs.Calls.{IsBoundTo};
+ghost use Rattle.pm_disk_fs.specs.Calls.{IsBoundTo, IsMeasuredAt};
+ghost use Rattle.pm_disk_fs.specs.Reads.{IsReadAt, IsRange};
 ghost use Rattle.pm_disk_fs.specs.Failures.{IsOnFile, IsCallOn, IsOnFileOrSync, IsOnFileOrFolder};
 ghost use Rattle.pm_disk_fs.specs.Failures.{IsOnEither, IsOnEitherOrFolder};
 ghost use Rattle.pm_disk_fs.specs.Host.{state_of, IsHostFailure, IsBindFailure, IsPrintFailure};
@@ -22,13 +23,14 @@ ghost use Rattle.pm_disk_fs.specs.OpenViews.{WrittenLast, ChangedLast, ForcedLas
 ghost use Rattle.pm_disk.specs.Worlds.{page_at, slot_at};
 ghost use Rattle.pm_disk_fs.specs.Parts.{state_of_part, state_of_reader};
 
-use crate::calls::{FileCalls, PathCalls};
+use crate::calls::{FileCalls, PathCalls, ReadCalls};
 use crate::failure::{Failure, Object, SystemCall, named};
 use crate::faults::Faults;
-use crate::folder::{Folder, read_some};
+use crate::folder::Folder;
 use crate::lock::Lockable;
 use crate::part::FsPart;
 use crate::reader::FsReader;
+use crate::reading::read_some;
 use crate::split::join_readers;
 use crate::store::Store;
 use pm_disk::{
@@ -38,7 +40,6 @@ use pm_disk::{
 use pm_types::PageId;
 use std::alloc::AllocError;
 use std::marker::Model;
-use std::os::unix::fs::FileExt;
 use std::rt::Files;
 
 /// Disk and console of the process, whose content no contract can observe. A clause sees how often a call
@@ -157,8 +158,11 @@ impl<R: Files + Input + Drop> Device for FsHost<R> {
 
 /// What is buffered is written first. Where that fails, the call fails, and so does each later one on the
 /// log.
-impl<R: Files + Input + AllocGlobal + Drop> LogReader for FsHost<R> {
+impl<R: PathCalls<File: FileCalls + ReadCalls> + Input + AllocGlobal + Drop> LogReader
+    for FsHost<R> {
     fn seg_len(&mut self, seg: u64) -> Result<Option<u64>, Failed>
+        ensures measured { IfOk result (λ found. IsMeasuredAt R.missing R.measured
+            self.old.folder (Segment seg) found) }
         ensures cause { HasCause (state_of self.old) (state_of self.new) result }
         ensures first { KeepsFirstFailure (IsHostFailure self.old
             (IsOnEither (Segment seg) (Segment self.old.writes.buffer.seg))) self.old self.new result }
@@ -169,6 +173,8 @@ impl<R: Files + Input + AllocGlobal + Drop> LogReader for FsHost<R> {
     }
 
     fn read_log(&mut self, seg: u64, at: u64, into: &mut [u8]) -> Result<usize, Failed>
+        ensures reads { IfOk result (λ n. IsReadAt R.opened R.missing R.File.gave
+            self.old.folder (Segment seg) at (length into.new) (take n into.new)) }
         ensures cause { HasCause (state_of self.old) (state_of self.new) result }
         ensures first { KeepsFirstFailure (IsHostFailure self.old
             (IsOnEither (Segment seg) (Segment self.old.writes.buffer.seg))) self.old self.new result }
@@ -182,7 +188,7 @@ impl<R: Files + Input + AllocGlobal + Drop> LogReader for FsHost<R> {
 
 /// Where a change or a force of a file has failed, the host is poisoned and each later one fails: nobody
 /// knows then what the disk holds.
-impl<R: Files + Input + AllocGlobal + Drop> LogFile for FsHost<R> {
+impl<R: PathCalls<File: FileCalls + ReadCalls> + Input + AllocGlobal + Drop> LogFile for FsHost<R> {
     /// It may buffer the bytes. What is buffered is written before another call on the log, so a write that
     /// the system refuses may be a failure of that call. The file is made then too.
     fn write_log(&mut self, seg: u64, at: u64, bytes: &[u8]) -> Result<(), Failed>
@@ -224,9 +230,13 @@ impl<R: Files + Input + AllocGlobal + Drop> LogFile for FsHost<R> {
     }
 }
 
-impl<R: Files + Input + AllocGlobal + Drop> PageReader for FsHost<R> {
+impl<R: PathCalls<File: FileCalls + ReadCalls> + Input + AllocGlobal + Drop> PageReader
+    for FsHost<R> {
     fn read_page(&mut self, page: PageId, into: &mut [u8]) -> Result<bool, Failed>
         requires { length into.old ≤ PAGE_SIZE_MAX }
+        ensures reads { IfOk result (λ whole. IsRange (IsReadAt R.opened R.missing R.File.gave
+            self.old.folder (Pages (part_of_id page)) (page_at page (length into.new)))
+            whole into.new) }
         ensures cause { HasCause (state_of self.old) (state_of self.new) result }
         ensures first { KeepsFirstFailure (IsHostFailure self.old
             (IsOnFile (Pages (part_of_id page)))) self.old self.new result }
@@ -274,7 +284,7 @@ impl<R: Files + Input + AllocGlobal + Drop> PageWriter for FsHost<R> {
 }
 
 impl<
-    R: PathCalls<File: Send + FileExt + Lockable + FileCalls>
+    R: PathCalls<File: Send + Lockable + FileCalls + ReadCalls>
         + Input
         + Print
         + AllocGlobal
@@ -306,6 +316,8 @@ impl<
     }
 
     fn read_config(&mut self, into: &mut [u8]) -> Result<usize, Failed>
+        ensures reads { IfOk result (λ n. IsReadAt R.opened R.missing R.File.gave
+            self.old.folder Config 0 (length into.new) (take n into.new)) }
         ensures cause { HasCause (state_of self.old) (state_of self.new) result }
         ensures first { KeepsFirstFailure (IsHostFailure self.old
             (IsOnFile Config)) self.old self.new result }
@@ -332,6 +344,8 @@ impl<
         slot: u8,
         into: &mut [u8; SLOT_LEN],
     ) -> Result<bool, Failed>
+        ensures reads { IfOk result (λ whole. IsRange (IsReadAt R.opened R.missing R.File.gave
+            self.old.folder (Marks file) (slot_at slot)) whole into.new) }
         ensures cause { HasCause (state_of self.old) (state_of self.new) result }
         ensures first { KeepsFirstFailure (IsHostFailure self.old
             (IsOnFile (Marks file))) self.old self.new result }

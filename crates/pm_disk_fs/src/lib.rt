@@ -12,12 +12,13 @@ mod opened;
 mod part;
 mod paths;
 mod reader;
+mod reading;
 mod split;
 mod store;
 mod write_buffer;
 mod writes;
 
-pub use calls::{FileCalls, PathCalls};
+pub use calls::{FileCalls, PathCalls, ReadCalls};
 pub use failure::{Failure, Object, SystemCall};
 pub use host::FsHost;
 pub use lock::Lockable;

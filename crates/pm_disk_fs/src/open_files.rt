@@ -27,7 +27,7 @@ pub struct OpenFiles<F: Drop> {
 }
 
 impl<F: Write + Seek + FileCalls + Drop> OpenFiles<F> {
-    ghost use Rattle.pm_disk_fs.specs.OpenFiles.{IsTakenOut, OthersStayOpen, IsNotOpen, after_oldest};
+    ghost use Rattle.pm_disk_fs.specs.OpenFiles.{IsTakenOut, OthersStayOpen, IsNotOpen, AreAmong, after_oldest};
 
     /// No file is open.
     pub fn new(alloc: Global) -> OpenFiles<F>
@@ -44,6 +44,7 @@ impl<F: Write + Seek + FileCalls + Drop> OpenFiles<F> {
             (λ file. IsTakenOut self.old.files.items self.new.files.items name file) }
         ensures closed { IfNone result (IsNotOpen self.old.files.items name) }
         ensures others { OthersStayOpen self.old.files.items self.new.files.items name }
+        ensures left { AreAmong self.new.files.items self.old.files.items }
         ensures room { OnSome result (vec_len self.new.files < vec_capacity self.new.files) }
     {
         let index = self.position(name)?;
@@ -58,13 +59,27 @@ impl<F: Write + Seek + FileCalls + Drop> OpenFiles<F> {
             → IsSomeAnd (slice_get self.old.files.items 0)
             (λ file. IsTrue file.is_forced ⊎ F.synced file.file)) }
         ensures room { OnOk result (vec_len self.new.files < vec_capacity self.new.files) }
+        ensures left { AreAmong self.new.files.items self.old.files.items }
         ensures failed { IfErr result (IsSystemFailure IsSync) }
     {
-        if self.files.len() == OPEN_MAX {
-            self.files.remove(0).sync()?;
-        }
+        self.close_oldest()?;
         self.files.reserve(1)?;
         Ok(())
+    }
+
+    // Where as many files are open as may be, the one that was changed longest ago is forced and closed.
+    fn close_oldest(&mut self) -> Result<(), Failure>
+        ensures oldest { OnOk result (self.new.files.items ≡ after_oldest self.old.files.items) }
+        ensures synced { OnOk result (length self.old.files.items ≡ OPEN_MAX
+            → IsSomeAnd (slice_get self.old.files.items 0)
+            (λ file. IsTrue file.is_forced ⊎ F.synced file.file)) }
+        ensures left { AreAmong self.new.files.items self.old.files.items }
+        ensures failed { IfErr result (IsSystemFailure IsSync) }
+    {
+        if self.files.len() != OPEN_MAX {
+            return Ok(());
+        }
+        self.files.remove(0).sync()
     }
 
     /// Takes the file in that was changed last.

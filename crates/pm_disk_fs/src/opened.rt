@@ -4,11 +4,11 @@ ghost use Rattle.std.specs.Prelude.{◌≡◌, ◌⊎◌, length, replicate, fal
 ghost use Rattle.std.specs.Prelude.{None, Some};
 ghost use Rattle.pm_disk_fs.specs.Failures.{IsSystemFailure, IsOnFile, IsCallOn};
 
-use crate::calls::FileCalls;
+use crate::calls::{FileCalls, ReadCalls};
 use crate::failure::{Failure, Object, SystemCall, named};
+use crate::reading::{fill, whole_or_zeros};
 use pm_disk::StoreFile;
-use std::io::{ErrorKind, Seek, SeekFrom, Write};
-use std::os::unix::fs::FileExt;
+use std::io::{Seek, SeekFrom, Write};
 
 /// An open file of the store.
 #[derive(Drop)]
@@ -117,22 +117,21 @@ impl<F: Write + Seek + FileCalls + Drop> Opened<F> {
     }
 }
 
-impl<F: FileExt + Drop> Opened<F> {
+impl<F: ReadCalls + Drop> Opened<F> {
+    ghost use Rattle.pm_disk_fs.specs.Reads.{IsRead, IsRange};
+
     /// Reads a whole range from the offset on, wherever the file stands, and answers true, or, where the
     /// file ends before it, fills the buffer with zeros and answers false.
     pub fn read_whole(&self, at: u64, into: &mut [u8]) -> Result<bool, Failure>
+        ensures reads { IfOk result
+            (λ whole. IsRange (IsRead F.gave self.now.file at) whole into.new) }
         ensures zeros { IfOk result
             (λ whole. whole ≡ false → into.new ≡ replicate (length into.new) 0) }
         ensures failed { IfErr result (IsSystemFailure
             (IsCallOn SystemCall.Read (Object.File self.now.name))) }
     {
-        match self.file.read_exact_at(into, at) {
-            Ok(()) => Ok(true),
-            Err(e) if e.kind() == ErrorKind::UnexpectedEof => {
-                into.fill(0);
-                Ok(false)
-            }
-            Err(e) => Err(Failure::System(SystemCall::Read, Object::File(self.name), e)),
-        }
+        let read = fill(&self.file, at, into);
+        let count = named(SystemCall::Read, Object::File(self.name), read)?;
+        Ok(whole_or_zeros(count, into))
     }
 }

@@ -1,12 +1,14 @@
 //! A part of the host over files that has the log, or that writes pages.
 
-ghost use Rattle.std.specs.Prelude.{◌≡◌, ◌≤◌, ◌+◌, ◌⊎◌, length, option_map, Ok, Err, IsErr, IfOk, OnOk};
+ghost use Rattle.std.specs.Prelude.{◌≡◌, ◌≤◌, ◌+◌, ◌⊎◌, length, take, option_map, Ok, Err, IsErr, IfOk, OnOk};
 ghost use Rattle.std.specs.String.{string_bytes};
 ghost use Rattle.pm_types.specs.declared.limits.TheConstants.{PAGE_SIZE_MAX};
 ghost use Rattle.pm_disk.specs.Moments.{nothing_told};
 ghost use Rattle.pm_disk.specs.States.{HasCause};
 ghost use Rattle.pm_types.specs.Ids.{part_of_id};
 ghost use Rattle.pm_disk.specs.declared.names.StoreFile.TheVariants.{Segment, Pages};
+ghost use Rattle.pm_disk_fs.specs.Calls.{IsMeasuredAt};
+ghost use Rattle.pm_disk_fs.specs.Reads.{IsReadAt};
 ghost use Rattle.pm_disk_fs.specs.Failures.{IsOnFileOrSync, IsOnFileOrFolder, IsOnEither};
 ghost use Rattle.pm_disk_fs.specs.Failures.{IsOnEitherOrFolder};
 ghost use Rattle.pm_disk_fs.specs.Faults.{KeepsFirst};
@@ -17,6 +19,7 @@ ghost use Rattle.pm_disk.specs.Worlds.{page_at};
 ghost use Rattle.pm_disk_fs.specs.WriteBuffer.{IsBufferedOrWritten, FitsAfter, IsAppended};
 ghost use Rattle.pm_disk_fs.specs.Writes.{ChangesFile, ChangesLog, FlushesBuffer, PoisonsOnFailure};
 
+use crate::calls::{FileCalls, PathCalls, ReadCalls};
 use crate::failure::Failure;
 use crate::faults::Faults;
 use crate::folder::Folder;
@@ -97,8 +100,10 @@ impl<R: Files + Drop> Device for FsPart<R> {
 }
 
 /// What is buffered is written first, as on the host.
-impl<R: Files + AllocGlobal + Drop> LogReader for FsPart<R> {
+impl<R: PathCalls<File: FileCalls + ReadCalls> + AllocGlobal + Drop> LogReader for FsPart<R> {
     fn seg_len(&mut self, seg: u64) -> Result<Option<u64>, Failed>
+        ensures measured { IfOk result (λ found. IsMeasuredAt R.missing R.measured
+            self.old.folder (Segment seg) found) }
         ensures cause { HasCause (state_of_part self.old) (state_of_part self.new) result }
         ensures first { KeepsFirst (IsPartFailure self.old
             (IsOnEither (Segment seg) (Segment self.old.writes.buffer.seg)))
@@ -115,6 +120,8 @@ impl<R: Files + AllocGlobal + Drop> LogReader for FsPart<R> {
             (IsOnEither (Segment seg) (Segment self.old.writes.buffer.seg)))
             self.old.faults self.new.faults result }
         ensures bound { IfOk result (λ n. n ≤ length into.new) }
+        ensures reads { IfOk result (λ n. IsReadAt R.opened R.missing R.File.gave
+            self.old.folder (Segment seg) at (length into.new) (take n into.new)) }
         ensures writes { FlushesBuffer self.old.writes self.new.writes result }
     {
         let count = self.store.read_log(&self.folder, seg, at, into);
@@ -124,7 +131,7 @@ impl<R: Files + AllocGlobal + Drop> LogReader for FsPart<R> {
 
 /// Where a change or a force of a file has failed, the part is poisoned and each later one fails, and so
 /// is the host from when the part is back.
-impl<R: Files + AllocGlobal + Drop> LogFile for FsPart<R> {
+impl<R: PathCalls<File: FileCalls + ReadCalls> + AllocGlobal + Drop> LogFile for FsPart<R> {
     fn write_log(&mut self, seg: u64, at: u64, bytes: &[u8]) -> Result<(), Failed>
         ensures cause { HasCause (state_of_part self.old) (state_of_part self.new) result }
         ensures first { KeepsFirst (IsPartFailure self.old

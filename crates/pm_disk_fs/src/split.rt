@@ -6,16 +6,16 @@ ghost use Rattle.pm_disk.specs.Lending.{faults_among, reader_lent};
 ghost use Rattle.pm_disk_fs.specs.Host.{state_of};
 ghost use Rattle.pm_disk_fs.specs.Parts.{state_of_reader};
 
+use crate::calls::{FileCalls, PathCalls};
 use crate::faults::Faults;
 use crate::host::FsHost;
 use crate::open_files::OpenFiles;
 use crate::reader::FsReader;
 use pm_types::PageId;
 use std::alloc::AllocError;
-use std::rt::Files;
 use std::snapshot::Snapshot;
 
-impl<R: Files + Input + AllocGlobal + Clone + Drop> FsHost<R> {
+impl<R: PathCalls<File: FileCalls> + Input + AllocGlobal + Clone + Drop> FsHost<R> {
     /// A reader for each worker, with no file open yet.
     pub(crate) fn readers(
         &self,
@@ -48,7 +48,7 @@ impl<R: Files + Input + AllocGlobal + Clone + Drop> FsHost<R> {
 }
 
 /// Counts the failures of readers that are back.
-pub fn join_readers<R: Files + Drop>(faults: &mut Faults, readers: &[FsReader<R>])
+pub fn join_readers<R: PathCalls + Drop>(faults: &mut Faults, readers: &[FsReader<R>])
     ensures later { faults.old.count ≤ faults.new.count }
     ensures same { faults_among (map (λ reader. state_of_reader reader) readers.now) ≡ 0
         → faults.new.count ≡ faults.old.count }

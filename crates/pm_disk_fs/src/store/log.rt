@@ -1,10 +1,11 @@
 //! The segments of the log. Writes to one of them that follow each other are buffered, and handed to the
 //! system as one before any other call on the log.
 
-ghost use Rattle.std.specs.Prelude.{◌≡◌, ◌<◌, ◌≤◌, ◌+◌, ◌⊎◌, [], false, length, IsTrue, IsErr, OnOk};
+ghost use Rattle.std.specs.Prelude.{◌≡◌, ◌<◌, ◌≤◌, ◌+◌, ◌⊎◌, [], false, length, take, IsTrue, IsErr, OnOk};
 ghost use Rattle.std.specs.Prelude.{OnErr, IfOk, IfErr, None, option_map};
 ghost use Rattle.std.specs.String.{string_bytes};
-ghost use Rattle.pm_disk_fs.specs.Calls.{WasThere};
+ghost use Rattle.pm_disk_fs.specs.Calls.{WasThere, IsMeasuredAt};
+ghost use Rattle.pm_disk_fs.specs.Reads.{IsReadAt};
 ghost use Rattle.pm_disk_fs.specs.Failures.{IsFailureOn, IsOnFileOrSync, IsOnEither, IsOnEitherOrFolder};
 ghost use Rattle.pm_disk_fs.specs.WriteBuffer.{FitsAfter, IsAlone, IsAppended};
 ghost use Rattle.pm_disk_fs.specs.Positions.{IsChangedLast, IsWrittenInOrder, IsStretchWritten, IsWritten};
@@ -13,7 +14,7 @@ ghost use Rattle.pm_disk_fs.specs.OpenFiles.{OthersStayOpen};
 ghost use Rattle.pm_disk_fs.specs.Writes.{ChangesLog, FlushesBuffer, PoisonsOnFailure};
 ghost use Rattle.pm_disk.specs.declared.names.StoreFile.TheVariants.{Segment};
 
-use crate::calls::{FileCalls, PathCalls};
+use crate::calls::{FileCalls, PathCalls, ReadCalls};
 use crate::failure::Failure;
 use crate::folder::Folder;
 use crate::store::Store;
@@ -50,6 +51,8 @@ impl<R: PathCalls<File: FileCalls> + AllocGlobal + Drop> Store<R> {
 
     /// The length of a segment's file in bytes, none where it isn't there.
     pub fn seg_len(&mut self, folder: &Folder<R>, seg: u64) -> Result<Option<u64>, Failure>
+        ensures measured { IfOk result (λ found. IsMeasuredAt R.missing R.measured
+            (option_map string_bytes folder.now.dir) (Segment seg) found) }
         ensures writes { FlushesBuffer self.old.writes self.new.writes result }
         ensures names { IsTrue self.new.names_last → IsTrue self.old.names_last }
         ensures failed { IfErr result (IsFailureOn
@@ -58,26 +61,6 @@ impl<R: PathCalls<File: FileCalls> + AllocGlobal + Drop> Store<R> {
     {
         self.flush(folder)?;
         folder.len(StoreFile::Segment(seg))
-    }
-
-    /// Reads a segment from the offset on until the buffer is full or the file ends, and answers how many
-    /// bytes there were.
-    pub fn read_log(
-        &mut self,
-        folder: &Folder<R>,
-        seg: u64,
-        at: u64,
-        into: &mut [u8],
-    ) -> Result<usize, Failure>
-        ensures bound { IfOk result (λ n. n ≤ length into.new) }
-        ensures writes { FlushesBuffer self.old.writes self.new.writes result }
-        ensures names { IsTrue self.new.names_last → IsTrue self.old.names_last }
-        ensures failed { IfErr result (IsFailureOn
-            (IsOnEither (Segment seg) (Segment self.old.writes.buffer.seg))
-            (folder.now.dir ≡ None) (IsTrue self.old.writes.is_poisoned)) }
-    {
-        self.flush(folder)?;
-        folder.read(StoreFile::Segment(seg), at, into)
     }
 
     /// Writes the bytes into a segment from the offset on: it buffers them, after what is buffered where
@@ -222,5 +205,30 @@ impl<R: PathCalls<File: FileCalls> + AllocGlobal + Drop> Store<R> {
         self.writes.buffer.write_to(&mut file)?;
         self.open.keep(file);
         Ok(())
+    }
+}
+
+impl<R: PathCalls<File: FileCalls + ReadCalls> + AllocGlobal + Drop> Store<R> {
+    /// Reads a segment from the offset on until the buffer is full or the file ends, and answers how many
+    /// bytes there were.
+    pub fn read_log(
+        &mut self,
+        folder: &Folder<R>,
+        seg: u64,
+        at: u64,
+        into: &mut [u8],
+    ) -> Result<usize, Failure>
+        ensures bound { IfOk result (λ n. n ≤ length into.new) }
+        ensures reads { IfOk result (λ n. IsReadAt R.opened R.missing R.File.gave
+            (option_map string_bytes folder.now.dir) (Segment seg) at (length into.new)
+            (take n into.new)) }
+        ensures writes { FlushesBuffer self.old.writes self.new.writes result }
+        ensures names { IsTrue self.new.names_last → IsTrue self.old.names_last }
+        ensures failed { IfErr result (IsFailureOn
+            (IsOnEither (Segment seg) (Segment self.old.writes.buffer.seg))
+            (folder.now.dir ≡ None) (IsTrue self.old.writes.is_poisoned)) }
+    {
+        self.flush(folder)?;
+        folder.read(StoreFile::Segment(seg), at, into)
     }
 }

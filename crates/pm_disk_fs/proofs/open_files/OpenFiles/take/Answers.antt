@@ -1,5 +1,7 @@
 -- What is left is what stood before the file and what followed.
+use Rattle.std.proofs.Common.{refl}
 use Rattle.pm_disk_fs.proofs.StayingOpen.{others_of_taken}
+use Rattle.pm_disk_fs.proofs.StillOpened.{among_same, among_taken}
 use Rattle.pm_disk_fs.proofs.TakingOut.{taken_out}
 use Rattle.pm_disk_fs.proofs.open_files.OpenFiles.take.Goals as goal
 
@@ -10,3 +12,9 @@ returns-clause-taken g c =
 
 pub returns-clause-others : goal.returns-clause-others
 returns-clause-others g c = others_of_taken c.args.self.now.files.items c.remove.new.self.items c.args.name c.remove.result (returns-clause-taken g c)
+
+pub returns-in_err-index-clause-left : goal.returns-in_err-index-clause-left
+returns-in_err-index-clause-left g c = among_same c.args.self.now.files.items c.args.self.now.files.items refl
+
+pub returns-clause-left : goal.returns-clause-left
+returns-clause-left g c = among_taken c.args.self.now.files.items c.remove.new.self.items c.args.name c.remove.result (returns-clause-taken g c)

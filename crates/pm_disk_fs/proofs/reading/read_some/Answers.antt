@@ -1,6 +1,6 @@
 -- A read that failed has consumed nothing.
 use Rattle.pm_disk_fs.proofs.Fills.{keeps-keeps}
-use Rattle.pm_disk_fs.proofs.folder.read_some.Goals as goal
+use Rattle.pm_disk_fs.proofs.reading.read_some.Goals as goal
 
 pub returns-in_default-clause-bytes : goal.returns-in_default-clause-bytes
 returns-in_default-clause-bytes g c =

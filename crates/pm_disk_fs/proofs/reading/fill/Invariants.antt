@@ -1,11 +1,11 @@
 use Rattle.std.proofs.Common.{◌≤◌, ◌-◌, length, take}
-use Rattle.std.specs.Io.KnownBytes.{Consumes}
-use Rattle.pm_disk_fs.proofs.folder.fill.Given as goal
+use Rattle.pm_disk_fs.specs.Reads.{IsGiven}
+use Rattle.pm_disk_fs.proofs.reading.fill.Given as goal
 
 abbrev pub invariant-loop-count : goal.invariant-loop-count
 invariant-loop-count g l = record {
   bound : l.count ≤ length l.into;
-  front : Consumes (g.F.Read.remaining l.initial.from) (g.F.Read.remaining l.from) (take l.count l.into);
+  given : IsGiven g.F.ReadCalls.gave l.file l.at (take l.count l.into);
 }
 
 abbrev pub decreases-loop-count : goal.decreases-loop-count
