@@ -15,9 +15,8 @@ use Rattle.pm_records.proofs.Growing.{grows_twice}
 use Rattle.pm_records.proofs.QuietLog.{log_then}
 use Rattle.pm_segments.specs.Ends.{EndsThere}
 use Rattle.pm_model.specs.declared.line.Line.{Line}
-use Rattle.pm_model.specs.declared.reply.Reply.{Reply}
-use Rattle.pm_model.specs.Eval.{Pairs, is_accepted, after, after_all, replies_to, reply_to, accepted}
-use Rattle.pm_model.proofs.Runs.{after_all-append, replies_to-append, accepted-append}
+use Rattle.pm_model.specs.Eval.{Pairs, is_accepted, after, after_all, accepted}
+use Rattle.pm_model.proofs.Runs.{after_all-append, accepted-append}
 use Rattle.pm_engine.specs.Batches.{RunsLines}
 use Rattle.pm_engine.specs.Engines.{Running, HasDone, HasDoneWithin, HasSegments}
 use Rattle.pm_engine.specs.Crashes.{CrashHoldsPrefix}
@@ -37,19 +36,6 @@ take_none (x ∷ xs) = refl
 -- the first ones, and one more
 pub take_one_more : (lines : List Line) (i : ℕ) (line : Line) → line ≡ get_or lines i line → i < length lines → take (i + 1) lines ≡ take i lines ++ line ∷ []
 take_one_more lines i line is within = ap (λ n. take n lines) (add-one i) ∙ take-suc lines i line within ∙ ap (λ x. take i lines ++ x ∷ []) (sym is)
-
--- one reply more
-pub replied_more : (shape : Shape) (lines : List Line) (i : ℕ) (line : Line) (pairs : Pairs) (first before now : List Reply) (reply : Reply) (its : Shape) (mid : Pairs) → line ≡ get_or lines i line → i < length lines
-    → its ≡ shape → mid ≡ after_all shape (take i lines) pairs → before ≡ first ++ replies_to shape (take i lines) pairs → reply ≡ reply_to its line mid → now ≡ before ++ reply ∷ []
-    → now ≡ first ++ replies_to shape (take (i + 1) lines) pairs
-replied_more shape lines i line pairs first before now reply its mid item within shapes maps told answers is =
-    let one : reply ≡ reply_to shape line (after_all shape (take i lines) pairs) = answers ∙ ap (λ s. reply_to s line mid) shapes ∙ ap (reply_to shape line) maps in
-    is
-    ∙ ap (λ rs. rs ++ reply ∷ []) told
-    ∙ append_assoc first (replies_to shape (take i lines) pairs) (reply ∷ [])
-    ∙ ap (λ r. first ++ (replies_to shape (take i lines) pairs ++ r ∷ [])) one
-    ∙ ap (λ rs. first ++ rs) (sym (replies_to-append shape (take i lines) (line ∷ []) pairs))
-    ∙ ap (λ ls. first ++ replies_to shape ls pairs) (sym (take_one_more lines i line item within))
 
 -- what lines log, and more lines after them
 pub logged-append : (shape : Shape) (xs ys : List Line) (pairs : Pairs) → logged shape (xs ++ ys) pairs ≡ logged shape xs pairs ++ logged shape ys (after_all shape xs pairs)

@@ -13,6 +13,7 @@ pub mod PartitionPairs
 pub mod PlainPartitions
 pub mod ReadShapes
 pub mod Replaying
+pub mod Replied
 pub mod Results
 pub mod RisingPairs
 pub mod StoreMaps

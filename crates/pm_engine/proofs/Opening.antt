@@ -40,7 +40,7 @@ use Rattle.pm_core.specs.Replays.{replayed, all_replayed}
 use Rattle.pm_engine.specs.Crashes.{CrashHoldsPrefix}
 use Rattle.pm_engine.specs.Engines.{Running, frames_of, HeldAfterPrefix, IsAtRest}
 use Rattle.pm_engine.specs.Openings.{HasMap, ReadsAll, OpensWith, OpensAtRest}
-use Rattle.pm_engine.specs.declared.replay.Replay.{Replay}
+use Rattle.pm_engine.specs.ReplayStates.{ReplayState}
 use Rattle.pm_core.proofs.LogCrash.{LeavesFrames, crash_leaves}
 use Rattle.pm_core.proofs.LogStands.{WrittenHolds}
 use Rattle.pm_engine.proofs.DoneLines.{held_push, held_seal}
@@ -69,15 +69,15 @@ run_room c p (f ∷ fs) le run goes_on =
     inner q h sealed still = sym (ap (λ b. b && is_last q.seg) sealed) ∙ still
 
 -- the end that was read is within its file, and in a segment from 1 on
-pub end_within : (wanted : Shape) (old : World) (end : Place) (replay : Replay) → ReadsAll wanted old end replay → end.off ≤ length (bytes_of (segment_in old end.seg))
+pub end_within : (wanted : Shape) (old : World) (end : Place) (replay : ReplayState) → ReadsAll wanted old end replay → end.off ≤ length (bytes_of (segment_in old end.seg))
 end_within wanted old end replay all = subst (λ (p : Place). p.off ≤ length (bytes_of (segment_in old p.seg))) (sym all.ends) (run_within (contents old.log) (place 1 0) all.frames (omega arith) all.log.run)
 
 -- what was read is what the log holds
-pub reads_hold : (wanted : Shape) (old : World) (end : Place) (replay : Replay) → ReadsAll wanted old end replay → LogHolds wanted (image_of old) replay.shape replay.map
+pub reads_hold : (wanted : Shape) (old : World) (end : Place) (replay : ReplayState) → ReadsAll wanted old end replay → LogHolds wanted (image_of old) replay.shape replay.map
 reads_hold wanted old end replay all = record { frames = all.frames; log = all.log; held = all.held }
 
 -- it was read up to its end
-pub read_end : (wanted : Shape) (old : World) (end : Place) (replay : Replay) → ReadsAll wanted old end replay → (frames : List Frame) → IsLogFrom all_frames (contents old.log) (place 1 0) frames → end ≡ after_frames (place 1 0) frames
+pub read_end : (wanted : Shape) (old : World) (end : Place) (replay : ReplayState) → ReadsAll wanted old end replay → (frames : List Frame) → IsLogFrom all_frames (contents old.log) (place 1 0) frames → end ≡ after_frames (place 1 0) frames
 read_end wanted old end replay all frames log = all.ends ∙ ap (after_frames (place 1 0)) (one_log all_frames (contents old.log) (place 1 0) all.frames frames all.log log)
 
 -- a log holds one shape and one map
@@ -122,10 +122,10 @@ module _ (wanted : Shape) (old : World) (shape : Shape) (pairs : Pairs) (holds :
   with_nothing_above = record { log = holds.log.log; nothing_above = holds.nothing_above }
 
   -- what was read is what the store holds
-  pub reads_same : (at : Place) (found : Replay) (all : ReadsAll wanted old at found) → all.frames ≡ holds.log.frames
+  pub reads_same : (at : Place) (found : ReplayState) (all : ReadsAll wanted old at found) → all.frames ≡ holds.log.frames
   reads_same at found all = one_log all_frames (contents old.log) (place 1 0) all.frames holds.log.frames all.log holds.log.log
 
-  pub reads_held : (at : Place) (found : Replay) → ReadsAll wanted old at found → (found.shape ≡ shape) × (found.map ≡ pairs)
+  pub reads_held : (at : Place) (found : ReplayState) → ReadsAll wanted old at found → (found.shape ≡ shape) × (found.map ≡ pairs)
   reads_held at found all = holds_one wanted old found.shape shape found.map pairs (reads_hold wanted old at found all) holds.log
 
   -- With nothing pending a crash leaves each segment as it is, whatever shape was wanted, be it one that no store may have.
@@ -147,7 +147,7 @@ module _ (wanted : Shape) (old : World) (shape : Shape) (pairs : Pairs) (holds :
       )
 
   module _ (numbered : last_segment holds < 2 ^ 62) (quiet : NothingPending old) where
-    pub reads_end : (at : Place) (found : Replay) → ReadsAll wanted old at found → at ≡ end
+    pub reads_end : (at : Place) (found : ReplayState) → ReadsAll wanted old at found → at ≡ end
     reads_end at found all = all.ends ∙ ap (after_frames (place 1 0)) (reads_same at found all)
 
     long : 0 ≤ length (contents old.log 1)
@@ -344,7 +344,7 @@ module _ (wanted : Shape) (old : World) (shape : Shape) (pairs : Pairs) (holds :
 
 -- ---- a store that was opened, sound or not
 
-pub opens_with : (wanted : Shape) (old mid cut now : World) (at : Place) (replay : Replay) → ReadsAll wanted old at replay → mid ≡ old → (log : LogEnd) → log ≡ fresh_log 1 at replay.shape.segment_bytes → cut ≡ world_after cut_steps at mid
+pub opens_with : (wanted : Shape) (old mid cut now : World) (at : Place) (replay : ReplayState) → ReadsAll wanted old at replay → mid ≡ old → (log : LogEnd) → log ≡ fresh_log 1 at replay.shape.segment_bytes → cut ≡ world_after cut_steps at mid
     → (payload : List ℕ) → payload ≡ payload_of (Restart replay.shape) → (end : LogEnd) → end ≡ grown log (record { kind = RESTART; payload = payload }) → now ≡ world_after (append_steps log (record { kind = RESTART; payload = payload })) log.end cut
     → EndsThere end now → OpensWith wanted old now (record { shape = replay.shape; map = replay.map; log = end; order = [] })
 opens_with wanted old mid cut now at replay all same log is_log is_cut payload is_payload end is_end is there =
@@ -365,7 +365,7 @@ opens_with wanted old mid cut now at replay all same log is_log is_cut payload i
 -- ---- the calls of opening
 
 module _ (wanted : Shape) (old : World) (shape : Shape) (pairs : Pairs) (holds : Holds wanted (image_of old) shape pairs) (numbered : last_segment holds < 2 ^ 62) (quiet : NothingPending old)
-    (at : Place) (found : Replay) (all : ReadsAll wanted old at found) (mid : World) (same : mid ≡ old) where
+    (at : Place) (found : ReplayState) (all : ReadsAll wanted old at found) (mid : World) (same : mid ≡ old) where
   there : at ≡ after_frames (place 1 0) holds.log.frames
   there = reads_end wanted old shape pairs holds numbered quiet at found all
 

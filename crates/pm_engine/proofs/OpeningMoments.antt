@@ -23,7 +23,7 @@ use Rattle.pm_engine.specs.Crashes.{CrashHoldsPrefix}
 use Rattle.pm_engine.specs.Engines.{SameAbove}
 use Rattle.pm_engine.specs.Openings.{CanNotOpen, IsSame, LogHoldsNothing, OpensWithin, ReadsAll}
 use Rattle.pm_engine.specs.StoredShapes.{shape_fault}
-use Rattle.pm_engine.specs.declared.replay.Replay.{Replay}
+use Rattle.pm_engine.specs.ReplayStates.{ReplayState}
 use Rattle.pm_engine.proofs.Above.{above_same, append_within, cut_within, prefix_above}
 use Rattle.pm_engine.proofs.Batching.{above_after}
 use Rattle.pm_model.specs.Eval.{Pairs}
@@ -50,7 +50,7 @@ module _ (wanted : Shape) (wanted_is : IsShape wanted) (old mid : History) (same
     untouched = λ _. same;
   }
 
-  module _ (sound : IsHistory mid) (end : Place) (found : Replay) (reads : ReadsAll wanted old.world end found)
+  module _ (sound : IsHistory mid) (end : Place) (found : ReplayState) (reads : ReadsAll wanted old.world end found)
       (cut : History) (cuts : AllMoments mid cut (DoesPrefix cut_steps end mid.world)) where
     first : OpensWithin wanted (LogHoldsNothing wanted old.world) old mid
     first = unchanged (LogHoldsNothing wanted old.world)

@@ -20,7 +20,7 @@ use Rattle.pm_core.specs.LogAlone.{IsHeld}
 use Rattle.pm_core.specs.Replays.{replayed, then_replayed, all_replayed}
 use Rattle.pm_core.proofs.Replaying.{replayed-append, replayed-none}
 use Rattle.pm_engine.specs.Openings.{IsBadRecord, AppliesFrame, IsReplayOf, LogHoldsNothing, ReadsPrefix, ReadsAll}
-use Rattle.pm_engine.specs.declared.replay.Replay.{Replay}
+use Rattle.pm_engine.specs.ReplayStates.{ReplayState}
 
 -- a RESTART leaves the map as it is
 restart_leaves : (shape : Shape) (found : Option Record) (pairs : Pairs) → is_restart found ≡ true → replayed shape found pairs ≡ Some pairs
@@ -43,14 +43,14 @@ restart_tells one other (Some (Restart told)) is = refl
 restart_tells one other (Some Seal) is = absurd cc
 
 -- no frame was replayed
-pub replay_none : (wanted : Shape) (replay : Replay) → replay.shape ≡ wanted → replay.map ≡ empty → replay.has_begun ≡ false → IsReplayOf wanted [] replay
+pub replay_none : (wanted : Shape) (replay : ReplayState) → replay.shape ≡ wanted → replay.map ≡ empty → replay.has_begun ≡ false → IsReplayOf wanted [] replay
 replay_none wanted replay shapes maps begun = record {
   held = record { begins = refl; told = shapes; map = ap (λ p. Some p) (sym maps) };
   begun = begun;
 }
 
 -- a frame was replayed
-pub replay_more : (wanted : Shape) (frames : List Frame) (old new : Replay) (f : Frame) → IsReplayOf wanted frames old → AppliesFrame true old new (record_in f) → IsReplayOf wanted (frames ++ f ∷ []) new
+pub replay_more : (wanted : Shape) (frames : List Frame) (old new : ReplayState) (f : Frame) → IsReplayOf wanted frames old → AppliesFrame true old new (record_in f) → IsReplayOf wanted (frames ++ f ∷ []) new
 replay_more wanted [] old new f found takes =
     let first = takes.0 found.begun in
     record {
@@ -74,7 +74,7 @@ replay_more wanted (g ∷ gs) old new f found takes =
     }
 
 -- or it can't stand there
-pub replay_bad : (wanted : Shape) (frames : List Frame) (old new : Replay) (f : Frame) → IsReplayOf wanted frames old → AppliesFrame false old new (record_in f)
+pub replay_bad : (wanted : Shape) (frames : List Frame) (old new : ReplayState) (f : Frame) → IsReplayOf wanted frames old → AppliesFrame false old new (record_in f)
     → (shape : Shape) (pairs : Pairs) → IsHeld wanted (frames ++ f ∷ []) shape pairs → ⊥
 replay_bad wanted [] old new f found takes shape pairs held = let both : true ≡ false = sym held.begins ∙ takes.0 found.begun in absurd cc
 replay_bad wanted (g ∷ gs) old new f found takes shape pairs held =
@@ -113,7 +113,7 @@ further_by scan later f advances = elim (bool_cases (enters_next scan.next f)) [
   | inr stays ↦ let to = advances.1 ∙ next-stays scan.next f stays in inr (sym (ap (λ (p : Place). p.seg) to), omega (arith, ap (λ (p : Place). p.off) to))
 ]
 
-module _ (wanted : Shape) (world : World) (scan later : Scanned) (old new : Replay) (reads : ReadsPrefix wanted world scan old) where
+module _ (wanted : Shape) (world : World) (scan later : Scanned) (old new : ReplayState) (reads : ReadsPrefix wanted world scan old) where
   -- one frame more was read
   pub reads_more : (f : Frame) → frame_ahead scan world ≡ Some f → Advances scan later (Some f) → AppliesFrame true old new (record_in f) → ReadsPrefix wanted world later new
   reads_more f stands advances takes = record {

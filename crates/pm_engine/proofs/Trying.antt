@@ -1,6 +1,6 @@
 -- What one line does, by how far it came.
 use Rattle.std.proofs.Common.{◌≡◌, ℕ, ◌+◌, ◌≤◌, List, [], ◌∷◌, ◌++◌, length, take, Result, refl, sym, ◌∙◌, ap, subst, arith, Bool, true, false, append-nil}
-use Rattle.std.specs.Prelude.{not, OnOk, if◌then◌else◌}
+use Rattle.std.specs.Prelude.{OnOk, if◌then◌else◌}
 use Rattle.std.proofs.lemmas.Result.{on_ok_weaker}
 use Rattle.pm_frame.specs.Frames.{Frame}
 use Rattle.pm_types.specs.declared.shape.Shape.{Shape}
@@ -24,14 +24,6 @@ use Rattle.pm_engine.proofs.Above.{above_less, above_same, append_within, grown_
 use Rattle.pm_engine.proofs.DoneLines.{LogsLine, tried_line, done_keeps, append_keeps, append_grows, rest_grows}
 use Rattle.pm_engine.proofs.LeftLines.{keeps_more_lines}
 use Rattle.pm_engine.proofs.Results.{on_ok_both, ok_anyway}
-
-pub not_true : (b : Bool) → not b ≡ true → b ≡ false
-not_true true is = absurd cc
-not_true false is = refl
-
-pub not_false : (b : Bool) → not b ≡ false → b ≡ true
-not_false true is = refl
-not_false false is = absurd cc
 
 -- how many lines of one were tried
 abbrev pub count_of : Bool → ℕ

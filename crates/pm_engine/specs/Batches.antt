@@ -13,8 +13,8 @@ use Rattle.pm_records.specs.Logs.{place}
 use Rattle.pm_records.specs.LogFiles.{ChangesLog, LogGrowsBy}
 use Rattle.pm_segments.specs.Ends.{EndsThere}
 use Rattle.pm_model.specs.declared.line.Line.{Line}
-use Rattle.pm_model.specs.declared.reply.Reply.{Reply}
 use Rattle.pm_model.specs.Eval.{Pairs, accepted, after_all, replies_to}
+use Rattle.pm_model.specs.ReplyLists.{ReplyList, with_replies}
 use Rattle.pm_engine.specs.Engines.{Running, HasDone, HasSegments, SameAbove}
 use Rattle.pm_engine.specs.Crashes.{CrashHoldsPrefix}
 use Rattle.pm_engine.specs.Records.{logged}
@@ -81,10 +81,12 @@ pub record RunsLines {T E : Type 0} (tells : Type 0) (old new : History) (before
   pub rises : OnOk result (now.log.end.seg ≤ before.log.end.seg + length lines)
   pub above : tells → AllMoments old new (SameAbove (before.log.end.seg + length lines) old.world)
 
--- The replies to lines over a map were appended: at `Ok` to all of them, and at an `Err` to a prefix.
+-- The replies to lines over a map were appended: at `Ok` to all of them, and at an `Err` to a prefix. A
+-- line's reply is appended before its record is handed to the log: where that failed, the last reply is to
+-- the line whose record it was, and the replies are to one line more than the log has records of.
 pub record HasReplied {T E : Type 0} (shape : Shape) (pairs : Pairs) (lines : List Line)
-    (before now : List Reply) (result : Result T E) : Type 0 where
+    (before now : ReplyList) (result : Result T E) : Type 0 where
   pub count : ℕ
   pub within : count ≤ length lines
   pub all : OnOk result (count ≡ length lines)
-  pub replies : now ≡ before ++ replies_to shape (take count lines) pairs
+  pub replies : now ≡ with_replies (replies_to shape (take count lines) pairs) before

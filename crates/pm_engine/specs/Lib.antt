@@ -6,4 +6,5 @@ pub mod Openings
 pub mod PagedMaps
 pub mod PagedStores
 pub mod Records
+pub mod ReplayStates
 pub mod StoredShapes

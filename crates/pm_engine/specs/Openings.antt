@@ -24,7 +24,7 @@ use Rattle.pm_core.specs.Replays.{put_replayed, replayed}
 use Rattle.pm_engine.specs.Crashes.{CrashHoldsPrefix}
 use Rattle.pm_engine.specs.Engines.{Running, IsAtRest, SameAbove}
 use Rattle.pm_engine.specs.StoredShapes.{shape_fault}
-use Rattle.pm_engine.specs.declared.replay.Replay.{Replay}
+use Rattle.pm_engine.specs.ReplayStates.{ReplayState}
 use Rattle.pm_engine.specs.declared.replay.ReplayStep.{ReplayStep}
 use Rattle.pm_engine.specs.declared.replay.ReplayStep.TheVariants as replay_step
 
@@ -55,26 +55,26 @@ ReplaysPut true shape line before now = put_replayed shape line before ≡ Some 
 ReplaysPut false shape line before now = put_replayed shape line before ≡ None
 
 -- the first frame was replayed, or it holds no shape
-abbrev pub AppliesFirst : Bool → Replay → Replay → Option Record → Type 0
+abbrev pub AppliesFirst : Bool → ReplayState → ReplayState → Option Record → Type 0
 AppliesFirst true old new found = (is_restart found ≡ true) × (new.shape ≡ shape_in old.shape found)
     × (new.map ≡ old.map) × (new.has_begun ≡ true)
 AppliesFirst false old new found = is_restart found ≡ false
 
 -- a further frame was replayed, or it can't be
-abbrev pub AppliesMore : Bool → Replay → Replay → Option Record → Type 0
+abbrev pub AppliesMore : Bool → ReplayState → ReplayState → Option Record → Type 0
 AppliesMore true old new found = (replayed old.shape found old.map ≡ Some new.map)
     × (new.shape ≡ old.shape) × (new.has_begun ≡ true)
 AppliesMore false old new found = replayed old.shape found old.map ≡ None
 
 -- a frame was replayed, or it can't stand there: the first one has to hold the shape, and each
 -- other one is applied to the map
-abbrev pub AppliesFrame : Bool → Replay → Replay → Option Record → Type 0
+abbrev pub AppliesFrame : Bool → ReplayState → ReplayState → Option Record → Type 0
 AppliesFrame can old new found =
     (old.has_begun ≡ false → AppliesFirst can old new found)
     × (old.has_begun ≡ true → AppliesMore can old new found)
 
 -- the frame that stands next was replayed, or can't stand there, or none stands there
-abbrev pub ReplaysNext : ReplayStep → Scanned → Scanned → Replay → Replay → World → Type 0
+abbrev pub ReplaysNext : ReplayStep → Scanned → Scanned → ReplayState → ReplayState → World → Type 0
 ReplaysNext replay_step.Frame scan later old new world =
     (frame : Frame) × (frame_ahead scan world ≡ Some frame) × Advances scan later (Some frame)
     × AppliesFrame true old new (record_in frame)
@@ -96,18 +96,18 @@ pub record IsFurther (step : ReplayStep) (scan later : Scanned) : Type 0 where
   pub further : IsAfterPlace step scan.next later.next
 
 -- These frames were replayed, and this is what they leave.
-pub record IsReplayOf (wanted : Shape) (frames : List Frame) (replay : Replay) : Type 0 where
+pub record IsReplayOf (wanted : Shape) (frames : List Frame) (replay : ReplayState) : Type 0 where
   pub held : IsHeld wanted frames replay.shape replay.map
   pub begun : replay.has_begun ≡ is_some_frame frames
 
 -- a prefix of the frames of the log were read
-pub record ReadsPrefix (wanted : Shape) (world : World) (scan : Scanned) (replay : Replay) : Type 0 where
+pub record ReadsPrefix (wanted : Shape) (world : World) (scan : Scanned) (replay : ReplayState) : Type 0 where
   pub frames : List Frame
   pub scanned : HasScanned (contents world.log) (place 1 0) frames scan
   pub is_replay : IsReplayOf wanted frames replay
 
 -- all frames of the log were read, and it ends there
-pub record ReadsAll (wanted : Shape) (world : World) (end : Place) (replay : Replay) : Type 0 where
+pub record ReadsAll (wanted : Shape) (world : World) (end : Place) (replay : ReplayState) : Type 0 where
   pub frames : List Frame
   pub log : IsLogFrom all_frames (contents world.log) (place 1 0) frames
   pub ends : end ≡ after_frames (place 1 0) frames

@@ -15,32 +15,32 @@ ghost use Rattle.pm_segments.specs.Appends.{grown, steps_of};
 ghost use Rattle.pm_segments.specs.Ends.{EndsThere};
 ghost use Rattle.pm_model.specs.declared.line.Line.{Line};
 ghost use Rattle.pm_model.specs.Batches.{HasCache};
-ghost use Rattle.pm_model.specs.Eval.{Pairs, reply_to, after, is_accepted};
-ghost use Rattle.pm_model.specs.Partitions.{ArePartitions};
+ghost use Rattle.pm_model.specs.Eval.{Pairs, after, is_accepted};
 ghost use Rattle.pm_engine.specs.Batches.{HasPlainFault, RunsLines, HasReplied, noted};
 ghost use Rattle.pm_engine.specs.Engines.{HasDone, HasDoneWithin, IsAtRest, IsAtRestWithin};
 ghost use Rattle.pm_engine.specs.Engines.{HasSegments, LastIsForced, SameAbove};
 ghost use Rattle.pm_engine.specs.Crashes.{CrashHoldsPrefix};
 ghost use Rattle.pm_engine.specs.Records.{record_of_line, IsPayloadOf, logical_frame};
 
+use crate::paged_map::PagedMap;
 use crate::record::write_record;
 use crate::replay::Replay;
 use pm_disk::{Failed, Host};
 use pm_frame::LOGICAL;
-use pm_model::{Answer, Line, PlainMap, Reply};
+use pm_model::{Line, Replies};
 use pm_segments::Log;
-use pm_types::{Place, Shape, StoreFault};
+use pm_types::{Place, StoreFault};
 use std::alloc::{AllocError, Global};
 use std::marker::Model;
 
-/// A store that is open: its map in memory, and its log, to which each accepted line is appended.
+/// A store that is open: its map, whose rows stand in pages in memory, and its log, to which the record
+/// of each accepted line is appended.
 ///
 /// After an error no call but `into_order` is made on it: the store on the disk is then as a crash
 /// would leave it.
 #[derive(Drop)]
 pub struct Engine {
-    shape: Shape,
-    map: PlainMap,
+    map: PagedMap,
     log: Log,
     order: Vec<u32>,
     // The payload of the record at hand: its memory serves all lines.
@@ -58,13 +58,13 @@ impl Model for Engine {
     ghost coded = { Prim.hlevel (codes, coded_pairs) };
 
     ghost view = { λ engine. record {
-      shape = engine.shape;
-      map = engine.map;
+      shape = engine.map.shape;
+      map = engine.map.pairs;
       log = engine.log;
       order = engine.order.items;
     } };
 
-    ghost invariant = { λ engine. IsShape engine.shape };
+    ghost invariant = { λ engine. IsShape engine.map.shape };
 }
 
 impl Engine {
@@ -74,8 +74,7 @@ impl Engine {
         ensures { result ≡ record { shape = replay.shape; map = replay.map; log = log; order = [] } }
     {
         Engine {
-            shape: replay.shape,
-            map: replay.map,
+            map: replay.into_map(),
             log,
             order: Vec::new(alloc),
             payload: Vec::new(alloc),
@@ -86,23 +85,25 @@ impl Engine {
     /// forces the log.
     ///
     /// `Failed` and `Memory` leave a prefix of the lines of the batch done, no line in part, and a
-    /// prefix of their replies appended.
+    /// prefix of their replies appended. A reply stands in the list before its line's record is appended,
+    /// so that after `Failed` the last reply may be to a line that isn't done.
     pub fn batch<H: Host>(
         &mut self,
         alloc: Global,
         host: &mut H,
         lines: &[Line],
         first: u32,
-        replies: &mut Vec<Reply>,
+        replies: &mut Replies,
     ) -> Result<(), StoreFault>
         requires usable { IsUsable (H.state host.old) }
         requires caches { All HasCache lines.now }
         requires numbers { first + length lines.now ≤ 2 ^ 32 }
+        requires room { length lines.now ≤ replies.old.spare }
         requires end { H.tells → EndsThere self.old.log (H.history host.old).world }
         ensures runs { RunsLines H.tells (H.history host.old) (H.history host.new)
             self.old self.new first lines.now result }
         ensures replied { HasReplied self.old.shape self.old.map lines.now
-            replies.old.items replies.new.items result }
+            replies.old replies.new result }
         ensures at_rest { H.tells → (wanted : Shape) →
             IsAtRest wanted self.old (H.history host.old).world →
             HasSegments self.old (length lines.now) → OnOk result (IsAtRestWithin wanted
@@ -159,20 +160,22 @@ impl Engine {
         self.log.force(host)
     }
 
-    // Runs a line, and answers it. Where memory runs out nothing is done.
+    // Runs a line, and appends its reply. Where memory runs out nothing is done.
     fn run_line<H: Host>(
         &mut self,
         alloc: Global,
         host: &mut H,
         line: &Line,
         number: u64,
-    ) -> Result<Reply, StoreFault>
+        replies: &mut Replies,
+    ) -> Result<(), StoreFault>
         requires usable { IsUsable (H.state host.old) }
         requires cache { HasCache line.now }
         requires numbered { number < 2 ^ 32 }
+        requires room { 0 < replies.old.spare }
         requires end { H.tells → EndsThere self.old.log (H.history host.old).world }
-        ensures reply { IfOk result
-            (λ reply. reply ≡ reply_to self.old.shape line.now self.old.map) }
+        ensures replied { HasReplied self.old.shape self.old.map (line.now ∷ [])
+            replies.old replies.new result }
         ensures runs { RunsLines H.tells (H.history host.old) (H.history host.new)
             self.old self.new number (line.now ∷ []) result }
         ensures done { H.tells → (wanted : Shape) (start : Pairs) (done : List Line) →
@@ -181,19 +184,19 @@ impl Engine {
             (done ++ line.now ∷ []) 1 self.old self.new (H.history host.new).world) }
         ensures cause { HasPlainFault (H.state host.old) (H.state host.new) result }
     {
-        let answer = prepare(
+        let is_accepted = prepare(
             alloc,
-            self.shape,
             &mut self.map,
             &mut self.order,
             &mut self.payload,
             line,
+            replies,
         )?;
-        if !answer.is_accepted {
-            return Ok(answer.reply);
+        if !is_accepted {
+            return Ok(());
         }
         append(host, &mut self.log, &mut self.order, &self.payload, number)?;
-        Ok(answer.reply)
+        Ok(())
     }
 }
 
@@ -204,16 +207,17 @@ fn run_lines<H: Host>(
     host: &mut H,
     lines: &[Line],
     first: u32,
-    replies: &mut Vec<Reply>,
+    replies: &mut Replies,
 ) -> Result<(), StoreFault>
     requires usable { IsUsable (H.state host.old) }
     requires caches { All HasCache lines.now }
     requires numbers { first + length lines.now ≤ 2 ^ 32 }
+    requires room { length lines.now ≤ replies.old.spare }
     requires end { H.tells → EndsThere engine.old.log (H.history host.old).world }
     ensures runs { RunsLines H.tells (H.history host.old) (H.history host.new)
         engine.old engine.new first lines.now result }
     ensures replied { HasReplied engine.old.shape engine.old.map lines.now
-        replies.old.items replies.new.items result }
+        replies.old replies.new result }
     ensures done { H.tells → (wanted : Shape) (start : Pairs) (done : List Line) →
         HasDone wanted start done engine.old (H.history host.old).world →
         HasSegments engine.old (length lines.now) → OnOk result (HasDoneWithin wanted start
@@ -222,36 +226,36 @@ fn run_lines<H: Host>(
 {
     let mut number = u64::from(first);
     'each: for line in lines {
-        let reply = engine.run_line(alloc, host, line, number)?;
-        replies.push(reply)?;
+        engine.run_line(alloc, host, line, number, replies)?;
         number += 1;
     }
     Ok(())
 }
 
-// Answers a line from the map, and makes the payload of its record and room for its number. Where
-// memory runs out the map is as it was.
+// Makes the payload of a line's record and room for its number, answers the line from the map, and says
+// whether it was accepted. Where memory runs out the map is as it was, and no reply was appended.
 fn prepare(
     alloc: Global,
-    shape: Shape,
-    map: &mut PlainMap,
+    map: &mut PagedMap,
     order: &mut Vec<u32>,
     payload: &mut Vec<u8>,
     line: &Line,
-) -> Result<Answer, AllocError>
-    requires partitions { ArePartitions shape.partitions }
+    replies: &mut Replies,
+) -> Result<bool, AllocError>
     requires cache { HasCache line.now }
-    ensures reply { IfOk result (λ answer. answer.reply ≡ reply_to shape line.now map.old) }
-    ensures accepted { IfOk result
-        (λ answer. answer.is_accepted ≡ is_accepted shape line.now map.old) }
-    ensures map { OnOk result (map.new ≡ after shape line.now map.old) }
+    requires room { 0 < replies.old.spare }
+    ensures shape { map.new.shape ≡ map.old.shape }
+    ensures replied { HasReplied map.old.shape map.old.pairs (line.now ∷ [])
+        replies.old replies.new result }
+    ensures accepted { IfOk result (λ is. is ≡ is_accepted map.old.shape line.now map.old.pairs) }
+    ensures map { OnOk result (map.new.pairs ≡ after map.old.shape line.now map.old.pairs) }
     ensures payload { OnOk result (IsPayloadOf (record_of_line line.now) payload.new.items) }
     ensures order { order.new.items ≡ order.old.items }
     ensures room { OnOk result (length order.new.items < vec_capacity order.new) }
 {
     write_record(line, payload)?;
     order.reserve(1)?;
-    map.answer(alloc, shape, line.copy(alloc)?)
+    map.answer(alloc, line, replies)
 }
 
 // Appends a logical record, and puts the line's number into the order where its write was tried.

@@ -28,6 +28,7 @@ use crate::engine::Engine;
 use crate::record::restart_payload;
 use crate::replay::{Replay, ReplayStep};
 use crate::stored_shape::compare_shape;
+use pm_config::Config;
 use pm_disk::Host;
 use pm_frame::RESTART;
 use pm_segments::{Log, Scan};
@@ -35,9 +36,9 @@ use pm_types::{OpenFault, Place, Shape, StoreFault};
 use std::alloc::Global;
 
 impl Engine {
-    /// Opens the store: compares its shape with the wanted one, reads its log from the first
-    /// segment on, replays its records, cuts what is after the log's end, and appends a RESTART
-    /// with the store's shape. A store that is empty takes the wanted shape.
+    /// Opens the store: compares its shape with the one that the configuration asks for, reads its log
+    /// from the first segment on, replays its records, cuts what is after the log's end, and appends a
+    /// RESTART with the store's shape. A store that is empty takes the shape that is asked for.
     ///
     /// `Shape` comes exactly where the store has a shape and it differs, unless a call failed or
     /// memory ran out: it names the first field that does. `BadRecord` comes where the first frame
@@ -47,31 +48,35 @@ impl Engine {
     pub fn open_store<H: Host>(
         alloc: Global,
         host: &mut H,
-        wanted: Shape,
+        config: &Config,
     ) -> Result<Engine, OpenFault>
         requires usable { IsUsable (H.state host.old) }
-        requires wanted { IsShape wanted }
+        requires wanted { IsShape config.now.shape }
         ensures fresh { IfOk result (λ engine. IsShape engine.shape × (engine.order ≡ [])) }
 
         // What is found, whether the store is sound or not, which field differs, and which record is bad.
-        ensures opens { H.tells → IfOk result (λ engine. OpensWith wanted
+        ensures opens { H.tells → IfOk result (λ engine. OpensWith config.now.shape
             (H.history host.old).world (H.history host.new).world engine) }
-        ensures compared { H.tells → IfErr result (ComparesShape wanted (H.history host.old).world) }
-        ensures alike { H.tells → OnOk result (shape_fault wanted (H.history host.old).world ≡ None) }
+        ensures compared { H.tells → IfErr result
+            (ComparesShape config.now.shape (H.history host.old).world) }
+        ensures alike { H.tells → OnOk result
+            (shape_fault config.now.shape (H.history host.old).world ≡ None) }
         ensures bad { H.tells → (at : Place) → IsErrOf result (OpenFault.Store (StoreFault.BadRecord at)) →
-            IsBadStore wanted at (H.history host.old).world (H.history host.new).world }
+            IsBadStore config.now.shape at (H.history host.old).world (H.history host.new).world }
 
         // What it leaves of a sound store, and what a crash leaves, meanwhile and from then on.
         ensures at_rest { H.tells → (shape : Shape) (pairs : Pairs) →
-            (holds : Holds wanted (image_of (H.history host.old).world) shape pairs)
+            (holds : Holds config.now.shape (image_of (H.history host.old).world) shape pairs)
             → last_segment holds < 2 ^ 62 →
-            NothingPending (H.history host.old).world → IfOk result (λ engine. OpensAtRest wanted
+            NothingPending (H.history host.old).world → IfOk result (λ engine. OpensAtRest config.now.shape
             (last_segment holds) (H.history host.old).world (H.history host.new).world engine) }
         // A store whose shape differs or whose log can't be replayed is left as it is, at each moment.
-        ensures meanwhile { H.tells → OpensWithin wanted (CanNotOpen wanted (H.history host.old).world)
+        ensures meanwhile { H.tells → OpensWithin config.now.shape
+            (CanNotOpen config.now.shape (H.history host.old).world)
             (H.history host.old) (H.history host.new) }
         ensures cause { HasOpenFault (H.state host.old) (H.state host.new) result }
     {
+        let wanted = config.shape;
         compare_shape(alloc, host, wanted)?;
         Ok(Engine::open_log(alloc, host, wanted)?)
     }
@@ -95,10 +100,11 @@ impl Engine {
             (H.history host.old) (H.history host.new) }
         ensures cause { HasStoreFault (H.state host.old) (H.state host.new) result }
     {
-        let mut replay = Replay::new(alloc, wanted);
+        let mut replay = Replay::new(alloc, wanted)?;
         let end = read_log(alloc, host, &mut replay)?;
-        let mut log = Log::cut_tail(host, 1, end, replay.shape.segment_bytes)?;
-        log.append(host, RESTART, &restart_payload(replay.shape))?;
+        let told = replay.shape();
+        let mut log = Log::cut_tail(host, 1, end, told.segment_bytes)?;
+        log.append(host, RESTART, &restart_payload(told))?;
         Ok(Engine::opened(alloc, replay, log))
     }
 }

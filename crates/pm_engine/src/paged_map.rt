@@ -56,6 +56,13 @@ impl PagedMap {
         Ok(PagedMap { shape, lists })
     }
 
+    /// The shape of its store.
+    pub fn shape(&self) -> Shape
+        ensures { result ≡ self.now.shape }
+    {
+        self.shape
+    }
+
     /// Answers a line: appends its reply, and says whether the line was accepted.
     ///
     /// Where memory ran out the map is as before, and no reply was appended.

@@ -1,9 +1,11 @@
-use Rattle.std.proofs.Common.{rules, ◌≡◌, ◌∙◌, ◌+◌, ◌++◌, [], ◌∷◌, Ok, length, take, refl, sym, ap, subst, arith, append-nil}
+use Rattle.std.proofs.Common.{rules, ◌≡◌, ◌∙◌, ◌+◌, ◌++◌, [], ◌∷◌, Ok, length, take, refl, sym, ap, subst, arith}
 use Rattle.std.proofs.lemmas.List.{length-take, take_all}
 use Rattle.pm_types.specs.declared.fault.StoreFault.{StoreFault}
 use Rattle.pm_model.specs.Eval.{replies_to}
+use Rattle.pm_model.specs.ReplyLists.{with_replies}
 use Rattle.pm_engine.specs.Batches.{RunsLines}
-use Rattle.pm_engine.proofs.Batching.{DoneAfter, take_none, take_one_more, replied_more, runs_none, done_none, done_more, runs_more, runs_part}
+use Rattle.pm_engine.proofs.Batching.{DoneAfter, take_none, take_one_more, runs_none, done_none, done_more, runs_more, runs_part}
+use Rattle.pm_engine.proofs.Replied.{with_none, replied_more, room_left}
 use Rattle.pm_engine.proofs.Results.{on_err, ok_holds}
 use Rattle.pm_engine.proofs.engine.run_lines.Goals as goal
 
@@ -14,7 +16,7 @@ each-init g c =
     let lines = c.args.lines.now in
     let start = c.args.engine.now in
     record {
-      told = sym (append-nil c.args.replies.now.items) ∙ ap (λ ls. c.args.replies.now.items ++ replies_to start.shape ls start.map) (sym (take_none lines));
+      told = with_none c.args.replies.now ∙ ap (λ ls. with_replies (replies_to start.shape ls start.map) c.args.replies.now) (sym (take_none lines));
       number = search rules;
       state = record { later = omega arith; access = refl; usable = λ usable. usable };
       runs = subst (λ ls. RunsLines {T = Unit {0}} {E = StoreFault} tells old old start start c.args.first ls (Ok tt)) (sym (take_none lines)) (runs_none tells old start c.args.first (g.H.Device.sound c.args.host.now) c.requires.end);
@@ -35,15 +37,18 @@ each-preserved g c =
     let so_far = take c.each.line-index lines in
     let long : length so_far ≡ c.each.line-index = omega (arith, length-take c.each.line-index lines) in
     let more = take_one_more lines c.each.line-index line c.line-item.is (omega arith) in
-    let was = c.in_ok-reply.was in
+    let was = c.in_ok-run_line.was in
+    let replied = c.run_line.ensures.replied in
     let runs : RunsLines {T = Unit {0}} {E = StoreFault} tells old new start now c.args.first (so_far ++ line ∷ []) (Ok tt) =
     runs_more tells old mid new start c.each.engine now c.args.first so_far (line ∷ []) c.each.number v.runs v.after (g.H.Device.sound c.each.host)
-    c.run_line.result (Ok tt) c.run_line.ensures.runs (omega (arith, v.number, long)) (λ P holds. ok_holds c.run_line.result c.in_ok-reply.reply P was holds) in
+    c.run_line.result (Ok tt) c.run_line.ensures.runs (omega (arith, v.number, long)) (λ P holds. ok_holds c.run_line.result _ P was holds) in
     let after = done_more tells old mid new start c.each.engine now c.args.first so_far (line ∷ []) c.each.number v.runs v.after (g.H.Device.sound c.each.host)
-    c.run_line.result c.in_ok-reply.reply was v.runs.shape c.run_line.ensures.done in
+    c.run_line.result _ was v.runs.shape c.run_line.ensures.done in
     record {
-      told = replied_more start.shape lines c.each.line-index line start.map c.args.replies.now.items c.each.replies.items c.push.new.self.items c.in_ok-reply.reply c.each.engine.shape c.each.engine.map
-          c.line-item.is (omega arith) v.runs.shape v.runs.map v.told c.in_ok-reply.ensures.reply c.in_ok-push.ensures.items;
+      told = subst (λ n. c.run_line.new.replies ≡ with_replies (replies_to start.shape (take (c.each.line-index + n) lines) start.map) c.args.replies.now)
+          (ok_holds c.run_line.result _ (replied.count ≡ 1) was replied.all)
+          (replied_more start.shape lines c.each.line-index line start.map c.each.engine.map c.each.engine.shape c.args.replies.now c.each.replies c.run_line.new.replies
+          c.line-item.is (omega arith) v.runs.shape v.runs.map v.told replied.count replied.within replied.replies);
       number = omega (arith, v.number);
       state = record {
         later = omega (arith, v.state.later, c.run_line.ensures.cause.later);
@@ -54,8 +59,8 @@ each-preserved g c =
       after = subst (λ ls. DoneAfter tells old.world new.world start now ls) (sym more) after;
     }
 
-pub returns-in_err-reply-clause-runs : goal.returns-in_err-reply-clause-runs
-returns-in_err-reply-clause-runs g c =
+pub returns-in_err-run_line-clause-runs : goal.returns-in_err-run_line-clause-runs
+returns-in_err-run_line-clause-runs g c =
     let tells = g.H.Device.tells in
     let old = g.H.Device.history c.args.host.now in
     let mid = g.H.Device.history c.each.host in
@@ -74,25 +79,37 @@ returns-in_err-reply-clause-runs g c =
     runs_part tells old new start now c.args.first lines (c.each.line-index + 1) c.from_residual.result failed (omega arith)
     (subst (λ ls. RunsLines {T = Unit {0}} {E = StoreFault} tells old new start now c.args.first ls c.from_residual.result) (sym more) runs)
 
-pub returns-in_err-push-clause-runs : goal.returns-in_err-push-clause-runs
-returns-in_err-push-clause-runs g c =
-    let tells = g.H.Device.tells in
-    let old = g.H.Device.history c.args.host.now in
-    let mid = g.H.Device.history c.each.host in
-    let new = g.H.Device.history c.run_line.new.host in
+pub run_line-requires-clause-room : goal.run_line-requires-clause-room
+run_line-requires-clause-room g c _ _ =
     let lines = c.args.lines.now in
     let start = c.args.engine.now in
-    let now = c.run_line.new.self in
+    let v = c.each.invariant in
+    room_left start.shape lines c.each.line-index c.line-item.result start.map c.each.engine.map c.each.engine.shape c.args.replies.now c.each.replies c.each.replies
+    c.line-item.is (omega arith) v.runs.shape v.runs.map v.told c.requires.room
+
+pub returns-in_err-run_line-clause-replied : goal.returns-in_err-run_line-clause-replied
+returns-in_err-run_line-clause-replied g c =
+    let lines = c.args.lines.now in
+    let start = c.args.engine.now in
     let v = c.each.invariant in
     let line = c.line-item.result in
-    let so_far = take c.each.line-index lines in
-    let long : length so_far ≡ c.each.line-index = omega (arith, length-take c.each.line-index lines) in
-    let more = take_one_more lines c.each.line-index line c.line-item.is (omega arith) in
-    let failed = on_err c.from_residual-in_err-push.result c.from_residual-in_err-push.ensures.0 in
-    let runs = runs_more tells old mid new start c.each.engine now c.args.first so_far (line ∷ []) c.each.number v.runs v.after (g.H.Device.sound c.each.host)
-    c.run_line.result c.from_residual-in_err-push.result c.run_line.ensures.runs (omega (arith, v.number, long)) (λ P holds. failed P) in
-    runs_part tells old new start now c.args.first lines (c.each.line-index + 1) c.from_residual-in_err-push.result failed (omega arith)
-    (subst (λ ls. RunsLines {T = Unit {0}} {E = StoreFault} tells old new start now c.args.first ls c.from_residual-in_err-push.result) (sym more) runs)
+    let replied = c.run_line.ensures.replied in
+    let failed = on_err c.from_residual.result c.from_residual.ensures.0 in
+    record {
+      count = c.each.line-index + replied.count;
+      within = omega (arith, replied.within);
+      all = failed _;
+      replies = replied_more start.shape lines c.each.line-index line start.map c.each.engine.map c.each.engine.shape c.args.replies.now c.each.replies c.run_line.new.replies
+          c.line-item.is (omega arith) v.runs.shape v.runs.map v.told replied.count replied.within replied.replies;
+    }
+
+pub returns-clause-replied : goal.returns-clause-replied
+returns-clause-replied g c = record {
+  count = c.each.line-index;
+  within = omega arith;
+  all = omega arith;
+  replies = c.each.invariant.told;
+}
 
 pub returns-clause-runs : goal.returns-clause-runs
 returns-clause-runs g c =

@@ -22,7 +22,7 @@ returns-in_err-open_log-clause-bad g c t at is =
     let mid = g.H.Device.history c.compare_shape.new.host in
     let same : mid.world ≡ old.world = at_last old mid (IsSame old.world) (g.H.Device.sound c.compare_shape.new.host t) (c.compare_shape.ensures.same t) in
     let new = g.H.Device.history c.open_log.new.host in
-    let wanted = c.args.wanted in
+    let wanted = c.args.config.now.shape in
     let its : IsErrOf c.open_log.result (BadRecord at) = search rules in
     subst (λ w. IsBadStore wanted at w new.world) same (c.open_log.ensures.bad t at its)
 
@@ -32,7 +32,7 @@ returns-clause-opens g c t =
     let mid = g.H.Device.history c.compare_shape.new.host in
     let same : mid.world ≡ old.world = at_last old mid (IsSame old.world) (g.H.Device.sound c.compare_shape.new.host t) (c.compare_shape.ensures.same t) in
     let new = g.H.Device.history c.open_log.new.host in
-    let wanted = c.args.wanted in
+    let wanted = c.args.config.now.shape in
     subst (λ w. OpensWith wanted w new.world c.in_ok-open_log.field-0) same (c.in_ok-open_log.ensures.opens t)
 
 pub returns-clause-at_rest : goal.returns-clause-at_rest
@@ -41,25 +41,25 @@ returns-clause-at_rest g c t shape pairs holds numbered quiet =
     let mid = g.H.Device.history c.compare_shape.new.host in
     let same : mid.world ≡ old.world = at_last old mid (IsSame old.world) (g.H.Device.sound c.compare_shape.new.host t) (c.compare_shape.ensures.same t) in
     let new = g.H.Device.history c.open_log.new.host in
-    let wanted = c.args.wanted in
+    let wanted = c.args.config.now.shape in
     subst (λ w. (h : Holds wanted (image_of w) shape pairs) → last_segment h < 2 ^ 62 → NothingPending w → OpensAtRest wanted (last_segment h) w new.world c.in_ok-open_log.field-0) same (c.in_ok-open_log.ensures.at_rest t shape pairs) holds numbered quiet
 
 pub returns-in_err-compare_shape-clause-meanwhile : goal.returns-in_err-compare_shape-clause-meanwhile
 returns-in_err-compare_shape-clause-meanwhile g c t =
     let at = g.H.Device.history in
     let old = at c.args.host.now in
-    unchanged c.args.wanted c.requires.wanted old (at c.compare_shape.new.host) (c.compare_shape.ensures.same t) (CanNotOpen c.args.wanted old.world)
+    unchanged c.args.config.now.shape c.requires.wanted old (at c.compare_shape.new.host) (c.compare_shape.ensures.same t) (CanNotOpen c.args.config.now.shape old.world)
 
 pub returns-in_err-open_log-clause-meanwhile : goal.returns-in_err-open_log-clause-meanwhile
 returns-in_err-open_log-clause-meanwhile g c t =
     let at = g.H.Device.history in
-    then_opens c.args.wanted c.requires.wanted (at c.args.host.now) (at c.compare_shape.new.host) (c.compare_shape.ensures.same t)
+    then_opens c.args.config.now.shape c.requires.wanted (at c.args.host.now) (at c.compare_shape.new.host) (c.compare_shape.ensures.same t)
     (at c.open_log.new.host) (g.H.Device.sound c.compare_shape.new.host t) (c.in_ok-compare_shape.ensures.alike t)
     (c.open_log.ensures.meanwhile t)
 
 pub returns-clause-meanwhile : goal.returns-clause-meanwhile
 returns-clause-meanwhile g c t =
     let at = g.H.Device.history in
-    then_opens c.args.wanted c.requires.wanted (at c.args.host.now) (at c.compare_shape.new.host) (c.compare_shape.ensures.same t)
+    then_opens c.args.config.now.shape c.requires.wanted (at c.args.host.now) (at c.compare_shape.new.host) (c.compare_shape.ensures.same t)
     (at c.open_log.new.host) (g.H.Device.sound c.compare_shape.new.host t) (c.in_ok-compare_shape.ensures.alike t)
     (c.open_log.ensures.meanwhile t)
