@@ -45,7 +45,7 @@ pub(crate) fn write_operation(
 }
 
 // What an operation has before its records.
-#[tactic(auto, unfolding(pm_logger::specs::Operations::operation_head))]
+#[tactic(auto, unfolding(pm_records::specs::Operations::operation_head))]
 fn operation_head(line: u32, len: u32) -> [u8; OPERATION_HEAD_LEN]
     ensures { result ≡ operation_head line len }
 {

@@ -34,7 +34,7 @@ pub(crate) fn write_record(rec: &LogRecord<'_>, into: &mut [u8]) -> usize
 }
 
 // What a record has before its payload.
-#[tactic(auto, unfolding(pm_logger::specs::Operations::record_head))]
+#[tactic(auto, unfolding(pm_records::specs::Operations::record_head))]
 fn record_head(kind: u8, len: u32) -> [u8; RECORD_HEAD_LEN]
     ensures { result ≡ record_head kind len }
 {
