@@ -1,38 +1,25 @@
 -- A page is sought: in hand, then in the frame that keeps it, then in its file.
-use Rattle.std.proofs.Common.{◌≡◌, ℕ, ◌<◌, ◌≤◌, Bool, true, false, List, [], ◌∷◌, ◌++◌, ◌⊎◌, ⊎_elim, inl, inr, length, Option, Some, None, Result, Ok, Err, sym, refl, ap, subst, ◌∙◌, arith}
-use Rattle.std.specs.Prelude.{IsSome, slice_get}
-use Rattle.std.proofs.lemmas.Bool.Decides.{eqb_tells}
+use Rattle.std.proofs.Common.{◌≡◌, ℕ, ◌<◌, ◌≤◌, Bool, true, false, List, [], ◌∷◌, ◌++◌, ◌⊎◌, ⊎_elim, inl, inr, length, Option, Some, None, Result, Ok, Err, sym, refl, ap, subst, ◌∙◌}
+use Rattle.std.specs.Prelude.{IsSome}
 use Rattle.pm_types.specs.declared.page_id.PageId.{PageId}
 use Rattle.pm_types.specs.declared.shape.Shape.{Shape}
 use Rattle.pm_types.specs.declared.fault.PageFault.{PageFault}
 use Rattle.pm_types.specs.declared.limits.TheConstants.{OP_PAGES}
+use Rattle.pm_disk.specs.States.{DeviceState, MayRead}
 use Rattle.pm_locks.specs.Sight.{LockTable}
 use Rattle.pm_stripe.specs.declared.held.Held.{Held}
 use Rattle.pm_stripe.specs.declared.places.Places.{Places}
 use Rattle.pm_stripe.specs.Reads.{Passes, FailsCheck}
 use Rattle.pm_stripe.specs.Fetches.{KeepsBeside, ReadsFrame, Fetches, TakesHome}
-use Rattle.pm_stripe.specs.Kept.{Kept, held_at, place_at, place_of, last_put, known_by, is_known, Holds, HasFrames, KeepsPages, IsAway, AddsPage, IsStaying}
+use Rattle.pm_stripe.specs.Kept.{Kept, held_at, place_at, place_of, last_put, known_by, is_known, Holds, HasFrames, KeepsPages, IsAway, AddsPage, IsStaying, IsPageOf}
+use Rattle.pm_stripe.specs.Stripes.{MayReadOthers}
+use Rattle.pm_stripe.specs.HandLaws.{place_there, place_none}
 use Rattle.pm_stripe.proofs.Hands.{or_else, held_push, one_here}
 
--- a page that has a place is there, and one that has none isn't
-pub place_there : (hs : List Held) (id : ℕ) → place_at hs id < length hs → (h : Held) × (held_at hs id ≡ Some h) × (slice_get hs (place_at hs id) ≡ Some h)
-place_there [] id lt = absurd (omega arith)
-place_there (h ∷ hs) id lt = elim (eqb_tells h.page.0 id) [
-  | inl same ↦ simp same.0 (h, refl, refl)
-  | inr away ↦ let lt' = simp away.0 at lt in simp away.0 (place_there hs id (omega (arith, lt')))
-]
-
-pub place_none : (hs : List Held) (id : ℕ) → length hs ≤ place_at hs id → held_at hs id ≡ None
-place_none [] id le = refl
-place_none (h ∷ hs) id le = elim (eqb_tells h.page.0 id) [
-  | inl same ↦ let le' = simp same.0 at le in absurd (omega (arith, le'))
-  | inr away ↦ let le' = simp away.0 at le in simp away.0 (place_none hs id (omega (arith, le')))
-]
-
-some_held : (o : Option Held) (h : Held) → o ≡ Some h → IsSome o
+pub some_held : (o : Option Held) (h : Held) → o ≡ Some h → IsSome o
 some_held o h e = subst IsSome (sym e) refl
 
-no_some : (o : Option Held) → o ≡ None → IsSome o → ⊥
+pub no_some : (o : Option Held) → o ≡ None → IsSome o → ⊥
 no_some o none some = let q = subst IsSome none some in cc q
 
 -- a page without a place is away
@@ -44,10 +31,21 @@ pub still_away : (k k' : Kept) (id : PageId) → k'.held ≡ k.held → IsAway k
 still_away k k' id same away = record { away = ap (λ hs. held_at hs id.0) same ∙ away.away; room = subst (λ (hs : List Held). length hs < OP_PAGES) (sym same) away.room }
 
 -- what was added is in hand
-added_some : (k k' : Kept) (id : PageId) → IsAway k id → AddsPage k k' id → IsSome (held_at k'.held id.0)
+pub added_some : (k k' : Kept) (id : PageId) → IsAway k id → AddsPage k k' id → IsSome (held_at k'.held id.0)
 added_some k k' id away adds =
     some_held (held_at k'.held id.0) adds.page
     (ap (λ hs. held_at hs id.0) adds.added ∙ held_push k.held adds.page id.0 ∙ ap (λ o. or_else o (held_at (adds.page ∷ []) id.0)) away.away ∙ one_here adds.page id.0 (ap (λ (p : PageId). p.0) adds.page_is))
+
+-- a page that no frame keeps may be read
+pub may_read_lost : (workers : ℕ) (state : DeviceState) (k k₁ : Kept) (id : PageId) → MayReadOthers workers state k → IsPageOf workers k.shape.partitions k.number id
+    → ((j : PageId) → IsStaying k j → IsStaying k₁ j) → place_of k₁ id ≡ None → MayRead state id
+may_read_lost workers state k k₁ id reads own staying none = record { usable = reads.usable; allowed = by_test (state.access.reads id) refl }
+  where
+    by_test : (b : Bool) → state.access.reads id ≡ b → state.access.reads id ≡ true
+    by_test true e = e
+    by_test false e =
+        let x = staying id (reads.others id own e) in
+        absurd (let bad : None ≡ Some (x.frame, x.tag) = sym none ∙ x.kept in cc bad)
 
 -- all pages are as they were, also beside one that was sought in its file
 beside : (k k' : Kept) (id : PageId) (tells : Type 0) (stored : Option (List ℕ)) → KeepsPages k k' → KeepsBeside k k' id tells stored
@@ -70,6 +68,8 @@ had locks k id tells stored holds frames lt = record {
   shape = refl;
   number = refl;
   staying = λ j is. is;
+  only = λ j ne. refl;
+  bare = refl;
   held = inl refl;
   found = λ _. (let x = place_there k.held id.0 lt in some_held (held_at k.held id.0) x.0 x.1);
   not_found = λ no. absurd (no refl);
@@ -86,7 +86,9 @@ at_home locks k k' id tells stored away home = let x = home.takes in let adds = 
   shape = x.shape;
   number = x.number;
   staying = x.staying;
-  held = inr adds;
+  only = x.only;
+  bare = x.bare;
+  held = inr (away, adds);
   found = λ _. added_some k k' id away adds;
   not_found = λ no. absurd (no refl);
   absent = λ e. absurd (cc e);
@@ -102,6 +104,8 @@ nowhere locks k k' id tells stored away home none = let x = home.takes in let lo
   shape = x.shape;
   number = x.number;
   staying = x.staying;
+  only = x.only;
+  bare = x.bare;
   held = inl lost.0;
   found = λ e. absurd (cc e);
   not_found = λ _. (lost.0, away.away, lost.1);
@@ -136,8 +140,8 @@ module _ (locks locks' : LockTable) (k k₁ k₂ : Kept) (id : PageId) (tells : 
         (λ passes. subst (λ (s : Shape). Passes s id x.page.lease.bytes) home.takes.shape passes) x.passes);
   }
 
-  is_there : (result ≡ Ok true) ⊎ (result ≡ Ok true → ⊥) → (k₂.held ≡ k.held) ⊎ AddsPage k k₂ id
-  is_there = ⊎_elim (λ e. inr (then_added (reads.added e))) (λ no. inl (reads.not_added no ∙ lost.0))
+  is_there : (result ≡ Ok true) ⊎ (result ≡ Ok true → ⊥) → (k₂.held ≡ k.held) ⊎ (IsAway k id × AddsPage k k₂ id)
+  is_there = ⊎_elim (λ e. inr (away, then_added (reads.added e))) (λ no. inl (reads.not_added no ∙ lost.0))
 
   staying_by : k₂.places ≡ k₁.places → (j : PageId) → IsStaying k₁ j → IsStaying k₂ j
   staying_by same j x = record {
@@ -157,6 +161,8 @@ module _ (locks locks' : LockTable) (k k₁ k₂ : Kept) (id : PageId) (tells : 
     shape = reads.shape ∙ home.takes.shape;
     number = reads.number ∙ home.takes.number;
     staying = λ j is. staying_by reads.places j (home.takes.staying j is);
+    only = λ j ne. reads.only j ne ∙ home.takes.only j ne;
+    bare = reads.bare ∙ home.takes.bare;
     held = is_there decided;
     found = λ e. added_some k k₂ id away (then_added (reads.added e));
     not_found = λ no. (reads.not_added no ∙ lost.0, away.away, ap (λ (p : Places). place_of (record k₁ { places = p }) id) reads.places ∙ lost.1);

@@ -1,11 +1,11 @@
 -- Lists of pages and frames in hand.
-use Rattle.std.proofs.Common.{eqb-true, ◌≡◌, ◌≢◌, ℕ, Bool, true, false, List, [], ◌∷◌, ◌++◌, ◌⊎◌, ⊎_elim, inl, inr, cond, eqb, Option, Some, None, sym, refl, ap, ◌∙◌, eq-eqb, ne_eqb}
+use Rattle.std.proofs.Common.{eqb-true, ◌≡◌, ◌≢◌, ℕ, Bool, true, false, List, [], ◌∷◌, ◌++◌, ◌⊎◌, ⊎_elim, inl, inr, cond, eqb, Option, Some, None, sym, refl, ap, ◌∙◌, eq-eqb, ne_eqb, arith, ◌+◌}
 use Rattle.std.specs.Prelude.{slice_get, zero, suc}
 use Rattle.pm_types.specs.declared.flag.Flag.{Flag}
 use Rattle.pm_types.specs.declared.flag.Flag.TheVariants as flag
 use Rattle.pm_locks.proofs.Pushing.{slice_get-pushed}
 use Rattle.pm_stripe.specs.declared.held.Held.{Held}
-use Rattle.pm_stripe.specs.Kept.{held_at, AreOnce, stays}
+use Rattle.pm_stripe.specs.Kept.{held_at, read_one, read_count, AreOnce, stays}
 use Rattle.std.specs.Prelude.{IsTrue}
 
 -- one more with another number
@@ -64,3 +64,19 @@ found_at (x ∷ hs) id h is = found_by (λ e. found_at hs id h e) (eqb x.page.0 
     found_by : (held_at hs id ≡ Some h → (i : ℕ) × (slice_get hs i ≡ Some h) × (h.page.0 ≡ id)) → (b : Bool) → eqb x.page.0 id ≡ b → cond b (Some x) (held_at hs id) ≡ Some h → (i : ℕ) × (slice_get (x ∷ hs) i ≡ Some h) × (h.page.0 ≡ id)
     found_by further true t e = let same : x ≡ h = cc e in (zero, e, ap (λ (z : Held). z.page.0) (sym same) ∙ eqb-true x.page.0 id t)
     found_by further false t e = let y = further e in (suc y.0, y.1, y.2)
+
+pub or_none : (o : Option Held) → or_else o None ≡ o
+or_none None = refl
+or_none (Some h) = refl
+
+-- beside the page that is put behind the others nothing else is found
+pub held_push_else : (hs : List Held) (h : Held) (id : ℕ) → h.page.0 ≢ id → held_at (hs ++ h ∷ []) id ≡ held_at hs id
+held_push_else hs h id ne = held_push hs h id ∙ ap (or_else (held_at hs id)) (one_else h id ne) ∙ or_none (held_at hs id)
+
+-- and it is, where no other has its name
+pub held_push_here : (hs : List Held) (h : Held) (id : ℕ) → h.page.0 ≡ id → held_at hs id ≡ None → held_at (hs ++ h ∷ []) id ≡ Some h
+held_push_here hs h id e none = held_push hs h id ∙ ap (λ o. or_else o (held_at (h ∷ []) id)) none ∙ one_here h id e
+
+pub read_push : (hs : List Held) (h : Held) → read_count (hs ++ h ∷ []) ≡ read_count hs + read_one h.is_read
+read_push [] h = omega arith
+read_push (g ∷ hs) h = omega (arith, read_push hs h)

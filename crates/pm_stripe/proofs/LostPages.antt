@@ -20,7 +20,8 @@ use Rattle.pm_stripe.specs.declared.places.Places.{Places}
 use Rattle.pm_stripe.specs.PlacedPages.{forgotten}
 use Rattle.pm_stripe.specs.Takes.{LosesFrame}
 use Rattle.pm_stripe.specs.Kept.{Kept, held_at, place_of, last_put, page_at, out_of, stays, stays_in, bytes_by, known_by, is_known, IsKeptPage, IsHeldPage, IsFreeFrame, IsHeldIn, IsFreeIn, AreApart, Holds, AreClean, IsAway, TakesPage}
-use Rattle.pm_stripe.proofs.PlacedPages.{get_removed, get_rest, same_page, set_else}
+use Rattle.pm_stripe.specs.HandLaws.{set_else}
+use Rattle.pm_stripe.proofs.PlacedPages.{get_removed, get_rest, same_page}
 use Rattle.pm_stripe.proofs.Hands.{none_named}
 
 pub spare_goes : (f : Flag) → IsSpare f → IsTrue (stays f) → ⊥
@@ -155,6 +156,8 @@ module _ (locks : LockTable) (k : Kept) (id : PageId) (f tag : ℕ) (seat' : Sig
     number = refl;
     free = refl;
     staying = λ j is. record { frame = is.frame; tag = is.tag; entry = is.entry; kept = rest j (stay_name j is.frame is.tag is.entry is.kept is.at is.stay) ∙ is.kept; at = puts is.frame ∙ is.at; stay = is.stay };
+    only = λ j ne. λ i. known_by (held_at k.held j.0) (rest j ne i) (lost.only.entries i) k.number;
+    bare = refl;
     added = λ e. absurd (let q : false ≡ true = e in cc q);
     lost = λ _. (refl, gone);
   }

@@ -10,6 +10,7 @@ use Rattle.std.specs.FinMap.{FinMap}
 use Rattle.std.specs.Ordering.{nat_cmp}
 use Rattle.pm_types.specs.declared.page_id.PageId.{PageId}
 use Rattle.pm_stripe.specs.PlacedPages.{AgreeOnPages, kept_count}
+use Rattle.pm_stripe.specs.HandLaws.{set_here, set_else}
 
 -- what a frame has
 pub at_frame : (pages : List (Option PageId)) (f : ℕ) (o : Option PageId) → o ≡ get_or pages f o → f < length pages → slice_get pages f ≡ Some o
@@ -29,18 +30,6 @@ get_rest m k q ne = map.get-remove nat_cmp_total m k q ∙ ap (λ b. cond b None
 
 pub same_page : (a b : PageId) → a.0 ≡ b.0 → a ≡ b
 same_page a b e = λ i. record { 0 = e i }
-
-pub set_here : {X : Type 0} (xs : List X) (i : ℕ) (x : X) → i < length xs → slice_get (set xs i x) i ≡ Some x
-set_here [] i x lt = absurd (omega (arith, lt))
-set_here (y ∷ ys) zero x lt = refl
-set_here (y ∷ ys) (suc i) x lt = set_here ys i x (omega (arith, lt))
-
-pub set_else : {X : Type 0} (xs : List X) (i j : ℕ) (x : X) → j ≢ i → slice_get (set xs i x) j ≡ slice_get xs j
-set_else [] i j x ne = refl
-set_else (y ∷ ys) zero zero x ne = absurd (ne refl)
-set_else (y ∷ ys) zero (suc j) x ne = refl
-set_else (y ∷ ys) (suc i) zero x ne = refl
-set_else (y ∷ ys) (suc i) (suc j) x ne = set_else ys i j x (λ e. ne (omega (arith, e)))
 
 count_most : (pages : List (Option PageId)) → kept_count pages ≤ length pages
 count_most [] = omega arith

@@ -30,12 +30,13 @@ use Rattle.pm_stripe.specs.declared.places.Places.{Places}
 use Rattle.pm_stripe.specs.ChangedPages.{is_changed, has_bytes}
 use Rattle.pm_stripe.specs.Reads.{Passes}
 use Rattle.pm_stripe.specs.Puts.{is_empty, put_flag, IsCovered, AreCovered, AreStayingCovered, PutsLast}
-use Rattle.pm_stripe.specs.Kept.{Kept, held_at, place_of, last_put, page_at, out_of, stays, bytes_by, page_bytes, known_by, is_known, IsKeptPage, IsHeldPage, IsFreeFrame, IsHeldIn, IsFreeIn, IsKeptIn, IsInHand, Holds, AreClean}
+use Rattle.pm_stripe.specs.Kept.{Kept, held_at, place_of, last_put, page_at, out_of, stays, bytes_by, page_bytes, known_by, is_known, IsKeptPage, IsHeldPage, IsFreeFrame, IsHeldIn, IsFreeIn, IsKeptIn, IsInHand, Holds, AreClean, IsStaying, stays_in}
 use Rattle.std.specs.FinMap as fin
 use Rattle.std.proofs.lemmas.List.{length-set}
 use Rattle.pm_stripe.specs.PlacedPages.{forgotten}
-use Rattle.pm_stripe.proofs.PlacedPages.{same_page, set_else, get_put, get_other, get_removed, get_rest}
-use Rattle.pm_stripe.proofs.Hands.{or_else, held_push, one_here, one_else, found_at}
+use Rattle.pm_stripe.specs.HandLaws.{set_else}
+use Rattle.pm_stripe.proofs.PlacedPages.{same_page, get_put, get_other, get_removed, get_rest}
+use Rattle.pm_stripe.proofs.Hands.{or_else, held_push, held_push_else, one_here, one_else, found_at}
 
 some_bytes : (n : ℕ) → 0 < n → nat_lt 0 n ≡ false → ⊥
 some_bytes n lt is = grind (arith, nat_tests)
@@ -51,7 +52,7 @@ pub some_is : (f : Flag) → is_empty f ≡ false → f ≢ flag.Empty
 some_is f is e = let bad : true ≡ false = ap is_empty (sym e) ∙ is in cc bad
 
 -- a page whose patch covers no byte has the bytes that it had
-not_covered : (o : Option Coverage) (k : ℕ) → is_changed o ≡ false → CoversByte o k → ⊥
+pub not_covered : (o : Option Coverage) (k : ℕ) → is_changed o ≡ false → CoversByte o k → ⊥
 not_covered None k is covers = covers
 not_covered (Some patch) k is covers = no_bytes patch.whole patch.spans k is covers
   where
@@ -138,8 +139,26 @@ module _ (locks : LockTable) (k : Kept) (holds : Holds locks k) (others : List H
   clean_before : (was now : Flag) → IsReachedFrom was now → now ≡ flag.Clean → was ≡ flag.Clean
   clean_before was now r e = ⊎_elim (λ same. same ∙ e) (λ p. absurd (let z = ap code_of e in let a = p.0 in let b = p.1 in omega (arith, z))) r
 
-  empty_before : (was now : Flag) → IsReachedFrom was now → now ≡ flag.Empty → was ≡ flag.Empty
+  pub empty_before : (was now : Flag) → IsReachedFrom was now → now ≡ flag.Empty → was ≡ flag.Empty
   empty_before was now r e = ⊎_elim (λ same. same ∙ e) (λ p. absurd (let z = ap code_of e in let a = p.0 in let b = p.1 in omega (arith, z))) r
+
+  -- what follows a frame that stays does
+  stays_after : (was now : Flag) → IsReachedFrom was now → IsTrue (stays was) → IsTrue (stays now)
+  stays_after was now r stay = ⊎_elim (λ same. subst (λ f. IsTrue (stays f)) same stay) (λ p. by_code now p.0 p.1) r
+    where
+      by_code : (f : Flag) → 2 ≤ code_of was → code_of was ≤ code_of f → IsTrue (stays f)
+      by_code flag.Empty a b = absurd (omega (arith, a, b))
+      by_code flag.Clean a b = absurd (omega (arith, a, b))
+      by_code flag.Dirty a b = refl
+      by_code flag.Due a b = refl
+      by_code flag.Done a b = refl
+
+  -- and so does what is put back of it
+  stays_by : (now : Flag) → Way h now → h.is_read ≡ false → IsTrue (stays h.flag) → IsTrue (stays now)
+  stays_by now (Changed c) r stay = refl
+  stays_by now (GivenUp c l s) r stay = absurd (gone_flags h.flag h.flag s refl stay)
+  stays_by now (Read c read l) r stay = absurd (let bad : true ≡ false = sym read ∙ r in cc bad)
+  stays_by now (Same c read l) r stay = stay
 
   lent_or_stays : (f : Flag) → stays f ≡ false → (h.is_lent ≡ false) ⊎ (stays f ≡ true) → h.is_lent ≡ false
   lent_or_stays f goes = ⊎_elim (λ l. l) (λ s. absurd (let bad : false ≡ true = sym goes ∙ s in cc bad))
@@ -406,12 +425,50 @@ module _ (locks : LockTable) (k : Kept) (holds : Holds locks k) (others : List H
       read = λ i g p. clean.read i g (other_at i g p);
     }
 
+    -- whether another page is at hand is as it was
+    else_known : (j : PageId) → j.0 ≢ h.page.0 → (t : Option (ℕ × ℕ)) → place_of k j ≡ t → known_by None (place_of k' j) seat'.view.entries k.number ≡ known_by None t k.seat.view.entries k.number
+    else_known j ne None is = ap (λ t. known_by None t seat'.view.entries k.number) (rest j ne ∙ is)
+    else_known j ne (Some p) is =
+        ap (λ t. known_by None t seat'.view.entries k.number) (rest j ne ∙ is) ∙ ap stays_in (put_else p.0 (not_here j p.0 p.1 is ne))
+
+    known_same : (j : PageId) → j.0 ≢ h.page.0 → (o : Option Held) → known_by o (place_of k' j) seat'.view.entries k.number ≡ known_by o (place_of k j) k.seat.view.entries k.number
+    known_same j ne (Some g) = refl
+    known_same j ne None = else_known j ne (place_of k j) refl
+
+    known_only : (j : PageId) → j.0 ≢ h.page.0 → is_known k' j ≡ is_known k j
+    known_only j ne =
+        known_same j ne (held_at others j.0)
+        ∙ sym (ap (λ o. known_by o (place_of k j) k.seat.view.entries k.number) (ap (λ hs. held_at hs j.0) list ∙ held_push_else others h j.0 (λ e. ne (sym e))))
+
+    -- what stays is put so that it stays
+    stay_here : IsStaying k h.page → (read : Bool) → h.is_read ≡ read → IsStaying k' h.page
+    stay_here is true r = absurd (let bad : None ≡ Some (is.frame, is.tag) = sym (last_held.from_file r).unkept ∙ is.kept in cc bad)
+    stay_here is false r =
+        let x = last_held.from_frame r in
+        let y = holds.kept h.page h.frame h.tag x.kept in
+        let at : last_put k h.frame ≡ Some is.entry = ap (last_put k) (sym (own_frame is.frame is.tag is.kept)) ∙ is.at in
+        let stay : IsTrue (stays now) = subst (λ f. IsTrue (stays f)) (sym now_is) (stays_by (put_flag h) (way h) r (stays_after is.entry.flag h.flag (x.follows is.entry at) is.stay)) in
+        ⊎_elim
+        (λ p. record { frame = h.frame; tag = h.tag; entry = entry; kept = p.0; at = put_here; stay = stay })
+        (λ p. absurd (let bad : false ≡ true = sym (ap stays p.1) ∙ stay in cc bad))
+        kept_or
+
+    still_stays : (j : PageId) → IsStaying k j → IsStaying k' j
+    still_stays j is = ⊎_elim
+        (λ same. let eq = same_page j h.page same in subst (IsStaying k') (sym eq) (stay_here (subst (IsStaying k) eq is) h.is_read refl))
+        (λ ne. record { frame = is.frame; tag = is.tag; entry = is.entry; kept = rest j ne ∙ is.kept; at = put_else is.frame (not_here j is.frame is.tag is.kept ne) ∙ is.at; stay = is.stay })
+        (cases_eq j.0 h.page.0)
+
     pub puts_last : PutsLast locks k k'
     puts_last = record {
       holds = put_holds;
       last = h;
       held = list;
       free = refl;
+      shape = refl;
+      number = refl;
+      only = known_only;
+      staying = still_stays;
       at_hand = λ file j is. all_same file j (λ same e. absurd (known_kept j is same e));
       clean = λ file clean covered. clean_new file clean;
       told = λ file j clean covered. all_same file j (λ _. given_up file clean covered);

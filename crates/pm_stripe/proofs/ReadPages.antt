@@ -18,8 +18,8 @@ use Rattle.pm_stripe.specs.declared.held.Held.{Held}
 use Rattle.pm_stripe.specs.declared.held.Free.{Free}
 use Rattle.pm_stripe.specs.Reads.{Passes, ReadsPage}
 use Rattle.pm_stripe.specs.Fetches.{IsUnkept, ReadsFrame}
-use Rattle.pm_stripe.specs.Kept.{Kept, held_at, place_of, page_at, out_of, bytes_by, page_bytes, known_by, is_known, IsOutWith, IsFreeFrame, IsHeldIn, IsFreeIn, IsInHand, Holds, HasFrames, IsAway}
-use Rattle.pm_stripe.proofs.Hands.{once_push, or_else, held_push, one_here, one_else, none_named}
+use Rattle.pm_stripe.specs.Kept.{Kept, held_at, place_of, page_at, out_of, bytes_by, page_bytes, known_by, is_known, IsOutWith, IsFreeFrame, IsHeldIn, IsFreeIn, IsInHand, Holds, HasFrames, IsAway, read_one, bare_count}
+use Rattle.pm_stripe.proofs.Hands.{once_push, or_else, held_push, held_push_else, one_here, one_else, none_named, read_push}
 
 -- an empty frame with other bytes
 pub refilled_free : (locks : LockTable) (size n : ℕ) (page : Option (Option PageId)) (held : Option Out) (s : Free) (lease : Leased) → IsSameLease s.lease lease → length lease.bytes ≡ size → IsFreeFrame locks size n page held s → IsFreeFrame locks size n page held (record s { lease = lease })
@@ -97,23 +97,24 @@ module _ (locks : LockTable) (k : Kept) (holds : Holds locks k) (ready : HasFram
       number = refl;
       places = refl;
       seat = refl;
+      only = λ j ne. refl;
+      bare = omega (arith, ap length list, length-append rest (s ∷ []), length-append rest (last ∷ []));
       added = λ e. absurd (not e);
       not_added = λ _. refl;
       absent = reads.absent;
       bad = reads.bad;
     }
 
-  -- the page is in hand
-  module _ (new : Held) (room' : ℕ) (room : OP_PAGES ≤ room') (free_room' : ℕ) (free_room : OP_PAGES ≤ free_room') (away : IsAway k new.page) (unkept : IsUnkept locks k new.page) (frame_is : new.frame ≡ s.frame) (tag_is : new.tag ≡ s.tag) (lease_is : new.lease ≡ lease)
-      (was_is : new.was.value.bytes ≡ lease.bytes) (empty : new.flag ≡ flag.Empty) (is_read : new.is_read ≡ true) (unlent : new.is_lent ≡ false) (bare : new.patch ≡ None) (passes : Passes k.shape new.page lease.bytes) where
+  -- the frame is that of a page in hand
+  module _ (new : Held) (room' : ℕ) (room : OP_PAGES ≤ room') (free_room' : ℕ) (free_room : OP_PAGES ≤ free_room') (away : IsAway k new.page) (frame_is : new.frame ≡ s.frame) (is_read : new.is_read ≡ true) where
     abbrev k₂ : Kept
     k₂ = record k { held = k.held ++ new ∷ []; held_room = room'; free = rest; free_room = free_room' }
 
-    bare_frame : page_at k new.frame ≡ Some None
+    pub bare_frame : page_at k new.frame ≡ Some None
     bare_frame = ap (page_at k) frame_is ∙ last_free.bare
 
-    new_out : IsOutWith (out_of k new.frame) k.shape.page_size k.number new.tag new.flag new.lease
-    new_out =
+    pub new_out : new.tag ≡ s.tag → new.lease ≡ lease → new.flag ≡ flag.Empty → IsOutWith (out_of k new.frame) k.shape.page_size k.number new.tag new.flag new.lease
+    new_out tag_is lease_is empty =
         let x = last_free.out in record {
           out = x.out;
           at = ap (out_of k) frame_is ∙ x.at;
@@ -125,17 +126,8 @@ module _ (locks : LockTable) (k : Kept) (holds : Holds locks k) (ready : HasFram
           long = ap (λ (l : Leased). length l.bytes) lease_is ∙ long;
         }
 
-    new_held : IsHeldIn locks k₂ new
-    new_held = record {
-      own = unkept.own;
-      frame = subst (λ f. f < length locks.ranges) (sym frame_is) last_free.frame;
-      out = new_out;
-      was_long = ap length was_is ∙ long;
-      patched = subst (λ (o : Option Coverage). IfSome o (λ patch. patch.page_size ≡ k.shape.page_size)) (sym bare) tt;
-      unlent = λ _. (ap (λ (l : Leased). l.bytes) lease_is ∙ sym was_is, bare);
-      from_frame = λ e. absurd (let q : true ≡ false = sym is_read ∙ e in cc q);
-      from_file = λ _. record { unkept = unkept.none; bare = bare_frame; empty = empty; passes = λ _. subst (Passes k.shape new.page) (sym was_is) passes };
-    }
+    pub new_frame : new.frame < length locks.ranges
+    new_frame = subst (λ f. f < length locks.ranges) (sym frame_is) last_free.frame
 
     held_other : (i : ℕ) (h : Held) → slice_get k.held i ≡ Some h → h.frame ≢ new.frame
     held_other i h is e = holds.apart.both i (length rest) h s is last_at (e ∙ frame_is)
@@ -149,8 +141,8 @@ module _ (locks : LockTable) (k : Kept) (holds : Holds locks k) (ready : HasFram
         (free_cases p.0 p.1 p.2))
         (holds.apart.all f o is)
 
-    read_holds : Holds locks k₂
-    read_holds = record {
+    pub added_holds : IsHeldIn locks k new → Holds locks k₂
+    added_holds new_held = record {
       shaped = holds.shaped;
       frames = holds.frames;
       many = holds.many;
@@ -178,6 +170,36 @@ module _ (locks : LockTable) (k : Kept) (holds : Holds locks k) (ready : HasFram
     known_push j None (Some h) is = refl
     known_push j None None is = is
 
+    pub added_frames : HasFrames k₂
+    added_frames = record {
+      few = omega (arith, length-append k.held (new ∷ []), away.room);
+      enough = omega (arith, ready.enough, ap length list, length-append rest (s ∷ []), length-append k.held (new ∷ []));
+    }
+
+    pub added_bare : bare_count k₂ ≡ bare_count k
+    added_bare = omega (arith, ap length list, length-append rest (s ∷ []), read_push k.held new, ap read_one is_read)
+
+    pub added_only : (j : PageId) → j.0 ≢ new.page.0 → is_known k₂ j ≡ is_known k j
+    added_only j ne = ap (λ o. known_by o (place_of k j) k.seat.view.entries k.number) (held_push_else k.held new j.0 (λ e. ne (sym e)))
+
+    pub added_known : (j : PageId) → is_known k j ≡ true → is_known k₂ j ≡ true
+    added_known j is = ap (λ o. known_by o (place_of k j) k.seat.view.entries k.number) (held_push k.held new j.0) ∙ known_push j (held_at k.held j.0) (held_at (new ∷ []) j.0) is
+
+  -- the page is in hand
+  module _ (new : Held) (room' : ℕ) (room : OP_PAGES ≤ room') (free_room' : ℕ) (free_room : OP_PAGES ≤ free_room') (away : IsAway k new.page) (unkept : IsUnkept locks k new.page) (frame_is : new.frame ≡ s.frame) (tag_is : new.tag ≡ s.tag) (lease_is : new.lease ≡ lease)
+      (was_is : new.was.value.bytes ≡ lease.bytes) (empty : new.flag ≡ flag.Empty) (is_read : new.is_read ≡ true) (unlent : new.is_lent ≡ false) (bare : new.patch ≡ None) (passes : Passes k.shape new.page lease.bytes) where
+    new_held : IsHeldIn locks k new
+    new_held = record {
+      own = unkept.own;
+      frame = new_frame new room' room free_room' free_room away frame_is is_read;
+      out = new_out new room' room free_room' free_room away frame_is is_read tag_is lease_is empty;
+      was_long = ap length was_is ∙ long;
+      patched = subst (λ (o : Option Coverage). IfSome o (λ patch. patch.page_size ≡ k.shape.page_size)) (sym bare) tt;
+      unlent = λ _. (ap (λ (l : Leased). l.bytes) lease_is ∙ sym was_is, bare);
+      from_frame = λ e. absurd (let q : true ≡ false = sym is_read ∙ e in cc q);
+      from_file = λ _. record { unkept = unkept.none; bare = bare_frame new room' room free_room' free_room away frame_is is_read; empty = empty; passes = λ _. subst (Passes k.shape new.page) (sym was_is) passes };
+    }
+
     -- the new page alone isn't as it was, where it isn't what its file has
     new_bytes : (file : PageId → Option (List ℕ)) (j : PageId) (o : Option Held) → held_at k.held j.0 ≡ o → (known_by o (place_of k j) k.seat.view.entries k.number ≡ true) ⊎ (file new.page ≡ Some new.lease.bytes)
         → bytes_by (or_else o (held_at (new ∷ []) j.0)) (place_of k j) k.seat.view.entries k.number (file j) ≡ bytes_by o (place_of k j) k.seat.view.entries k.number (file j)
@@ -192,21 +214,18 @@ module _ (locks : LockTable) (k : Kept) (holds : Holds locks k) (ready : HasFram
         (λ ne. ap (λ o. bytes_by o (place_of k j) k.seat.view.entries k.number (file j)) (one_else new j.0 ne))
         (cases_eq new.page.0 j.0)
 
-    all_bytes : (file : PageId → Option (List ℕ)) (j : PageId) → (is_known k j ≡ true) ⊎ (file new.page ≡ Some new.lease.bytes) → page_bytes file k₂ j ≡ page_bytes file k j
+    all_bytes : (file : PageId → Option (List ℕ)) (j : PageId) → (is_known k j ≡ true) ⊎ (file new.page ≡ Some new.lease.bytes) → page_bytes file (record k { held = k.held ++ new ∷ []; held_room = room'; free = rest; free_room = free_room' }) j ≡ page_bytes file k j
     all_bytes file j why = ap (λ o. bytes_by o (place_of k j) k.seat.view.entries k.number (file j)) (held_push k.held new j.0) ∙ new_bytes file j (held_at k.held j.0) refl why
 
     stored_bytes : (stored : Option (List ℕ)) → stored ≡ Some lease.bytes → stored ≡ Some new.lease.bytes
     stored_bytes stored e = e ∙ ap (λ (l : Leased). Some l.bytes) (sym lease_is)
 
-    pub was_read : (tells : Type 0) (stored : Option (List ℕ)) → (tells → stored ≡ Some lease.bytes) → ReadsFrame locks k k₂ new.page tells stored (Ok true)
+    pub was_read : (tells : Type 0) (stored : Option (List ℕ)) → (tells → stored ≡ Some lease.bytes) → ReadsFrame locks k (record k { held = k.held ++ new ∷ []; held_room = room'; free = rest; free_room = free_room' }) new.page tells stored (Ok true)
     was_read tells stored told = record {
-      holds = read_holds;
-      frames = record {
-        few = omega (arith, length-append k.held (new ∷ []), away.room);
-        enough = omega (arith, ready.enough, ap length list, length-append rest (s ∷ []), length-append k.held (new ∷ []));
-      };
+      holds = added_holds new room' room free_room' free_room away frame_is is_read new_held;
+      frames = added_frames new room' room free_room' free_room away frame_is is_read;
       keeps = record {
-        known = λ j is. ap (λ o. known_by o (place_of k j) k.seat.view.entries k.number) (held_push k.held new j.0) ∙ known_push j (held_at k.held j.0) (held_at (new ∷ []) j.0) is;
+        known = added_known new room' room free_room' free_room away frame_is is_read;
         at_hand = λ file j is. all_bytes file j (inl is);
         clean = λ t file e is. record {
           kept = is.kept;
@@ -221,6 +240,8 @@ module _ (locks : LockTable) (k : Kept) (holds : Holds locks k) (ready : HasFram
       number = refl;
       places = refl;
       seat = refl;
+      only = added_only new room' room free_room' free_room away frame_is is_read;
+      bare = added_bare new room' room free_room' free_room away frame_is is_read;
       added = λ _. record { page = new; added = refl; page_is = refl; unlent = unlent; bare = bare; passes = inr (subst (λ (l : Leased). Passes k.shape new.page l.bytes) (sym lease_is) passes) };
       not_added = λ no. absurd (no refl);
       absent = λ e. absurd (cc e);

@@ -29,7 +29,8 @@ use Rattle.pm_stripe.specs.PlacedPages.{forgotten}
 use Rattle.pm_stripe.specs.Takes.{OnlyMeets}
 use Rattle.pm_stripe.specs.Steals.{StealsFrame}
 use Rattle.pm_stripe.specs.Kept.{Kept, held_at, place_of, last_put, page_at, out_of, stays, stays_in, bytes_by, page_bytes, known_by, IsKeptPage, IsHeldPage, IsFreeFrame, IsHeldIn, IsFreeIn, IsInHand, AreApart, Holds, AreClean}
-use Rattle.pm_stripe.proofs.PlacedPages.{get_removed, get_rest, set_else, set_here}
+use Rattle.pm_stripe.specs.HandLaws.{set_else, set_here}
+use Rattle.pm_stripe.proofs.PlacedPages.{get_removed, get_rest}
 use Rattle.pm_stripe.proofs.Hands.{once_push}
 use Rattle.pm_stripe.proofs.LostPages.{spare_goes, spare_clean}
 use Rattle.pm_stripe.proofs.Tries.{met_only, two_only}

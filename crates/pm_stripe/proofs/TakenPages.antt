@@ -1,5 +1,5 @@
 -- A page that is taken from the frame that keeps it.
-use Rattle.std.proofs.Common.{◌≡◌, ◌≢◌, ℕ, ◌≤◌, true, false, List, [], ◌∷◌, ◌++◌, ⊎_elim, inl, inr, length, Option, Some, None, sym, refl, ap, subst, ◌∙◌}
+use Rattle.std.proofs.Common.{◌≡◌, ◌≢◌, ℕ, ◌≤◌, true, false, List, [], ◌∷◌, ◌++◌, ⊎_elim, inl, inr, length, Option, Some, None, sym, refl, ap, subst, ◌∙◌, arith}
 use Rattle.std.specs.Prelude.{IfSome, IsTrue, slice_get}
 use Rattle.std.specs.Option.{option_map}
 use Rattle.std.proofs.lemmas.Bool.{cases_eq}
@@ -20,8 +20,8 @@ use Rattle.pm_stripe.specs.declared.held.Held.{Held}
 use Rattle.pm_stripe.specs.declared.held.Free.{Free}
 use Rattle.pm_stripe.specs.Takes.{HasPut, TakesFrame}
 use Rattle.pm_stripe.specs.Reads.{Passes}
-use Rattle.pm_stripe.specs.Kept.{Kept, held_at, place_of, last_put, page_at, out_of, stays, stays_in, bytes_by, page_bytes, known_by, is_known, IsKeptPage, IsHeldPage, IsFreeFrame, IsHeldIn, IsFreeIn, IsInHand, AreApart, Holds, IsAway, TakesPage}
-use Rattle.pm_stripe.proofs.Hands.{once_push, or_else, held_push, one_here, one_else, none_named, stays_or_clean}
+use Rattle.pm_stripe.specs.Kept.{Kept, held_at, place_of, last_put, page_at, out_of, stays, stays_in, bytes_by, page_bytes, known_by, is_known, IsKeptPage, IsHeldPage, IsFreeFrame, IsHeldIn, IsFreeIn, IsInHand, AreApart, Holds, IsAway, TakesPage, read_one}
+use Rattle.pm_stripe.proofs.Hands.{once_push, or_else, held_push, held_push_else, one_here, one_else, none_named, stays_or_clean, read_push}
 
 -- what a frame keeps was last put there
 pub has_put : (locks : LockTable) (k : Kept) (id : PageId) (f tag : ℕ) → Holds locks k → place_of k id ≡ Some (f, tag) → HasPut k.seat.view k.number f tag
@@ -157,6 +157,9 @@ module _ (locks : LockTable) (k : Kept) (new : Held) (seat' : Sight) (room' : �
     number = refl;
     free = refl;
     staying = λ j is. record { frame = is.frame; tag = is.tag; entry = is.entry; kept = is.kept; at = puts is.frame ∙ is.at; stay = is.stay };
+    only = λ j ne. ap (λ o. known_by o (place_of k j) seat'.view.entries k.number) (held_push_else k.held new j.0 (λ e. ne (sym e)))
+        ∙ ap (λ es. known_by (held_at k.held j.0) (place_of k j) es k.number) took.entries;
+    bare = omega (arith, read_push k.held new, ap read_one unread);
     added = λ _. record {
       page = new;
       added = refl;

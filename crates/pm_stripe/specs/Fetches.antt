@@ -1,5 +1,5 @@
 -- What asking for a page does to what a worker keeps.
-use Rattle.std.specs.Prelude.{◌≡◌, ◌⊎◌, ℕ, Bool, true, false, List, Option, None, Result, Ok, IsErrOf}
+use Rattle.std.specs.Prelude.{◌≡◌, ◌≢◌, ◌⊎◌, ℕ, Bool, true, false, List, Option, None, Result, Ok, IsErrOf}
 use Rattle.std.specs.Prelude.{IsSome}
 use Rattle.pm_types.specs.declared.page_id.PageId.{PageId}
 use Rattle.pm_types.specs.declared.fault.PageFault.{PageFault}
@@ -7,7 +7,7 @@ use Rattle.pm_types.specs.declared.fault.PageFault.TheVariants.{BadPage}
 use Rattle.pm_locks.specs.Sight.{LockTable}
 use Rattle.pm_stripe.specs.Reads.{FailsCheck}
 use Rattle.pm_stripe.specs.Kept.{Kept, place_of, IsPageOf, Holds, HasFrames, AreClean, page_bytes, is_known}
-use Rattle.pm_stripe.specs.Kept.{AddsPage, TakesPage, IsStaying, held_at}
+use Rattle.pm_stripe.specs.Kept.{AddsPage, TakesPage, IsStaying, IsAway, held_at, bare_count}
 
 -- a page of the worker's that no frame keeps
 pub record IsUnkept (locks : LockTable) (k : Kept) (id : PageId) : Type 0 where
@@ -33,6 +33,8 @@ pub record ReadsFrame (locks : LockTable) (k k' : Kept) (id : PageId) (tells : T
   pub number : k'.number ≡ k.number
   pub places : k'.places ≡ k.places
   pub seat : k'.seat ≡ k.seat
+  pub only : (j : PageId) → j.0 ≢ id.0 → is_known k' j ≡ is_known k j
+  pub bare : bare_count k' ≡ bare_count k
   pub added : result ≡ Ok true → AddsPage k k' id
   pub not_added : (result ≡ Ok true → ⊥) → k'.held ≡ k.held
   pub absent : result ≡ Ok false → tells → stored ≡ None
@@ -48,7 +50,9 @@ pub record Fetches (locks : LockTable) (k k' : Kept) (id : PageId) (tells : Type
   pub shape : k'.shape ≡ k.shape
   pub number : k'.number ≡ k.number
   pub staying : (j : PageId) → IsStaying k j → IsStaying k' j
-  pub held : (k'.held ≡ k.held) ⊎ AddsPage k k' id
+  pub only : (j : PageId) → j.0 ≢ id.0 → is_known k' j ≡ is_known k j
+  pub bare : bare_count k' ≡ bare_count k
+  pub held : (k'.held ≡ k.held) ⊎ (IsAway k id × AddsPage k k' id)
   pub found : result ≡ Ok true → IsSome (held_at k'.held id.0)
   pub not_found : (result ≡ Ok true → ⊥)
       → (k'.held ≡ k.held) × (held_at k.held id.0 ≡ None) × (place_of k' id ≡ None)

@@ -44,10 +44,23 @@ abbrev pub held_at : List Held → ℕ → Option Held
 held_at [] id = None
 held_at (h ∷ hs) id = if h.page.0 == id then Some h else held_at hs id
 
+-- how many of them were read from their files or made: their frames keep no page yet
+abbrev pub read_one : Bool → ℕ
+read_one true = 1
+read_one false = 0
+
+abbrev pub read_count : List Held → ℕ
+read_count [] = 0
+read_count (h ∷ hs) = read_one h.is_read + read_count hs
+
 -- where it stands, or how many there are
 abbrev pub place_at : List Held → ℕ → ℕ
 place_at [] id = 0
 place_at (h ∷ hs) id = if h.page.0 == id then 0 else suc (place_at hs id)
+
+-- how many of the frames in hand keep no page
+abbrev pub bare_count : Kept → ℕ
+bare_count k = read_count k.held + length k.free
 
 -- the frame that keeps the page, and its tag
 abbrev pub place_of : Kept → PageId → Option (ℕ × ℕ)
@@ -268,5 +281,7 @@ pub record TakesPage (locks : LockTable) (k k' : Kept) (id : PageId) (found : Bo
   pub number : k'.number ≡ k.number
   pub free : k'.free ≡ k.free
   pub staying : (j : PageId) → IsStaying k j → IsStaying k' j
+  pub only : (j : PageId) → j.0 ≢ id.0 → is_known k' j ≡ is_known k j
+  pub bare : bare_count k' ≡ bare_count k
   pub added : found ≡ true → AddsPage k k' id
   pub lost : found ≡ false → (k'.held ≡ k.held) × (place_of k' id ≡ None)

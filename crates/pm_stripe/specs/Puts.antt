@@ -1,5 +1,5 @@
 -- What putting a page back does to what a worker keeps.
-use Rattle.std.specs.Prelude.{◌≡◌, ℕ, Bool, true, false, ◌&&◌, not, if◌then◌else◌, List, []}
+use Rattle.std.specs.Prelude.{◌≡◌, ◌≢◌, ℕ, Bool, true, false, ◌&&◌, not, if◌then◌else◌, List, []}
 use Rattle.std.specs.Prelude.{◌∷◌, ◌++◌, Option, Some, IsTrue}
 use Rattle.std.specs.Prelude.{slice_get}
 use Rattle.pm_types.specs.declared.flag.Flag.{Flag}
@@ -10,7 +10,7 @@ use Rattle.pm_pages.specs.Paged.{CoversByte}
 use Rattle.pm_locks.specs.Sight.{LockTable}
 use Rattle.pm_stripe.specs.declared.held.Held.{Held}
 use Rattle.pm_stripe.specs.ChangedPages.{is_changed}
-use Rattle.pm_stripe.specs.Kept.{Kept, stays, page_bytes, is_known, Holds, AreClean}
+use Rattle.pm_stripe.specs.Kept.{Kept, stays, page_bytes, is_known, Holds, AreClean, IsStaying}
 
 -- a frame with this flag has no page
 abbrev pub is_empty : Flag → Bool
@@ -41,13 +41,16 @@ abbrev pub AreStayingCovered : List Held → Type 0
 AreStayingCovered held = (i : ℕ) (h : Held) → slice_get held i ≡ Some h → IsTrue (stays h.flag) → IsCovered h
 
 -- The last page in hand was put back. What is at hand then is as it was, and where what is Clean is as the
--- files
--- have it, and each page is covered by its patch, all pages are.
+-- files have it, and each page is covered by its patch, all pages are.
 pub record PutsLast (locks : LockTable) (k k' : Kept) : Type 0 where
   pub holds : Holds locks k'
   pub last : Held
   pub held : k.held ≡ k'.held ++ last ∷ []
   pub free : k'.free ≡ k.free
+  pub shape : k'.shape ≡ k.shape
+  pub number : k'.number ≡ k.number
+  pub only : (id : PageId) → id.0 ≢ last.page.0 → is_known k' id ≡ is_known k id
+  pub staying : (id : PageId) → IsStaying k id → IsStaying k' id
   pub at_hand : (file : PageId → Option (List ℕ)) (id : PageId) → IsTrue (is_known k' id)
       → page_bytes file k' id ≡ page_bytes file k id
   pub clean : (file : PageId → Option (List ℕ)) → AreClean file k → AreCovered k.held → AreClean file k'

@@ -37,6 +37,7 @@ pub record IsNewStripe (number : ℕ) (shape : Shape) (frames : ℕ) (files : Bo
   pub held_room : OP_PAGES ≤ vec_capacity s.held
   pub none_free : s.free.items ≡ []
   pub free_room : OP_PAGES ≤ vec_capacity s.free
+  pub sweeps_from : s.next ≡ 0
   pub rests : s.is_running ≡ false
   pub none_logged : s.outbox ≡ []
 
@@ -48,6 +49,7 @@ pub record SameButOutbox (s t : Stripe) : Type 0 where
   pub places : t.places ≡ s.places
   pub held : t.held ≡ s.held
   pub free : t.free ≡ s.free
+  pub next : t.next ≡ s.next
   pub is_running : t.is_running ≡ s.is_running
 
 -- all but whether a checkpoint runs is as it was
@@ -58,6 +60,7 @@ pub record SameButRunning (s t : Stripe) : Type 0 where
   pub places : t.places ≡ s.places
   pub held : t.held ≡ s.held
   pub free : t.free ≡ s.free
+  pub next : t.next ≡ s.next
   pub outbox : t.outbox ≡ s.outbox
 
 -- all but the pages is as it was
@@ -65,6 +68,7 @@ pub record SameButPages (s t : Stripe) : Type 0 where
   pub number : t.number ≡ s.number
   pub shape : t.shape ≡ s.shape
   pub files : t.files ≡ s.files
+  pub next : t.next ≡ s.next
   pub is_running : t.is_running ≡ s.is_running
   pub outbox : t.outbox ≡ s.outbox
 

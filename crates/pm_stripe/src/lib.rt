@@ -3,10 +3,14 @@
 
 mod bound;
 mod fetching;
+mod giving;
 mod held;
+mod lending;
 mod limits;
+mod making;
 mod operation;
 mod outbox;
+mod paging;
 mod places;
 mod putting;
 mod read;

@@ -1,13 +1,22 @@
-//! What operations hand to the log writer. The bytes are written by hand.
+//! What operations hand to the log writer, whose bytes are written by hand; and a worker's pages under code
+//! that works over any.
 
-ghost use Rattle.std.specs.Prelude.{◌≡◌};
+ghost use Rattle.std.specs.Prelude.{◌≡◌, ◌≤◌, IfOk};
+ghost use Rattle.pm_pages.specs.Paged.{AllReadable};
+ghost use Rattle.pm_pages.specs.Edits.{HasMeta};
+ghost use Rattle.pm_pages.specs.SparePages.{TakesPage};
+ghost use Rattle.pm_stripe.specs.Shown.{shown, IsReady, Keeps};
 
+use crate::bound::Bound;
 use crate::held::Held;
 use crate::outbox::Outbox;
 use crate::record::write_page;
+use pm_disk::PageReader;
+use pm_pages::new_page;
 use pm_records::{LogRecord, PUT};
-use pm_types::{PageId, Patch};
+use pm_types::{PageFault, PageId, Patch};
 use std::alloc::{AllocError, Global};
+use std::sync::Wait;
 use std::test::Fail;
 
 // `put 0 a 1`
@@ -148,4 +157,17 @@ fn an_operation_is_kept_until_it_is_sent(rt: HostRuntime) -> Result<(), Fail> {
     assert_eq!(rt; outbox.bytes(), &SEVEN[8..]);
     assert_eq!(rt; outbox.spare(), 1_048_562);
     Ok(())
+}
+
+// Takes a page of a worker's pages for a new use, by code that works over any pages.
+fn new_page_here<'a, Q: Wait, R: PageReader>(pages: &mut Bound<'a, Q, R>) -> Result<u32, PageFault>
+    requires ready { IsReady R.tells R.history R.state pages.old }
+    requires meta { HasMeta (shown R.history R.state pages.old) }
+    requires room { 1 ≤ (shown R.history R.state pages.old).spare }
+    requires readable { AllReadable (shown R.history R.state pages.old) }
+    ensures kept { Keeps R.tells R.history R.state pages.old pages.new }
+    ensures takes { IfOk result
+        (TakesPage R.tells (shown R.history R.state pages.old) (shown R.history R.state pages.new) 1) }
+{
+    new_page(pages)
 }

@@ -4,7 +4,7 @@ use Rattle.pm_types.specs.declared.shape.Shape.{Shape}
 use Rattle.pm_stripe.specs.Kept.{place_at}
 use Rattle.pm_stripe.specs.Reads.{stored}
 use Rattle.pm_stripe.specs.Stripes.{kept, file_of}
-use Rattle.pm_stripe.proofs.Fetched.{is_away, still_away, had, at_home, nowhere, then_read, decided}
+use Rattle.pm_stripe.proofs.Fetched.{is_away, still_away, had, at_home, nowhere, then_read, decided, may_read_lost}
 use Rattle.pm_stripe.proofs.stripe.Stripe.fetch.Goals as goal
 
 pub returns-then-place-len-clause-fetches : goal.returns-then-place-len-clause-fetches
@@ -40,6 +40,11 @@ read_page-requires-clause-away g c =
     let at : c.place.result ≡ place_at b.held.items c.args.page.0 = c.place.ensures ∙ ap (λ hs. place_at hs c.args.page.0) c.deref.ensures.value in
     let away = is_away (kept b c.args.seat.now) c.args.page (omega (arith, at, c.len.ensures, c.if-place-len.false)) c.requires.room in
     still_away (kept b c.args.seat.now) (kept c.take_home.new.self c.take_home.new.seat) c.args.page (c.if-take_home.ensures.takes.takes.lost refl).0 away
+
+pub read_page-requires-clause-allowed : goal.read_page-requires-clause-allowed
+read_page-requires-clause-allowed g c =
+    let x = c.if-take_home.ensures.takes.takes in
+    may_read_lost c.args.locks.now.workers (g.R.Device.state c.args.reader.now) (kept c.args.self.now c.args.seat.now) (kept c.take_home.new.self c.take_home.new.seat) c.args.page c.requires.reads c.requires.own x.staying (x.lost refl).1
 
 pub returns-clause-fetches : goal.returns-clause-fetches
 returns-clause-fetches g c =
