@@ -7,8 +7,9 @@ use Rattle.pm_disk.specs.Worlds.{World, with_said}
 use Rattle.pm_disk.specs.Moments.{History, IsHistory, AllMoments, Says}
 use Rattle.pm_disk.proofs.Chain.{started, says, weaker}
 use Rattle.pm_model.specs.declared.line.Line.{Line}
-use Rattle.pm_model.specs.declared.reply.Reply.{Reply}
 use Rattle.pm_model.specs.Eval.{Pairs, replies_to, after_all, accepted}
+use Rattle.pm_model.specs.ReplyLists.{ReplyList, no_replies, with_replies}
+use Rattle.pm_model.proofs.Runs.{length-replies_to}
 use Rattle.pm_script.specs.Reading.{OnlyTakes}
 use Rattle.pm_script.specs.Texts.{texts_of}
 use Rattle.pm_frame.specs.Frames.{Frame}
@@ -20,7 +21,7 @@ use Rattle.pm_engine.proofs.DoneLines.{done_keeps, rest_grows}
 use Rattle.pm_top.specs.declared.run.Run.{Run}
 use Rattle.pm_top.specs.ScriptOrder.{CrashHoldsAcknowledged}
 use Rattle.pm_top.specs.ScriptOrder.{HasFailed, HasNoMemory}
-use Rattle.pm_top.specs.Runs.{IsAtRestSince, Progress}
+use Rattle.pm_top.specs.Runs.{HasBatchRoom, IsAtRestSince, Progress}
 use Rattle.pm_top.proofs.Lasting.{keeps_rest, keeps_doing, keeps_saying, keeps_said}
 use Rattle.pm_top.proofs.Progressing.{failed_unsaid, memory_unsaid}
 
@@ -112,9 +113,16 @@ module _ {T E : Type 0} (tells : Type 0) (old mid : History) (run : Run) (later 
       (keeps_said wanted run.engine.shape (after_all run.engine.shape lines run.engine.map) [] (take k text) mid.world keeps))
 
 -- the replies to a batch that was done
-pub replied_all : {T E : Type 0} {x : T} (before now : List Reply) (shape : Shape) (pairs : Pairs) (lines : List Line) → HasReplied {T = T} {E = E} shape pairs lines before now (Ok x) → before ≡ [] → now ≡ replies_to shape lines pairs
-replied_all before now shape pairs lines replied none =
+pub replied_all : {T E : Type 0} {x : T} (before now : ReplyList) (room : ℕ) (shape : Shape) (pairs : Pairs) (lines : List Line) → HasReplied {T = T} {E = E} shape pairs lines before now (Ok x) → before ≡ no_replies room
+    → now ≡ with_replies (replies_to shape lines pairs) (no_replies room)
+replied_all before now room shape pairs lines replied none =
     replied.replies
-    ∙ ap (λ n. before ++ replies_to shape (take n lines) pairs) replied.all
-    ∙ ap (λ ls. before ++ replies_to shape ls pairs) (take_all (length lines) lines (omega arith))
-    ∙ ap (λ b. b ++ replies_to shape lines pairs) none
+    ∙ ap (λ n. with_replies (replies_to shape (take n lines) pairs) before) replied.all
+    ∙ ap (λ ls. with_replies (replies_to shape ls pairs) before) (take_all (length lines) lines (omega arith))
+    ∙ ap (with_replies (replies_to shape lines pairs)) none
+
+-- their list has room for as many as before
+pub room_again : (old now : ReplyList) (shape : Shape) (pairs : Pairs) (lines : List Line) → length lines ≤ BATCH_LINES_MAX → HasBatchRoom old
+    → now ≡ with_replies (replies_to shape lines pairs) (no_replies (length old.replies + old.spare)) → HasBatchRoom now
+room_again old now shape pairs lines few room is =
+    omega (arith, ap (λ (l : ReplyList). length l.replies) is, ap (λ (l : ReplyList). l.spare) is, length-replies_to shape lines pairs, few, room)

@@ -16,7 +16,9 @@ pub mod Ordered
 pub mod Progressing
 pub mod Refusing
 pub mod Says
+pub mod ScriptCauses
 pub mod ServedCaches
 pub mod ServedLines
 pub mod Serving
 pub mod TakenLines
+pub mod WrittenTexts

@@ -1,6 +1,6 @@
 -- How far a run has come.
 use Rattle.std.specs.Prelude.{◌≡◌, ◌+◌, ◌≤◌, ◌<◌, ◌^◌, ℕ, List, [], ◌++◌, length, Result, OnOk, IsErrOf}
-use Rattle.pm_types.specs.declared.limits.TheConstants.{LINES_MAX}
+use Rattle.pm_types.specs.declared.limits.TheConstants.{LINES_MAX, BATCH_LINES_MAX}
 use Rattle.pm_types.specs.declared.fault.StoreFault.{StoreFault}
 use Rattle.pm_types.specs.declared.fault.StoreFault.TheVariants.{Failed, Memory}
 use Rattle.pm_types.specs.declared.shape.Shape.{Shape}
@@ -8,6 +8,7 @@ use Rattle.pm_disk.specs.Moments.{History, AllMoments}
 use Rattle.pm_disk.specs.Worlds.{World}
 use Rattle.pm_model.specs.declared.line.Line.{Line}
 use Rattle.pm_model.specs.Eval.{Pairs, replies_to, after_all, accepted}
+use Rattle.pm_model.specs.ReplyLists.{ReplyList}
 use Rattle.pm_script.specs.Reading.{Unread, KnowsEnd}
 use Rattle.pm_script.specs.Texts.{texts_of}
 use Rattle.pm_segments.specs.Ends.{LogEnd, EndsThere}
@@ -38,10 +39,16 @@ pub record OnlyAnswers (most : ℕ) (old new : World) : Type 0 where
   pub kept : KeepsFiles most old new
   pub input : new.input ≡ old.input
 
--- so many lines more are counted, and the log entered at most a segment for each
-pub record CountsLines (old new : Run) (count : ℕ) : Type 0 where
+-- once it is cleared the list has room for the replies to a batch
+abbrev pub HasBatchRoom : ReplyList → Type 0
+HasBatchRoom list = BATCH_LINES_MAX ≤ length list.replies + list.spare
+
+-- So many lines more are counted, and the log entered at most a segment for each. The list of their replies
+-- has room for those of a batch again.
+pub record CountsLines (old new : Run) (replies : ReplyList) (count : ℕ) : Type 0 where
   pub counted : new.lines ≡ old.lines + count
   pub rises : new.engine.log.end.seg ≤ old.engine.log.end.seg + count
+  pub room : HasBatchRoom replies
 
 -- A run goes on with a store of the same shape, and its order has what it had.
 pub record KeepsRun (before now : Run) : Type 0 where
@@ -73,12 +80,15 @@ pub record LinesAreAnswered {T : Type 0} (start now : World) (left : List Line) 
   pub done : OnOk result (Progress start now left shape pairs run)
   pub fault : FaultIs start now shape pairs run result
 
--- What the lines of a batch count for: a script that goes on has some, and not too many.
-pub record CountsBatch (continuation : Continuation) (input : Unread) (before now : Run) : Type 0 where
+-- What the lines of a batch count for: a script that goes on has some, and not too many. The list of their
+-- replies has room for those of a batch again.
+pub record CountsBatch (continuation : Continuation) (input : Unread) (replies : ReplyList)
+    (before now : Run) : Type 0 where
   pub few : now.lines ≤ LINES_MAX
   pub same : continuation ≡ then_comes.More → now.lines ≡ input.lines
   pub some : continuation ≡ then_comes.More → before.lines < now.lines
   pub rises : now.engine.log.end.seg + before.lines ≤ before.engine.log.end.seg + now.lines
+  pub room : HasBatchRoom replies
 
 -- At no moment was another file than the log changed, nor a segment above this one. Where no fault
 -- came, the log ends there, and what is known of the input's end holds.

@@ -26,9 +26,10 @@ use crate::report::Report;
 use crate::run::{Run, Stop};
 use crate::status::Status;
 use crate::words::folder_of;
+use pm_config::Config;
 use pm_disk::Host;
 use pm_engine::Engine;
-use pm_types::{OpenFault, Shape, StoreFault};
+use pm_types::{OpenFault, StoreFault};
 use std::alloc::Global;
 
 /// Does what the words of a command line ask for.
@@ -141,7 +142,7 @@ fn run_configured<H: Host>(alloc: Global, host: &mut H) -> Outcome
     ensures cause { HasRunCause result.status (H.state host.old) (H.state host.new) }
 {
     match read_config(alloc, host) {
-        Ok(config) => run(alloc, host, config.shape()),
+        Ok(config) => run(alloc, host, &config),
         Err(ConfigError::Failed) => Outcome::without(alloc, Status::Failed),
         Err(ConfigError::Memory) => Outcome::without(alloc, Status::Memory),
         Err(ConfigError::Refused(field)) => {
@@ -152,10 +153,10 @@ fn run_configured<H: Host>(alloc: Global, host: &mut H) -> Outcome
 
 // Opens the store and answers the script of the input, or names the field that differs or the
 // record that is bad.
-fn run<H: Host>(alloc: Global, host: &mut H, wanted: Shape) -> Outcome
+fn run<H: Host>(alloc: Global, host: &mut H, config: &Config) -> Outcome
     requires usable { IsUsable (H.state host.old) }
-    requires within_limits { IsShape wanted }
-    requires asked { H.tells → AsksFor (H.history host.old).world wanted }
+    requires within_limits { IsShape config.now.shape }
+    requires asked { H.tells → AsksFor (H.history host.old).world config.now.shape }
     ensures run { H.tells →
         RunHolds (H.history host.old) (H.history host.new) result.status result.lines result.order.items }
     ensures crash { H.tells →
@@ -164,7 +165,7 @@ fn run<H: Host>(alloc: Global, host: &mut H, wanted: Shape) -> Outcome
         (H.history host.old).world) }
     ensures cause { HasRunCause result.status (H.state host.old) (H.state host.new) }
 {
-    match Engine::open_store(alloc, host, wanted) {
+    match Engine::open_store(alloc, host, config) {
         Ok(engine) => answer_script(alloc, host, engine),
         Err(OpenFault::Shape(field)) => {
             Outcome::without(alloc, print_config_fault(alloc, host, field))

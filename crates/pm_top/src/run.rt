@@ -21,15 +21,15 @@ ghost use Rattle.pm_top.specs.ScriptOrder.{CrashHoldsAcknowledged};
 ghost use Rattle.pm_top.specs.ScriptOrder.{HasFailed, HasNoMemory, StopIs};
 ghost use Rattle.pm_top.specs.Runs.{CanRun, KeepsFiles, Progress, SameConsole, OnlyAnswers, KeepsRun};
 ghost use Rattle.pm_top.specs.Runs.{CountsBatch, CountsLines, IsOpenAfter, LinesAreAnswered, FaultIs, IsAtRestSince};
-ghost use Rattle.pm_top.specs.Runs.{BatchIsAnswered, LeavesRun};
+ghost use Rattle.pm_top.specs.Runs.{BatchIsAnswered, LeavesRun, HasBatchRoom};
 ghost use Rattle.pm_top.specs.Served.{script_of};
 
 use crate::batch::{Continuation, next_batch};
 use pm_disk::{Failed, Host};
 use pm_engine::Engine;
-use pm_model::{Line, Reply};
+use pm_model::{Line, Replies};
 use pm_script::{Lines, print_reply};
-use pm_types::StoreFault;
+use pm_types::{BATCH_LINES_MAX, StoreFault};
 use std::alloc::{AllocError, Global};
 
 /// Where a run stops.
@@ -97,8 +97,10 @@ impl Run {
         ensures cause { HasPlainFault (H.state host.old) (H.state host.new) result }
     {
         let mut input = Lines::new(alloc)?;
+        // Its memory serves all batches, so that a batch that has begun takes none for its replies.
+        let mut replies = Replies::with_room(alloc, BATCH_LINES_MAX)?;
         'batches: loop {
-            match self.answer_batch(alloc, host, &mut input)? {
+            match self.answer_batch(alloc, host, &mut input, &mut replies)? {
                 Continuation::More => {}
                 Continuation::End => {
                     self.engine.close(host)?;
@@ -115,14 +117,17 @@ impl Run {
         alloc: Global,
         host: &mut H,
         input: &mut Lines,
+        replies: &mut Replies,
     ) -> Result<Continuation, StoreFault>
         requires usable { IsUsable (H.state host.old) }
         requires counted { self.old.lines ≡ input.old.lines }
         requires few { self.old.lines ≤ most_lines }
+        requires room { HasBatchRoom replies.old }
         requires end { H.tells → EndsThere self.old.engine.log (H.history host.old).world }
         requires input_end { H.tells → KnowsEnd input.old (H.history host.old).world }
         ensures keeps { KeepsRun self.old self.new }
-        ensures counted { IfOk result (λ continuation. CountsBatch continuation input.new self.old self.new) }
+        ensures counted { IfOk result
+            (λ continuation. CountsBatch continuation input.new replies.new self.old self.new) }
         ensures open { H.tells → IsOpenAfter (self.old.engine.log.end.seg + 2048)
             (H.history host.old) (H.history host.new) self.new.engine.log input.new result }
 
@@ -147,8 +152,8 @@ impl Run {
         ensures cause { HasPlainFault (H.state host.old) (H.state host.new) result }
     {
         let batch = next_batch(alloc, host, input)?;
-        self.answer_lines(alloc, host, &batch.lines)?;
-        self.answer_lines(alloc, host, &batch.alone)?;
+        self.answer_lines(alloc, host, &batch.lines, replies)?;
+        self.answer_lines(alloc, host, &batch.alone, replies)?;
         Ok(batch.continuation)
     }
 
@@ -158,14 +163,16 @@ impl Run {
         alloc: Global,
         host: &mut H,
         lines: &[Line],
+        replies: &mut Replies,
     ) -> Result<(), StoreFault>
         requires usable { IsUsable (H.state host.old) }
         requires caches { All HasCache lines.now }
         requires few { length lines.now ≤ most_batch }
+        requires room { HasBatchRoom replies.old }
         requires numbers { self.old.lines + length lines.now ≤ most_lines }
         requires end { H.tells → EndsThere self.old.engine.log (H.history host.old).world }
         ensures keeps { KeepsRun self.old self.new }
-        ensures counts { OnOk result (CountsLines self.old self.new (length lines.now)) }
+        ensures counts { OnOk result (CountsLines self.old self.new replies.new (length lines.now)) }
         ensures end { H.tells → OnOk result (EndsThere self.new.engine.log (H.history host.new).world) }
         ensures only_answers { H.tells → AllMoments (H.history host.old) (H.history host.new)
             (OnlyAnswers (self.old.engine.log.end.seg + length lines.now) (H.history host.old).world) }
@@ -193,10 +200,10 @@ impl Run {
         if lines.is_empty() {
             return Ok(());
         }
-        let mut replies = Vec::with_capacity(alloc, lines.len())?;
+        replies.clear(alloc)?;
         self.engine
-            .batch(alloc, host, lines, self.lines as u32 + 1, &mut replies)?;
-        write_replies(&replies, &mut self.text)?;
+            .batch(alloc, host, lines, self.lines as u32 + 1, replies)?;
+        write_replies(replies, &mut self.text)?;
         print_replies(&self.engine, host, &self.text)?;
         self.lines += lines.len() as u64;
         Ok(())
@@ -214,12 +221,12 @@ fn print_replies<H: Host>(engine: &Engine, host: &mut H, text: &[u8]) -> Result<
 }
 
 // Writes the texts of replies in place of the bytes.
-fn write_replies(replies: &[Reply], into: &mut Vec<u8>) -> Result<(), AllocError>
-    ensures { OnOk result (into.new.items ≡ texts_of replies.now) }
+fn write_replies(replies: &Replies, into: &mut Vec<u8>) -> Result<(), AllocError>
+    ensures { OnOk result (into.new.items ≡ texts_of replies.now.replies) }
 {
     into.clear();
-    'each: for reply in replies {
-        print_reply(reply, into)?;
+    'each: for i in 0..replies.len() {
+        print_reply(replies.get(i), into)?;
     }
     Ok(())
 }

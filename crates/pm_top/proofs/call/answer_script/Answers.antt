@@ -3,6 +3,7 @@ use Rattle.std.specs.Prelude.{codes}
 use Rattle.std.proofs.lemmas.List.{length-map}
 use Rattle.pm_types.specs.declared.limits.TheConstants.{LINES_MAX}
 use Rattle.pm_disk.specs.Moments.{AllMoments}
+use Rattle.pm_disk.specs.States.{IsLaterState}
 use Rattle.pm_disk.specs.Worlds.{World}
 use Rattle.pm_disk.proofs.Chain.{at_last}
 use Rattle.pm_script.specs.Lines.{lines_of}
@@ -11,12 +12,14 @@ use Rattle.pm_top.specs.declared.status.Status.{Status}
 use Rattle.pm_top.specs.ScriptOrder.{CrashHoldsAcknowledged}
 use Rattle.pm_top.specs.ScriptOrder.{OutcomeIs, StopIs, IsDone, IsStopped}
 use Rattle.pm_top.specs.Promises.{SaysPart}
+use Rattle.pm_top.specs.RunCauses.{HasScriptCause}
 use Rattle.pm_top.specs.Runs.{CanRun, KeepsFiles, LeavesStore}
 use Rattle.pm_top.specs.Served.{line_of}
 use Rattle.pm_top.specs.Statuses.{code_of}
 use Rattle.pm_top.proofs.KeptLogs.{keep_say, keep_then}
 use Rattle.pm_top.proofs.Leaving.{leaves_store}
 use Rattle.pm_top.proofs.PrintedLimit.{ends_long, limit_moments}
+use Rattle.pm_top.proofs.ScriptCauses.{ends_done, ends_failed, ends_limit, ends_memory}
 use Rattle.pm_top.proofs.call.answer_script.Goals.{in-Ok-Done, in-Ok-Limit, in-Err-Failed, in-Err-Memory}
 use Rattle.pm_top.proofs.call.answer_script.Goals as goal
 
@@ -116,3 +119,28 @@ returns-clause-files g c t =
       | in-Err-Memory w ↦ subst (λ h. AllMoments old (g.H.Device.history h) K) (sym w.host-is) served
     ] in
     subst (λ (e : Running). AllMoments old (g.H.Device.history c.match-serve.host) (KeepsFiles (e.log.end.seg + 8388608) old.world)) c.new-run.ensures.engine all
+
+pub returns-clause-cause : goal.returns-clause-cause
+returns-clause-cause g c =
+    let at = g.H.Device.state in
+    let old = at c.args.host.now in
+    let mid = at c.serve.new.host in
+    let served : IsLaterState old mid = record { later = c.serve.ensures.cause.later; access = c.serve.ensures.cause.access; usable = c.serve.ensures.cause.usable } in
+    let ended : HasScriptCause c.match-serve.status old (at c.match-serve.host) = elim c.match-serve.branch [
+      | in-Ok-Done w ↦
+          subst (λ s. HasScriptCause s old (at c.match-serve.host)) (sym w.status-is)
+          (subst (λ h. HasScriptCause Status.Done old (at h)) (sym w.host-is) (ends_done old mid served))
+      | in-Ok-Limit w ↦
+          let told = w.print_limit_fault-status in
+          subst (λ s. HasScriptCause s old (at c.match-serve.host)) (sym w.status-is)
+          (subst (λ h. HasScriptCause told.result old (at h)) (sym w.host-is)
+          (ends_limit told.result old mid (at told.new.host) served told.ensures.cases told.ensures.failed told.ensures.state))
+      | in-Err-Failed w ↦
+          subst (λ s. HasScriptCause s old (at c.match-serve.host)) (sym w.status-is)
+          (subst (λ h. HasScriptCause Status.Failed old (at h)) (sym w.host-is)
+          (ends_failed old mid (w.in-Err-Failed.ensures.cause.failed (ap Err w.in-Err-Failed.field-0-is)) served))
+      | in-Err-Memory w ↦
+          subst (λ s. HasScriptCause s old (at c.match-serve.host)) (sym w.status-is)
+          (subst (λ h. HasScriptCause Status.Memory old (at h)) (sym w.host-is) (ends_memory old mid served))
+    ] in
+    ended

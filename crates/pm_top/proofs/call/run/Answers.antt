@@ -35,7 +35,7 @@ pub returns-in-Ok-clause-run : goal.returns-in-Ok-clause-run
 returns-in-Ok-clause-run g c t =
     let old = g.H.Device.history c.args.host.now in
     let mid = g.H.Device.history c.open_store.new.host in
-    let wanted = c.args.wanted in
+    let wanted = c.args.config.now.shape in
     let asks = c.requires.asked t in
     let only = at_last old mid (ChangesLog old.world) (g.H.Device.sound c.open_store.new.host t) ((c.open_store.ensures.meanwhile t).log_only) in
     let new = g.H.Device.history c.answer_script.new.host in
@@ -66,7 +66,7 @@ pub returns-in-Ok-clause-crash : goal.returns-in-Ok-clause-crash
 returns-in-Ok-clause-crash g c t =
     let old = g.H.Device.history c.args.host.now in
     let mid = g.H.Device.history c.open_store.new.host in
-    let wanted = c.args.wanted in
+    let wanted = c.args.config.now.shape in
     let asks = c.requires.asked t in
     let only = at_last old mid (ChangesLog old.world) (g.H.Device.sound c.open_store.new.host t) ((c.open_store.ensures.meanwhile t).log_only) in
     let new = g.H.Device.history c.answer_script.new.host in
@@ -95,7 +95,7 @@ pub returns-in-Ok-clause-files : goal.returns-in-Ok-clause-files
 returns-in-Ok-clause-files g c t =
     let old = g.H.Device.history c.args.host.now in
     let mid = g.H.Device.history c.open_store.new.host in
-    let wanted = c.args.wanted in
+    let wanted = c.args.config.now.shape in
     let asks = c.requires.asked t in
     let only = at_last old mid (ChangesLog old.world) (g.H.Device.sound c.open_store.new.host t) ((c.open_store.ensures.meanwhile t).log_only) in
     let new = g.H.Device.history c.answer_script.new.host in
@@ -108,7 +108,7 @@ pub returns-in-Err-Shape-clause-run : goal.returns-in-Err-Shape-clause-run
 returns-in-Err-Shape-clause-run g c t =
     let old = g.H.Device.history c.args.host.now in
     let mid = g.H.Device.history c.open_store.new.host in
-    let wanted = c.args.wanted in
+    let wanted = c.args.config.now.shape in
     let asks = c.requires.asked t in
     let only = at_last old mid (ChangesLog old.world) (g.H.Device.sound c.open_store.new.host t) ((c.open_store.ensures.meanwhile t).log_only) in
     let printed = c.print_config_fault in
@@ -125,7 +125,7 @@ pub returns-in-Err-Shape-clause-crash : goal.returns-in-Err-Shape-clause-crash
 returns-in-Err-Shape-clause-crash g c t =
     let old = g.H.Device.history c.args.host.now in
     let mid = g.H.Device.history c.open_store.new.host in
-    let wanted = c.args.wanted in
+    let wanted = c.args.config.now.shape in
     let asks = c.requires.asked t in
     let only = at_last old mid (ChangesLog old.world) (g.H.Device.sound c.open_store.new.host t) ((c.open_store.ensures.meanwhile t).log_only) in
     let printed = c.print_config_fault in
@@ -140,7 +140,7 @@ pub returns-in-Err-Shape-clause-files : goal.returns-in-Err-Shape-clause-files
 returns-in-Err-Shape-clause-files g c t =
     let old = g.H.Device.history c.args.host.now in
     let mid = g.H.Device.history c.open_store.new.host in
-    let wanted = c.args.wanted in
+    let wanted = c.args.config.now.shape in
     let asks = c.requires.asked t in
     let only = at_last old mid (ChangesLog old.world) (g.H.Device.sound c.open_store.new.host t) ((c.open_store.ensures.meanwhile t).log_only) in
     let printed = c.print_config_fault in
@@ -155,7 +155,7 @@ pub returns-in-Err-Store-Failed-clause-run : goal.returns-in-Err-Store-Failed-cl
 returns-in-Err-Store-Failed-clause-run g c t =
     let old = g.H.Device.history c.args.host.now in
     let mid = g.H.Device.history c.open_store.new.host in
-    let wanted = c.args.wanted in
+    let wanted = c.args.config.now.shape in
     let asks = c.requires.asked t in
     let only = at_last old mid (ChangesLog old.world) (g.H.Device.sound c.open_store.new.host t) ((c.open_store.ensures.meanwhile t).log_only) in
     let outcome = c.without-in-Err-Store-Failed.result in
@@ -166,7 +166,7 @@ pub returns-in-Err-Store-Failed-clause-crash : goal.returns-in-Err-Store-Failed-
 returns-in-Err-Store-Failed-clause-crash g c t =
     let old = g.H.Device.history c.args.host.now in
     let mid = g.H.Device.history c.open_store.new.host in
-    let wanted = c.args.wanted in
+    let wanted = c.args.config.now.shape in
     let asks = c.requires.asked t in
     let only = at_last old mid (ChangesLog old.world) (g.H.Device.sound c.open_store.new.host t) ((c.open_store.ensures.meanwhile t).log_only) in
     let order = c.without-in-Err-Store-Failed.result.order.items in
@@ -181,7 +181,7 @@ pub returns-in-Err-Store-Failed-clause-files : goal.returns-in-Err-Store-Failed-
 returns-in-Err-Store-Failed-clause-files g c t =
     let old = g.H.Device.history c.args.host.now in
     let mid = g.H.Device.history c.open_store.new.host in
-    let wanted = c.args.wanted in
+    let wanted = c.args.config.now.shape in
     let asks = c.requires.asked t in
     let only = at_last old mid (ChangesLog old.world) (g.H.Device.sound c.open_store.new.host t) ((c.open_store.ensures.meanwhile t).log_only) in
     log_calls old mid ((c.open_store.ensures.meanwhile t).log_only)
@@ -190,7 +190,7 @@ pub returns-in-Err-Store-Memory-clause-run : goal.returns-in-Err-Store-Memory-cl
 returns-in-Err-Store-Memory-clause-run g c t =
     let old = g.H.Device.history c.args.host.now in
     let mid = g.H.Device.history c.open_store.new.host in
-    let wanted = c.args.wanted in
+    let wanted = c.args.config.now.shape in
     let asks = c.requires.asked t in
     let only = at_last old mid (ChangesLog old.world) (g.H.Device.sound c.open_store.new.host t) ((c.open_store.ensures.meanwhile t).log_only) in
     let outcome = c.without-in-Err-Store-Memory.result in
@@ -201,7 +201,7 @@ pub returns-in-Err-Store-Memory-clause-crash : goal.returns-in-Err-Store-Memory-
 returns-in-Err-Store-Memory-clause-crash g c t =
     let old = g.H.Device.history c.args.host.now in
     let mid = g.H.Device.history c.open_store.new.host in
-    let wanted = c.args.wanted in
+    let wanted = c.args.config.now.shape in
     let asks = c.requires.asked t in
     let only = at_last old mid (ChangesLog old.world) (g.H.Device.sound c.open_store.new.host t) ((c.open_store.ensures.meanwhile t).log_only) in
     let order = c.without-in-Err-Store-Memory.result.order.items in
@@ -216,7 +216,7 @@ pub returns-in-Err-Store-Memory-clause-files : goal.returns-in-Err-Store-Memory-
 returns-in-Err-Store-Memory-clause-files g c t =
     let old = g.H.Device.history c.args.host.now in
     let mid = g.H.Device.history c.open_store.new.host in
-    let wanted = c.args.wanted in
+    let wanted = c.args.config.now.shape in
     let asks = c.requires.asked t in
     let only = at_last old mid (ChangesLog old.world) (g.H.Device.sound c.open_store.new.host t) ((c.open_store.ensures.meanwhile t).log_only) in
     log_calls old mid ((c.open_store.ensures.meanwhile t).log_only)
@@ -225,7 +225,7 @@ pub returns-in-Err-Store-BadRecord-clause-run : goal.returns-in-Err-Store-BadRec
 returns-in-Err-Store-BadRecord-clause-run g c t =
     let old = g.H.Device.history c.args.host.now in
     let mid = g.H.Device.history c.open_store.new.host in
-    let wanted = c.args.wanted in
+    let wanted = c.args.config.now.shape in
     let asks = c.requires.asked t in
     let only = at_last old mid (ChangesLog old.world) (g.H.Device.sound c.open_store.new.host t) ((c.open_store.ensures.meanwhile t).log_only) in
     let printed = c.print_record_fault in
@@ -245,7 +245,7 @@ pub returns-in-Err-Store-BadRecord-clause-crash : goal.returns-in-Err-Store-BadR
 returns-in-Err-Store-BadRecord-clause-crash g c t shape pairs start =
     let old = g.H.Device.history c.args.host.now in
     let mid = g.H.Device.history c.open_store.new.host in
-    let wanted = c.args.wanted in
+    let wanted = c.args.config.now.shape in
     let asks = c.requires.asked t in
     let only = at_last old mid (ChangesLog old.world) (g.H.Device.sound c.open_store.new.host t) ((c.open_store.ensures.meanwhile t).log_only) in
     let printed = c.print_record_fault in
@@ -262,7 +262,7 @@ pub returns-in-Err-Store-BadRecord-clause-files : goal.returns-in-Err-Store-BadR
 returns-in-Err-Store-BadRecord-clause-files g c t =
     let old = g.H.Device.history c.args.host.now in
     let mid = g.H.Device.history c.open_store.new.host in
-    let wanted = c.args.wanted in
+    let wanted = c.args.config.now.shape in
     let asks = c.requires.asked t in
     let only = at_last old mid (ChangesLog old.world) (g.H.Device.sound c.open_store.new.host t) ((c.open_store.ensures.meanwhile t).log_only) in
     let printed = c.print_record_fault in

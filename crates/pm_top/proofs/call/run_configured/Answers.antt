@@ -17,7 +17,7 @@ run-requires-clause-asked g c _ _ t =
     let mid = g.H.Device.history c.read_config.new.host in
     let first = c.read_config.ensures.same t in
     let same : mid.world ≡ old.world = at_last old mid (IsSame old.world) (g.H.Device.sound c.read_config.new.host t) first in
-    subst (λ w. AsksFor w c.shape.result) (sym same) (subst (AsksFor old.world) (sym c.shape.ensures.asked) (c.in-Ok.ensures.asked t))
+    subst (λ w. AsksFor w c.in-Ok.config.shape) (sym same) (c.in-Ok.ensures.asked t)
 
 pub returns-in-Ok-clause-run : goal.returns-in-Ok-clause-run
 returns-in-Ok-clause-run g c t =

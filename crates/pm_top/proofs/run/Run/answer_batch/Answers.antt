@@ -237,6 +237,7 @@ returns-clause-counted g c =
       same = λ is. omega (arith, counts.lines is, c.requires.counted, c.in_ok-answer_lines.ensures.counts.counted, c.in_ok-answer_lines-2.ensures.counts.counted, one, two, all);
       some = λ is. omega (arith, c.in_ok-batch.ensures.batch.some is, c.in_ok-answer_lines.ensures.counts.counted, c.in_ok-answer_lines-2.ensures.counts.counted, one, two, all);
       rises = omega (arith, c.in_ok-answer_lines.ensures.counts.counted, c.in_ok-answer_lines-2.ensures.counts.counted, c.in_ok-answer_lines.ensures.counts.rises, c.in_ok-answer_lines-2.ensures.counts.rises);
+      room = c.in_ok-answer_lines-2.ensures.counts.room;
     }
 
 pub returns-in_err-batch-clause-open : goal.returns-in_err-batch-clause-open

@@ -4,6 +4,7 @@ use Rattle.pm_types.specs.declared.fault.StoreFault.TheVariants.{Failed, Memory}
 use Rattle.pm_disk.specs.Moments.{AllMoments}
 use Rattle.pm_disk.proofs.Chain.{at_last}
 use Rattle.pm_script.specs.Reading.{rest_of, Unread}
+use Rattle.pm_model.specs.ReplyLists.{ReplyList}
 use Rattle.pm_records.specs.LogFiles.{ChangesLog}
 use Rattle.pm_engine.specs.Engines.{Running}
 use Rattle.pm_top.specs.declared.run.Run.{Run}
@@ -24,6 +25,14 @@ pub returns-in_err-input-clause-moments : goal.returns-in_err-input-clause-momen
 returns-in_err-input-clause-moments g c t wanted start same can =
     rest_moments wanted (g.H.Device.history c.args.host.now) (begins start (g.H.Device.history c.args.host.now).world c.args.self.now same c.requires.lines c.requires.order) (g.H.Device.sound c.args.host.now t) can.stands
 
+pub returns-in_err-replies-clause-moments : goal.returns-in_err-replies-clause-moments
+returns-in_err-replies-clause-moments g c t wanted start same can =
+    rest_moments wanted (g.H.Device.history c.args.host.now) (begins start (g.H.Device.history c.args.host.now).world c.args.self.now same c.requires.lines c.requires.order) (g.H.Device.sound c.args.host.now t) can.stands
+
+pub returns-in_err-replies-clause-files : goal.returns-in_err-replies-clause-files
+returns-in_err-replies-clause-files g c t =
+    keep_none (c.args.self.now.engine.log.end.seg + 8388608) (g.H.Device.history c.args.host.now) (g.H.Device.sound c.args.host.now t)
+
 pub batches-init : goal.batches-init
 batches-init g c =
     let old = g.H.Device.history c.args.host.now in
@@ -36,6 +45,7 @@ batches-init g c =
       limit = λ t. omega (arith, ap (λ (u : Unread). u.bytes) c.in_ok-input.ensures);
       end = λ t. c.requires.end t;
       files = λ t. keep_none (first.engine.log.end.seg + 8388608) old (g.H.Device.sound c.args.host.now t);
+      room = omega (arith, ap (λ (l : ReplyList). length l.replies) c.in_ok-replies.ensures, ap (λ (l : ReplyList). l.spare) c.in_ok-replies.ensures);
       rises = omega arith;
       bytes = λ t. subst (λ (u : Unread). u.bytes + length (rest_of u old.world) ≡ length old.world.input) (sym c.in_ok-input.ensures) (omega arith);
       place = λ t. subst (λ (u : Unread). rest_of u old.world ≡ after_lines u.lines old.world.input) (sym c.in_ok-input.ensures) refl;
@@ -98,6 +108,7 @@ batches-preserved g c =
       limit = λ t. more_limit c.in_ok-answer_batch.field-0 (c.in_ok-answer_batch.ensures.answered t) old.world.input c.in-More.is (so_far.limit t);
       end = λ t. (c.in_ok-answer_batch.ensures.open t).end;
       files = λ t. keep_then (first.engine.log.end.seg + 8388608) (first.engine.log.end.seg + 8388608) (c.batches.self.engine.log.end.seg + 2048) old before new (omega arith) (omega (arith, so_far.rises, so_far.counted, so_far.few)) (g.H.Device.sound c.batches.host t) (so_far.files t) (c.answer_batch.ensures.open t).files;
+      room = c.in_ok-answer_batch.ensures.counted.room;
       rises = omega (arith, so_far.rises, c.in_ok-answer_batch.ensures.counted.rises);
       bytes = λ t. more_bytes c.in_ok-answer_batch.field-0 (c.in_ok-answer_batch.ensures.answered t) old.world.input c.in-More.is (so_far.bytes t);
       place = λ t. more_place c.in_ok-answer_batch.field-0 (c.in_ok-answer_batch.ensures.answered t) old.world.input c.in-More.is so_far.counted lines (so_far.place t);

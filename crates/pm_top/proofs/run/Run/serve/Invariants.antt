@@ -9,7 +9,7 @@ use Rattle.pm_records.specs.LogFiles.{LogGrowsBy}
 use Rattle.pm_engine.specs.Records.{logged}
 use Rattle.pm_segments.specs.Ends.{EndsThere}
 use Rattle.pm_top.specs.ScriptOrder.{CrashHoldsAcknowledged}
-use Rattle.pm_top.specs.Runs.{CanRun, KeepsFiles, Progress, SameConsole, IsAtRestAfter}
+use Rattle.pm_top.specs.Runs.{CanRun, HasBatchRoom, KeepsFiles, Progress, SameConsole, IsAtRestAfter}
 use Rattle.pm_top.specs.Limits.{after_lines}
 use Rattle.pm_top.specs.Served.{script_of}
 use Rattle.pm_top.proofs.run.Run.serve.Given as goal
@@ -28,6 +28,7 @@ invariant-batches g l =
       limit : tells → l.input.bytes ≤ SCRIPT_BYTES_MAX;
       input_end : tells → KnowsEnd l.input now.world;
       end : tells → EndsThere l.self.engine.log now.world;
+      room : HasBatchRoom l.replies;
       files : tells → AllMoments old now (KeepsFiles (first.engine.log.end.seg + 2 ^ 23) old.world);
       rises : l.self.engine.log.end.seg ≤ first.engine.log.end.seg + l.self.lines;
       bytes : tells → l.input.bytes + length (rest_of l.input now.world) ≡ length old.world.input;
