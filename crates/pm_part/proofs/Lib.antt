@@ -17,6 +17,7 @@ pub mod KeptIndexes
 pub mod KeptRows
 pub mod KeyPuts
 pub mod KeyRemovals
+pub mod KeyWays
 pub mod KeyedRows
 pub mod LaidOutWell
 pub mod Layouts

@@ -1,6 +1,6 @@
 -- Rows of which no two have one key make one map, whatever the order in which they are listed.
 use Rattle.std.proofs.Common.{◌≡◌, ◌≢◌, ℕ, List, [], ◌∷◌, Option, None, Some, cond, map, refl, sym, ap, subst, ◌∙◌, inl, inr}
-use Rattle.std.specs.Prelude.{All, Any, AllPairs}
+use Rattle.std.specs.Prelude.{Any, AllPairs}
 use Rattle.std.specs.BTreeMap.{is_at}
 use Rattle.std.specs.FinMap as finmap
 use Rattle.std.specs.FinMap.{same_map}

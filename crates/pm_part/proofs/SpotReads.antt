@@ -10,13 +10,10 @@ use Rattle.pm_data.specs.Rows.{row_value}
 use Rattle.pm_model.specs.declared.reply.Reply.TheVariants.{Found}
 use Rattle.pm_model.specs.ReplyLists.{ReplyList, with_replies}
 use Rattle.pm_meta.specs.declared.slots.MetaSlot.TheVariants.{Pages}
-use Rattle.pm_pages.specs.Paged.{Paged, AsksPage, IsInHand}
+use Rattle.pm_pages.specs.Paged.{Paged, AsksPage, IsInHand, IsBadPage, HasPageCause}
 use Rattle.pm_pages.specs.Edits.{LooksAtPages, HasMeta, IsNumberIn}
 use Rattle.pm_pages.proofs.TakenPages.{meta_looked}
-use Rattle.pm_tree.specs.Places.{IsPlaceIn}
-use Rattle.pm_tree.specs.declared.places.Place.{Place}
 use Rattle.pm_tree.specs.Indexes.{as_link}
-use Rattle.pm_tree.proofs.Descents.{path_looked}
 use Rattle.pm_free.specs.declared.edits.Edit.TheVariants.{Remove}
 use Rattle.pm_free.specs.DataEdits.{TakesEdit}
 use Rattle.pm_free.specs.Placed.{HasItemAt, HasRowAt}
@@ -24,9 +21,9 @@ use Rattle.pm_part.specs.declared.entries.Entry.{Entry}
 use Rattle.pm_part.specs.declared.spots.Spot.{Spot}
 use Rattle.pm_part.specs.Entries.{IsEntryIn}
 use Rattle.pm_part.specs.Spots.{IsRowOn, LeadsTo, HasRowIn, HasNoRowIn, NamesNoRow, PushesValue}
-use Rattle.pm_part.specs.Faults.{HasPartCause}
-use Rattle.pm_part.proofs.PartCauses.{cause_after, cause_way}
-use Rattle.pm_pages.proofs.EditedPages.{edits_looked}
+use Rattle.pm_part.specs.Faults.{HasPartCause, IsFaultOfGet}
+use Rattle.pm_part.proofs.KeyWays.{way_looked, place_looked}
+use Rattle.pm_part.proofs.PartCauses.{cause_looked, cause_page, cause_named}
 
 pub some_of : {A : Type 0} (o : Option A) (P : A → Type 0) → IfSome o P → IsTrue (is_some o) → (x : A) × P x
 some_of None P h some = absurd (cc some)
@@ -47,39 +44,33 @@ has_row_in T a b spot cache key page row meta some below asks in_hand size is = 
   is = is;
 }
 
-pub place_looked : (T : Type 0) (a b : Paged) (m at : ℕ) (key : List ℕ) (place : Place) → LooksAtPages T a b m → IsPlaceIn a at key place → IsPlaceIn b at key place
-place_looked T a b m at key place looks is = record {
-  some = is.some;
-  page = is.page;
-  in_hand = record { known = looks.known at is.in_hand.known; asked = looks.asked at is.in_hand.asked; page = looks.pages at (inr is.in_hand.known) ∙ is.in_hand.page };
-  size = is.size ∙ sym looks.same.page_size;
-  is = is.is;
-}
-
 -- an entry is there still after looks
 pub entry_looked : (T : Type 0) (a b : Paged) (m cache : ℕ) (key : List ℕ) (entry : Entry) → LooksAtPages T a b m → IsEntryIn a cache key entry → IsEntryIn b cache key entry
 entry_looked T a b m cache key entry looks is = record {
   meta = meta_looked T a b m looks is.meta;
-  reached = record { levels = is.reached.levels; from = is.reached.from; path = path_looked T a b m cache is.reached.levels is.reached.from entry.leaf looks is.reached.path };
+  reached = record { levels = is.reached.levels; from = is.reached.from; way = way_looked T a b m cache key is.reached.levels is.reached.from entry.leaf looks is.reached.way };
   below = below_same a b entry.leaf is.meta (looks.pages 0 (inr is.meta.known)) is.below;
   place = place_looked T a b m entry.leaf key _ looks is.place;
 }
 
 -- the link of an entry names no row
-pub wrong_link : {R : Type 0} (T : Type 0) (a d : Paged) (m cache : ℕ) (key : List ℕ) (entry : Entry) (part : ℕ) (id : PageId) (r : Result R PageFault) → LooksAtPages T a d m → IsEntryIn a cache key entry → NamesNoRow d (as_link entry.word) cache key → part ≡ d.part → id ≡ page_id part entry.leaf → r ≡ Err (BadPage id) → HasPartCause T a d cache r
+pub wrong_link : {R : Type 0} (T : Type 0) (a d : Paged) (m cache : ℕ) (key : List ℕ) (entry : Entry) (part : ℕ) (id : PageId) (r : Result R PageFault) → LooksAtPages T a d m → IsEntryIn a cache key entry → NamesNoRow d (as_link entry.word) cache key → part ≡ d.part → id ≡ page_id part entry.leaf → r ≡ Err (BadPage id) → HasPartCause T a d (IsFaultOfGet T d cache key) r
 wrong_link T a d m cache key entry part id r looks is wrong part_is id_is err =
-    let now = entry_looked T a d m cache key entry looks is in
-    cause_after T a d d m cache r (edits_looked T a d (λ j. IsTrue (d.asked j)) m looks)
-    (cause_way T d d cache id r err (inr (inr (inr (inl (record {
-      leaf = entry.leaf;
+    cause_named T a d (IsFaultOfGet T d cache key) id r err (inr (inr (record {
+      entry = entry;
       name = id_is ∙ ap (λ n. page_id n entry.leaf) part_is;
-      reached = now.reached;
-      key = key;
-      item = entry.item;
-      word = entry.word;
-      place = now.place;
+      is = entry_looked T a d m cache key entry looks is;
       wrong = wrong;
-    }))))))
+    })))
+
+-- the page that the link of an entry names is bad
+pub bad_row_page : {R : Type 0} (T : Type 0) (a b d : Paged) (m n cache count : ℕ) (key : List ℕ) (entry : Entry) (spot : Spot) (r : Result R PageFault) → LooksAtPages T a b m → LooksAtPages T b d n → IsEntryIn a cache key entry → LeadsTo (as_link entry.word) b.part count spot → HasPageCause T b d.faults spot.at r → HasPartCause T a d (IsFaultOfGet T d cache key) r
+bad_row_page T a b d m n cache count key entry spot r before looks is leads cause =
+    cause_looked T a b d m (IsFaultOfGet T d cache key) r before (cause_page T b d (IsFaultOfGet T d cache key) spot.at r (λ id bad. inr (inl (record {
+      entry = entry;
+      is = entry_looked T b d n cache key entry looks (entry_looked T a b m cache key entry before is);
+      bad = subst (λ i. IsBadPage T b i id) (sym leads.index) bad;
+    }))) cause)
 
 -- an item that a link names is no row
 pub names_no_row : (p : Paged) (entry : Entry) (spot : Spot) (cache count : ℕ) (key : List ℕ) → LeadsTo (as_link entry.word) p.part count spot → HasNoRowIn p spot.at spot.item cache key → NamesNoRow p (as_link entry.word) cache key

@@ -17,14 +17,6 @@ IsPartCmd shape part (Remove cache key) = (cache < CACHES) × (part_of key shape
 IsPartCmd shape part (Scan cache) = ⊥
 IsPartCmd shape part Checkpoint = ⊥
 
--- the cache of a command; a checkpoint has none
-abbrev pub cache_of : Cmd → ℕ
-cache_of (Put cache key value) = cache
-cache_of (Get cache key) = cache
-cache_of (Remove cache key) = cache
-cache_of (Scan cache) = cache
-cache_of Checkpoint = 0
-
 -- one reply was appended
 pub record AppendsReply (was now : ReplyList) : Type 0 where
   pub reply : Reply

@@ -3,23 +3,22 @@ use Rattle.std.specs.Prelude.{ℕ, ◌<◌, List, Option, None, Some}
 use Rattle.pm_meta.specs.declared.slots.MetaSlot.TheVariants.{Pages}
 use Rattle.pm_pages.specs.Paged.{Paged}
 use Rattle.pm_pages.specs.Edits.{HasMeta, IsNumberIn}
-use Rattle.pm_tree.specs.Steps.{IsPath}
 use Rattle.pm_tree.specs.Places.{IsPlaceIn}
 use Rattle.pm_tree.specs.declared.places.Place.TheVariants.{Held}
 use Rattle.pm_part.specs.declared.entries.Entry.{Entry}
+use Rattle.pm_part.specs.Ways.{IsReached}
 
--- pages that are at hand lead from the root of a cache's tree to page `at`
-pub record IsReached (p : Paged) (cache at : ℕ) : Type 0 where
-  pub levels : ℕ
-  pub from : ℕ
-  pub path : IsPath p cache levels from at
-
--- this is the item of a key in a leaf of the cache's tree, which is at hand
+-- this is the item of a key in the leaf to which the key's way leads, and which is at hand
 pub record IsEntryIn (p : Paged) (cache : ℕ) (key : List ℕ) (entry : Entry) : Type 0 where
   pub meta : HasMeta p
-  pub reached : IsReached p cache entry.leaf
+  pub reached : IsReached p cache key entry.leaf
   pub below : (n : ℕ) → IsNumberIn p Pages n → entry.leaf < n
   pub place : IsPlaceIn p entry.leaf key (Held entry.item entry.word)
+
+-- the index of a cache has an item of a key
+pub record HasEntry (p : Paged) (cache : ℕ) (key : List ℕ) : Type 0 where
+  pub entry : Entry
+  pub is : IsEntryIn p cache key entry
 
 -- the word of an item, if there is one
 abbrev pub word_of : Option Entry → Option ℕ

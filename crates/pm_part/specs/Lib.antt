@@ -15,3 +15,4 @@ pub mod RowNames
 pub mod Runs
 pub mod SoundPuts
 pub mod Spots
+pub mod Ways

@@ -10,12 +10,12 @@ use Rattle.pm_meta.specs.declared.slots.MetaSlot.TheVariants.{Pages}
 use Rattle.pm_pages.specs.Rows.{kind_of}
 use Rattle.pm_pages.specs.Paged.{Paged, IsInHand}
 use Rattle.pm_pages.specs.Edits.{IsNumberIn}
-use Rattle.pm_tree.specs.Places.{IsPlaceIn}
-use Rattle.pm_tree.specs.declared.places.Place.TheVariants.{Held}
+use Rattle.pm_tree.specs.Indexes.{as_link}
 use Rattle.pm_model.specs.declared.reply.Reply.TheVariants.{Found}
 use Rattle.pm_model.specs.ReplyLists.{ReplyList, with_replies}
+use Rattle.pm_part.specs.declared.entries.Entry.{Entry}
 use Rattle.pm_part.specs.declared.spots.Spot.{Spot}
-use Rattle.pm_part.specs.Entries.{IsReached}
+use Rattle.pm_part.specs.Entries.{IsEntryIn}
 
 -- this item of a data page is this row, of a key of a cache
 pub record IsRowOn (page : List ℕ) (item cache : ℕ) (key row : List ℕ) : Type 0 where
@@ -73,13 +73,9 @@ NamesNoRow p at_link cache key =
     ((count : ℕ) × IsNumberIn p Pages count × LeadsNowhere at_link p.part count)
     ⊎ HasNoRowIn p (index_of_id (page_of_link at_link)) (item_of_link at_link) cache key
 
--- a leaf of a cache's tree, which has this name, has an item of a key whose link names no row of it
-pub record HasWrongLink (p : Paged) (cache : ℕ) (id : PageId) : Type 0 where
-  pub leaf : ℕ
-  pub name : id ≡ page_id p.part leaf
-  pub reached : IsReached p cache leaf
-  pub key : List ℕ
-  pub item : ℕ
-  pub word : ℕ
-  pub place : IsPlaceIn p leaf key (Held item word)
-  pub wrong : NamesNoRow p (record { 0 = word }) cache key
+-- the leaf of a key, which has this name, has an item of it whose link names no row of it
+pub record HasWrongLink (p : Paged) (cache : ℕ) (key : List ℕ) (id : PageId) : Type 0 where
+  pub entry : Entry
+  pub name : id ≡ page_id p.part entry.leaf
+  pub is : IsEntryIn p cache key entry
+  pub wrong : NamesNoRow p (as_link entry.word) cache key

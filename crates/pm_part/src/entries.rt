@@ -11,8 +11,8 @@ ghost use Rattle.pm_pages.specs.Edits.{LooksAtPages, HasMeta, IsNumberIn};
 ghost use Rattle.pm_tree.specs.Maps.{get_in};
 ghost use Rattle.pm_tree.specs.Indexes.{AnswersFrom, IsIndex, as_link};
 ghost use Rattle.pm_pages.specs.SoundPages.{PassesAll, NoBadPage};
-ghost use Rattle.pm_tree.specs.Steps.{HasLookCause};
 ghost use Rattle.pm_part.specs.Entries.{IsEntryIn, word_of};
+ghost use Rattle.pm_part.specs.Ways.{HasWayCause};
 
 use pm_meta::MetaSlot;
 use pm_pages::{LEVELS_MAX, Pages, find_number, number};
@@ -32,8 +32,8 @@ pub struct Entry {
 
 /// The item of a key in the index of a cache; `None` where the key isn't there. No page is changed.
 ///
-/// `Failed` comes only where a call on the disk failed. `BadPage` names a page that is bad, or the
-/// page on the way from the root that names a wrong one.
+/// `Failed` comes only where a call on the disk failed. `BadPage` names a page on the key's way from the
+/// root that is bad, or one that leads the key to a wrong page.
 pub fn find_entry<P: Pages>(
     pages: &mut P,
     cache: u8,
@@ -50,7 +50,7 @@ pub fn find_entry<P: Pages>(
     ensures gets { P.tells → (height : ℕ) (nodes : List ℕ) (items : List Item)
         → IsIndex (P.seen pages.old).pages (root_of (P.seen pages.old).pages cache) height nodes items
         → IfOk result (λ entry. word_of entry ≡ get_in items key.now) }
-    ensures cause { HasLookCause P.tells (P.seen pages.old) (P.seen pages.new) cache result }
+    ensures cause { HasWayCause P.tells (P.seen pages.old) (P.seen pages.new) cache key.now result }
     ensures sound { P.tells → PassesAll (P.seen pages.old) → (height : ℕ) (nodes : List ℕ) (items : List Item)
         → IsIndex (P.seen pages.old).pages (root_of (P.seen pages.old).pages cache) height nodes items
         → NoBadPage result }
@@ -85,7 +85,7 @@ fn descend<P: Pages>(
     ensures gets { P.tells → (word : Option ℕ)
         → AnswersFrom (P.seen pages.old).pages key.now LEVELS_MAX root word
         → IfOk result (λ entry. word_of entry ≡ word) }
-    ensures cause { HasLookCause P.tells (P.seen pages.old) (P.seen pages.new) cache result }
+    ensures cause { HasWayCause P.tells (P.seen pages.old) (P.seen pages.new) cache key.now result }
     ensures sound { P.tells → PassesAll (P.seen pages.old) → (word : Option ℕ)
         → AnswersFrom (P.seen pages.old).pages key.now LEVELS_MAX root word → NoBadPage result }
 {

@@ -14,8 +14,8 @@ ghost use Rattle.pm_pages.specs.RowMaps.{map_of};
 ghost use Rattle.pm_pages.specs.SoundPages.{NoBadPage};
 ghost use Rattle.pm_model.specs.Eval.{pairs_of};
 ghost use Rattle.pm_part.specs.Reads.{ReadsPages};
-ghost use Rattle.pm_part.specs.Commands.{IsPartCmd, cache_of, RepliesOnce};
-ghost use Rattle.pm_part.specs.Faults.{HasPartCause};
+ghost use Rattle.pm_part.specs.Commands.{IsPartCmd, RepliesOnce};
+ghost use Rattle.pm_part.specs.Faults.{HasPartCause, IsFaultOf, IsFaultOfPut, IsFaultOfGet, IsFaultOfRemove};
 ghost use Rattle.pm_part.specs.PairFaults.{HasPairsCause, NamesNoBadPage};
 ghost use Rattle.pm_part.specs.Runs.{IsPartitionOf, RunsCmd, IsGet};
 ghost use Rattle.pm_part.specs.Puts.{IsPartFor};
@@ -71,8 +71,8 @@ impl Part {
     /// A get changes no page.
     ///
     /// `Failed` comes only where a call on the disk failed. `BadPage` names a page that is bad, or
-    /// one that names a wrong page or row; it never comes of a well-formed partition. After an error
-    /// no reply was appended, and some pages may be half changed.
+    /// one that names a wrong page or row, as the command's own key meets it; it never comes of a
+    /// well-formed partition. After an error no reply was appended, and some pages may be half changed.
     pub fn run<P: Pages>(
         &self,
         cmd: &Cmd,
@@ -89,7 +89,8 @@ impl Part {
         ensures changes { OnOk result (EditsPages P.tells (P.seen pages.old) (P.seen pages.new)
             (λ j. IsTrue ((P.seen pages.new).asked j)) OP_PAGES) }
         ensures replied { RepliesOnce replies.old replies.new result }
-        ensures cause { HasPartCause P.tells (P.seen pages.old) (P.seen pages.new) (cache_of cmd.now) result }
+        ensures cause { HasPartCause P.tells (P.seen pages.old) (P.seen pages.new)
+            (IsFaultOf P.tells (P.seen pages.new) cmd.now) result }
         ensures gets { IsGet cmd.now → LooksAtPages P.tells (P.seen pages.old) (P.seen pages.new) 10 }
         ensures runs { P.tells → IsPartitionOf self.now.shape (P.seen pages.old)
             → (P.seen pages.old).part ≡ self.now.part
@@ -162,7 +163,8 @@ fn run_put<P: Pages>(
     ensures changes { OnOk result (EditsPages P.tells (P.seen pages.old) (P.seen pages.new)
         (λ j. IsTrue ((P.seen pages.new).asked j)) 32) }
     ensures replied { RepliesOnce replies.old replies.new result }
-    ensures cause { HasPartCause P.tells (P.seen pages.old) (P.seen pages.new) cache result }
+    ensures cause { HasPartCause P.tells (P.seen pages.old) (P.seen pages.new)
+        (IsFaultOfPut P.tells (P.seen pages.new) cache key.now) result }
     ensures puts { P.tells → (shape : Shape) → IsPartFor shape (P.seen pages.old) max_rows key.now
         → OnOk result (IsPartitionOf shape (P.seen pages.new)
         × RunsCmd shape (P.seen pages.old).part (Put cache key.now value.now)
@@ -193,7 +195,8 @@ fn run_get<P: Pages>(
     ensures changes { OnOk result (EditsPages P.tells (P.seen pages.old) (P.seen pages.new)
         (λ j. IsTrue ((P.seen pages.new).asked j)) 32) }
     ensures replied { RepliesOnce replies.old replies.new result }
-    ensures cause { HasPartCause P.tells (P.seen pages.old) (P.seen pages.new) cache result }
+    ensures cause { HasPartCause P.tells (P.seen pages.old) (P.seen pages.new)
+        (IsFaultOfGet P.tells (P.seen pages.new) cache key.now) result }
     ensures looks { LooksAtPages P.tells (P.seen pages.old) (P.seen pages.new) 10 }
     ensures gets { P.tells → (shape : Shape) → IsPartitionOf shape (P.seen pages.old)
         → OnOk result (IsPartitionOf shape (P.seen pages.new)
@@ -226,7 +229,8 @@ fn run_remove<P: Pages>(
     ensures changes { OnOk result (EditsPages P.tells (P.seen pages.old) (P.seen pages.new)
         (λ j. IsTrue ((P.seen pages.new).asked j)) 32) }
     ensures replied { RepliesOnce replies.old replies.new result }
-    ensures cause { HasPartCause P.tells (P.seen pages.old) (P.seen pages.new) cache result }
+    ensures cause { HasPartCause P.tells (P.seen pages.old) (P.seen pages.new)
+        (IsFaultOfRemove P.tells (P.seen pages.new) cache key.now) result }
     ensures removes { P.tells → (shape : Shape) → IsPartitionOf shape (P.seen pages.old)
         → OnOk result (IsPartitionOf shape (P.seen pages.new)
         × RunsCmd shape (P.seen pages.old).part (Remove cache key.now) (P.seen pages.old).pages

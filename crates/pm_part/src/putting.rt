@@ -8,7 +8,7 @@ ghost use Rattle.pm_data.specs.Rows.{IsRow};
 ghost use Rattle.pm_pages.specs.PageLists.{ReadsAt};
 ghost use Rattle.pm_pages.specs.Paged.{HasRoomFor, AllReadable, IsLent, IsWhole, WritesPage};
 ghost use Rattle.pm_pages.specs.Edits.{EditsPages, HasMeta, HasDiskCause, IsNumberIn};
-ghost use Rattle.pm_part.specs.Entries.{IsEntryIn};
+ghost use Rattle.pm_part.specs.Entries.{IsEntryIn, HasEntry};
 ghost use Rattle.pm_part.specs.Spots.{HasRowIn};
 ghost use Rattle.pm_part.specs.Changes.{ChangesPages};
 ghost use Rattle.pm_part.specs.NewMeta.{IsNewMeta, HasNewMeta};
@@ -25,7 +25,7 @@ ghost use Rattle.pm_meta.specs.declared.slots.MetaSlot.TheVariants.{Rows};
 ghost use Rattle.pm_pages.specs.Trees.{root_of};
 ghost use Rattle.pm_pages.specs.SpareChains.{HasSpare};
 ghost use Rattle.pm_tree.specs.Indexes.{IsIndex};
-ghost use Rattle.pm_part.specs.Faults.{HasPartCause};
+ghost use Rattle.pm_part.specs.Faults.{HasPartCause, IsFaultOfPut};
 
 use crate::entries::{Entry, find_entry};
 use crate::overwriting::overwrite;
@@ -60,7 +60,8 @@ pub fn put<P: Pages>(
     ensures readable { AllReadable (P.seen pages.new) }
     ensures changes { OnOk result (EditsPages P.tells (P.seen pages.old) (P.seen pages.new)
         (λ j. IsTrue ((P.seen pages.new).asked j)) 32) }
-    ensures cause { HasPartCause P.tells (P.seen pages.old) (P.seen pages.new) cache result }
+    ensures cause { HasPartCause P.tells (P.seen pages.old) (P.seen pages.new)
+        (IsFaultOfPut P.tells (P.seen pages.new) cache key.now) result }
     ensures puts { IfOk result (λ done. P.tells → (shape : Shape)
         → IsPartFor shape (P.seen pages.old) max_rows key.now
         → IsPartitionOf shape (P.seen pages.new)
@@ -91,7 +92,8 @@ fn put_row<P: Pages>(
     ensures readable { AllReadable (P.seen pages.new) }
     ensures changes { OnOk result (EditsPages P.tells (P.seen pages.old) (P.seen pages.new)
         (λ j. IsTrue ((P.seen pages.new).asked j)) 32) }
-    ensures cause { HasPartCause P.tells (P.seen pages.old) (P.seen pages.new) cache result }
+    ensures cause { HasPartCause P.tells (P.seen pages.old) (P.seen pages.new)
+        (IsFaultOfPut P.tells (P.seen pages.new) cache key.now) result }
     ensures puts { IfOk result (λ done. P.tells → (shape : Shape)
         → IsPartFor shape (P.seen pages.old) max_rows key.now
         → (value : List ℕ) → IsRowOf cache key.now value row.now
@@ -123,7 +125,8 @@ fn put_held<P: Pages>(
     ensures kept { P.kept pages.old pages.new }
     ensures readable { AllReadable (P.seen pages.new) }
     ensures changes { OnOk result (ChangesPages P.tells (P.seen pages.old) (P.seen pages.new) 16) }
-    ensures cause { HasPartCause P.tells (P.seen pages.old) (P.seen pages.new) cache result }
+    ensures cause { HasPartCause P.tells (P.seen pages.old) (P.seen pages.new)
+        (IsFaultOfPut P.tells (P.seen pages.new) cache key.now) result }
     ensures puts { IfOk result (λ done. P.tells → (shape : Shape) → IsPartitionOf shape (P.seen pages.old)
         → (value : List ℕ) → IsRowOf cache key.now value row.now
         → IsPartitionOf shape (P.seen pages.new)
@@ -153,11 +156,13 @@ fn replace_row<P: Pages>(
     requires cache { cache < CACHES }
     requires row { IsRow row.now }
     requires has { HasRowIn (P.seen pages.old) spot cache key.now }
+    requires held { HasEntry (P.seen pages.old) cache key.now }
     requires readable { AllReadable (P.seen pages.old) }
     ensures kept { P.kept pages.old pages.new }
     ensures readable { AllReadable (P.seen pages.new) }
     ensures changes { OnOk result (ChangesPages P.tells (P.seen pages.old) (P.seen pages.new) 15) }
-    ensures cause { HasPartCause P.tells (P.seen pages.old) (P.seen pages.new) cache result }
+    ensures cause { HasPartCause P.tells (P.seen pages.old) (P.seen pages.new)
+        (IsFaultOfPut P.tells (P.seen pages.new) cache key.now) result }
     ensures replaces { OnOk result (P.tells → (shape : Shape) → IsPartitionOf shape (P.seen pages.old)
         → (value : List ℕ) → IsRowOf cache key.now value row.now
         → IsPartitionOf shape (P.seen pages.new)
@@ -192,7 +197,8 @@ fn put_new<P: Pages>(
     ensures readable { AllReadable (P.seen pages.new) }
     ensures changes { OnOk result (EditsPages P.tells (P.seen pages.old) (P.seen pages.new)
         (λ j. IsTrue ((P.seen pages.new).asked j)) 23) }
-    ensures cause { HasPartCause P.tells (P.seen pages.old) (P.seen pages.new) cache result }
+    ensures cause { HasPartCause P.tells (P.seen pages.old) (P.seen pages.new)
+        (IsFaultOfPut P.tells (P.seen pages.new) cache key.now) result }
     ensures puts { IfOk result (λ done. P.tells → (shape : Shape)
         → IsPartFor shape (P.seen pages.old) max_rows key.now
         → LacksItem (P.seen pages.old).pages cache key.now
@@ -219,7 +225,8 @@ fn put_first<P: Pages>(pages: &mut P, cache: u8, key: &[u8], row: &[u8]) -> Resu
     ensures kept { P.kept pages.old pages.new }
     ensures readable { AllReadable (P.seen pages.new) }
     ensures changes { OnOk result (ChangesPages P.tells (P.seen pages.old) (P.seen pages.new) 22) }
-    ensures cause { HasPartCause P.tells (P.seen pages.old) (P.seen pages.new) cache result }
+    ensures cause { HasPartCause P.tells (P.seen pages.old) (P.seen pages.new)
+        (IsFaultOfPut P.tells (P.seen pages.new) cache key.now) result }
     ensures adds { IfOk result (λ done. (done ≡ true) × (P.tells → (P.seen pages.old).pages 0 ≡ None
         → AddsKey (P.seen pages.old).part (P.seen pages.old).pages (P.seen pages.new).pages row.now 1)) }
     ensures stays { OnOk result (P.tells → (shape : Shape) → (max_rows : ℕ)
@@ -256,7 +263,8 @@ fn put_next<P: Pages>(
     ensures kept { P.kept pages.old pages.new }
     ensures readable { AllReadable (P.seen pages.new) }
     ensures changes { OnOk result (ChangesPages P.tells (P.seen pages.old) (P.seen pages.new) 21) }
-    ensures cause { HasPartCause P.tells (P.seen pages.old) (P.seen pages.new) cache result }
+    ensures cause { HasPartCause P.tells (P.seen pages.old) (P.seen pages.new)
+        (IsFaultOfPut P.tells (P.seen pages.new) cache key.now) result }
     ensures puts { IfOk result (λ done. P.tells → (shape : Shape)
         → IsPartFor shape (P.seen pages.old) max_rows key.now
         → LacksItem (P.seen pages.old).pages cache key.now
@@ -292,7 +300,8 @@ fn add_row<P: Pages>(
     ensures kept { P.kept pages.old pages.new }
     ensures readable { AllReadable (P.seen pages.new) }
     ensures changes { OnOk result (ChangesPages P.tells (P.seen pages.old) (P.seen pages.new) 21) }
-    ensures cause { HasPartCause P.tells (P.seen pages.old) (P.seen pages.new) cache result }
+    ensures cause { HasPartCause P.tells (P.seen pages.old) (P.seen pages.new)
+        (IsFaultOfPut P.tells (P.seen pages.new) cache key.now) result }
     ensures adds { OnOk result (P.tells → HasSpare (P.seen pages.old).pages
         → (height : ℕ) (nodes : List ℕ) (items : List Item)
         → IsIndex (P.seen pages.old).pages (root_of (P.seen pages.old).pages cache) height nodes items

@@ -12,7 +12,6 @@ ghost use Rattle.pm_pages.specs.Edits.{EditsPages, RewritesPage, HasMeta, IsNumb
 ghost use Rattle.pm_tree.specs.declared.edits.Edit.TheVariants.{Word};
 ghost use Rattle.pm_tree.specs.declared.put.Put.TheVariants.{Kept};
 ghost use Rattle.pm_tree.specs.Edits.{TakesEdit, EditsNode, EditsNodeAt};
-ghost use Rattle.pm_tree.specs.Steps.{IsPath};
 ghost use Rattle.pm_tree.specs.Puts.{PutsFor, half_of};
 ghost use Rattle.pm_tree.specs.Divisions.{PutsPages};
 ghost use Rattle.pm_tree.specs.Indexes.{IsIndex, link_in};
@@ -20,7 +19,8 @@ ghost use Rattle.pm_tree.specs.Roots.{PutsIndex};
 ghost use Rattle.pm_tree.specs.SoundPuts.{FindsKey};
 ghost use Rattle.pm_types.specs.declared.page_id.Link.{Link};
 ghost use Rattle.pm_pages.specs.SoundPages.{PassesAll, NoBadPage};
-ghost use Rattle.pm_part.specs.Faults.{HasPartCause};
+ghost use Rattle.pm_part.specs.Ways.{IsWay};
+ghost use Rattle.pm_part.specs.Faults.{HasPartCause, IsFaultOfRelink};
 
 use pm_btpage::set_word;
 use pm_meta::MetaSlot;
@@ -30,8 +30,9 @@ use pm_types::{Link, PageFault, PageId, Patch};
 
 /// Sets the link of a key that a cache's index has. Only its leaf is changed.
 ///
-/// `BadPage` names a page that is bad, or one on the way that names a wrong one, or the leaf where it
-/// has no item of the key; it never comes where all pages pass their checks and the index has the key.
+/// `BadPage` names a page on the key's way that is bad, or one that leads the key to a wrong page, or the
+/// key's leaf where it has no item of the key; it never comes where all pages pass their checks and the
+/// index has the key.
 pub fn relink<P: Pages>(pages: &mut P, cache: u8, key: &[u8], link: Link) -> Result<(), PageFault>
     requires ready { P.ready pages.old }
     requires meta { HasMeta (P.seen pages.old) }
@@ -46,7 +47,8 @@ pub fn relink<P: Pages>(pages: &mut P, cache: u8, key: &[u8], link: Link) -> Res
         → IsIndex (P.seen pages.old).pages (root_of (P.seen pages.old).pages cache) height nodes items
         → PutsIndex (P.seen pages.old).pages (P.seen pages.new).pages cache nodes items key.now link.0
         (link_in items key.now)) }
-    ensures cause { HasPartCause P.tells (P.seen pages.old) (P.seen pages.new) cache result }
+    ensures cause { HasPartCause P.tells (P.seen pages.old) (P.seen pages.new)
+        (IsFaultOfRelink P.tells (P.seen pages.new) cache key.now) result }
     ensures sound { P.tells → PassesAll (P.seen pages.old) → (height : ℕ) (nodes : List ℕ) (items : List Item)
         → IsIndex (P.seen pages.old).pages (root_of (P.seen pages.old).pages cache) height nodes items
         → (held : Link) → link_in items key.now ≡ Some held → NoBadPage result }
@@ -56,8 +58,8 @@ pub fn relink<P: Pages>(pages: &mut P, cache: u8, key: &[u8], link: Link) -> Res
     relink_at(pages, cache, count, 0, root, key, link.0, LEVELS_MAX)
 }
 
-// Sets the word of a key in the tree of at most so many levels at page `at`, which page `from`
-// names.
+// Sets the word of a key in the tree of at most so many levels at page `at`, to which page `from` leads
+// the key.
 fn relink_at<P: Pages>(
     pages: &mut P,
     cache: u8,
@@ -74,7 +76,7 @@ fn relink_at<P: Pages>(
     requires readable { AllReadable (P.seen pages.old) }
     requires count { IsNumberIn (P.seen pages.old) Pages count }
     requires levels { levels ≤ 8 }
-    requires path { IsPath (P.seen pages.old) cache (8 - levels) from at }
+    requires way { IsWay (P.seen pages.old) cache key.now (8 - levels) from at }
     ensures kept { P.kept pages.old pages.new }
     ensures readable { AllReadable (P.seen pages.new) }
     ensures changes { OnOk result (PutsPages P.tells (P.seen pages.old) (P.seen pages.new) levels
@@ -83,7 +85,8 @@ fn relink_at<P: Pages>(
         × PutsFor (P.seen pages.old).pages (P.seen pages.new).pages (half_of (P.seen pages.old).page_size)
         levels at key.now word (Kept (Some was))) }
     ensures some { OnOk result (1 ≤ at) }
-    ensures cause { HasPartCause P.tells (P.seen pages.old) (P.seen pages.new) cache result }
+    ensures cause { HasPartCause P.tells (P.seen pages.old) (P.seen pages.new)
+        (IsFaultOfRelink P.tells (P.seen pages.new) cache key.now) result }
     ensures sound { FindsKey P.tells (P.seen pages.old) levels at key.now → NoBadPage result }
 {
     if levels == 0 {

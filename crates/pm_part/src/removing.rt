@@ -8,7 +8,7 @@ ghost use Rattle.pm_pages.specs.Edits.{EditsPages, HasMeta};
 ghost use Rattle.pm_part.specs.Entries.{IsEntryIn};
 ghost use Rattle.pm_part.specs.Spots.{HasRowIn};
 ghost use Rattle.pm_part.specs.Changes.{ChangesPages};
-ghost use Rattle.pm_part.specs.Faults.{HasPartCause};
+ghost use Rattle.pm_part.specs.Faults.{HasPartCause, IsFaultOfRemove};
 ghost use Rattle.pm_part.specs.Removals.{DropsKey, RemovesKey};
 ghost use Rattle.pm_part.specs.Runs.{IsPartitionOf};
 ghost use Rattle.pm_part.specs.RowNames.{NamesRow};
@@ -37,7 +37,8 @@ pub fn remove<P: Pages>(pages: &mut P, cache: u8, key: &[u8]) -> Result<bool, Pa
     ensures readable { AllReadable (P.seen pages.new) }
     ensures changes { OnOk result (EditsPages P.tells (P.seen pages.old) (P.seen pages.new)
         (λ j. IsTrue ((P.seen pages.new).asked j)) 29) }
-    ensures cause { HasPartCause P.tells (P.seen pages.old) (P.seen pages.new) cache result }
+    ensures cause { HasPartCause P.tells (P.seen pages.old) (P.seen pages.new)
+        (IsFaultOfRemove P.tells (P.seen pages.new) cache key.now) result }
     ensures removes { IfOk result (λ was. P.tells → (shape : Shape) → IsPartitionOf shape (P.seen pages.old)
         → IsPartitionOf shape (P.seen pages.new)
         × RemovesKey (P.seen pages.old).part (P.seen pages.old).pages (P.seen pages.new).pages
@@ -65,7 +66,8 @@ fn remove_held<P: Pages>(
     ensures kept { P.kept pages.old pages.new }
     ensures readable { AllReadable (P.seen pages.new) }
     ensures changes { OnOk result (ChangesPages P.tells (P.seen pages.old) (P.seen pages.new) 20) }
-    ensures cause { HasPartCause P.tells (P.seen pages.old) (P.seen pages.new) cache result }
+    ensures cause { HasPartCause P.tells (P.seen pages.old) (P.seen pages.new)
+        (IsFaultOfRemove P.tells (P.seen pages.new) cache key.now) result }
     ensures removes { IfOk result (λ was. P.tells → (shape : Shape) → IsPartitionOf shape (P.seen pages.old)
         → IsPartitionOf shape (P.seen pages.new)
         × RemovesKey (P.seen pages.old).part (P.seen pages.old).pages (P.seen pages.new).pages
@@ -90,7 +92,8 @@ fn drop_row<P: Pages>(pages: &mut P, cache: u8, key: &[u8], spot: Spot) -> Resul
     ensures kept { P.kept pages.old pages.new }
     ensures readable { AllReadable (P.seen pages.new) }
     ensures changes { OnOk result (ChangesPages P.tells (P.seen pages.old) (P.seen pages.new) 19) }
-    ensures cause { HasPartCause P.tells (P.seen pages.old) (P.seen pages.new) cache result }
+    ensures cause { HasPartCause P.tells (P.seen pages.old) (P.seen pages.new)
+        (IsFaultOfRemove P.tells (P.seen pages.new) cache key.now) result }
     ensures drops { OnOk result (P.tells → (shape : Shape) → IsPartitionOf shape (P.seen pages.old)
         → IsPartitionOf shape (P.seen pages.new)
         × DropsKey (P.seen pages.old).part (P.seen pages.old).pages (P.seen pages.new).pages

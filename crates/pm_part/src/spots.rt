@@ -19,7 +19,7 @@ ghost use Rattle.pm_part.specs.Entries.{IsEntryIn};
 ghost use Rattle.pm_part.specs.Spots.{IsRowOn, HasNoRowOn, LeadsTo, LeadsNowhere, HasRowIn, HasNoRowIn};
 ghost use Rattle.pm_part.specs.Spots.{PushesValue};
 ghost use Rattle.pm_part.specs.declared.spots.Spot.{Spot};
-ghost use Rattle.pm_part.specs.Faults.{HasPartCause};
+ghost use Rattle.pm_part.specs.Faults.{HasPartCause, IsFaultOfGet};
 ghost use Rattle.pm_part.specs.RowNames.{NamesRow};
 ghost use Rattle.pm_part.specs.Runs.{IsPartitionOf};
 ghost use Rattle.pm_pages.specs.SoundPages.{NoBadPage};
@@ -157,7 +157,8 @@ pub fn find_row<P: Pages>(
     ensures row { IfOk result (λ spot. HasRowIn (P.seen pages.new) spot cache key.now) }
     ensures link { IfOk result (λ spot.
         as_link entry.word ≡ link (page_id (P.seen pages.old).part spot.at) spot.item) }
-    ensures cause { HasPartCause P.tells (P.seen pages.old) (P.seen pages.new) cache result }
+    ensures cause { HasPartCause P.tells (P.seen pages.old) (P.seen pages.new)
+        (IsFaultOfGet P.tells (P.seen pages.new) cache key.now) result }
     ensures sound { P.tells → (shape : Shape) → IsPartitionOf shape (P.seen pages.old)
         → NamesRow (P.seen pages.old).part (P.seen pages.old).pages (as_link entry.word) cache key.now
         → NoBadPage result }
@@ -241,7 +242,8 @@ pub fn reply_value<P: Pages>(
         × (as_link entry.word ≡ link (page_id (P.seen pages.old).part spot.at) spot.item)
         × PushesValue (P.seen pages.new) spot cache key.now replies.old replies.new) }
     ensures unchanged { OnErr result (replies.new ≡ replies.old) }
-    ensures cause { HasPartCause P.tells (P.seen pages.old) (P.seen pages.new) cache result }
+    ensures cause { HasPartCause P.tells (P.seen pages.old) (P.seen pages.new)
+        (IsFaultOfGet P.tells (P.seen pages.new) cache key.now) result }
     ensures sound { P.tells → (shape : Shape) → IsPartitionOf shape (P.seen pages.old)
         → NamesRow (P.seen pages.old).part (P.seen pages.old).pages (as_link entry.word) cache key.now
         → NoBadPage result }

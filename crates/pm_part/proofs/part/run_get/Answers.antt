@@ -14,7 +14,8 @@ use Rattle.pm_part.specs.Entries.{IsEntryIn, word_of}
 use Rattle.pm_part.proofs.CacheIndexes.{index_of}
 use Rattle.pm_part.proofs.Gets.{got_value, got_none}
 use Rattle.std.proofs.lemmas.Result.{err_from_is_err_and}
-use Rattle.pm_part.proofs.PartCauses.{cause_passed, cause_looked, cause_look}
+use Rattle.pm_part.specs.Faults.{IsFaultOfGet}
+use Rattle.pm_part.proofs.PartCauses.{cause_passed, cause_looked, cause_way}
 use Rattle.pm_part.proofs.part.run_get.Goals as goal
 
 pub returns-in_err-find_entry-clause-cause : goal.returns-in_err-find_entry-clause-cause
@@ -23,11 +24,13 @@ returns-in_err-find_entry-clause-cause g c =
     let a = g.P.Pages.seen c.args.pages.now in
     let b = g.P.Pages.seen c.find_entry.new.pages in
     let p = err_from_is_err_and c.from_residual.result c.from_residual.ensures.1 in
-    cause_passed T a b c.args.cache c.find_entry.result c.from_residual.result c.in_err-find_entry.field-0.0 p.0 c.in_err-find_entry.was p.1 p.2 (cause_look T a b c.args.cache c.find_entry.result c.find_entry.ensures.cause)
+    cause_passed T a b (IsFaultOfGet T b c.args.cache c.args.key.now) c.find_entry.result c.from_residual.result c.in_err-find_entry.field-0.0 p.0 c.in_err-find_entry.was p.1 p.2 (cause_way T a b c.args.cache c.args.key.now c.find_entry.result c.find_entry.ensures.cause)
 
 pub returns-in-Some-clause-cause : goal.returns-in-Some-clause-cause
 returns-in-Some-clause-cause g c =
-    cause_looked g.P.Pages.tells (g.P.Pages.seen c.args.pages.now) (g.P.Pages.seen c.find_entry.new.pages) (g.P.Pages.seen c.reply_value.new.pages) 9 c.args.cache c.reply_value.result c.find_entry.ensures.looks c.reply_value.ensures.cause
+    let T = g.P.Pages.tells in
+    let d = g.P.Pages.seen c.reply_value.new.pages in
+    cause_looked T (g.P.Pages.seen c.args.pages.now) (g.P.Pages.seen c.find_entry.new.pages) d 9 (IsFaultOfGet T d c.args.cache c.args.key.now) c.reply_value.result c.find_entry.ensures.looks c.reply_value.ensures.cause
 
 pub returns-in-None-clause-looks : goal.returns-in-None-clause-looks
 returns-in-None-clause-looks g c = looks_more g.P.Pages.tells (g.P.Pages.seen c.args.pages.now) (g.P.Pages.seen c.find_entry.new.pages) 9 10 (omega arith) c.find_entry.ensures.looks

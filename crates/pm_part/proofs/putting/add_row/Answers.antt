@@ -7,7 +7,8 @@ use Rattle.pm_part.proofs.ReplacedKeys.{added_key}
 use Rattle.pm_part.proofs.AdditionSteps.{addition_stays}
 use Rattle.std.proofs.Common.{arith}
 use Rattle.std.proofs.lemmas.Result.{on_ok_weaker, err_from_is_err_and}
-use Rattle.pm_part.proofs.PartCauses.{cause_passed, cause_after, cause_chain, cause_put, cause_disk}
+use Rattle.pm_part.specs.Faults.{IsFaultOfPut}
+use Rattle.pm_part.proofs.PartCauses.{cause_passed, cause_after, cause_chain_put, cause_put, cause_disk}
 use Rattle.pm_part.proofs.Swaps.{pages_then, pages_rows, pages_put, pages_meta, meta_edited}
 use Rattle.pm_part.proofs.putting.add_row.Goals as goal
 
@@ -17,7 +18,8 @@ returns-in_err-link-clause-cause g c =
     let a = g.P.Pages.seen c.args.pages.now in
     let b = g.P.Pages.seen c.place.new.pages in
     let p = err_from_is_err_and c.from_residual.result c.from_residual.ensures.1 in
-    cause_passed T a b c.args.cache c.place.result c.from_residual.result c.in_err-link.field-0.0 p.0 c.in_err-link.was p.1 p.2 (cause_chain T a b c.args.cache c.place.result c.place.ensures.cause)
+    cause_passed T a b (IsFaultOfPut T b c.args.cache c.args.key.now) c.place.result c.from_residual.result c.in_err-link.field-0.0 p.0 c.in_err-link.was p.1 p.2
+    (cause_chain_put T a b c.args.cache c.args.key.now c.place.result c.place.ensures.cause)
 
 pub returns-in_err-tree_put-clause-cause : goal.returns-in_err-tree_put-clause-cause
 returns-in_err-tree_put-clause-cause g c =
@@ -26,8 +28,8 @@ returns-in_err-tree_put-clause-cause g c =
     let b = g.P.Pages.seen c.place.new.pages in
     let d = g.P.Pages.seen c.tree_put.new.pages in
     let p = err_from_is_err_and c.from_residual-in_err-tree_put.result c.from_residual-in_err-tree_put.ensures.1 in
-    cause_passed T a d c.args.cache c.tree_put.result c.from_residual-in_err-tree_put.result c.in_err-tree_put.field-0.0 p.0 c.in_err-tree_put.was p.1 p.2
-    (cause_after T a b d 4 c.args.cache c.tree_put.result c.in_ok-link.ensures.places.edits (cause_put T b d c.args.cache c.tree_put.result c.tree_put.ensures.cause))
+    cause_passed T a d (IsFaultOfPut T d c.args.cache c.args.key.now) c.tree_put.result c.from_residual-in_err-tree_put.result c.in_err-tree_put.field-0.0 p.0 c.in_err-tree_put.was p.1 p.2
+    (cause_after T a b d 4 (IsFaultOfPut T d c.args.cache c.args.key.now) c.tree_put.result c.in_ok-link.ensures.places.edits (cause_put T b d c.args.cache c.args.key.now c.tree_put.result c.tree_put.ensures.cause))
 
 pub returns-in_err-tree_put-clause-kept : goal.returns-in_err-tree_put-clause-kept
 returns-in_err-tree_put-clause-kept g c = g.met.P.Pages.kept_then c.args.pages.now c.place.new.pages c.tree_put.new.pages c.place.ensures.kept c.tree_put.ensures.kept
@@ -55,7 +57,7 @@ returns-clause-cause g c =
     let d = g.P.Pages.seen c.tree_put.new.pages in
     let e = g.P.Pages.seen c.set_number.new.pages in
     let x = pages_then T a b d 4 17 21 (omega arith) (pages_rows T a b 4 _ c.in_ok-link.ensures.places) (pages_put T b d c.args.cache 17 c.in_ok-tree_put.ensures.changes) in
-    cause_after T a d e 21 c.args.cache c.set_number.result x.edits (cause_disk T d e c.args.cache c.set_number.result c.set_number.ensures.cause)
+    cause_after T a d e 21 (IsFaultOfPut T e c.args.cache c.args.key.now) c.set_number.result x.edits (cause_disk T d e (IsFaultOfPut T e c.args.cache c.args.key.now) c.set_number.result c.set_number.ensures.cause)
 
 pub returns-clause-adds : goal.returns-clause-adds
 returns-clause-adds g c =

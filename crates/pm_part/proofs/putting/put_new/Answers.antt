@@ -15,7 +15,8 @@ use Rattle.std.proofs.lemmas.Result.{IfOk-weaker}
 use Rattle.std.proofs.Common.{List, None, Some, length, ap, subst, sym, ◌∙◌, inl}
 use Rattle.std.proofs.Common.{arith}
 use Rattle.std.proofs.lemmas.Result.{on_ok_weaker, err_from_is_err_and}
-use Rattle.pm_part.proofs.PartCauses.{cause_passed, cause_looked, cause_page}
+use Rattle.pm_part.specs.Faults.{IsFaultOfPut}
+use Rattle.pm_part.proofs.PartCauses.{cause_passed, cause_looked, cause_meta_put}
 use Rattle.pm_part.proofs.Swaps.{pages_after_look, if_ok_both}
 use Rattle.pm_part.proofs.putting.put_new.Goals as goal
 
@@ -33,7 +34,7 @@ returns-in-None-clause-cause g c =
     let a = g.P.Pages.seen c.args.pages.now in
     let b = g.P.Pages.seen c.find_number.new.pages in
     let d = g.P.Pages.seen c.put_first.new.pages in
-    cause_looked T a b d 1 c.args.cache c.put_first.result c.find_number.ensures.looks c.put_first.ensures.cause
+    cause_looked T a b d 1 (IsFaultOfPut T d c.args.cache c.args.key.now) c.put_first.result c.find_number.ensures.looks c.put_first.ensures.cause
 
 pub returns-in-None-clause-kept : goal.returns-in-None-clause-kept
 returns-in-None-clause-kept g c = g.met.P.Pages.kept_then c.args.pages.now c.find_number.new.pages c.put_first.new.pages c.find_number.ensures.kept c.put_first.ensures.kept
@@ -52,7 +53,7 @@ returns-in-Some-clause-cause g c =
     let a = g.P.Pages.seen c.args.pages.now in
     let b = g.P.Pages.seen c.find_number.new.pages in
     let d = g.P.Pages.seen c.put_next.new.pages in
-    cause_looked T a b d 1 c.args.cache c.put_next.result c.find_number.ensures.looks c.put_next.ensures.cause
+    cause_looked T a b d 1 (IsFaultOfPut T d c.args.cache c.args.key.now) c.put_next.result c.find_number.ensures.looks c.put_next.ensures.cause
 
 pub returns-in-Some-clause-kept : goal.returns-in-Some-clause-kept
 returns-in-Some-clause-kept g c = g.met.P.Pages.kept_then c.args.pages.now c.find_number.new.pages c.put_next.new.pages c.find_number.ensures.kept c.put_next.ensures.kept
@@ -63,7 +64,8 @@ returns-in_err-find_number-clause-cause g c =
     let a = g.P.Pages.seen c.args.pages.now in
     let b = g.P.Pages.seen c.find_number.new.pages in
     let p = err_from_is_err_and c.from_residual.result c.from_residual.ensures.1 in
-    cause_passed T a b c.args.cache c.find_number.result c.from_residual.result c.in_err-find_number.field-0.0 p.0 c.in_err-find_number.was p.1 p.2 (cause_page T a b c.args.cache 0 c.find_number.result c.find_number.ensures.cause)
+    cause_passed T a b (IsFaultOfPut T b c.args.cache c.args.key.now) c.find_number.result c.from_residual.result c.in_err-find_number.field-0.0 p.0 c.in_err-find_number.was p.1 p.2
+    (cause_meta_put T a b c.args.cache c.args.key.now c.find_number.result c.find_number.ensures.cause)
 
 pub put_next-requires-clause-rows : goal.put_next-requires-clause-rows
 put_next-requires-clause-rows g c = subst (λ o. IfSome o (IsNumberIn (g.P.Pages.seen c.find_number.new.pages) Rows)) {y = Some c.in-Some.rows} c.in-Some.is c.in_ok-find_number.ensures.number

@@ -11,7 +11,8 @@ use Rattle.std.proofs.lemmas.Result.{IfOk-weaker}
 use Rattle.std.proofs.Common.{◌≡◌, None, Some, Option, sym, subst}
 use Rattle.std.proofs.Common.{arith}
 use Rattle.std.proofs.lemmas.Result.{on_ok_weaker, err_from_is_err_and}
-use Rattle.pm_part.proofs.PartCauses.{cause_passed, cause_looked, cause_look}
+use Rattle.pm_part.specs.Faults.{IsFaultOfPut}
+use Rattle.pm_part.proofs.PartCauses.{cause_passed, cause_looked, cause_way, cause_get_put}
 use Rattle.pm_part.proofs.Swaps.{edits_after_look, pages_after_look}
 use Rattle.pm_part.proofs.putting.put_row.Goals as goal
 
@@ -29,7 +30,7 @@ returns-in-None-clause-cause g c =
     let a = g.P.Pages.seen c.args.pages.now in
     let b = g.P.Pages.seen c.find_entry.new.pages in
     let d = g.P.Pages.seen c.put_new.new.pages in
-    cause_looked T a b d 9 c.args.cache c.put_new.result c.find_entry.ensures.looks c.put_new.ensures.cause
+    cause_looked T a b d 9 (IsFaultOfPut T d c.args.cache c.args.key.now) c.put_new.result c.find_entry.ensures.looks c.put_new.ensures.cause
 
 pub returns-in-None-clause-kept : goal.returns-in-None-clause-kept
 returns-in-None-clause-kept g c = g.met.P.Pages.kept_then c.args.pages.now c.find_entry.new.pages c.put_new.new.pages c.find_entry.ensures.kept c.put_new.ensures.kept
@@ -48,7 +49,7 @@ returns-in-Some-clause-cause g c =
     let a = g.P.Pages.seen c.args.pages.now in
     let b = g.P.Pages.seen c.find_entry.new.pages in
     let d = g.P.Pages.seen c.put_held.new.pages in
-    cause_looked T a b d 9 c.args.cache c.put_held.result c.find_entry.ensures.looks c.put_held.ensures.cause
+    cause_looked T a b d 9 (IsFaultOfPut T d c.args.cache c.args.key.now) c.put_held.result c.find_entry.ensures.looks c.put_held.ensures.cause
 
 pub returns-in-Some-clause-kept : goal.returns-in-Some-clause-kept
 returns-in-Some-clause-kept g c = g.met.P.Pages.kept_then c.args.pages.now c.find_entry.new.pages c.put_held.new.pages c.find_entry.ensures.kept c.put_held.ensures.kept
@@ -59,7 +60,8 @@ returns-in_err-find_entry-clause-cause g c =
     let a = g.P.Pages.seen c.args.pages.now in
     let b = g.P.Pages.seen c.find_entry.new.pages in
     let p = err_from_is_err_and c.from_residual.result c.from_residual.ensures.1 in
-    cause_passed T a b c.args.cache c.find_entry.result c.from_residual.result c.in_err-find_entry.field-0.0 p.0 c.in_err-find_entry.was p.1 p.2 (cause_look T a b c.args.cache c.find_entry.result c.find_entry.ensures.cause)
+    cause_passed T a b (IsFaultOfPut T b c.args.cache c.args.key.now) c.find_entry.result c.from_residual.result c.in_err-find_entry.field-0.0 p.0 c.in_err-find_entry.was p.1 p.2
+    (cause_get_put T a b c.args.cache c.args.key.now c.find_entry.result (cause_way T a b c.args.cache c.args.key.now c.find_entry.result c.find_entry.ensures.cause))
 
 pub returns-in-None-clause-puts : goal.returns-in-None-clause-puts
 returns-in-None-clause-puts g c =

@@ -12,7 +12,8 @@ use Rattle.pm_btpage.specs.IndexPages.{Item}
 use Rattle.std.proofs.Common.{◌≡◌, ◌∙◌, List, ap, refl, rules}
 use Rattle.std.proofs.Common.{arith}
 use Rattle.std.proofs.lemmas.Result.{on_ok_weaker}
-use Rattle.pm_part.proofs.PartCauses.{cause_after}
+use Rattle.pm_part.specs.Faults.{IsFaultOfPut}
+use Rattle.pm_part.proofs.PartCauses.{cause_passed, cause_chain_put, cause_relinked}
 use Rattle.pm_part.proofs.SpotReads.{item_of}
 use Rattle.pm_part.proofs.Swaps.{pages_then, pages_more, pages_rows, pages_relinked}
 use Rattle.pm_part.proofs.putting.replace_row.Goals as goal
@@ -44,7 +45,16 @@ returns-clause-cause g c =
     let a = g.P.Pages.seen c.args.pages.now in
     let b = g.P.Pages.seen c.overwrite.new.pages in
     let d = g.P.Pages.seen c.relink.new.pages in
-    cause_after T a b d 7 c.args.cache c.relink.result c.in_ok-link.ensures.rows.edits c.relink.ensures.cause
+    cause_relinked T a b d 7 c.args.cache c.args.key.now c.relink.result c.in_ok-link.ensures.rows.edits c.requires.held c.relink.ensures.cause
+
+pub returns-in_err-link-clause-cause : goal.returns-in_err-link-clause-cause
+returns-in_err-link-clause-cause g c =
+    let T = g.P.Pages.tells in
+    let a = g.P.Pages.seen c.args.pages.now in
+    let b = g.P.Pages.seen c.overwrite.new.pages in
+    let p = err_from_is_err_and c.from_residual.result c.from_residual.ensures.1 in
+    cause_passed T a b (IsFaultOfPut T b c.args.cache c.args.key.now) c.overwrite.result c.from_residual.result c.in_err-link.field-0.0 p.0 c.in_err-link.was p.1 p.2
+    (cause_chain_put T a b c.args.cache c.args.key.now c.overwrite.result c.overwrite.ensures.cause)
 
 pub returns-then-eq-clause-replaces : goal.returns-then-eq-clause-replaces
 returns-then-eq-clause-replaces g c = λ t shape is value row_is.

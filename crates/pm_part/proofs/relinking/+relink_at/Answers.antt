@@ -13,15 +13,16 @@ use Rattle.pm_tree.specs.declared.put.Put.TheVariants.{Kept}
 use Rattle.pm_tree.specs.declared.edits.Edit.TheVariants.{Word}
 use Rattle.pm_tree.specs.Places.{IsPlace}
 use Rattle.pm_tree.specs.Puts.{half_of}
-use Rattle.pm_tree.specs.Steps.{IsPath}
-use Rattle.pm_tree.proofs.Descents.{path_looked}
 use Rattle.pm_btpage.specs.IndexPages.{index_of}
 use Rattle.pm_tree.proofs.StoredNodes.{word_stored, link_word}
 use Rattle.pm_tree.proofs.LeafChanges.{leaf_says, changes_leaf, set_puts}
-use Rattle.pm_tree.proofs.Climbs.{link_then, below_count_of, at_place, path_below, puts_looked, lift_step, names_no_place}
+use Rattle.pm_tree.proofs.Climbs.{link_then, below_count_of, at_place, puts_looked, lift_step}
 use Rattle.pm_free.proofs.PlacedPages.{both_ok}
 use Rattle.pm_part.proofs.Relinked.{word_edited}
-use Rattle.pm_part.proofs.PartCauses.{cause_looked, cause_disk, cause_page, cause_passed, cause_way}
+use Rattle.pm_part.specs.Ways.{IsWay}
+use Rattle.pm_part.specs.Faults.{IsFaultOfRelink}
+use Rattle.pm_part.proofs.KeyWays.{way_looked, way_below, leads_to_none, bad_on_way}
+use Rattle.pm_part.proofs.PartCauses.{cause_looked, cause_disk, cause_page, cause_passed, cause_named}
 use Rattle.pm_part.proofs.relinking.+relink_at.Goals as goal
 
 pub set_item-requires-clause-takes : goal.set_item-requires-clause-takes
@@ -101,7 +102,7 @@ returns-in-Held-clause-cause g t c =
     let levels = c.args.levels in
     let looks = c.find_place.ensures.looks in
     let d = g.P.Pages.seen c.set_item.new.pages in
-    cause_looked T a b d 1 c.args.cache c.set_item.result looks (cause_disk T b d c.args.cache c.set_item.result c.set_item.ensures.cause)
+    cause_looked T a b d 1 (IsFaultOfRelink T d c.args.cache c.args.key.now) c.set_item.result looks (cause_disk T b d (IsFaultOfRelink T d c.args.cache c.args.key.now) c.set_item.result c.set_item.ensures.cause)
 
 pub relink_at-requires : goal.relink_at-requires
 relink_at-requires g t c = λ κs le.
@@ -115,7 +116,7 @@ relink_at-requires g t c = λ κs le.
     let looks = c.find_place.ensures.looks in
     let is_place = subst (IsPlace b count at key) {y = Below c.in-Below._i c.in-Below.child} c.in-Below.is c.in_ok-i.ensures.place in
     let place = at_place b count at key (Below c.in-Below._i c.in-Below.child) (λ e. absurd (cc e)) is_place in
-    let path = path_looked T a b 1 c.args.cache (8 - levels) c.args.from at looks c.requires.path in
+    let way = way_looked T a b 1 c.args.cache key (8 - levels) c.args.from at looks c.requires.way in
     let e : 8 - levels + 1 ≡ 8 - (levels - 1) = omega (arith, c.if-levels-eq0.false, c.requires.levels) in (
       omega (arith, c.if-levels-eq0.false, c.decreases),
       (
@@ -132,7 +133,7 @@ relink_at-requires g t c = λ κs le.
                   number_looked T a b 1 Pages count looks c.requires.count,
                   (
                     omega (arith, c.requires.levels),
-                    subst (λ n. IsPath b c.args.cache n at c.in-Below.child) e (path_below b c.args.cache (8 - levels) c.args.from at c.in-Below.child c.in-Below._i key path place.1),
+                    subst (λ n. IsWay b c.args.cache key n at c.in-Below.child) e (way_below b c.args.cache key (8 - levels) c.args.from at c.in-Below.child c.in-Below._i way place.1),
                   ),
                 ),
               ),
@@ -202,7 +203,7 @@ returns-in-Below-clause-cause g t c =
     let levels = c.args.levels in
     let looks = c.find_place.ensures.looks in
     let d = g.P.Pages.seen c.relink_at.new.pages in
-    cause_looked T a b d 1 c.args.cache c.relink_at.result looks c.relink_at.ensures.cause
+    cause_looked T a b d 1 (IsFaultOfRelink T d c.args.cache c.args.key.now) c.relink_at.result looks c.relink_at.ensures.cause
 
 pub returns-in-Gap-clause-cause : goal.returns-in-Gap-clause-cause
 returns-in-Gap-clause-cause g t c =
@@ -216,16 +217,14 @@ returns-in-Gap-clause-cause g t c =
     let looks = c.find_place.ensures.looks in
     let is_place = subst (IsPlace b count at key) {y = Gap c.in-Gap._i} c.in-Gap.is c.in_ok-i.ensures.place in
     let place = at_place b count at key (Gap c.in-Gap._i) (λ e. absurd (cc e)) is_place in
-    let path = path_looked T a b 1 c.args.cache (8 - levels) c.args.from at looks c.requires.path in
-    cause_looked T a b b 1 c.args.cache _ looks
-    (cause_way T b b c.args.cache c.new-in-Gap.result _ refl (inr (inr (inr (inr (record {
+    let way = way_looked T a b 1 c.args.cache key (8 - levels) c.args.from at looks c.requires.way in
+    cause_named T a b (IsFaultOfRelink T b c.args.cache c.args.key.now) c.new-in-Gap.result _ refl (inr (record {
       leaf = at;
       name = c.new-in-Gap.ensures ∙ ap (λ n. page_id n at) c.part-in-Gap.ensures;
-      reached = record { levels = 8 - levels; from = c.args.from; path = path };
-      key = key;
+      reached = record { levels = 8 - levels; from = c.args.from; way = way };
       item = c.in-Gap._i;
       place = inl place.1;
-    }))))))
+    }))
 
 pub returns-in-Full-clause-cause : goal.returns-in-Full-clause-cause
 returns-in-Full-clause-cause g t c =
@@ -239,16 +238,14 @@ returns-in-Full-clause-cause g t c =
     let looks = c.find_place.ensures.looks in
     let is_place = subst (IsPlace b count at key) {y = Full c.in-Full._i} c.in-Full.is c.in_ok-i.ensures.place in
     let place = at_place b count at key (Full c.in-Full._i) (λ e. absurd (cc e)) is_place in
-    let path = path_looked T a b 1 c.args.cache (8 - levels) c.args.from at looks c.requires.path in
-    cause_looked T a b b 1 c.args.cache _ looks
-    (cause_way T b b c.args.cache c.new-in-Full.result _ refl (inr (inr (inr (inr (record {
+    let way = way_looked T a b 1 c.args.cache key (8 - levels) c.args.from at looks c.requires.way in
+    cause_named T a b (IsFaultOfRelink T b c.args.cache c.args.key.now) c.new-in-Full.result _ refl (inr (record {
       leaf = at;
       name = c.new-in-Full.ensures ∙ ap (λ n. page_id n at) c.part-in-Full.ensures;
-      reached = record { levels = 8 - levels; from = c.args.from; path = path };
-      key = key;
+      reached = record { levels = 8 - levels; from = c.args.from; way = way };
       item = c.in-Full._i;
       place = inr place.1;
-    }))))))
+    }))
 
 pub returns-in-Other-clause-cause : goal.returns-in-Other-clause-cause
 returns-in-Other-clause-cause g t c =
@@ -262,20 +259,20 @@ returns-in-Other-clause-cause g t c =
     let looks = c.find_place.ensures.looks in
     let number = number_looked T a b 1 Pages count looks c.requires.count in
     let is_place = subst (IsPlace b count at key) {y = Other} c.in-Other.is c.in_ok-i.ensures.place in
-    let path = path_looked T a b 1 c.args.cache (8 - levels) c.args.from at looks c.requires.path in
-    cause_looked T a b b 1 c.args.cache _ looks
-    (cause_way T b b c.args.cache c.new-in-Other.result _ refl (inr (inl (names_no_place b c.args.cache (8 - levels) c.args.from at count key c.new-in-Other.result (c.new-in-Other.ensures ∙ ap (λ n. page_id n c.args.from) c.part-in-Other.ensures) path number is_place))))
+    let way = way_looked T a b 1 c.args.cache key (8 - levels) c.args.from at looks c.requires.way in
+    cause_named T a b (IsFaultOfRelink T b c.args.cache c.args.key.now) c.new-in-Other.result _ refl
+    (inl (inr (inl (leads_to_none b c.args.cache key (8 - levels) c.args.from at count c.new-in-Other.result (c.new-in-Other.ensures ∙ ap (λ n. page_id n c.args.from) c.part-in-Other.ensures) way number is_place))))
 
 pub returns-then-levels-eq0-clause-cause : goal.returns-then-levels-eq0-clause-cause
 returns-then-levels-eq0-clause-cause g t c =
     let T = g.P.Pages.tells in
     let a = g.P.Pages.seen c.args.pages.now in
     let e : 8 - c.args.levels ≡ 8 = omega (arith, c.if-levels-eq0.true) in
-    cause_way T a a c.args.cache c.new.result _ refl (inr (inr (inl (record {
+    cause_named T a a (IsFaultOfRelink T a c.args.cache c.args.key.now) c.new.result _ refl (inl (inr (inr (record {
       from = c.args.from;
       at = c.args.at;
       name = c.new.ensures ∙ ap (λ n. page_id n c.args.from) c.part.ensures;
-      path = subst (λ n. IsPath a c.args.cache n c.args.from c.args.at) e c.requires.path;
+      way = subst (λ n. IsWay a c.args.cache c.args.key.now n c.args.from c.args.at) e c.requires.way;
     }))))
 
 pub returns-in_err-i-clause-cause : goal.returns-in_err-i-clause-cause
@@ -284,7 +281,8 @@ returns-in_err-i-clause-cause g t c =
     let a = g.P.Pages.seen c.args.pages.now in
     let b = g.P.Pages.seen c.find_place.new.pages in
     let p = err_from_is_err_and c.from_residual.result c.from_residual.ensures.1 in
-    cause_passed T a b c.args.cache c.find_place.result c.from_residual.result c.in_err-i.field-0.0 p.0 c.in_err-i.was p.1 p.2 (cause_page T a b c.args.cache c.args.at c.find_place.result c.find_place.ensures.cause)
+    cause_passed T a b (IsFaultOfRelink T b c.args.cache c.args.key.now) c.find_place.result c.from_residual.result c.in_err-i.field-0.0 p.0 c.in_err-i.was p.1 p.2
+    (cause_page T a b (IsFaultOfRelink T b c.args.cache c.args.key.now) c.args.at c.find_place.result (λ id bad. inl (inl (bad_on_way T a a b 0 1 c.args.cache c.args.key.now (8 - c.args.levels) c.args.from c.args.at id (looks_at_none T a) c.find_place.ensures.looks c.requires.way bad))) c.find_place.ensures.cause)
 
 pub returns-then-levels-eq0-clause-sound : goal.returns-then-levels-eq0-clause-sound
 returns-then-levels-eq0-clause-sound g t c = λ finds id e. answers_end (g.P.Pages.seen c.args.pages.now) c.args.levels c.args.at c.args.key.now (Some finds.held) c.if-levels-eq0.true finds.answers

@@ -9,14 +9,15 @@ use Rattle.pm_tree.proofs.Climbs.{link_then, puts_looked}
 use Rattle.pm_free.proofs.PlacedPages.{both_ok}
 use Rattle.pm_pages.proofs.PassingLooks.{bad_passed}
 use Rattle.pm_part.proofs.Relinked.{root_before, relinks, finds_key}
-use Rattle.pm_part.proofs.PartCauses.{cause_looked}
+use Rattle.pm_part.specs.Faults.{IsFaultOfRelink}
+use Rattle.pm_part.proofs.PartCauses.{cause_looked, cause_passed, cause_disk}
 use Rattle.pm_part.proofs.relinking.relink.Goals as goal
 
 pub relink_at-requires-clause-count : goal.relink_at-requires-clause-count
 relink_at-requires-clause-count g c = number_looked g.P.Pages.tells (g.P.Pages.seen c.number.new.pages) (g.P.Pages.seen c.number-2.new.pages) 0 Pages c.in_ok-count.count c.number-2.ensures.looks c.in_ok-count.ensures.number
 
-pub relink_at-requires-clause-path : goal.relink_at-requires-clause-path
-relink_at-requires-clause-path g c = (refl, c.in_ok-root.ensures.number)
+pub relink_at-requires-clause-way : goal.relink_at-requires-clause-way
+relink_at-requires-clause-way g c = (refl, c.in_ok-root.ensures.number)
 
 pub returns-clause-changes : goal.returns-clause-changes
 returns-clause-changes g c =
@@ -53,7 +54,26 @@ returns-clause-cause g c =
     let b = g.P.Pages.seen c.number.new.pages in
     let d = g.P.Pages.seen c.number-2.new.pages in
     let looks = looks_then T a b d 0 0 c.number.ensures.looks c.number-2.ensures.looks in
-    cause_looked T a d (g.P.Pages.seen c.relink_at.new.pages) 0 c.args.cache c.relink_at.result looks c.relink_at.ensures.cause
+    let e = g.P.Pages.seen c.relink_at.new.pages in
+    cause_looked T a d e 0 (IsFaultOfRelink T e c.args.cache c.args.key.now) c.relink_at.result looks c.relink_at.ensures.cause
+
+pub returns-in_err-count-clause-cause : goal.returns-in_err-count-clause-cause
+returns-in_err-count-clause-cause g c =
+    let T = g.P.Pages.tells in
+    let a = g.P.Pages.seen c.args.pages.now in
+    let b = g.P.Pages.seen c.number.new.pages in
+    let p = err_from_is_err_and c.from_residual.result c.from_residual.ensures.1 in
+    cause_passed T a b (IsFaultOfRelink T b c.args.cache c.args.key.now) c.number.result c.from_residual.result c.in_err-count.field-0.0 p.0 c.in_err-count.was p.1 p.2 (cause_disk T a b (IsFaultOfRelink T b c.args.cache c.args.key.now) c.number.result c.number.ensures.cause)
+
+pub returns-in_err-root-clause-cause : goal.returns-in_err-root-clause-cause
+returns-in_err-root-clause-cause g c =
+    let T = g.P.Pages.tells in
+    let a = g.P.Pages.seen c.args.pages.now in
+    let b = g.P.Pages.seen c.number.new.pages in
+    let d = g.P.Pages.seen c.number-2.new.pages in
+    let p = err_from_is_err_and c.from_residual-in_err-root.result c.from_residual-in_err-root.ensures.1 in
+    cause_passed T a d (IsFaultOfRelink T d c.args.cache c.args.key.now) c.number-2.result c.from_residual-in_err-root.result c.in_err-root.field-0.0 p.0 c.in_err-root.was p.1 p.2
+    (cause_looked T a b d 0 (IsFaultOfRelink T d c.args.cache c.args.key.now) c.number-2.result c.number.ensures.looks (cause_disk T b d (IsFaultOfRelink T d c.args.cache c.args.key.now) c.number-2.result c.number-2.ensures.cause))
 
 pub returns-in_err-count-clause-sound : goal.returns-in_err-count-clause-sound
 returns-in_err-count-clause-sound g c = λ t all height nodes items index held there id e.

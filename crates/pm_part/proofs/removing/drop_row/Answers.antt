@@ -13,7 +13,8 @@ use Rattle.std.proofs.Common.{◌∙◌, ap, arith}
 use Rattle.std.proofs.lemmas.Result.{on_ok_weaker, err_from_is_err_and}
 use Rattle.pm_types.specs.Ids.{page_id, link}
 use Rattle.pm_pages.proofs.TakenPages.{meta_looked}
-use Rattle.pm_part.proofs.PartCauses.{cause_passed, cause_after, cause_looked, cause_chain, cause_remove, cause_disk}
+use Rattle.pm_part.specs.Faults.{IsFaultOfRemove}
+use Rattle.pm_part.proofs.PartCauses.{cause_passed, cause_after, cause_looked, cause_chain_remove, cause_remove, cause_disk}
 use Rattle.pm_part.proofs.SpotReads.{item_of, item_looked, row_at_link}
 use Rattle.pm_part.proofs.Swaps.{pages_then, pages_looked, pages_rows, pages_removed, pages_meta, meta_edited}
 use Rattle.pm_part.proofs.removing.drop_row.Goals as goal
@@ -26,6 +27,15 @@ take_out-requires-clause-row g c =
     let item = item_looked T a b 0 c.args.spot.at c.args.spot.item c.requires.meta (item_of a c.args.spot c.args.cache c.args.key.now c.requires.has) c.number.ensures.looks in
     row_at_link b c.args.spot.at c.args.spot.item c.link-link.result (c.link-link.ensures ∙ ap (λ p. link (page_id p c.args.spot.at) c.args.spot.item) c.part.ensures) (omega arith) (omega arith) (omega arith) item
 
+pub returns-in_err-rows-clause-cause : goal.returns-in_err-rows-clause-cause
+returns-in_err-rows-clause-cause g c =
+    let T = g.P.Pages.tells in
+    let a = g.P.Pages.seen c.args.pages.now in
+    let b = g.P.Pages.seen c.number.new.pages in
+    let p = err_from_is_err_and c.from_residual.result c.from_residual.ensures.1 in
+    cause_passed T a b (IsFaultOfRemove T b c.args.cache c.args.key.now) c.number.result c.from_residual.result c.in_err-rows.field-0.0 p.0 c.in_err-rows.was p.1 p.2
+    (cause_disk T a b (IsFaultOfRemove T b c.args.cache c.args.key.now) c.number.result c.number.ensures.cause)
+
 pub returns-in_err-take_out-clause-cause : goal.returns-in_err-take_out-clause-cause
 returns-in_err-take_out-clause-cause g c =
     let T = g.P.Pages.tells in
@@ -33,8 +43,8 @@ returns-in_err-take_out-clause-cause g c =
     let b = g.P.Pages.seen c.number.new.pages in
     let d = g.P.Pages.seen c.take_out.new.pages in
     let p = err_from_is_err_and c.from_residual-in_err-take_out.result c.from_residual-in_err-take_out.ensures.1 in
-    cause_passed T a d c.args.cache c.take_out.result c.from_residual-in_err-take_out.result c.in_err-take_out.field-0.0 p.0 c.in_err-take_out.was p.1 p.2
-    (cause_looked T a b d 0 c.args.cache c.take_out.result c.number.ensures.looks (cause_chain T b d c.args.cache c.take_out.result c.take_out.ensures.cause))
+    cause_passed T a d (IsFaultOfRemove T d c.args.cache c.args.key.now) c.take_out.result c.from_residual-in_err-take_out.result c.in_err-take_out.field-0.0 p.0 c.in_err-take_out.was p.1 p.2
+    (cause_looked T a b d 0 (IsFaultOfRemove T d c.args.cache c.args.key.now) c.take_out.result c.number.ensures.looks (cause_chain_remove T b d c.args.cache c.args.key.now c.take_out.result c.take_out.ensures.cause))
 
 pub returns-in_err-take_out-clause-kept : goal.returns-in_err-take_out-clause-kept
 returns-in_err-take_out-clause-kept g c = g.met.P.Pages.kept_then c.args.pages.now c.number.new.pages c.take_out.new.pages c.number.ensures.kept c.take_out.ensures.kept
@@ -49,8 +59,8 @@ returns-in_err-tree_remove-clause-cause g c =
     let meta = meta_looked T a b 0 c.number.ensures.looks c.requires.meta in
     let first = pages_then T a b d 0 3 3 (omega arith) (pages_looked T a b 0 meta c.number.ensures.looks) (pages_rows T b d 3 _ c.in_ok-take_out.ensures.takes) in
     let p = err_from_is_err_and c.from_residual-in_err-tree_remove.result c.from_residual-in_err-tree_remove.ensures.1 in
-    cause_passed T a e c.args.cache c.tree_remove.result c.from_residual-in_err-tree_remove.result c.in_err-tree_remove.field-0.0 p.0 c.in_err-tree_remove.was p.1 p.2
-    (cause_after T a d e 3 c.args.cache c.tree_remove.result first.edits (cause_remove T d e c.args.cache c.tree_remove.result c.tree_remove.ensures.cause))
+    cause_passed T a e (IsFaultOfRemove T e c.args.cache c.args.key.now) c.tree_remove.result c.from_residual-in_err-tree_remove.result c.in_err-tree_remove.field-0.0 p.0 c.in_err-tree_remove.was p.1 p.2
+    (cause_after T a d e 3 (IsFaultOfRemove T e c.args.cache c.args.key.now) c.tree_remove.result first.edits (cause_remove T d e c.args.cache c.args.key.now c.tree_remove.result c.tree_remove.ensures.cause))
 
 pub returns-in_err-tree_remove-clause-kept : goal.returns-in_err-tree_remove-clause-kept
 returns-in_err-tree_remove-clause-kept g c = g.met.P.Pages.kept_then c.args.pages.now c.take_out.new.pages c.tree_remove.new.pages (g.met.P.Pages.kept_then c.args.pages.now c.number.new.pages c.take_out.new.pages c.number.ensures.kept c.take_out.ensures.kept) c.tree_remove.ensures.kept
@@ -88,7 +98,7 @@ returns-clause-cause g c =
     let meta = meta_looked T a b 0 c.number.ensures.looks c.requires.meta in
     let first = pages_then T a b d 0 3 3 (omega arith) (pages_looked T a b 0 meta c.number.ensures.looks) (pages_rows T b d 3 _ c.in_ok-take_out.ensures.takes) in
     let all = pages_then T a d e 3 16 19 (omega arith) first (pages_removed T d e c.args.cache 16 first.meta c.in_ok-tree_remove.ensures.changes) in
-    cause_after T a e f 19 c.args.cache c.set_number.result all.edits (cause_disk T e f c.args.cache c.set_number.result c.set_number.ensures.cause)
+    cause_after T a e f 19 (IsFaultOfRemove T f c.args.cache c.args.key.now) c.set_number.result all.edits (cause_disk T e f (IsFaultOfRemove T f c.args.cache c.args.key.now) c.set_number.result c.set_number.ensures.cause)
 
 pub returns-clause-drops : goal.returns-clause-drops
 returns-clause-drops g c =

@@ -12,7 +12,9 @@ use Rattle.pm_meta.specs.declared.slots.MetaSlot.TheVariants.{Pages}
 use Rattle.pm_pages.specs.Edits.{IsNumberIn}
 use Rattle.pm_pages.proofs.EditedPages.{looks_then}
 use Rattle.pm_part.specs.Spots.{LeadsTo, LeadsNowhere}
-use Rattle.pm_part.proofs.SpotReads.{wrong_link, names_no_row}
+use Rattle.pm_part.specs.Faults.{IsFaultOfGet}
+use Rattle.pm_part.proofs.PartCauses.{cause_passed, cause_disk}
+use Rattle.pm_part.proofs.SpotReads.{wrong_link, names_no_row, bad_row_page}
 use Rattle.pm_part.proofs.spots.find_row.Goals as goal
 
 pub returns-in-None-clause-cause : goal.returns-in-None-clause-cause
@@ -35,6 +37,27 @@ returns-then-not-branch-clause-cause g c =
     let leads = subst (λ l. LeadsTo l d.part spot.0 c.in-Some.spot) c.link.ensures (subst (λ n. LeadsTo c.link.result n spot.0 c.in-Some.spot) (λ k. sym c.has_row.ensures.looks.same.part k) spot.2) in
     wrong_link T a d 1 c.args.cache c.args.key.now c.args.entry c.part-then-not-branch.result c.new-then-not-branch.result _ looks c.requires.entry
     (names_no_row d c.args.entry c.in-Some.spot c.args.cache spot.0 c.args.key.now leads (c.in_ok-has_row-in-Some.ensures.not c.if-not-branch.true)) c.part-then-not-branch.ensures c.new-then-not-branch.ensures refl
+
+pub returns-in_err-find_spot-clause-cause : goal.returns-in_err-find_spot-clause-cause
+returns-in_err-find_spot-clause-cause g c =
+    let T = g.P.Pages.tells in
+    let a = g.P.Pages.seen c.args.pages.now in
+    let b = g.P.Pages.seen c.find_spot.new.pages in
+    let p = err_from_is_err_and c.from_residual.result c.from_residual.ensures.1 in
+    cause_passed T a b (IsFaultOfGet T b c.args.cache c.args.key.now) c.find_spot.result c.from_residual.result c.in_err-find_spot.field-0.0 p.0 c.in_err-find_spot.was p.1 p.2
+    (cause_disk T a b (IsFaultOfGet T b c.args.cache c.args.key.now) c.find_spot.result c.find_spot.ensures.cause)
+
+pub returns-in_err-has_row-in-Some-clause-cause : goal.returns-in_err-has_row-in-Some-clause-cause
+returns-in_err-has_row-in-Some-clause-cause g c =
+    let T = g.P.Pages.tells in
+    let a = g.P.Pages.seen c.args.pages.now in
+    let b = g.P.Pages.seen c.find_spot.new.pages in
+    let d = g.P.Pages.seen c.has_row.new.pages in
+    let spot = subst (λ o. (count : ℕ) × IsNumberIn b Pages count × IfSome o (LeadsTo c.link.result b.part count) × IfNone o (LeadsNowhere c.link.result b.part count)) {y = Some c.in-Some.spot} c.in-Some.is c.in_ok-find_spot.ensures.spot in
+    let leads = subst (λ l. LeadsTo l b.part spot.0 c.in-Some.spot) c.link.ensures spot.2 in
+    let p = err_from_is_err_and c.from_residual-in_err-has_row-in-Some.result c.from_residual-in_err-has_row-in-Some.ensures.1 in
+    cause_passed T a d (IsFaultOfGet T d c.args.cache c.args.key.now) c.has_row.result c.from_residual-in_err-has_row-in-Some.result c.in_err-has_row-in-Some.field-0.0 p.0 c.in_err-has_row-in-Some.was p.1 p.2
+    (bad_row_page T a b d 0 1 c.args.cache spot.0 c.args.key.now c.args.entry c.in-Some.spot c.has_row.result c.find_spot.ensures.looks c.has_row.ensures.looks c.requires.entry leads c.has_row.ensures.cause)
 
 pub returns-else-not-branch-clause-kept : goal.returns-else-not-branch-clause-kept
 returns-else-not-branch-clause-kept g c = g.met.P.Pages.kept_then c.args.pages.now c.find_spot.new.pages c.has_row.new.pages c.find_spot.ensures.kept c.has_row.ensures.kept
