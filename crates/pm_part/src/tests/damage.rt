@@ -15,22 +15,67 @@ use pm_types::{Page, Shape};
 use std::alloc::{AllocError, Global};
 use std::test::Fail;
 
-// How many keys the small partition has.
-const KEYS: u32 = 6;
+// The rows of a small partition: so many keys of cache 3 are put, each with a value of this length, and some of
+// the first are removed again. So many pages it has then.
+#[derive(Clone, Copy)]
+struct Rows {
+    put: u32,
+    len: usize,
+    removed: u32,
+    pages: usize,
+}
 
-// A partition of 6 keys of cache 3, of which each has a value of 300 bytes.
-fn small_partition(alloc: Global, shape: Shape) -> Result<PlainPages, AllocError>
+// Three data pages, pages 1, 3 and 4, with two, three and one rows: each is alone in its chain.
+const SHORT: Rows = Rows {
+    put: 6,
+    len: 300,
+    removed: 0,
+    pages: 5,
+};
+
+// A data page for each row: pages 6, 5 and 4 are one chain. Pages 3 and 1 can be taken, and 3 names 1.
+const LONG: Rows = Rows {
+    put: 5,
+    len: 600,
+    removed: 2,
+    pages: 7,
+};
+
+// A partition with these rows.
+fn small_partition(alloc: Global, shape: Shape, rows: Rows) -> Result<PlainPages, AllocError>
     requires shape { IsShape shape }
     requires partitions { shape.partitions ≡ 1 }
     ensures plain { IfOk result ArePlain }
     ensures readable { IfOk result (λ pages. AllReadable (plain_seen pages)) }
 {
     let mut pages = PlainPages::new(alloc, &shape, 0)?;
-    'keys: for i in 0..KEYS {
-        let cmd = put_of(alloc, &shape, 3, i, 300)?;
+    'keys: for i in 0..rows.put {
+        let cmd = put_of(alloc, &shape, 3, i, rows.len)?;
         is_answered(alloc, shape, &mut pages, &cmd, &Reply::Done)?;
     }
+    remove_first(alloc, shape, &mut pages, rows.removed)?;
     Ok(pages)
+}
+
+// Removes the first keys of cache 3.
+fn remove_first(
+    alloc: Global,
+    shape: Shape,
+    pages: &mut PlainPages,
+    count: u32,
+) -> Result<(), AllocError>
+    requires plain { ArePlain pages.old }
+    requires readable { AllReadable (plain_seen pages.old) }
+    requires shape { IsShape shape }
+    requires partitions { shape.partitions ≡ 1 }
+    ensures plain { ArePlain pages.new }
+    ensures readable { AllReadable (plain_seen pages.new) }
+{
+    'keys: for i in 0..count {
+        let cmd = remove_of(alloc, &shape, 3, i)?;
+        is_answered(alloc, shape, pages, &cmd, &Reply::Was(true))?;
+    }
+    Ok(())
 }
 
 // A copy of pages, with bits of a byte of one of them turned.
@@ -115,12 +160,13 @@ fn call(
     Ok(())
 }
 
-// Gets, overwrites in three ways and removes a key: five calls.
+// Gets, overwrites in three ways and removes a key, whose value has this length: five calls.
 fn calls_of(
     alloc: Global,
     shape: Shape,
     pages: &mut PlainPages,
     number: u32,
+    len: usize,
     counts: &mut Counts,
 ) -> Result<(), AllocError>
     requires plain { ArePlain pages.old }
@@ -132,8 +178,8 @@ fn calls_of(
 {
     let get = get_of(alloc, &shape, 3, number)?;
     call(alloc, shape, pages, &get, counts)?;
-    'lengths: for len in [300, 299, 900] {
-        let put = put_of(alloc, &shape, 3, number, len)?;
+    'lengths: for put_len in [len, len.saturating_sub(1), 900] {
+        let put = put_of(alloc, &shape, 3, number, put_len)?;
         call(alloc, shape, pages, &put, counts)?;
     }
     let remove = remove_of(alloc, &shape, 3, number)?;
@@ -144,6 +190,7 @@ fn calls_of(
 fn calls(
     alloc: Global,
     shape: Shape,
+    rows: Rows,
     pages: PlainPages,
     counts: &mut Counts,
 ) -> Result<(), AllocError>
@@ -155,8 +202,8 @@ fn calls(
     let mut pages = pages;
     let pairs = pairs_in(alloc, shape, &mut pages, 3)?;
     counts.count(pairs.is_some());
-    'keys: for i in 0..KEYS {
-        calls_of(alloc, shape, &mut pages, i, counts)?;
+    'keys: for i in 0..rows.put {
+        calls_of(alloc, shape, &mut pages, i, rows.len, counts)?;
     }
     Ok(())
 }
@@ -165,6 +212,7 @@ fn calls(
 fn calls_on_turned(
     alloc: Global,
     shape: Shape,
+    rows: Rows,
     pages: &[Page],
     index: usize,
     bits: u8,
@@ -180,7 +228,7 @@ fn calls_on_turned(
     for at in 0..1024 {
         if let Some(found) = opened(alloc, &shape, turned(alloc, pages, index, at, bits)?)? {
             counts.opened = counts.opened.saturating_add(1);
-            calls(alloc, shape, found, &mut counts)?;
+            calls(alloc, shape, rows, found, &mut counts)?;
         }
     }
     Ok(counts)
@@ -190,44 +238,51 @@ fn calls_on_turned(
 // passes its check still, at least so many calls fail then, and each of them returns.
 fn all_return(
     alloc: Global,
+    rows: Rows,
     index: usize,
     bits: u8,
     least: u32,
     failed: u32,
 ) -> Result<bool, AllocError> {
     let shape = shape_of(1024, 300);
-    let small = small_partition(alloc, shape)?;
+    let small = small_partition(alloc, shape, rows)?;
     let pages = copied(alloc, &small)?;
-    let counts = calls_on_turned(alloc, shape, &pages, index, bits)?;
+    let counts = calls_on_turned(alloc, shape, rows, &pages, index, bits)?;
     let returned = counts.done.saturating_add(counts.failed);
+    let calls = rows.put.saturating_mul(5).saturating_add(1);
     Ok(
-        pages.len() == 5
+        pages.len() == rows.pages
             && counts.opened >= least
             && counts.failed >= failed
-            && returned == counts.opened.saturating_mul(31),
+            && returned == counts.opened.saturating_mul(calls),
     )
 }
 
 // In the meta page the last bits of the numbers can be turned; of six keys in the leaf, the bytes after the
-// first, and the bytes of their links but for the flag.
+// first, and the bytes of their links but for the flag; in a page that can be taken, the name of the next one.
 #[test]
-fn a_turned_byte_of_a_meta_page_or_a_leaf_stops_no_call(rt: HostRuntime) -> Result<(), Fail> {
-    assert!(rt; all_return(rt.alloc(), 0, 1, 34, 1)?);
-    assert!(rt; all_return(rt.alloc(), 0, 255, 1, 0)?);
-    assert!(rt; all_return(rt.alloc(), 2, 1, 100, 1)?);
-    assert!(rt; all_return(rt.alloc(), 2, 255, 100, 1)?);
+fn a_turned_byte_of_a_meta_page_a_leaf_or_a_reuse_page_stops_no_call(
+    rt: HostRuntime,
+) -> Result<(), Fail> {
+    assert!(rt; all_return(rt.alloc(), SHORT, 0, 1, 34, 1)?);
+    assert!(rt; all_return(rt.alloc(), SHORT, 0, 255, 1, 0)?);
+    assert!(rt; all_return(rt.alloc(), SHORT, 2, 1, 100, 1)?);
+    assert!(rt; all_return(rt.alloc(), SHORT, 2, 255, 100, 1)?);
+    assert!(rt; all_return(rt.alloc(), LONG, 3, 1, 1, 0)?);
     Ok(())
 }
 
 // In a data page the bytes of values can be turned, and those of keys.
 #[test]
 fn a_turned_byte_of_the_first_data_page_stops_no_call(rt: HostRuntime) -> Result<(), Fail> {
-    assert!(rt; all_return(rt.alloc(), 1, 1, 900, 1)?);
+    assert!(rt; all_return(rt.alloc(), SHORT, 1, 1, 900, 1)?);
     Ok(())
 }
 
+// A page in a chain of its own, and one with a page before it and one after it, whose names can be turned too.
 #[test]
-fn a_turned_byte_of_the_second_data_page_stops_no_call(rt: HostRuntime) -> Result<(), Fail> {
-    assert!(rt; all_return(rt.alloc(), 3, 255, 600, 1)?);
+fn a_turned_byte_of_a_later_data_page_stops_no_call(rt: HostRuntime) -> Result<(), Fail> {
+    assert!(rt; all_return(rt.alloc(), SHORT, 3, 255, 600, 1)?);
+    assert!(rt; all_return(rt.alloc(), LONG, 5, 1, 600, 1)?);
     Ok(())
 }
