@@ -21,6 +21,16 @@ IsWayOn page item len InPlace = IsSomeAnd (row_at (rows_of page) item) (λ row. 
 IsWayOn page item len SamePage = (now : List ℕ) → EditsData page [] (Remove item) now → HasRoomFor now len
 IsWayOn page item len Moved = Unit {0}
 
+-- the row of an item of a page has this length
+abbrev pub HasLengthOn : List ℕ → ℕ → ℕ → Type 0
+HasLengthOn page item len = IsSomeAnd (row_at (rows_of page) item) (λ row. length row ≡ len)
+
+-- page i is there, and the row of this item of it has this length
+pub record HasLengthIn (p : Paged) (i item len : ℕ) : Type 0 where
+  pub page : List ℕ
+  pub here : p.pages i ≡ Some page
+  pub long : HasLengthOn page item len
+
 -- a row can take the place of an item's so, on a page that is at hand
 abbrev pub IsWayIn : Paged → ℕ → ℕ → ℕ → Way → Type 0
 IsWayIn p i item len way = (page : List ℕ) → p.pages i ≡ Some page → IsWayOn page item len way

@@ -11,7 +11,8 @@ ghost use Rattle.pm_pages.specs.SoundPages.{IsSound, NoBadPage, MayTake};
 ghost use Rattle.pm_free.specs.Placed.{HasItemAt, HasChains, ChangesRows};
 ghost use Rattle.pm_free.specs.Causes.{HasChainCause};
 ghost use Rattle.pm_part.specs.declared.overwriting.Way.TheVariants.{InPlace, SamePage};
-ghost use Rattle.pm_part.specs.Changes.{IsWayOn, IsWayIn, WritesOver};
+ghost use Rattle.pm_types.specs.Ids.{page_id, link};
+ghost use Rattle.pm_part.specs.Changes.{IsWayOn, IsWayIn, HasLengthOn, HasLengthIn, WritesOver};
 ghost use Rattle.pm_part.specs.Puts.{OverwritesRow};
 
 use crate::spots::Spot;
@@ -35,7 +36,8 @@ pub enum Way {
 fn way_on(page: &[u8], item: u8, len: usize) -> Way
     requires page { IsDataPage page.now }
     requires short { len ≤ 1024 }
-    ensures { IsWayOn page.now item len result }
+    ensures way { IsWayOn page.now item len result }
+    ensures in_place { HasLengthOn page.now item len → result ≡ InPlace }
 {
     match row(page, item) {
         None => Way::Moved,
@@ -63,6 +65,8 @@ fn find_way<P: Pages>(pages: &mut P, spot: Spot, len: usize) -> Result<Way, Page
     ensures looks { LooksAtPages P.tells (P.seen pages.old) (P.seen pages.new) 0 }
     ensures readable { AllReadable (P.seen pages.new) }
     ensures way { IfOk result (IsWayIn (P.seen pages.new) spot.at spot.item len) }
+    ensures in_place { IfOk result (λ way. HasLengthIn (P.seen pages.new) spot.at spot.item len
+        → way ≡ InPlace) }
     ensures cause { HasDiskCause (P.seen pages.old) (P.seen pages.new).faults result }
 {
     match pages.view(spot.at)? {
@@ -91,6 +95,10 @@ pub fn overwrite<P: Pages>(pages: &mut P, spot: Spot, row: &[u8]) -> Result<Link
     ensures readable { AllReadable (P.seen pages.new) }
     ensures rows { IfOk result (λ link. ChangesRows P.tells (P.seen pages.old) (P.seen pages.new) 7 1
         (λ old new. OverwritesRow (P.seen pages.old).part old new spot row.now link)) }
+    ensures in_place { IfOk result (λ at_link.
+        HasLengthIn (P.seen pages.old) spot.at spot.item (length row.now)
+        → (at_link ≡ link (page_id (P.seen pages.old).part spot.at) spot.item)
+        × EditsPages P.tells (P.seen pages.old) (P.seen pages.new) (λ j. j ≡ spot.at) 0) }
     ensures cause { HasChainCause P.tells (P.seen pages.old) (P.seen pages.new) result }
     ensures passes { OnOk result (P.tells → KeepsStored (P.seen pages.old) (P.seen pages.new) 1) }
     ensures sound { MayTake P.tells (P.seen pages.old) → HasChains (P.seen pages.old).pages
