@@ -15,14 +15,14 @@ use Rattle.pm_pages.specs.Paged.{IsTold, IsThere, HasRoomFor, NoneLent, JoinsPat
 use Rattle.pm_locks.specs.Sight.{LockTable}
 use Rattle.pm_stripe.specs.declared.held.Held.{Held}
 use Rattle.pm_stripe.specs.Fetches.{Fetches}
-use Rattle.pm_stripe.specs.GivenUp.{AreUnlent, GivesUp}
+use Rattle.pm_stripe.specs.GivenUp.{AreUnlent, GivesUpHeld}
 use Rattle.pm_stripe.specs.Kept.{Kept, held_at, place_at, place_of, bytes_by, page_bytes, known_by, is_known, read_count, IsPageOf, Holds, AreClean}
 use Rattle.pm_stripe.specs.Makes.{MakesAnew}
-use Rattle.pm_stripe.specs.Moves.{AreOfPart, Operates}
+use Rattle.pm_stripe.specs.Moves.{AreOfPart, HasOperation}
 use Rattle.pm_stripe.specs.Reads.{Passes}
 use Rattle.pm_stripe.specs.ReplacedLaws.{known_same, hand_same, found, found_else, long}
 use Rattle.pm_stripe.specs.Shown.{is_held, is_lent, patch_of, paged}
-use Rattle.pm_stripe.specs.ShownLaws.{names_apart, any_file, After, clean_file, may_read}
+use Rattle.pm_stripe.specs.ShownLaws.{names_apart, any_file, IsInOrder, clean_file, may_read}
 use Rattle.pm_stripe.specs.Stripes.{MayReadOthers}
 use Rattle.pm_stripe.proofs.Fetched.{no_some, decided}
 use Rattle.pm_stripe.proofs.GivenPages.{known_before}
@@ -346,7 +346,7 @@ module _ (locks : LockTable) (tells : Type 0) (file file' : PageId → Option (L
   }
 
 -- the pages in hand were given up
-module _ (locks : LockTable) (tells : Type 0) (file file' : PageId → Option (List ℕ)) (faults part : ℕ) (k k' : Kept) (clean : tells → AreClean file k) (told : tells → (j : PageId) → file' j ≡ file j) (g : GivesUp locks k k') (none : k'.held ≡ []) where
+module _ (locks : LockTable) (tells : Type 0) (file file' : PageId → Option (List ℕ)) (faults part : ℕ) (k k' : Kept) (clean : tells → AreClean file k) (told : tells → (j : PageId) → file' j ≡ file j) (g : GivesUpHeld locks k k') (none : k'.held ≡ []) where
   none_in_hand : (j : ℕ) → held_at k'.held j ≡ None
   none_in_hand j = ap (λ hs. held_at hs j) none
 
@@ -373,7 +373,7 @@ module _ (locks : LockTable) (tells : Type 0) (file file' : PageId → Option (L
       by_held None is = is
       by_held (Some h) is = let x = found_at k.held j.0 h is in absurd (ne (ap (λ n. n / 2 ^ 32 % 2 ^ 16) (sym x.2) ∙ alone x.0 h x.1))
 
-  pub after_given : (state : DeviceState) → MayReadOthers locks.workers state k → Operates locks part k → After locks tells file file' state part k k'
+  pub after_given : (state : DeviceState) → MayReadOthers locks.workers state k → HasOperation locks part k → IsInOrder locks tells file file' state part k k'
   after_given state reads op = record {
     holds = g.holds;
     reads = may_read locks.workers state state k k' (record { later = omega arith; access = refl; usable = λ is. is }) g.shape g.number g.staying reads;
