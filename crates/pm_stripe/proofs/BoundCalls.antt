@@ -44,18 +44,6 @@ module _ {Q R : Type 0} (tells : Type 0) (history : R → History) (state : R �
   pub part_small : (b : Bound Q R) → IsReady tells history state b → b.part < 65536
   part_small b ready = omega (arith, ready.operates.there, ready.bound.holds.shaped.partitions_to)
 
-  -- its pages are the worker's
-  pub own_page : (b : Bound Q R) (i : ℕ) → i < 4294967296 → IsReady tells history state b
-      → IsPageOf b.locks.now.workers b.stripe.shape.partitions b.stripe.number (page_id b.part i)
-  own_page b i i32 ready =
-      pages.is_page_of b.locks.now.workers b.stripe.shape.partitions b.stripe.number b.part i ready.operates.there
-      ready.bound.holds.shaped.partitions_to ready.operates.own (part_small b ready) i32
-
-  -- a page that may be asked for has room
-  pub room_for : (b : Bound Q R) (i : ℕ) → HasRoomFor (shown history state b) i
-      → IsSome (held_at b.stripe.held.items (page_id b.part i).0) ⊎ (length b.stripe.held.items < OP_PAGES)
-  room_for b i room = pages.has_room (file_by history b) (state b.reader).faults b.part (kept_by b) i room
-
   -- a call on one page keeps what calls keep
   pub moved_keeps : (b : Bound Q R) (s : Stripe) (seat : Sight) (r : R) (id : PageId) → part_of_id id ≡ b.part → SameButPages b.stripe s
       → (tells → (history r).world ≡ (history b.reader).world) → IsLaterState (state b.reader) (state r)

@@ -35,15 +35,6 @@ in_part part i p q = omega (arith, p, q)
 in_index : (part i : ℕ) → part < 65536 → i < 4294967296 → index_of_id (page_id part i) ≡ i
 in_index part i p q = omega (arith, p, q)
 
--- a page of a partition of the worker's is one of its pages
-pub is_page_of : (workers partitions number part i : ℕ) → part < partitions → partitions ≤ 64 → part % workers ≡ number → part < 65536 → i < 4294967296 → IsPageOf workers partitions number (page_id part i)
-is_page_of workers partitions number part i there few own p q =
-    let e = in_part part i p q in record {
-      name = record { flag = omega (arith, p, q); partition = omega (arith, e, there, few) };
-      part = omega (arith, e, there);
-      worker = ap (λ n. n % workers) e ∙ own;
-    }
-
 -- a page that came into hand: not there before, and to be read
 record IsNew (o o' : Option Held) : Type 0 where
   page : Held
@@ -52,20 +43,8 @@ record IsNew (o o' : Option Held) : Type 0 where
   unlent : page.is_lent ≡ false
   bare : page.patch ≡ None
 
-pub held_some : (o : Option Held) → IsSome o → IsTrue (is_held o)
-held_some None some = absurd (cc some)
-held_some (Some h) some = refl
-
-pub some_of_held : (o : Option Held) → IsTrue (is_held o) → IsSome o
-some_of_held None held = absurd (cc held)
-some_of_held (Some h) held = refl
-
 pub held_here : (o : Option Held) (h : Held) → o ≡ Some h → IsTrue (is_held o)
 held_here o h e = ap is_held e
-
--- what may be asked for has room
-pub has_room : (file : PageId → Option (List ℕ)) (faults part : ℕ) (k : Kept) (i : ℕ) → HasRoomFor (paged file faults part k) i → IsSome (held_at k.held (page_id part i).0) ⊎ (length k.held < OP_PAGES)
-has_room file faults part k i room = ⊎_elim (λ held. inl (some_of_held (held_at k.held (page_id part i).0) held)) (λ lt. inr (omega (arith, lt))) room
 
 -- a page in hand is seen as its frame has it
 pub here : (file : PageId → Option (List ℕ)) (k : Kept) (id : PageId) (h : Held) → held_at k.held id.0 ≡ Some h → page_bytes file k id ≡ Some h.lease.bytes
