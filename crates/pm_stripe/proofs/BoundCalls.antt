@@ -1,6 +1,6 @@
 -- What the calls on pages that are bound keep, and what contracts see of the pages then.
-use Rattle.std.proofs.Common.{◌≡◌, ℕ, ◌<◌, ◌≤◌, ◌⊎◌, Bool, true, false, List, [], length, Option, Some, None, Result, Ok, sym, refl, ap, subst, ◌∙◌, arith}
-use Rattle.std.specs.Prelude.{IsSome, IsTrue, IfSome, IsErrOf}
+use Rattle.std.proofs.Common.{◌≡◌, ℕ, ◌<◌, ◌≤◌, Bool, true, false, List, [], Option, Some, None, Result, Ok, sym, refl, ap, subst, ◌∙◌, arith}
+use Rattle.std.specs.Prelude.{IsTrue, IfSome, IsErrOf}
 use Rattle.std.specs.Vec.{vec_capacity}
 use Rattle.pm_types.specs.declared.limits.TheConstants.{OP_PAGES}
 use Rattle.pm_types.specs.declared.page_id.PageId.{PageId}
@@ -10,7 +10,7 @@ use Rattle.pm_types.specs.Ids.{page_id, part_of_id}
 use Rattle.pm_types.specs.Spans.{Coverage}
 use Rattle.pm_disk.specs.Moments.{History}
 use Rattle.pm_disk.specs.States.{DeviceState, IsLaterState}
-use Rattle.pm_pages.specs.Paged.{IsTold, IsThere, HasRoomFor, NoneLent, JoinsPatch, AsksPage, LendsNone, AsksInVain, IsPageIn, IsInHand, IsLent, MakesPage, NotesPatch, GivesUpPages, IsBadPage}
+use Rattle.pm_pages.specs.Paged.{IsTold, IsThere, NoneLent, JoinsPatch, AsksPage, LendsNone, AsksInVain, IsPageIn, IsInHand, IsLent, MakesPage, NotesPatch, GivesUpPages, IsBadPage}
 use Rattle.pm_locks.specs.Sight.{Sight}
 use Rattle.pm_stripe.specs.declared.held.Held.{Held}
 use Rattle.pm_stripe.specs.declared.stripe.Stripe.{Stripe}
@@ -19,7 +19,7 @@ use Rattle.pm_stripe.specs.ChangedPages.{is_changed}
 use Rattle.pm_stripe.specs.Fetches.{Fetches}
 use Rattle.pm_stripe.specs.GivenUp.{AreUnlent, GivesUpHeld}
 use Rattle.pm_stripe.specs.HandLaws.{place_there, place_some}
-use Rattle.pm_stripe.specs.Kept.{held_at, place_at, IsPageOf, IsHeldIn}
+use Rattle.pm_stripe.specs.Kept.{held_at, place_at, IsHeldIn}
 use Rattle.pm_stripe.specs.Makes.{MakesAnew}
 use Rattle.pm_stripe.specs.Moves.{ChangesOnePage}
 use Rattle.pm_stripe.specs.ReplacedLaws.{moves_replaced}

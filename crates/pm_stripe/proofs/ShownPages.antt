@@ -2,7 +2,6 @@
 use Rattle.std.proofs.Common.{◌≡◌, ◌≢◌, ℕ, ◌+◌, ◌-◌, ◌/◌, ◌%◌, ◌^◌, ◌<◌, ◌≤◌, Bool, true, false, List, [], ◌∷◌, ◌⊎◌, ⊎_elim, inl, inr, length, set, replicate, Option, Some, None, Result, Ok, sym, refl, ap, subst, ◌∙◌, arith, length-append}
 use Rattle.std.specs.Prelude.{IsSome, IsSomeAnd, IfSome, IsTrue, IsErrOf, slice_get}
 use Rattle.std.proofs.lemmas.Bool.{cases_eq}
-use Rattle.pm_types.specs.declared.limits.TheConstants.{OP_PAGES}
 use Rattle.pm_types.specs.declared.page_id.PageId.{PageId}
 use Rattle.pm_types.specs.declared.shape.Shape.{Shape}
 use Rattle.pm_types.specs.declared.fault.PageFault.{PageFault}
@@ -11,12 +10,12 @@ use Rattle.pm_types.specs.Ids.{page_id, part_of_id, index_of_id}
 use Rattle.pm_types.specs.Spans.{Coverage}
 use Rattle.pm_disk.specs.States.{DeviceState}
 use Rattle.pm_pages.specs.Passes.{PassesAt}
-use Rattle.pm_pages.specs.Paged.{IsTold, IsThere, HasRoomFor, NoneLent, JoinsPatch, IsWhole, AsksPage, LendsNone, AsksInVain, IsPageIn, IsInHand, IsLent, MakesPage, NotesPatch, GivesUpPages, IsBadPage}
+use Rattle.pm_pages.specs.Paged.{IsTold, IsThere, NoneLent, JoinsPatch, IsWhole, AsksPage, LendsNone, AsksInVain, IsPageIn, IsInHand, IsLent, MakesPage, NotesPatch, GivesUpPages, IsBadPage}
 use Rattle.pm_locks.specs.Sight.{LockTable}
 use Rattle.pm_stripe.specs.declared.held.Held.{Held}
 use Rattle.pm_stripe.specs.Fetches.{Fetches}
 use Rattle.pm_stripe.specs.GivenUp.{AreUnlent, GivesUpHeld}
-use Rattle.pm_stripe.specs.Kept.{Kept, held_at, place_at, place_of, bytes_by, page_bytes, known_by, is_known, read_count, IsPageOf, Holds, AreClean}
+use Rattle.pm_stripe.specs.Kept.{Kept, held_at, place_at, place_of, bytes_by, page_bytes, known_by, is_known, read_count, Holds, AreClean}
 use Rattle.pm_stripe.specs.Makes.{MakesAnew}
 use Rattle.pm_stripe.specs.Moves.{AreOfPart, HasOperation}
 use Rattle.pm_stripe.specs.Reads.{Passes}
