@@ -1,6 +1,6 @@
 -- What the calls on pages that are bound keep, and what contracts see of the pages then.
-use Rattle.std.proofs.Common.{◌≡◌, ℕ, ◌<◌, ◌≤◌, ◌⊎◌, Bool, true, false, List, [], length, Option, Some, None, Result, Ok, sym, refl, ap, subst, ◌∙◌, arith}
-use Rattle.std.specs.Prelude.{IsSome, IsTrue, IfSome, IsErrOf}
+use Rattle.std.proofs.Common.{◌≡◌, ℕ, ◌<◌, ◌≤◌, Bool, true, false, List, [], Option, Some, None, Result, Ok, sym, refl, ap, subst, ◌∙◌, arith}
+use Rattle.std.specs.Prelude.{IsTrue, IfSome, IsErrOf}
 use Rattle.std.specs.Vec.{vec_capacity}
 use Rattle.pm_types.specs.declared.limits.TheConstants.{OP_PAGES}
 use Rattle.pm_types.specs.declared.page_id.PageId.{PageId}
@@ -10,21 +10,21 @@ use Rattle.pm_types.specs.Ids.{page_id, part_of_id}
 use Rattle.pm_types.specs.Spans.{Coverage}
 use Rattle.pm_disk.specs.Moments.{History}
 use Rattle.pm_disk.specs.States.{DeviceState, IsLaterState}
-use Rattle.pm_pages.specs.Paged.{IsTold, IsThere, HasRoomFor, NoneLent, JoinsPatch, AsksPage, LendsNone, AsksInVain, IsPageIn, IsInHand, IsLent, MakesPage, NotesPatch, GivesUpPages, IsBadPage}
+use Rattle.pm_pages.specs.Paged.{IsTold, IsThere, NoneLent, JoinsPatch, AsksPage, LendsNone, AsksInVain, IsPageIn, IsInHand, IsLent, MakesPage, NotesPatch, GivesUpPages, IsBadPage}
 use Rattle.pm_locks.specs.Sight.{Sight}
 use Rattle.pm_stripe.specs.declared.held.Held.{Held}
 use Rattle.pm_stripe.specs.declared.stripe.Stripe.{Stripe}
 use Rattle.pm_stripe.specs.declared.bound.Bound.{Bound}
 use Rattle.pm_stripe.specs.ChangedPages.{is_changed}
 use Rattle.pm_stripe.specs.Fetches.{Fetches}
-use Rattle.pm_stripe.specs.GivenUp.{AreUnlent, GivesUp}
+use Rattle.pm_stripe.specs.GivenUp.{AreUnlent, GivesUpHeld}
 use Rattle.pm_stripe.specs.HandLaws.{place_there, place_some}
-use Rattle.pm_stripe.specs.Kept.{held_at, place_at, IsPageOf, IsHeldIn}
+use Rattle.pm_stripe.specs.Kept.{held_at, place_at, IsHeldIn}
 use Rattle.pm_stripe.specs.Makes.{MakesAnew}
-use Rattle.pm_stripe.specs.Moves.{Moves}
+use Rattle.pm_stripe.specs.Moves.{ChangesOnePage}
 use Rattle.pm_stripe.specs.ReplacedLaws.{moves_replaced}
 use Rattle.pm_stripe.specs.Rewrites.{Replaces, LendsPage, NotesPage}
-use Rattle.pm_stripe.specs.Shown.{is_lent, paged, kept_by, file_by, shown, IsReady, Keeps}
+use Rattle.pm_stripe.specs.Shown.{is_lent, paged, kept_by, file_by, shown, IsReady, KeepsBound}
 use Rattle.pm_stripe.specs.ShownLaws.{after_moved, keeps_by, kept_then, same_file}
 use Rattle.pm_stripe.specs.Stripes.{kept, SameButPages}
 use Rattle.pm_stripe.proofs.Fetched.{some_held}
@@ -44,23 +44,11 @@ module _ {Q R : Type 0} (tells : Type 0) (history : R → History) (state : R �
   pub part_small : (b : Bound Q R) → IsReady tells history state b → b.part < 65536
   part_small b ready = omega (arith, ready.operates.there, ready.bound.holds.shaped.partitions_to)
 
-  -- its pages are the worker's
-  pub own_page : (b : Bound Q R) (i : ℕ) → i < 4294967296 → IsReady tells history state b
-      → IsPageOf b.locks.now.workers b.stripe.shape.partitions b.stripe.number (page_id b.part i)
-  own_page b i i32 ready =
-      pages.is_page_of b.locks.now.workers b.stripe.shape.partitions b.stripe.number b.part i ready.operates.there
-      ready.bound.holds.shaped.partitions_to ready.operates.own (part_small b ready) i32
-
-  -- a page that may be asked for has room
-  pub room_for : (b : Bound Q R) (i : ℕ) → HasRoomFor (shown history state b) i
-      → IsSome (held_at b.stripe.held.items (page_id b.part i).0) ⊎ (length b.stripe.held.items < OP_PAGES)
-  room_for b i room = pages.has_room (file_by history b) (state b.reader).faults b.part (kept_by b) i room
-
   -- a call on one page keeps what calls keep
   pub moved_keeps : (b : Bound Q R) (s : Stripe) (seat : Sight) (r : R) (id : PageId) → part_of_id id ≡ b.part → SameButPages b.stripe s
       → (tells → (history r).world ≡ (history b.reader).world) → IsLaterState (state b.reader) (state r)
-      → (IsReady tells history state b → Moves b.locks.now tells (file_by history b) (kept_by b) (kept s seat) id)
-      → Keeps tells history state b (record b { stripe = s; seat = seat; reader = r })
+      → (IsReady tells history state b → ChangesOnePage b.locks.now tells (file_by history b) (kept_by b) (kept s seat) id)
+      → KeepsBound tells history state b (record b { stripe = s; seat = seat; reader = r })
   moved_keeps b s seat r id in_part same world later m =
       let b' : Bound Q R = record b { stripe = s; seat = seat; reader = r } in
       keeps_by tells history state b b' refl refl refl same world later
@@ -72,14 +60,14 @@ module _ {Q R : Type 0} (tells : Type 0) (history : R → History) (state : R �
       → h'.page ≡ h.page → h'.frame ≡ h.frame → h'.was.value.bytes ≡ h.was.value.bytes → h'.is_read ≡ h.is_read
       → (is_changed h'.patch ≡ false → is_changed h.patch ≡ false)
       → (IsHeldIn b.locks.now (kept_by b) h → IsHeldIn b.locks.now (kept_by b) h')
-      → Keeps tells history state b (record b { stripe = t })
+      → KeepsBound tells history state b (record b { stripe = t })
   replaced_keeps b t id h h' in_part r page frame was_same read_same unchanged still =
       moved_keeps b t b.seat b.reader id in_part (same_replaced b.stripe t id h h' r) (λ _. refl) (same_state (state b.reader))
       (λ ready.
       let lt = place_some b.stripe.held.items id.0 (some_held (held_at b.stripe.held.items id.0) h r.at) in
       let x = place_there b.stripe.held.items id.0 lt in
       let held : IsHeldIn b.locks.now (kept_by b) h = ready.bound.holds.held (place_at b.stripe.held.items id.0) h (x.2 ∙ sym x.1 ∙ r.at) in
-      subst (λ k'. Moves b.locks.now tells (file_by history b) (kept_by b) k' id) (sym (kept_replaced b.stripe t b.seat id h h' r))
+      subst (λ k'. ChangesOnePage b.locks.now tells (file_by history b) (kept_by b) k' id) (sym (kept_replaced b.stripe t b.seat id h h' r))
       (moves_replaced b.locks.now (kept_by b) id h h' (vec_capacity t.held) r.at page frame tells (file_by history b)
       (subst (λ n. OP_PAGES ≤ n) (sym r.room) ready.bound.holds.held_room) ready.bound.holds (still held) ready.operates.frames was_same read_same unchanged))
 
@@ -99,7 +87,7 @@ module _ {Q R : Type 0} (tells : Type 0) (history : R → History) (state : R �
   in_part : part_of_id (page_id b.part i) ≡ b.part
   in_part = pages.in_part b.part i p16 i32
 
-  pub keeps : Keeps tells history state b now
+  pub keeps : KeepsBound tells history state b now
   keeps = moved_keeps tells history state b s seat r (page_id b.part i) in_part same world later
       (λ _. moves_fetched b.locks.now tells (file_by history b) (kept_by b) (kept s seat) (page_id b.part i) result f)
 
@@ -137,7 +125,7 @@ module _ {Q R : Type 0} (tells : Type 0) (history : R → History) (state : R �
         subst P (sym x.is.rest) (subst L (sym x.is.held)
         (pages.lends b.locks.now tells (file_by history b) (file_by history now) (state b.reader).faults (state r).faults b.part (kept_by b) (kept s seat) i result p16 i32 told later.later ready.bound.clean f x.page (vec_capacity t.held) x.is.at))
 
-    pub lends_keeps : Keeps tells history state b lent_now
+    pub lends_keeps : KeepsBound tells history state b lent_now
     lends_keeps = kept_then tells history state b now lent_now keeps
         (replaced_keeps tells history state now t (page_id b.part i) x.page (record x.page { is_lent = true }) in_part x.is refl refl refl refl (λ e. e)
         (λ held. record {
@@ -165,7 +153,7 @@ module _ {Q R : Type 0} (tells : Type 0) (history : R → History) (state : R �
       subst P (sym x.is.rest) (subst L (sym x.is.held)
       (pages.notes b.locks.now tells (file_by history b) (state b.reader).faults b.part (kept_by b) i x.page patch x.joined (vec_capacity t.held) x.is.at x.joins))
 
-  pub notes_keeps : IsTrue (is_lent (held_at b.stripe.held.items (page_id b.part i).0)) → Keeps tells history state b (record b { stripe = t })
+  pub notes_keeps : IsTrue (is_lent (held_at b.stripe.held.items (page_id b.part i).0)) → KeepsBound tells history state b (record b { stripe = t })
   notes_keeps lent = replaced_keeps tells history state b t (page_id b.part i) x.page (record x.page { patch = Some x.joined }) in_part x.is refl refl refl refl x.changed
       (λ held. record {
         own = held.own;
@@ -189,7 +177,7 @@ module _ {Q R : Type 0} (tells : Type 0) (history : R → History) (state : R �
       pages.makes b.locks.now tells (file_by history b) (file_by history made_now) (state b.reader).faults b.part (kept_by b) (kept s seat) i ready.bound.clean
       (same_file tells history state b made_now same (λ _. refl)) m
 
-  pub makes_keeps : Keeps tells history state b made_now
+  pub makes_keeps : KeepsBound tells history state b made_now
   makes_keeps = moved_keeps tells history state b s seat b.reader (page_id b.part i) in_part same (λ _. refl) (same_state (state b.reader))
       (λ _. moves_any b.locks.now tells (file_by history b) (kept_by b) (kept s seat) (page_id b.part i) (m.moves (file_by history b)))
 
@@ -199,7 +187,7 @@ unlent tells history state b ready = pages.none_was_lent b.locks.now (file_by hi
 
 -- the pages in hand were given up
 module _ {Q R : Type 0} (tells : Type 0) (history : R → History) (state : R → DeviceState) (b : Bound Q R) (s : Stripe) (seat : Sight) (ready : IsReady tells history state b)
-    (same : SameButPages b.stripe s) (g : GivesUp b.locks.now (kept_by b) (kept s seat)) (none : s.held.items ≡ []) where
+    (same : SameButPages b.stripe s) (g : GivesUpHeld b.locks.now (kept_by b) (kept s seat)) (none : s.held.items ≡ []) where
   abbrev given_now : Bound Q R
   given_now = record b { stripe = s; seat = seat }
 
@@ -209,6 +197,6 @@ module _ {Q R : Type 0} (tells : Type 0) (history : R → History) (state : R �
   pub gives_pages : GivesUpPages tells (shown history state b) (shown history state given_now)
   gives_pages = pages.gives_pages b.locks.now tells (file_by history b) (file_by history given_now) (state b.reader).faults b.part (kept_by b) (kept s seat) ready.bound.clean same_files g none
 
-  pub gives_keeps : Keeps tells history state b given_now
+  pub gives_keeps : KeepsBound tells history state b given_now
   gives_keeps = keeps_by tells history state b given_now refl refl refl same (λ _. refl) (same_state (state b.reader))
       (λ ready'. pages.after_given b.locks.now tells (file_by history b) (file_by history given_now) (state b.reader).faults b.part (kept_by b) (kept s seat) ready'.bound.clean same_files g none (state b.reader) ready'.bound.reads ready'.operates)

@@ -11,7 +11,7 @@ use Rattle.pm_locks.proofs.Pushing.{slice_get-pushed, slice_get-push, slice_get-
 use Rattle.pm_stripe.specs.declared.held.Held.{Held}
 use Rattle.pm_stripe.specs.declared.held.Free.{Free}
 use Rattle.pm_stripe.specs.ChangedPages.{is_changed}
-use Rattle.pm_stripe.specs.GivenUp.{AreUnlent, GivesUp}
+use Rattle.pm_stripe.specs.GivenUp.{AreUnlent, GivesUpHeld}
 use Rattle.pm_stripe.specs.Puts.{put_flag, AreCovered, PutsLast}
 use Rattle.pm_stripe.specs.Kept.{Kept, held_at, place_of, out_of, bytes_by, page_bytes, known_by, is_known, read_one, read_count, bare_count, IsHeldIn, IsFreeIn, IsInHand, Holds, AreClean}
 use Rattle.pm_stripe.proofs.PlacedPages.{same_page}
@@ -37,7 +37,7 @@ none_front [] rest id none = refl
 none_front (h ∷ hs) rest id none = none_by h (eqb h.page.0 id) (held_at (hs ++ rest) id) (held_at hs id) (λ e. none_front hs rest id e) none
 
 -- nothing is given up
-pub gives_none : (locks : LockTable) (k : Kept) → Holds locks k → GivesUp locks k k
+pub gives_none : (locks : LockTable) (k : Kept) → Holds locks k → GivesUpHeld locks k k
 gives_none locks k holds = record {
   holds = holds;
   rest = [];
@@ -53,14 +53,14 @@ gives_none locks k holds = record {
 }
 
 -- what is at hand after pages were given up was so before
-pub known_before : (locks : LockTable) (k k' : Kept) → GivesUp locks k k' → (j : PageId) → is_known k' j ≡ true → is_known k j ≡ true
+pub known_before : (locks : LockTable) (k k' : Kept) → GivesUpHeld locks k k' → (j : PageId) → is_known k' j ≡ true → is_known k j ≡ true
 known_before locks k k' gives j known = by_held (held_at k.held j.0) refl
   where
     by_held : (o : Option Held) → held_at k.held j.0 ≡ o → is_known k j ≡ true
     by_held (Some h) is = ap (λ o. known_by o (place_of k j) k.seat.view.entries k.number) is
     by_held None is = sym (gives.only j is) ∙ known
 
-pub gives_then : (locks : LockTable) (k k₁ k₂ : Kept) → GivesUp locks k k₁ → GivesUp locks k₁ k₂ → GivesUp locks k k₂
+pub gives_then : (locks : LockTable) (k k₁ k₂ : Kept) → GivesUpHeld locks k k₁ → GivesUpHeld locks k₁ k₂ → GivesUpHeld locks k k₂
 gives_then locks k k₁ k₂ x y = record {
   holds = y.holds;
   rest = y.rest ++ x.rest;
@@ -122,7 +122,7 @@ module _ (locks : LockTable) (k : Kept) (holds : Holds locks k) (others : List H
   held_else j ne = sym (ap (λ hs. held_at hs j.0) list ∙ held_push_else others h j.0 (λ e. ne (sym e)))
 
   -- a page of a frame was put back
-  pub gives_put : (k' : Kept) → k'.held ≡ others → PutsLast locks k k' → h.is_read ≡ false → GivesUp locks k k'
+  pub gives_put : (k' : Kept) → k'.held ≡ others → PutsLast locks k k' → h.is_read ≡ false → GivesUpHeld locks k k'
   gives_put k' left puts unread =
       let same : puts.last ≡ h =
       (let q : Some h ≡ Some puts.last = sym last_at ∙ ap (λ hs. slice_get hs (length others)) (puts.held ∙ ap (λ hs. hs ++ puts.last ∷ []) left) ∙ slice_get-push others puts.last in
@@ -208,7 +208,7 @@ module _ (locks : LockTable) (k : Kept) (holds : Holds locks k) (others : List H
         ∙ ap Some (sym (last_is.unlent last_unlent).0)
         ∙ sym (ap (λ o. bytes_by o (place_of k h.page) k.seat.view.entries k.number (file h.page)) last_found)
 
-    pub gives_bare : GivesUp locks k kb
+    pub gives_bare : GivesUpHeld locks k kb
     gives_bare = record {
       holds = bare_holds;
       rest = h ∷ [];

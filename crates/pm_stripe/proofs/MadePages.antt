@@ -21,7 +21,7 @@ use Rattle.pm_stripe.specs.ChangedPages.{is_changed}
 use Rattle.pm_stripe.specs.Fetches.{IsUnkept, Fetches, TakesHome}
 use Rattle.pm_stripe.specs.Kept.{Kept, held_at, place_at, place_of, bytes_by, page_bytes, IsHeldIn, Holds, HasFrames, IsAway, AddsPage}
 use Rattle.pm_stripe.specs.Makes.{MayAddOne, IsMade, MakesAnew}
-use Rattle.pm_stripe.specs.Moves.{IsNamedIn, Moves}
+use Rattle.pm_stripe.specs.Moves.{IsNamedIn, ChangesOnePage}
 use Rattle.pm_stripe.specs.ReplacedLaws.{found, found_else, long, moves_replaced}
 use Rattle.pm_stripe.specs.Rewrites.{Replaces, ClearsPage}
 use Rattle.pm_stripe.specs.ShownLaws.{written_bytes}
@@ -72,7 +72,7 @@ pub named_same : (held all : List Held) → all ≡ held → (i : ℕ) (h : Held
 named_same held all same i h is = record { place = i; page = h; at = ap (λ hs. slice_get hs i) (sym same) ∙ is; is = refl }
 
 -- what a page that was sought leaves
-pub moves_fetched : (locks : LockTable) (tells : Type 0) (file : PageId → Option (List ℕ)) (k k' : Kept) (id : PageId) (result : Result Bool PageFault) → Fetches locks k k' id tells (file id) result → Moves locks tells file k k' id
+pub moves_fetched : (locks : LockTable) (tells : Type 0) (file : PageId → Option (List ℕ)) (k k' : Kept) (id : PageId) (result : Result Bool PageFault) → Fetches locks k k' id tells (file id) result → ChangesOnePage locks tells file k k' id
 moves_fetched locks tells file k k' id result f = record {
   holds = f.holds;
   frames = f.frames;
@@ -91,7 +91,7 @@ moves_fetched locks tells file k k' id result f = record {
 }
 
 -- what a page that was sought in the frame that keeps it leaves
-pub moves_taken : (locks : LockTable) (file : PageId → Option (List ℕ)) (k k' : Kept) (id : PageId) (b : Bool) → TakesHome locks k k' id b → Moves locks (Unit {0}) file k k' id
+pub moves_taken : (locks : LockTable) (file : PageId → Option (List ℕ)) (k k' : Kept) (id : PageId) (b : Bool) → TakesHome locks k k' id b → ChangesOnePage locks (Unit {0}) file k k' id
 moves_taken locks file k k' id b home = let x = home.takes in record {
   holds = x.holds;
   frames = home.frames;
@@ -110,7 +110,7 @@ moves_taken locks file k k' id b home = let x = home.takes in record {
     by_found true adds lost i h is = let a = adds refl in ⊎_elim (λ e. inl (e ∙ a.page_is)) (λ n. inr n) (named_push k.held a.page k'.held a.added i h is)
     by_found false adds lost i h is = inr (named_same k.held k'.held (lost refl).0 i h is)
 
-pub moves_then : (locks : LockTable) (tells : Type 0) (file : PageId → Option (List ℕ)) (k k₁ k₂ : Kept) (id : PageId) → Moves locks tells file k k₁ id → Moves locks tells file k₁ k₂ id → Moves locks tells file k k₂ id
+pub moves_then : (locks : LockTable) (tells : Type 0) (file : PageId → Option (List ℕ)) (k k₁ k₂ : Kept) (id : PageId) → ChangesOnePage locks tells file k k₁ id → ChangesOnePage locks tells file k₁ k₂ id → ChangesOnePage locks tells file k k₂ id
 moves_then locks tells file k k₁ k₂ id x y = record {
   holds = y.holds;
   frames = y.frames;
@@ -129,7 +129,7 @@ moves_then locks tells file k k₁ k₂ id x y = record {
 }
 
 -- what is left whatever the files are
-pub moves_any : (locks : LockTable) (tells : Type 0) (file : PageId → Option (List ℕ)) (k k' : Kept) (id : PageId) → Moves locks (Unit {0}) file k k' id → Moves locks tells file k k' id
+pub moves_any : (locks : LockTable) (tells : Type 0) (file : PageId → Option (List ℕ)) (k k' : Kept) (id : PageId) → ChangesOnePage locks (Unit {0}) file k k' id → ChangesOnePage locks tells file k k' id
 moves_any locks tells file k k' id m = record {
   holds = m.holds;
   frames = m.frames;

@@ -2,7 +2,6 @@
 use Rattle.std.proofs.Common.{◌≡◌, ◌≢◌, ℕ, ◌+◌, ◌-◌, ◌/◌, ◌%◌, ◌^◌, ◌<◌, ◌≤◌, Bool, true, false, List, [], ◌∷◌, ◌⊎◌, ⊎_elim, inl, inr, length, set, replicate, Option, Some, None, Result, Ok, sym, refl, ap, subst, ◌∙◌, arith, length-append}
 use Rattle.std.specs.Prelude.{IsSome, IsSomeAnd, IfSome, IsTrue, IsErrOf, slice_get}
 use Rattle.std.proofs.lemmas.Bool.{cases_eq}
-use Rattle.pm_types.specs.declared.limits.TheConstants.{OP_PAGES}
 use Rattle.pm_types.specs.declared.page_id.PageId.{PageId}
 use Rattle.pm_types.specs.declared.shape.Shape.{Shape}
 use Rattle.pm_types.specs.declared.fault.PageFault.{PageFault}
@@ -11,18 +10,18 @@ use Rattle.pm_types.specs.Ids.{page_id, part_of_id, index_of_id}
 use Rattle.pm_types.specs.Spans.{Coverage}
 use Rattle.pm_disk.specs.States.{DeviceState}
 use Rattle.pm_pages.specs.Passes.{PassesAt}
-use Rattle.pm_pages.specs.Paged.{IsTold, IsThere, HasRoomFor, NoneLent, JoinsPatch, IsWhole, AsksPage, LendsNone, AsksInVain, IsPageIn, IsInHand, IsLent, MakesPage, NotesPatch, GivesUpPages, IsBadPage}
+use Rattle.pm_pages.specs.Paged.{IsTold, IsThere, NoneLent, JoinsPatch, IsWhole, AsksPage, LendsNone, AsksInVain, IsPageIn, IsInHand, IsLent, MakesPage, NotesPatch, GivesUpPages, IsBadPage}
 use Rattle.pm_locks.specs.Sight.{LockTable}
 use Rattle.pm_stripe.specs.declared.held.Held.{Held}
 use Rattle.pm_stripe.specs.Fetches.{Fetches}
-use Rattle.pm_stripe.specs.GivenUp.{AreUnlent, GivesUp}
-use Rattle.pm_stripe.specs.Kept.{Kept, held_at, place_at, place_of, bytes_by, page_bytes, known_by, is_known, read_count, IsPageOf, Holds, AreClean}
+use Rattle.pm_stripe.specs.GivenUp.{AreUnlent, GivesUpHeld}
+use Rattle.pm_stripe.specs.Kept.{Kept, held_at, place_at, place_of, bytes_by, page_bytes, known_by, is_known, read_count, Holds, AreClean}
 use Rattle.pm_stripe.specs.Makes.{MakesAnew}
-use Rattle.pm_stripe.specs.Moves.{AreOfPart, Operates}
+use Rattle.pm_stripe.specs.Moves.{AreOfPart, HasOperation}
 use Rattle.pm_stripe.specs.Reads.{Passes}
 use Rattle.pm_stripe.specs.ReplacedLaws.{known_same, hand_same, found, found_else, long}
 use Rattle.pm_stripe.specs.Shown.{is_held, is_lent, patch_of, paged}
-use Rattle.pm_stripe.specs.ShownLaws.{names_apart, any_file, After, clean_file, may_read}
+use Rattle.pm_stripe.specs.ShownLaws.{names_apart, any_file, IsInOrder, clean_file, may_read}
 use Rattle.pm_stripe.specs.Stripes.{MayReadOthers}
 use Rattle.pm_stripe.proofs.Fetched.{no_some, decided}
 use Rattle.pm_stripe.proofs.GivenPages.{known_before}
@@ -35,15 +34,6 @@ in_part part i p q = omega (arith, p, q)
 in_index : (part i : ℕ) → part < 65536 → i < 4294967296 → index_of_id (page_id part i) ≡ i
 in_index part i p q = omega (arith, p, q)
 
--- a page of a partition of the worker's is one of its pages
-pub is_page_of : (workers partitions number part i : ℕ) → part < partitions → partitions ≤ 64 → part % workers ≡ number → part < 65536 → i < 4294967296 → IsPageOf workers partitions number (page_id part i)
-is_page_of workers partitions number part i there few own p q =
-    let e = in_part part i p q in record {
-      name = record { flag = omega (arith, p, q); partition = omega (arith, e, there, few) };
-      part = omega (arith, e, there);
-      worker = ap (λ n. n % workers) e ∙ own;
-    }
-
 -- a page that came into hand: not there before, and to be read
 record IsNew (o o' : Option Held) : Type 0 where
   page : Held
@@ -52,20 +42,8 @@ record IsNew (o o' : Option Held) : Type 0 where
   unlent : page.is_lent ≡ false
   bare : page.patch ≡ None
 
-pub held_some : (o : Option Held) → IsSome o → IsTrue (is_held o)
-held_some None some = absurd (cc some)
-held_some (Some h) some = refl
-
-pub some_of_held : (o : Option Held) → IsTrue (is_held o) → IsSome o
-some_of_held None held = absurd (cc held)
-some_of_held (Some h) held = refl
-
 pub held_here : (o : Option Held) (h : Held) → o ≡ Some h → IsTrue (is_held o)
 held_here o h e = ap is_held e
-
--- what may be asked for has room
-pub has_room : (file : PageId → Option (List ℕ)) (faults part : ℕ) (k : Kept) (i : ℕ) → HasRoomFor (paged file faults part k) i → IsSome (held_at k.held (page_id part i).0) ⊎ (length k.held < OP_PAGES)
-has_room file faults part k i room = ⊎_elim (λ held. inl (some_of_held (held_at k.held (page_id part i).0) held)) (λ lt. inr (omega (arith, lt))) room
 
 -- a page in hand is seen as its frame has it
 pub here : (file : PageId → Option (List ℕ)) (k : Kept) (id : PageId) (h : Held) → held_at k.held id.0 ≡ Some h → page_bytes file k id ≡ Some h.lease.bytes
@@ -346,7 +324,7 @@ module _ (locks : LockTable) (tells : Type 0) (file file' : PageId → Option (L
   }
 
 -- the pages in hand were given up
-module _ (locks : LockTable) (tells : Type 0) (file file' : PageId → Option (List ℕ)) (faults part : ℕ) (k k' : Kept) (clean : tells → AreClean file k) (told : tells → (j : PageId) → file' j ≡ file j) (g : GivesUp locks k k') (none : k'.held ≡ []) where
+module _ (locks : LockTable) (tells : Type 0) (file file' : PageId → Option (List ℕ)) (faults part : ℕ) (k k' : Kept) (clean : tells → AreClean file k) (told : tells → (j : PageId) → file' j ≡ file j) (g : GivesUpHeld locks k k') (none : k'.held ≡ []) where
   none_in_hand : (j : ℕ) → held_at k'.held j ≡ None
   none_in_hand j = ap (λ hs. held_at hs j) none
 
@@ -373,7 +351,7 @@ module _ (locks : LockTable) (tells : Type 0) (file file' : PageId → Option (L
       by_held None is = is
       by_held (Some h) is = let x = found_at k.held j.0 h is in absurd (ne (ap (λ n. n / 2 ^ 32 % 2 ^ 16) (sym x.2) ∙ alone x.0 h x.1))
 
-  pub after_given : (state : DeviceState) → MayReadOthers locks.workers state k → Operates locks part k → After locks tells file file' state part k k'
+  pub after_given : (state : DeviceState) → MayReadOthers locks.workers state k → HasOperation locks part k → IsInOrder locks tells file file' state part k k'
   after_given state reads op = record {
     holds = g.holds;
     reads = may_read locks.workers state state k k' (record { later = omega arith; access = refl; usable = λ is. is }) g.shape g.number g.staying reads;

@@ -12,7 +12,7 @@ AreUnlent held = (i : ℕ) (h : Held) → slice_get held i ≡ Some h → h.is_l
 -- The last pages in hand are in hand no more, and as many frames keep no page. What is at hand then is as it
 -- was, and, where what is Clean is as the files have it, each page is. Of a page that was not in hand nothing
 -- changed.
-pub record GivesUp (locks : LockTable) (k k' : Kept) : Type 0 where
+pub record GivesUpHeld (locks : LockTable) (k k' : Kept) : Type 0 where
   pub holds : Holds locks k'
   pub rest : List Held
   pub held : k.held ≡ k'.held ++ rest

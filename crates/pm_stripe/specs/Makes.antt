@@ -6,7 +6,7 @@ use Rattle.pm_pages.specs.Paged.{IsWhole}
 use Rattle.pm_locks.specs.Sight.{LockTable}
 use Rattle.pm_stripe.specs.declared.held.Held.{Held}
 use Rattle.pm_stripe.specs.Kept.{Kept, held_at}
-use Rattle.pm_stripe.specs.Moves.{Moves}
+use Rattle.pm_stripe.specs.Moves.{ChangesOnePage}
 
 -- so many more are in hand: none, or one, which wasn't
 abbrev pub MayAddOne : List Held → List Held → ℕ → Type 0
@@ -25,7 +25,7 @@ pub record IsMade (held : List Held) (id page_size : ℕ) : Type 0 where
 
 -- The page is in hand, made anew. All else is as it was.
 pub record MakesAnew (locks : LockTable) (k k' : Kept) (id : PageId) : Type 0 where
-  pub moves : (file : PageId → Option (List ℕ)) → Moves locks (Unit {0}) file k k' id
+  pub moves : (file : PageId → Option (List ℕ)) → ChangesOnePage locks (Unit {0}) file k k' id
   pub made : IsMade k'.held id.0 k.shape.page_size
   pub hands : (j : ℕ) → j ≢ id.0 → held_at k'.held j ≡ held_at k.held j
   pub count : MayAddOne k.held k'.held id.0

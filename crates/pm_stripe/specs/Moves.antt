@@ -16,7 +16,7 @@ pub record IsNamedIn (held : List Held) (id : PageId) : Type 0 where
 
 -- Page `id` was brought into hand, lent, written or noted, or sought in vain. All else is as it was: what is
 -- at hand, and, where the files' content is told and what is Clean is as they have it, each other page.
-pub record Moves (locks : LockTable) (tells : Type 0) (file : PageId → Option (List ℕ)) (k k' : Kept)
+pub record ChangesOnePage (locks : LockTable) (tells : Type 0) (file : PageId → Option (List ℕ)) (k k' : Kept)
     (id : PageId) : Type 0 where
   pub holds : Holds locks k'
   pub frames : HasFrames k'
@@ -36,7 +36,7 @@ abbrev pub AreOfPart : ℕ → List Held → Type 0
 AreOfPart part held = (i : ℕ) (h : Held) → slice_get held i ≡ Some h → part_of_id h.page ≡ part
 
 -- An operation on this partition, which is one of the worker's, has the frames that it may need.
-pub record Operates (locks : LockTable) (part : ℕ) (k : Kept) : Type 0 where
+pub record HasOperation (locks : LockTable) (part : ℕ) (k : Kept) : Type 0 where
   pub frames : HasFrames k
   -- the frames in hand that keep no page are as many as `ready` stole
   pub bare : bare_count k ≡ OP_PAGES

@@ -14,7 +14,7 @@ use Rattle.pm_stripe.specs.HandLaws.{set_here, set_else, place_there, place_some
 use Rattle.pm_stripe.specs.HandLaws.{held_set_else, read_set}
 use Rattle.pm_stripe.specs.Kept.{Kept, held_at, place_at, place_of, out_of, bytes_by, page_bytes, known_by}
 use Rattle.pm_stripe.specs.Kept.{is_known, IsHeldIn, IsInHand, Holds, HasFrames, AreClean}
-use Rattle.pm_stripe.specs.Moves.{Moves}
+use Rattle.pm_stripe.specs.Moves.{ChangesOnePage}
 
 some_is : (o : Option Held) (h : Held) → o ≡ Some h → IsSome o
 some_is o h e = subst IsSome (sym e) refl
@@ -167,7 +167,8 @@ module _ (locks : LockTable) (k : Kept) (id : PageId) (h h' : Held) (room' : ℕ
   -- a page in hand was replaced
   pub moves_replaced : (tells : Type 0) (file : PageId → Option (List ℕ)) → OP_PAGES ≤ room' → Holds locks k
       → IsHeldIn locks k h' → HasFrames k → h'.was.value.bytes ≡ h.was.value.bytes → h'.is_read ≡ h.is_read
-      → (is_changed h'.patch ≡ false → is_changed h.patch ≡ false) → Moves locks tells file k replaced id
+      → (is_changed h'.patch ≡ false → is_changed h.patch ≡ false)
+      → ChangesOnePage locks tells file k replaced id
   moves_replaced tells file room holds new frames was_same read_same unchanged = record {
     holds = holds_replaced room holds new;
     frames = record { few = omega (arith, frames.few, long); enough = omega (arith, frames.enough, long) };

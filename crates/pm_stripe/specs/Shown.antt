@@ -11,7 +11,7 @@ use Rattle.pm_pages.specs.Paged.{Paged}
 use Rattle.pm_stripe.specs.declared.held.Held.{Held}
 use Rattle.pm_stripe.specs.declared.bound.Bound.{Bound}
 use Rattle.pm_stripe.specs.Kept.{Kept, held_at, page_bytes, is_known}
-use Rattle.pm_stripe.specs.Moves.{Operates}
+use Rattle.pm_stripe.specs.Moves.{HasOperation}
 use Rattle.pm_stripe.specs.Stripes.{kept, file_of, SameButPages}
 use Rattle.pm_stripe.specs.Bounds.{IsBound}
 
@@ -68,17 +68,17 @@ module _ {Q R : Type 0} where
       : Type 0 where
     pub is_ready : b.is_ready ≡ true
     pub bound : IsBound tells history state b
-    pub operates : Operates b.locks.now b.part (kept_by b)
+    pub operates : HasOperation b.locks.now b.part (kept_by b)
 
   -- what a call leaves of pages that were ready for it
-  pub record Leaves (tells : Type 0) (history : R → History) (state : R → DeviceState) (b c : Bound Q R)
+  pub record LeavesReady (tells : Type 0) (history : R → History) (state : R → DeviceState) (b c : Bound Q R)
       : Type 0 where
     pub ready : IsReady tells history state c
     pub others : KeepsOthers tells (file_by history b) (file_by history c) b.part (kept_by b) (kept_by c)
 
   -- What no call on a page changes: the locks, the partition that is meant, the outbox and all else of the
   -- stripe but its pages, and the files. The reader may read what it might read.
-  pub record Keeps (tells : Type 0) (history : R → History) (state : R → DeviceState) (b c : Bound Q R)
+  pub record KeepsBound (tells : Type 0) (history : R → History) (state : R → DeviceState) (b c : Bound Q R)
       : Type 0 where
     pub locks : c.locks ≡ b.locks
     pub part : c.part ≡ b.part
@@ -86,4 +86,4 @@ module _ {Q R : Type 0} where
     pub same : SameButPages b.stripe c.stripe
     pub world : tells → (history c.reader).world ≡ (history b.reader).world
     pub later : IsLaterState (state b.reader) (state c.reader)
-    pub leaves : IsReady tells history state b → Leaves tells history state b c
+    pub leaves : IsReady tells history state b → LeavesReady tells history state b c

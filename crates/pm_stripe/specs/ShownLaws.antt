@@ -21,12 +21,12 @@ use Rattle.pm_stripe.specs.declared.bound.Bound.{Bound}
 use Rattle.pm_stripe.specs.HandLaws.{place_there, place_some, held_is}
 use Rattle.pm_stripe.specs.Kept.{Kept, held_at, place_at, place_of, bytes_by, page_bytes, known_by, is_known}
 use Rattle.pm_stripe.specs.Kept.{IsPageOf, IsHeldIn, IsStaying, Holds, AreClean}
-use Rattle.pm_stripe.specs.Moves.{Moves, Operates}
+use Rattle.pm_stripe.specs.Moves.{ChangesOnePage, HasOperation}
 use Rattle.pm_stripe.specs.Reads.{stored}
 use Rattle.pm_stripe.specs.ReplacedLaws.{known_same, hand_same, bytes_here, bytes_else, long, moves_replaced}
 use Rattle.pm_stripe.specs.Rewrites.{rewritten, held_with, bound_with}
 use Rattle.pm_stripe.specs.Shown.{is_held, is_lent, patch_of, KeepsOthers, kept_by, file_by, shown}
-use Rattle.pm_stripe.specs.Shown.{IsReady, Keeps}
+use Rattle.pm_stripe.specs.Shown.{IsReady, KeepsBound}
 use Rattle.pm_stripe.specs.Stripes.{SameButPages, MayReadOthers}
 
 -- pages of one partition have different names
@@ -46,12 +46,12 @@ any_file file file' k id is = by_cases (held_at k.held id.0) (place_of k id) is
     by_cases None None known = absurd (let bad : false ≡ true = known in cc bad)
 
 -- what is left where a call kept all in order
-pub record After (locks : LockTable) (tells : Type 0) (file file' : PageId → Option (List ℕ))
+pub record IsInOrder (locks : LockTable) (tells : Type 0) (file file' : PageId → Option (List ℕ))
     (state : DeviceState) (part : ℕ) (k k' : Kept) : Type 0 where
   pub holds : Holds locks k'
   pub reads : MayReadOthers locks.workers state k'
   pub clean : tells → AreClean file' k'
-  pub operates : Operates locks part k'
+  pub operates : HasOperation locks part k'
   pub others : KeepsOthers tells file file' part k k'
 
 pub clean_file : (file file' : PageId → Option (List ℕ)) (k : Kept) → ((j : PageId) → file' j ≡ file j)
@@ -81,8 +81,9 @@ other_part part j id in_part ne e = ne (ap (λ n. n / 2 ^ 32 % 2 ^ 16) e ∙ in_
 pub after_moved : (locks : LockTable) (tells : Type 0) (file file' : PageId → Option (List ℕ))
     (state state' : DeviceState) (part : ℕ) (k k' : Kept) (id : PageId)
     → (tells → (j : PageId) → file' j ≡ file j) → IsLaterState state state'
-    → MayReadOthers locks.workers state k → (tells → AreClean file k) → Operates locks part k
-    → part_of_id id ≡ part → Moves locks tells file k k' id → After locks tells file file' state' part k k'
+    → MayReadOthers locks.workers state k → (tells → AreClean file k) → HasOperation locks part k
+    → part_of_id id ≡ part → ChangesOnePage locks tells file k k' id
+    → IsInOrder locks tells file file' state' part k k'
 after_moved locks tells file file' state state' part k k' id same later reads clean op in_part m = record {
   holds = m.holds;
   reads = may_read locks.workers state state' k k' later m.shape m.number m.staying reads;
@@ -119,8 +120,8 @@ module _ {Q R : Type 0} (tells : Type 0) (history : R → History) (state : R �
   pub keeps_by : (b c : Bound Q R) → c.locks ≡ b.locks → c.part ≡ b.part → c.is_ready ≡ b.is_ready
       → SameButPages b.stripe c.stripe → (tells → (history c.reader).world ≡ (history b.reader).world)
       → IsLaterState (state b.reader) (state c.reader)
-      → (IsReady tells history state b → After b.locks.now tells (file_by history b) (file_by history c)
-      (state c.reader) b.part (kept_by b) (kept_by c)) → Keeps tells history state b c
+      → (IsReady tells history state b → IsInOrder b.locks.now tells (file_by history b) (file_by history c)
+      (state c.reader) b.part (kept_by b) (kept_by c)) → KeepsBound tells history state b c
   keeps_by b c locks part is_ready same world later after = record {
     locks = locks;
     part = part;
@@ -139,14 +140,14 @@ module _ {Q R : Type 0} (tells : Type 0) (history : R → History) (state : R �
                   (sym table) x.reads;
               clean = x.clean;
             };
-            operates = subst (λ (p : LockTable × ℕ). Operates p.0 p.1 (kept_by c))
+            operates = subst (λ (p : LockTable × ℕ). HasOperation p.0 p.1 (kept_by c))
                 (λ i. (sym table i, sym part i)) x.operates;
           };
           others = x.others;
         };
   }
 
-  pub kept_refl : (b : Bound Q R) → Keeps tells history state b b
+  pub kept_refl : (b : Bound Q R) → KeepsBound tells history state b b
   kept_refl b = record {
     locks = refl;
     part = refl;
@@ -160,8 +161,8 @@ module _ {Q R : Type 0} (tells : Type 0) (history : R → History) (state : R �
     };
   }
 
-  pub kept_then : (b c d : Bound Q R) → Keeps tells history state b c → Keeps tells history state c d
-      → Keeps tells history state b d
+  pub kept_then : (b c d : Bound Q R) → KeepsBound tells history state b c → KeepsBound tells history state c d
+      → KeepsBound tells history state b d
   kept_then b c d x y = record {
     locks = y.locks ∙ x.locks;
     part = y.part ∙ x.part;
@@ -303,7 +304,8 @@ module _ {Q R : Type 0} (tells : Type 0) (history : R → History) (state : R �
     same = record { page_size = refl; max_rows = refl; part = refl; faults = omega arith };
   }
 
-  keeps_found : part_of_id (page_id b.part i) ≡ b.part → Keeps tells history state b (by_held (Some x.page))
+  keeps_found : part_of_id (page_id b.part i) ≡ b.part
+      → KeepsBound tells history state b (by_held (Some x.page))
   keeps_found in_part =
       let later : IsLaterState (state b.reader) (state b.reader) =
       record { later = omega arith; access = refl; usable = λ is. is } in
@@ -336,8 +338,10 @@ module _ {Q R : Type 0} (tells : Type 0) (history : R → History) (state : R �
 
   pub kept_written : (b : Bound Q R) (i : ℕ) (bytes : List ℕ) → IsReady tells history state b
       → IsTrue ((shown history state b).lent i) → length bytes ≡ (shown history state b).page_size
-      → Keeps tells history state b (bound_with b i bytes)
+      → KeepsBound tells history state b (bound_with b i bytes)
   kept_written b i bytes ready lent same =
       let x = lent_at b.stripe.held.items (page_id b.part i).0 lent in
-      subst (λ o. Keeps tells history state b (by_held tells history state b i bytes ready same x o)) (sym x.at)
+      let P : Option Held → Type 0 = λ o.
+      KeepsBound tells history state b (by_held tells history state b i bytes ready same x o) in
+      subst P (sym x.at)
       (keeps_found tells history state b i bytes ready same x (lent_part b i ready x))

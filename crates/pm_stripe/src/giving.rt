@@ -2,7 +2,7 @@
 
 ghost use Rattle.std.specs.Prelude.{◌≡◌, ◌+◌, ◌<◌, ◌≤◌, [], length};
 ghost use Rattle.pm_types.specs.declared.limits.TheConstants.{OP_PAGES};
-ghost use Rattle.pm_stripe.specs.GivenUp.{AreUnlent, GivesUp};
+ghost use Rattle.pm_stripe.specs.GivenUp.{AreUnlent, GivesUpHeld};
 ghost use Rattle.pm_stripe.specs.Kept.{Holds, bare_count};
 ghost use Rattle.pm_stripe.specs.Stripes.{kept, SameButPages};
 
@@ -17,7 +17,7 @@ impl Stripe {
         requires holds { Holds locks.now (kept self.old seat.old) }
         requires unlent { AreUnlent self.old.held.items }
         requires few { bare_count (kept self.old seat.old) ≤ OP_PAGES }
-        ensures gives { GivesUp locks.now (kept self.old seat.old) (kept self.new seat.new) }
+        ensures gives { GivesUpHeld locks.now (kept self.old seat.old) (kept self.new seat.new) }
         ensures none { self.new.held.items ≡ [] }
         ensures same { SameButPages self.old self.new }
     {
@@ -32,7 +32,7 @@ impl Stripe {
         requires some { 0 < length self.old.held.items }
         requires unlent { AreUnlent self.old.held.items }
         requires few { bare_count (kept self.old seat.old) ≤ OP_PAGES }
-        ensures gives { GivesUp locks.now (kept self.old seat.old) (kept self.new seat.new) }
+        ensures gives { GivesUpHeld locks.now (kept self.old seat.old) (kept self.new seat.new) }
         ensures count { length self.new.held.items + 1 ≡ length self.old.held.items }
         ensures same { SameButPages self.old self.new }
     {

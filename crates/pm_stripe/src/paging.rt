@@ -10,7 +10,7 @@ use std::sync::Wait;
 // A page in hand is looked up by its name among those in hand, of which there are 32 at most.
 impl<'a, Q: Wait, R: PageReader> Pages for Bound<'a, Q, R> {
     ghost use Rattle.pm_stripe.specs.Rewrites.{bound_with};
-    ghost use Rattle.pm_stripe.specs.Shown.{shown, IsReady, Keeps};
+    ghost use Rattle.pm_stripe.specs.Shown.{shown, IsReady, KeepsBound};
     ghost use Rattle.pm_stripe.specs.ShownLaws as laws;
 
     ghost tells = { R.tells };
@@ -19,7 +19,7 @@ impl<'a, Q: Wait, R: PageReader> Pages for Bound<'a, Q, R> {
 
     ghost ready = { IsReady R.tells R.history R.state };
 
-    ghost kept = { Keeps R.tells R.history R.state };
+    ghost kept = { KeepsBound R.tells R.history R.state };
 
     ghost written = { bound_with };
 

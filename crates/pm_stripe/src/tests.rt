@@ -5,7 +5,7 @@ ghost use Rattle.std.specs.Prelude.{◌≡◌, ◌≤◌, IfOk};
 ghost use Rattle.pm_pages.specs.Paged.{AllReadable};
 ghost use Rattle.pm_pages.specs.Edits.{HasMeta};
 ghost use Rattle.pm_pages.specs.SparePages.{TakesPage};
-ghost use Rattle.pm_stripe.specs.Shown.{shown, IsReady, Keeps};
+ghost use Rattle.pm_stripe.specs.Shown.{shown, IsReady, KeepsBound};
 
 use crate::bound::Bound;
 use crate::held::Held;
@@ -165,7 +165,7 @@ fn new_page_here<'a, Q: Wait, R: PageReader>(pages: &mut Bound<'a, Q, R>) -> Res
     requires meta { HasMeta (shown R.history R.state pages.old) }
     requires room { 1 ≤ (shown R.history R.state pages.old).spare }
     requires readable { AllReadable (shown R.history R.state pages.old) }
-    ensures kept { Keeps R.tells R.history R.state pages.old pages.new }
+    ensures kept { KeepsBound R.tells R.history R.state pages.old pages.new }
     ensures takes { IfOk result
         (TakesPage R.tells (shown R.history R.state pages.old) (shown R.history R.state pages.new) 1) }
 {

@@ -1,7 +1,7 @@
 use Rattle.std.proofs.Common.{List, refl, sym, ap, subst, arith, length-append, length, [], ◌∷◌}
 use Rattle.std.specs.Vec.{vec_capacity}
 use Rattle.pm_stripe.specs.declared.held.Free.{Free}
-use Rattle.pm_stripe.specs.GivenUp.{GivesUp}
+use Rattle.pm_stripe.specs.GivenUp.{GivesUpHeld}
 use Rattle.pm_stripe.specs.Stripes.{kept}
 use Rattle.pm_stripe.proofs.GivenPages.{are_covered, same_flag, last_unlent, last_bare, last_is, gives_put, gives_bare, room_for_one}
 use Rattle.pm_stripe.proofs.PutPages.{last_held, is_own, is_same, may_put, empty_before, returned}
@@ -33,7 +33,7 @@ pub returns-then-is_read-clause-gives : goal.returns-then-is_read-clause-gives
 returns-then-is_read-clause-gives c =
     let k = kept c.args.self.now c.args.seat.now in
     let h = c.in-Some.held in
-    let P : List Free → Type 0 = λ fs. GivesUp c.args.locks.now k (record k { held = c.pop.new.self.items; held_room = vec_capacity c.pop.new.self; free = fs; free_room = vec_capacity c.push_reserved.new.self }) in
+    let P : List Free → Type 0 = λ fs. GivesUpHeld c.args.locks.now k (record k { held = c.pop.new.self.items; held_room = vec_capacity c.pop.new.self; free = fs; free_room = vec_capacity c.push_reserved.new.self }) in
     subst P (sym c.push_reserved.ensures.items)
     (gives_bare c.args.locks.now k c.requires.holds c.pop.new.self.items h c.in-Some.ensures.items c.requires.unlent c.if-is_read.true (vec_capacity c.pop.new.self) (omega (arith, c.pop.ensures.capacity, c.requires.holds.held_room))
     (vec_capacity c.push_reserved.new.self) (omega (arith, c.push_reserved.ensures.capacity, c.requires.holds.free_room)))
