@@ -2,6 +2,7 @@ pub mod Closing
 pub mod Fills
 pub mod ForcedSegments
 pub mod JoinedReaders
+pub mod Leaving
 pub mod Names
 pub mod Openings
 pub mod SortingOut

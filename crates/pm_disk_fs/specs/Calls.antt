@@ -44,6 +44,13 @@ pub record AreNamesSynced {F : Type 0} (opened : OpenOptions → List ℕ → F 
   pub is_opened : opened to_read (folder_path path) file
   pub is_synced : synced file
 
+-- The folder of this path was opened, and its lock was taken, by the file that is given, or is at hand already.
+abbrev pub IsLocked : {F : Type 0} → (OpenOptions → List ℕ → F → Type 0) → (F → Type 0) → (F → F → Type 0)
+    → List ℕ → Option F → Option F → Type 0
+IsLocked {F} opened locked same_file path at_hand lock = (folder : F) × opened to_read (folder_path path) folder
+    × MatchOption lock (IsSomeAnd at_hand (λ held. same_file held folder))
+    (λ file. (file ≡ folder) × locked file)
+
 -- The names in the folder, which is bound, last: they did before, or were made lasting by a call.
 abbrev pub DoNamesLast : {F : Type 0} → (OpenOptions → List ℕ → F → Type 0) → (F → Type 0) → Bool
     → Option (List ℕ) → Type 0

@@ -1,6 +1,6 @@
 -- The files that are open since they were changed.
 use Rattle.std.specs.Prelude.{◌≡◌, ◌≢◌, ◌<◌, ◌≤◌, ◌+◌, ◌∷◌, ◌++◌, Bool, true, false, List, length, filter, ◌==◌}
-use Rattle.std.specs.Prelude.{if◌then◌else◌, remove, Contains, All, IsTrue}
+use Rattle.std.specs.Prelude.{◌⊎◌, if◌then◌else◌, remove, Contains, All, IsTrue}
 use Rattle.pm_disk.specs.declared.names.StoreFile.{StoreFile}
 use Rattle.pm_disk.specs.declared.names.StoreFile.TheVariants.{Config, Marks, Segment, Pages}
 use Rattle.pm_disk_fs.specs.declared.opened.Opened.{Opened}
@@ -28,6 +28,10 @@ pub record AreAmong {F : Type 0} (files others : List (Opened F)) : Type 0 where
 -- Each of the files was forced since its last change.
 abbrev pub AreForced : {F : Type 0} → List (Opened F) → Type 0
 AreForced files = All (λ file. IsTrue file.is_forced) files
+
+-- Each of the files was forced since its last change, or is synced now.
+pub record AreSynced {F : Type 0} (synced : F → Type 0) (files : List (Opened F)) : Type 0 where
+  pub each : All (λ file. IsTrue file.is_forced ⊎ synced file.file) files
 
 -- the files, without the one that was changed longest ago where they are as many as may be open
 abbrev pub after_oldest : {F : Type 0} → List (Opened F) → List (Opened F)

@@ -1,12 +1,12 @@
 -- How far a file was written.
 use Rattle.std.specs.Prelude.{◌≡◌, ◌+◌, ◌^◌, ◌<◌, ◌⊎◌, ℕ, List, [], ◌∷◌, ◌++◌, length, Option, Some}
-use Rattle.std.specs.Prelude.{IsSome, IfSome, IsTrue, false}
+use Rattle.std.specs.Prelude.{◌≢◌, IsSome, IfSome, IsTrue, false, Contains}
 use Rattle.std.specs.Option.{SomeIff}
 use Rattle.std.specs.Io.KnownBytes.{Appends}
 use Rattle.pm_disk.specs.declared.names.StoreFile.{StoreFile}
 use Rattle.pm_disk.specs.declared.names.StoreFile.TheVariants.{Segment}
 use Rattle.pm_disk_fs.specs.declared.opened.Opened.{Opened}
-use Rattle.pm_disk_fs.specs.OpenFiles.{IsNotOpen}
+use Rattle.pm_disk_fs.specs.OpenFiles.{IsNotOpen, AreSynced}
 use Rattle.pm_disk_fs.specs.declared.open_files.TheConstants.{OPEN_MAX}
 use Rattle.pm_disk_fs.specs.WriteBuffer.{Stretch, IsAppended, IsAlone}
 
@@ -80,6 +80,15 @@ pub record IsStretchForced {F : Type 0} (contents : F → Option (List ℕ)) (fi
   pub named : file.name ≡ Segment stretch.seg
   pub handed : IsHanded contents file.file stretch.bytes
   pub forced : IsTrue file.is_forced
+
+-- A folder was left: each file that was open was synced, unless it was forced since its last change, and so was
+-- the one that was handed what was buffered before.
+pub record LeavesSynced {F : Type 0} (contents : F → Option (List ℕ)) (synced : F → Type 0)
+    (buffer : Stretch) (files : List (Opened F)) : Type 0 where
+  pub idle : buffer.bytes ≡ [] → AreSynced synced files
+  pub others : length files < OPEN_MAX → (file : Opened F) → file.name ≢ Segment buffer.seg
+      → Contains files file → IsTrue file.is_forced ⊎ synced file.file
+  pub buffered : 0 < length buffer.bytes → (file : F) × IsHanded contents file buffer.bytes × synced file
 
 -- A segment was forced, after what was buffered was written: the file that was forced was handed what was
 -- buffered of it, and is the one of it that was open before, unless as many were as may be.

@@ -1,13 +1,13 @@
 //! The calls of the system that no clause of the runtime's speaks of, each with a relation by which a clause
 //! names what it was made on. What is written over any relations can show them only by these calls.
 
-ghost use Rattle.std.specs.Prelude.{◌≡◌, ◌<◌, ◌≤◌, ℕ, List, ⊤, length, take, IfOk, IfErr, OnOk};
+ghost use Rattle.std.specs.Prelude.{◌≡◌, ◌<◌, ◌≤◌, true, ℕ, List, ⊤, length, take, IfOk, IfErr, OnOk};
 ghost use Rattle.std.specs.IoError.{error_kind};
 ghost use Rattle.std.specs.declared.fs.options.OpenOptions.{OpenOptions};
 
 use std::fs::{self, OpenFile, OpenOptions};
 use std::io::{self, ErrorKind};
-use std::os::unix::fs::FileExt;
+use std::os::unix::fs::{FileExt, MetadataExt};
 use std::rt::Files;
 
 /// The calls by a path. Of the system's own files nobody can know more than that they were made.
@@ -96,5 +96,22 @@ pub trait ReadCalls: FileExt {
 impl<F: FileExt> ReadCalls for F {
     fn read_from(&self, into: &mut [u8], at: u64) -> io::Result<usize> {
         self.read_at(into, at)
+    }
+}
+
+/// Whether two open files are one. Of the system's own files nobody can know more than that both were asked.
+pub trait SameCalls: OpenFile {
+    /// Both are open on the same file.
+    ghost same_file: { Self → Self → Type 0 } = { λ _ _. ⊤ };
+
+    /// Whether both are open on the same file.
+    fn is_same_file(&self, other: &Self) -> io::Result<bool>
+        ensures same { IfOk result (λ is_same. is_same ≡ true → same_file self.now other.now) };
+}
+
+impl<F: OpenFile> SameCalls for F {
+    fn is_same_file(&self, other: &F) -> io::Result<bool> {
+        let (one, other) = (self.metadata()?, other.metadata()?);
+        Ok(one.dev() == other.dev() && one.ino() == other.ino())
     }
 }

@@ -9,12 +9,12 @@ ghost use Rattle.std.specs.String.{string_bytes};
 ghost use Rattle.pm_disk_fs.specs.Failures.{IsFailureOn, IsPathFailure, IsLockFailure};
 ghost use Rattle.pm_disk_fs.specs.Failures.{IsOn, IsOnFile, IsCallOn};
 ghost use Rattle.pm_disk_fs.specs.Paths.{IsPathOf};
-ghost use Rattle.pm_disk_fs.specs.Calls.{IsMadeAt, AreNamesSynced, folder_path};
+ghost use Rattle.pm_disk_fs.specs.Calls.{IsMadeAt, AreNamesSynced, IsLocked};
 ghost use Rattle.pm_disk_fs.specs.Calls.{to_read, to_change, to_make};
 ghost use Rattle.pm_disk_fs.specs.Reads.{IsReadAt, IsRange};
 ghost use Rattle.std.specs.Path.{path_join};
 
-use crate::calls::{FileCalls, PathCalls, ReadCalls};
+use crate::calls::{FileCalls, PathCalls, ReadCalls, SameCalls};
 use crate::failure::{Failure, Object, SystemCall, named};
 use crate::lock::{Lockable, lock_folder};
 use crate::paths::{file_path, open_folder, sync_above, sync_folder};
@@ -33,7 +33,7 @@ pub struct Folder<R: Drop> {
     pub dir: Option<String>,
 }
 
-impl<R: PathCalls<File: Lockable + FileCalls> + AllocGlobal + Drop> Folder<R> {
+impl<R: PathCalls<File: Lockable + FileCalls + SameCalls> + AllocGlobal + Drop> Folder<R> {
     /// Makes the folder where it isn't there, locks it, and makes its name lasting, also where it is there:
     /// an earlier run may have ended between making it and that, or the user may have made it just now.
     /// From now on the files are in it. Gives the file that has the lock, or none where the one at hand has
@@ -41,8 +41,8 @@ impl<R: PathCalls<File: Lockable + FileCalls> + AllocGlobal + Drop> Folder<R> {
     pub fn bind(&mut self, dir: &str, at_hand: &Option<R::File>) -> Result<Option<R::File>, Failure>
         ensures bound { OnOk result (option_map string_bytes self.new.dir ≡ Some dir.now) }
         ensures unchanged { OnErr result (self.new.dir ≡ self.old.dir) }
-        ensures locked { IfOk result (λ lock. MatchOption lock (IsSome at_hand.now)
-            (λ file. R.opened to_read (folder_path dir.now) file × R.File.locked file)) }
+        ensures locked { IfOk result
+            (IsLocked R.opened R.File.locked R.File.same_file dir.now at_hand.now) }
         ensures lasts { OnOk result (AreNamesSynced R.opened R.File.synced
             (path_join dir.now (codes ".."))) }
         ensures failed { IfErr result (IsLockFailure

@@ -23,7 +23,7 @@ ghost use Rattle.pm_disk_fs.specs.OpenViews.{WrittenLast, ChangedLast, ForcedLas
 ghost use Rattle.pm_disk.specs.Worlds.{page_at, slot_at};
 ghost use Rattle.pm_disk_fs.specs.Parts.{state_of_part, state_of_reader};
 
-use crate::calls::{FileCalls, PathCalls, ReadCalls};
+use crate::calls::{FileCalls, PathCalls, ReadCalls, SameCalls};
 use crate::failure::{Failure, Object, SystemCall, named};
 use crate::faults::Faults;
 use crate::folder::Folder;
@@ -125,7 +125,7 @@ impl<R: Files + Input + Drop> FsHost<R> {
     }
 }
 
-impl<R: PathCalls<File: Lockable + FileCalls> + Input + AllocGlobal + Drop> FsHost<R> {
+impl<R: PathCalls<File: Lockable + FileCalls + SameCalls> + Input + AllocGlobal + Drop> FsHost<R> {
     // Binds the folder and locks it, after all that is left to do in the one that is bound.
     fn rebind(&mut self, dir: &str) -> Result<(), Failure>
         ensures faults { self.new.faults ≡ self.old.faults }
@@ -284,7 +284,7 @@ impl<R: Files + Input + AllocGlobal + Drop> PageWriter for FsHost<R> {
 }
 
 impl<
-    R: PathCalls<File: Send + Lockable + FileCalls + ReadCalls>
+    R: PathCalls<File: Send + Lockable + FileCalls + ReadCalls + SameCalls>
         + Input
         + Print
         + AllocGlobal

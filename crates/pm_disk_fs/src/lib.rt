@@ -18,7 +18,7 @@ mod store;
 mod write_buffer;
 mod writes;
 
-pub use calls::{FileCalls, PathCalls, ReadCalls};
+pub use calls::{FileCalls, PathCalls, ReadCalls, SameCalls};
 pub use failure::{Failure, Object, SystemCall};
 pub use host::FsHost;
 pub use lock::Lockable;

@@ -1,12 +1,12 @@
 //! The lock on the store's folder: one run at a time has it.
 
-ghost use Rattle.std.specs.Prelude.{◌≡◌, true, false, IfOk, IfErr, MatchOption, IsSome};
+ghost use Rattle.std.specs.Prelude.{◌≡◌, true, false, IfOk, IfErr, MatchOption, IsSomeAnd};
 ghost use Rattle.pm_disk_fs.specs.Failures.{IsLockFailure};
 
+use crate::calls::SameCalls;
 use crate::failure::{Failure, Object, SystemCall, named};
-use std::fs::{File, OpenFile, TryLockError};
+use std::fs::{File, TryLockError};
 use std::io;
-use std::os::unix::fs::MetadataExt;
 
 /// A file or a folder whose lock can be taken.
 pub trait Lockable {
@@ -35,16 +35,16 @@ impl Lockable for File {
 
 /// Locks the folder, and gives the file that has the lock, or none where the one at hand has it already.
 /// Where another run has it, or another host of this one, that is a failure.
-pub fn lock_folder<F: OpenFile + Lockable + Drop>(
+pub fn lock_folder<F: SameCalls + Lockable + Drop>(
     folder: F,
     at_hand: &Option<F>,
 ) -> Result<Option<F>, Failure>
-    ensures locked { IfOk result (λ lock. MatchOption lock (IsSome at_hand.now)
-        (λ file. (file ≡ folder) × F.locked file)) }
+    ensures locked { IfOk result (λ lock. MatchOption lock
+        (IsSomeAnd at_hand.now (λ held. F.same_file held folder)) (λ file. (file ≡ folder) × F.locked file)) }
     ensures failed { IfErr result (IsLockFailure (F.may_be_held folder)) }
 {
     if let Some(held) = at_hand {
-        if named(SystemCall::Stat, Object::Folder, is_same(held, &folder))? {
+        if named(SystemCall::Stat, Object::Folder, held.is_same_file(&folder))? {
             return Ok(None);
         }
     }
@@ -53,10 +53,4 @@ pub fn lock_folder<F: OpenFile + Lockable + Drop>(
     } else {
         Err(Failure::Locked)
     }
-}
-
-// Whether both are open on the same file.
-fn is_same<F: OpenFile>(one: &F, other: &F) -> io::Result<bool> {
-    let (one, other) = (one.metadata()?, other.metadata()?);
-    Ok(one.dev() == other.dev() && one.ino() == other.ino())
 }

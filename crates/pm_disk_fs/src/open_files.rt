@@ -4,7 +4,7 @@ ghost use Rattle.std.specs.Prelude.{◌≡◌, ◌<◌, ◌≤◌, ◌+◌, ◌+
 ghost use Rattle.std.specs.Prelude.{◌⊎◌, IfSome, IsSomeAnd, OnSome, IsTrue};
 ghost use Rattle.std.specs.Prelude.{IfOk, IfErr, IfNone, OnOk, OnErr, slice_get, vec_len, vec_capacity};
 ghost use Rattle.pm_disk_fs.specs.Failures.{IsSystemFailure, IsSync};
-ghost use Rattle.pm_disk_fs.specs.OpenFiles.{AreSorted, AreJoined, AreForced};
+ghost use Rattle.pm_disk_fs.specs.OpenFiles.{AreSorted, AreJoined, AreForced, AreSynced};
 
 use crate::calls::FileCalls;
 use crate::failure::Failure;
@@ -108,6 +108,7 @@ impl<F: Write + Seek + FileCalls + Drop> OpenFiles<F> {
     /// Forces each open file.
     pub fn force(&mut self) -> Result<(), Failure>
         ensures forced { OnOk result (AreForced self.new.files.items) }
+        ensures synced { OnOk result (AreSynced F.synced self.old.files.items) }
         ensures kept { length self.new.files.items ≡ length self.old.files.items }
         ensures failed { IfErr result (IsSystemFailure IsSync) }
     {
@@ -171,6 +172,7 @@ impl<F: Write + Seek + FileCalls + Drop> OpenFiles<F> {
 // Forces each of the files.
 fn force_all<F: Write + Seek + FileCalls + Drop>(files: &mut [Opened<F>]) -> Result<(), Failure>
     ensures forced { OnOk result (AreForced files.new) }
+    ensures synced { OnOk result (AreSynced F.synced files.old) }
     ensures failed { IfErr result (IsSystemFailure IsSync) }
 {
     for file in files.iter_mut() {

@@ -10,7 +10,7 @@ ghost use Rattle.pm_disk_fs.specs.OpenFiles.{AreSorted, AreJoined, OthersStayOpe
 ghost use Rattle.pm_disk_fs.specs.OpenFiles.{IsTakenOut};
 ghost use Rattle.pm_disk_fs.specs.Calls.{IsMadeAt, IsOpenedToChange, IsSyncedAt, DoNamesLast, to_make};
 ghost use Rattle.pm_disk_fs.specs.Calls.{AreNamesSynced, WasThere};
-ghost use Rattle.pm_disk_fs.specs.Positions.{IsChangedLast, WasForced, IsWritten};
+ghost use Rattle.pm_disk_fs.specs.Positions.{IsChangedLast, WasForced, IsWritten, LeavesSynced};
 ghost use Rattle.pm_disk_fs.specs.Writes.{ChangesFile, FlushesBuffer};
 
 use crate::calls::{FileCalls, PathCalls};
@@ -59,6 +59,8 @@ impl<R: PathCalls<File: FileCalls> + AllocGlobal + Drop> Store<R> {
         ensures refused { IsTrue self.old.writes.is_poisoned → IsErr result }
         ensures names { OnOk result (self.new.names_last ≡ false) }
         ensures closed { OnOk result (self.new.open.files.items ≡ []) }
+        ensures forced { OnOk result (LeavesSynced R.File.contents R.File.synced
+            self.old.writes.buffer self.old.open.files.items) }
         ensures synced { OnOk result (IsTrue self.old.names_last
             ⊎ IsSomeAnd (option_map string_bytes folder.now.dir) (AreNamesSynced R.opened R.File.synced)) }
         ensures failed { IfErr result (IsFailureOn
