@@ -1,5 +1,7 @@
 pub mod BoundCalls
 pub mod DeltaRooms
+pub mod DonePages
+pub mod EndedOperations
 pub mod Fetched
 pub mod GivenPages
 pub mod Hands

@@ -29,7 +29,7 @@ use Rattle.pm_stripe.specs.declared.held.Free.{Free}
 use Rattle.pm_stripe.specs.declared.places.Places.{Places}
 use Rattle.pm_stripe.specs.ChangedPages.{is_changed, has_bytes}
 use Rattle.pm_stripe.specs.Reads.{Passes}
-use Rattle.pm_stripe.specs.Puts.{is_empty, put_flag, IsCovered, AreCovered, AreStayingCovered, PutsLast}
+use Rattle.pm_stripe.specs.Puts.{is_empty, put_flag, IsCovered, AreCovered, AreStayingCovered, IsPutDirty, PutsLast}
 use Rattle.pm_stripe.specs.Kept.{Kept, held_at, place_of, last_put, page_at, out_of, stays, bytes_by, page_bytes, known_by, is_known, IsKeptPage, IsHeldPage, IsFreeFrame, IsHeldIn, IsFreeIn, IsKeptIn, IsInHand, Holds, AreClean, IsStaying, stays_in}
 use Rattle.std.specs.FinMap as fin
 use Rattle.std.proofs.lemmas.List.{length-set}
@@ -101,6 +101,10 @@ way_by h false false stay false c l s r = Same c r (inl l)
 
 pub way : (h : Held) → Way h (put_flag h)
 way h = way_by h (is_changed h.patch) h.is_lent (stays h.flag) h.is_read refl refl refl refl
+
+-- a page that was changed is put as Dirty
+dirty_flag : (h : Held) → is_changed h.patch ≡ true → put_flag h ≡ flag.Dirty
+dirty_flag h changed = ap (λ b. if b then flag.Dirty else if h.is_lent && not (stays h.flag) then flag.Empty else if h.is_read then flag.Clean else h.flag) changed
 
 -- the last page in hand
 module _ (locks : LockTable) (k : Kept) (holds : Holds locks k) (others : List Held) (h : Held) (list : k.held ≡ others ++ h ∷ []) where
@@ -459,6 +463,15 @@ module _ (locks : LockTable) (k : Kept) (holds : Holds locks k) (others : List H
         (λ ne. record { frame = is.frame; tag = is.tag; entry = is.entry; kept = rest j ne ∙ is.kept; at = put_else is.frame (not_here j is.frame is.tag is.kept ne) ∙ is.at; stay = is.stay })
         (cases_eq j.0 h.page.0)
 
+    -- a page that was changed is Dirty in its frame
+    put_dirty : is_changed h.patch ≡ true → IsPutDirty k' h
+    put_dirty changed =
+        let is : now ≡ flag.Dirty = now_is ∙ dirty_flag h changed in
+        ⊎_elim
+        (λ p. record { entry = entry; kept = p.0; at = put_here; flag_is = is; bytes_are = refl })
+        (λ p. absurd (let bad : true ≡ false = ap is_empty (sym p.1 ∙ is) in cc bad))
+        kept_or
+
     pub puts_last : PutsLast locks k k'
     puts_last = record {
       holds = put_holds;
@@ -467,6 +480,9 @@ module _ (locks : LockTable) (k : Kept) (holds : Holds locks k) (others : List H
       free = refl;
       shape = refl;
       number = refl;
+      dirty = put_dirty;
+      put_else = put_else;
+      place_else = rest;
       only = known_only;
       staying = still_stays;
       at_hand = λ file j is. all_same file j (λ same e. absurd (known_kept j is same e));

@@ -1,5 +1,6 @@
 pub mod Bounds
 pub mod ChangedPages
+pub mod Dones
 pub mod Fetches
 pub mod GivenUp
 pub mod HandLaws

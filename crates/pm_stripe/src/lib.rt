@@ -2,6 +2,7 @@
 #![tactic(auto)]
 
 mod bound;
+mod done;
 mod fetching;
 mod giving;
 mod held;
