@@ -3,6 +3,7 @@ pub mod DeltaRooms
 pub mod DonePages
 pub mod EndedOperations
 pub mod Fetched
+pub mod FreedFrames
 pub mod GivenPages
 pub mod Hands
 pub mod InPlace

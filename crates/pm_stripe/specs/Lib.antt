@@ -2,6 +2,7 @@ pub mod Bounds
 pub mod ChangedPages
 pub mod Dones
 pub mod Fetches
+pub mod Frees
 pub mod GivenUp
 pub mod HandLaws
 pub mod Kept

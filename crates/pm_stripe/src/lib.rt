@@ -4,6 +4,7 @@
 mod bound;
 mod done;
 mod fetching;
+mod freeing;
 mod giving;
 mod held;
 mod lending;
