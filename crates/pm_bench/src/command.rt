@@ -3,10 +3,11 @@
 use crate::log_rings::Delta;
 use crate::policies::{Frames, Kind};
 use crate::{
-    block, hash_map, keys, locks, log_rings, maps, operations, page_table, policies, region,
-    ring_threads, trees,
+    block, frames, hash_map, keys, locks, log_rings, maps, operations, page_table, policies,
+    region, ring_threads, trees,
 };
 use std::alloc::{AllocError, Global};
+use std::sync::Wait;
 use std::thread::Threads;
 
 /// A command. A new one has a variant, a name, a module and an entry of `COMMANDS`.
@@ -48,6 +49,14 @@ pub enum Command {
     OperationsInPages,
     /// The same, done in the map in memory that the partition is compared with.
     OperationsInMap,
+    /// The operations made alone, beside page frames for them.
+    FramesAlone,
+    /// The operations, done on a partition over page frames that hold all its pages.
+    OperationsInFrames,
+    /// So many look-ups in a partition that is read from memory, over page frames for all its pages.
+    GetsInFrames,
+    /// The same over page frames for a tenth of its pages.
+    GetsInFewFrames,
     /// The records of so many operations, appended to a log in memory.
     Appends(Delta),
     /// The same through the rings of two workers, which the appends are compared with.
@@ -57,7 +66,7 @@ pub enum Command {
 }
 
 /// All commands, in the order in which `all` runs them.
-pub const COMMANDS: [Command; 32] = [
+pub const COMMANDS: [Command; 36] = [
     Command::PageTable,
     Command::HashMap,
     Command::Region,
@@ -84,6 +93,10 @@ pub const COMMANDS: [Command; 32] = [
     Command::Operations,
     Command::OperationsInPages,
     Command::OperationsInMap,
+    Command::FramesAlone,
+    Command::OperationsInFrames,
+    Command::GetsInFrames,
+    Command::GetsInFewFrames,
     Command::Appends(Delta::Short),
     Command::Rings(Delta::Short),
     Command::RingThreads(Delta::Short),
@@ -122,6 +135,10 @@ impl Command {
             "operations" => Some(Command::Operations),
             "operations_in_pages" => Some(Command::OperationsInPages),
             "operations_in_map" => Some(Command::OperationsInMap),
+            "frames" => Some(Command::FramesAlone),
+            "operations_in_frames" => Some(Command::OperationsInFrames),
+            "gets_in_frames" => Some(Command::GetsInFrames),
+            "gets_in_few_frames" => Some(Command::GetsInFewFrames),
             "appends_short" => Some(Command::Appends(Delta::Short)),
             "rings_short" => Some(Command::Rings(Delta::Short)),
             "ring_threads_short" => Some(Command::RingThreads(Delta::Short)),
@@ -161,6 +178,10 @@ impl Command {
             Command::Operations => "operations",
             Command::OperationsInPages => "operations_in_pages",
             Command::OperationsInMap => "operations_in_map",
+            Command::FramesAlone => "frames",
+            Command::OperationsInFrames => "operations_in_frames",
+            Command::GetsInFrames => "gets_in_frames",
+            Command::GetsInFewFrames => "gets_in_few_frames",
             Command::Appends(Delta::Short) => "appends_short",
             Command::Rings(Delta::Short) => "rings_short",
             Command::RingThreads(Delta::Short) => "ring_threads_short",
@@ -171,7 +192,7 @@ impl Command {
     }
 
     /// Does the work so many times, and gives the sum.
-    pub fn run<R: Threads + Sync>(
+    pub fn run<R: Threads + Wait + Sync>(
         &self,
         rt: &R,
         alloc: Global,
@@ -196,6 +217,10 @@ impl Command {
             Command::Operations => operations::commands(alloc, count),
             Command::OperationsInPages => operations::in_pages(alloc, count),
             Command::OperationsInMap => operations::in_map(alloc, count),
+            Command::FramesAlone => frames::commands(alloc, count),
+            Command::OperationsInFrames => frames::mixed(rt, alloc, count),
+            Command::GetsInFrames => frames::gets(rt, alloc, count, false),
+            Command::GetsInFewFrames => frames::gets(rt, alloc, count, true),
             Command::Appends(delta) => log_rings::appends(alloc, *delta, count),
             Command::Rings(delta) => log_rings::rings(alloc, *delta, count),
             Command::RingThreads(delta) => ring_threads::run(rt, alloc, *delta, count),

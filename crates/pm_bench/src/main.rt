@@ -3,22 +3,39 @@
 #![tactic(auto)]
 
 mod block;
+#[cfg(test)]
+mod checkpoints;
 mod command;
+mod frames;
 mod hash_map;
+#[cfg(test)]
+mod kept_segments;
 mod keys;
 mod locks;
 mod log_rings;
 mod lookups;
 mod maps;
+#[cfg(test)]
+mod one_page;
 mod operations;
+mod page_list;
+#[cfg(test)]
+mod page_records;
 mod page_table;
 mod policies;
 mod region;
+#[cfg(test)]
+mod restores;
 mod ring_threads;
 mod trees;
+#[cfg(test)]
+mod untold;
+#[cfg(test)]
+mod worker_pages;
 
 use command::{COMMANDS, Command};
 use std::process::ExitCode;
+use std::sync::Wait;
 use std::thread::Threads;
 use std::{env, io};
 
@@ -28,6 +45,7 @@ const USAGE: &str =
 |clock_64|clock_4096|clock_65536\
 |keys|tree_puts|tree_gets|tree_removes|map_puts|map_gets|map_removes\
 |operations|operations_in_pages|operations_in_map\
+|frames|operations_in_frames|gets_in_frames|gets_in_few_frames\
 |appends_short|rings_short|ring_threads_short|appends_long|rings_long|ring_threads_long COUNT";
 
 fn main(rt: HostRuntime) -> io::Result<ExitCode> {
@@ -57,7 +75,7 @@ fn refused(rt: &impl Eprint) -> io::Result<ExitCode> {
 }
 
 // Runs a command and prints its sum.
-fn report<R: Print + AllocGlobal + Threads + Sync>(
+fn report<R: Print + AllocGlobal + Threads + Wait + Sync>(
     rt: &R,
     command: Command,
     count: u32,

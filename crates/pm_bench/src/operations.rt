@@ -13,7 +13,8 @@ use pm_part::Part;
 use pm_types::{Key, Shape, Value};
 use std::alloc::{AllocError, Global};
 
-const SHAPE: Shape = Shape {
+/// The shape of a store of one partition.
+pub const SHAPE: Shape = Shape {
     page_size: 4096,
     partitions: 1,
     version: 1,
@@ -66,15 +67,13 @@ pub fn in_map(alloc: Global, count: u32) -> Result<u64, AllocError> {
     Ok(sum)
 }
 
-// An operation on one of a fourth as many keys as there are operations: of ten five are puts, four
-// gets, and one is a removal.
-fn command(alloc: Global, i: u32, count: u32) -> Result<Cmd, AllocError>
+/// An operation on one of a fourth as many keys as there are operations: of sixteen eight are puts, six
+/// gets, and two are removals.
+pub fn command(alloc: Global, i: u32, count: u32) -> Result<Cmd, AllocError>
     ensures { IfOk result (IsPartCmd SHAPE 0) }
 {
-    let random = u64::from(i).wrapping_mul(STEP);
-    let random = (random ^ (random >> 29)).wrapping_mul(STEP);
-    let number = (random >> 20) % (u64::from(count) / 4 + 1);
-    let key = Key::of(alloc, &number.wrapping_mul(STEP).to_be_bytes())?;
+    let random = spread(i);
+    let key = key_of(alloc, number_of(random, count))?;
     let cache = 0;
     match random >> 60 {
         0..8 => Ok(Cmd::Put {
@@ -85,6 +84,42 @@ fn command(alloc: Global, i: u32, count: u32) -> Result<Cmd, AllocError>
         8..14 => Ok(Cmd::Get { cache, key }),
         _ => Ok(Cmd::Remove { cache, key }),
     }
+}
+
+// A number that is spread over all.
+fn spread(i: u32) -> u64 {
+    let random = u64::from(i).wrapping_mul(STEP);
+    (random ^ (random >> 29)).wrapping_mul(STEP)
+}
+
+// The number of one of a fourth as many keys.
+fn number_of(random: u64, count: u32) -> u64 {
+    (random >> 20) % (u64::from(count) / 4 + 1)
+}
+
+fn key_of(alloc: Global, number: u64) -> Result<Key, AllocError> {
+    Key::of(alloc, &number.wrapping_mul(STEP).to_be_bytes())
+}
+
+/// A put of the key with this number.
+pub fn put_of(alloc: Global, number: u32) -> Result<Cmd, AllocError>
+    ensures { IfOk result (IsPartCmd SHAPE 0) }
+{
+    Ok(Cmd::Put {
+        cache: 0,
+        key: key_of(alloc, u64::from(number))?,
+        value: value(alloc, spread(number))?,
+    })
+}
+
+/// A get of one of a fourth as many keys as there are operations.
+pub fn get_of(alloc: Global, i: u32, count: u32) -> Result<Cmd, AllocError>
+    ensures { IfOk result (IsPartCmd SHAPE 0) }
+{
+    Ok(Cmd::Get {
+        cache: 0,
+        key: key_of(alloc, number_of(spread(i), count))?,
+    })
 }
 
 fn value(alloc: Global, random: u64) -> Result<Value, AllocError> {
@@ -113,8 +148,8 @@ fn run<P: Pages>(part: &Part, cmd: &Cmd, pages: &mut P, replies: &mut Replies) -
     }
 }
 
-// A number for a reply: that of the bytes of a value that was found, and more.
-fn told_by(reply: &Reply) -> u64 {
+/// A number for a reply: that of the bytes of a value that was found, and more.
+pub fn told_by(reply: &Reply) -> u64 {
     match reply {
         Reply::Done => 1,
         Reply::Found(value) => 1000 + value.bytes().len() as u64,

@@ -199,7 +199,7 @@ none_made shape lists none = record {
   each = λ part list found. absurd (cc (sym found ∙ ap (λ (ls : List PlainPages). slice_get ls part) none));
 }
 
-get_push : {A : Type 0} (xs : List A) (x y : A) (i : ℕ) → slice_get (xs ++ x ∷ []) i ≡ Some y → (slice_get xs i ≡ Some y) ⊎ ((i ≡ length xs) × (x ≡ y))
+pub get_push : {A : Type 0} (xs : List A) (x y : A) (i : ℕ) → slice_get (xs ++ x ∷ []) i ≡ Some y → (slice_get xs i ≡ Some y) ⊎ ((i ≡ length xs) × (x ≡ y))
 get_push [] x y zero found = inr (refl, same_some x y found)
 get_push [] x y (suc i) found = absurd cc
 get_push (z ∷ xs) x y zero found = inl found

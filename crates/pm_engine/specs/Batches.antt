@@ -1,55 +1,18 @@
 -- What a batch of lines does.
 use Rattle.std.specs.Prelude.{◌≡◌, ◌≤◌, ◌+◌, ℕ, List, [], ◌∷◌, ◌++◌, length, take, Bool, if◌then◌else◌}
-use Rattle.std.specs.Prelude.{Result, OnOk, IsErrOf, IfErr}
-use Rattle.pm_types.specs.declared.fault.StoreFault.{StoreFault}
-use Rattle.pm_types.specs.declared.fault.StoreFault.TheVariants.{Failed, Memory, BadPage, BadRecord}
-use Rattle.pm_types.specs.declared.fault.OpenFault.{OpenFault}
-use Rattle.pm_types.specs.declared.fault.OpenFault.TheVariants.{Store}
-use Rattle.pm_types.specs.declared.page_id.PageId.{PageId}
+use Rattle.std.specs.Prelude.{Result, OnOk}
 use Rattle.pm_types.specs.declared.shape.Shape.{Shape}
 use Rattle.pm_disk.specs.Moments.{History, AllMoments}
-use Rattle.pm_disk.specs.States.{DeviceState, IsUsable, Rose}
 use Rattle.pm_records.specs.Logs.{place}
 use Rattle.pm_records.specs.LogFiles.{ChangesLog, LogGrowsBy}
 use Rattle.pm_segments.specs.Ends.{EndsThere}
 use Rattle.pm_model.specs.declared.line.Line.{Line}
 use Rattle.pm_model.specs.Eval.{Pairs, accepted, after_all, replies_to}
 use Rattle.pm_model.specs.ReplyLists.{ReplyList, with_replies}
+pub use Rattle.pm_redo.specs.Faults.{IsPlainFault, HasStoreFault, HasOpenFault, HasPlainFault}
 use Rattle.pm_engine.specs.Engines.{Running, HasDone, HasSegments, SameAbove}
 use Rattle.pm_engine.specs.Crashes.{CrashHoldsPrefix}
 use Rattle.pm_engine.specs.Records.{logged}
-
--- a fault that a call on a host or out of memory gives: no record and no page is bad
-abbrev pub IsPlainFault : StoreFault → Type 0
-IsPlainFault Failed = Unit {0}
-IsPlainFault Memory = Unit {0}
-IsPlainFault (BadPage page) = ⊥
-IsPlainFault (BadRecord place) = ⊥
-
--- the count of faults doesn't fall, `Failed` comes only where it rose, and no page is bad
-pub record HasStoreFault {T : Type 0} (before now : DeviceState) (result : Result T StoreFault) : Type 0 where
-  pub later : before.faults ≤ now.faults
-  pub failed : IsErrOf result Failed → Rose before now
-  pub access : now.access ≡ before.access
-  pub usable : IsUsable before → IsUsable now
-  pub no_page : (page : PageId) → IsErrOf result (BadPage page) → ⊥
-
--- the same of an opening
-pub record HasOpenFault {T : Type 0} (before now : DeviceState) (result : Result T OpenFault) : Type 0 where
-  pub later : before.faults ≤ now.faults
-  pub failed : IsErrOf result (Store Failed) → Rose before now
-  pub access : now.access ≡ before.access
-  pub usable : IsUsable before → IsUsable now
-  pub no_page : (page : PageId) → IsErrOf result (Store (BadPage page)) → ⊥
-
--- the count of faults doesn't fall, and `Failed` comes only where it rose; no other fault than that
--- and out of memory comes
-pub record HasPlainFault {T : Type 0} (before now : DeviceState) (result : Result T StoreFault) : Type 0 where
-  pub later : before.faults ≤ now.faults
-  pub failed : IsErrOf result Failed → Rose before now
-  pub access : now.access ≡ before.access
-  pub usable : IsUsable before → IsUsable now
-  pub plain : IfErr result IsPlainFault
 
 -- the number of a line, where its record was handed to the log
 abbrev pub noted : Bool → ℕ → List ℕ

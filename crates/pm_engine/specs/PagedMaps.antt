@@ -1,11 +1,14 @@
 -- A map whose rows stand in pages, in a list of pages for each partition.
-use Rattle.std.specs.Prelude.{◌≡◌, ℕ, List, Option, None, Some, Bool, true, false, length, slice_get}
+use Rattle.std.specs.Prelude.{◌≡◌, ℕ, List, [], ◌∷◌, Option, None, Some, Bool, true, false, length, slice_get}
+use Rattle.std.specs.Prelude.{Result, OnOk, OnErr, IfOk}
 use Rattle.pm_types.specs.declared.shape.Shape.{Shape}
 use Rattle.pm_model.specs.declared.line.Cmd.{Cmd}
 use Rattle.pm_model.specs.declared.line.Cmd.TheVariants.{Put, Get, Remove, Scan, Checkpoint}
 use Rattle.pm_model.specs.declared.reply.Reply.{Reply}
 use Rattle.pm_model.specs.declared.reply.Reply.TheVariants as reply
-use Rattle.pm_model.specs.Eval.{Pairs}
+use Rattle.pm_model.specs.declared.line.Line.{Line}
+use Rattle.pm_model.specs.Eval.{Pairs, reply_to, after, is_accepted}
+use Rattle.pm_model.specs.ReplyLists.{ReplyList, with_replies}
 use Rattle.pm_pages.specs.declared.plain.PlainPages.{PlainPages}
 use Rattle.pm_pages.specs.Rows.{Partition}
 use Rattle.pm_pages.specs.Paged.{AllReadable}
@@ -17,6 +20,17 @@ use Rattle.pm_core.specs.BasePages.{Partitions}
 pub record PagedStore : Type 0 where
   pub shape : Shape
   pub pairs : Pairs
+
+-- A line was answered over a map: at `Ok` its reply was appended, the map is the one after the line, and it is
+-- said whether the line was accepted. At an `Err` the map is as it was, and no reply was appended.
+pub record AnswersLine {E : Type 0} (line : Line) (before now : PagedStore) (was replies : ReplyList)
+    (result : Result Bool E) : Type 0 where
+  pub shape : now.shape ≡ before.shape
+  pub replied : OnOk result (replies ≡ with_replies (reply_to before.shape line before.pairs ∷ []) was)
+  pub accepted : IfOk result (λ is. is ≡ is_accepted before.shape line before.pairs)
+  pub map : OnOk result (now.pairs ≡ after before.shape line before.pairs)
+  pub unchanged : OnErr result (now ≡ before)
+  pub no_reply : OnErr result (replies ≡ was)
 
 -- the pages of a partition, none where there is no list
 abbrev pub pages_of_list : Option PlainPages → Partition

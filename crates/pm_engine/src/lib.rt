@@ -4,14 +4,35 @@
 mod apply;
 mod engine;
 mod laws;
+mod loading;
+mod logged_pages;
 mod merging;
 mod open;
+mod page_log;
+mod page_marks;
 mod paged_map;
 mod partitions;
 mod record;
 mod replay;
+mod running;
+mod running_lines;
 mod stored_shape;
+mod tracking;
 
 pub use engine::Engine;
-pub use laws::a_store_is_its_partitions;
+pub use laws::{a_store_is_its_partitions, no_well_formed_page_is_bad};
+pub use logged_pages::LoggedPages;
+pub use page_log::log_changes;
 pub use paged_map::PagedMap;
+pub use running::{
+    a_checkpoint_leaves_a_running_store, a_restored_store_may_be_opened,
+    a_running_store_may_append, a_running_store_may_be_checkpointed, a_running_store_may_force,
+    an_operation_says_its_pages,
+};
+pub use running_lines::{
+    a_checkpoint_keeps_the_lines, a_crash_leaves_a_prefix_of_the_lines, a_running_store_does_lines,
+};
+pub use tracking::{
+    edits_are_noted, seals_rebuild_nothing, tracked_pages_are_rebuilt, tracking_begins,
+    tracking_goes_on,
+};

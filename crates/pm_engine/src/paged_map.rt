@@ -1,15 +1,14 @@
 //! The pairs of all caches in pages, and how they answer lines.
 
-ghost use Rattle.std.specs.Prelude.{◌≡◌, ◌<◌, List, ◌∷◌, [], ◌++◌, IfOk, OnOk, OnErr, length};
+ghost use Rattle.std.specs.Prelude.{◌≡◌, ◌<◌, List, ◌∷◌, [], ◌++◌, IfOk, length};
 ghost use Rattle.std.specs.FinMap as map;
 ghost use Rattle.pm_types.specs.declared.limits.TheConstants.{CACHES};
 ghost use Rattle.pm_types.specs.Shapes.{IsShape};
 ghost use Rattle.pm_model.specs.declared.line.Line.TheVariants.{Good};
 ghost use Rattle.pm_model.specs.declared.reply.Reply.{Reply};
 ghost use Rattle.pm_model.specs.Batches.{HasCache};
-ghost use Rattle.pm_model.specs.Eval.{pairs_of, reply_to, after, is_accepted};
-ghost use Rattle.pm_model.specs.ReplyLists.{with_replies};
-ghost use Rattle.pm_engine.specs.PagedMaps.{accepts, IsKeyOf};
+ghost use Rattle.pm_model.specs.Eval.{pairs_of};
+ghost use Rattle.pm_engine.specs.PagedMaps.{AnswersLine, accepts, IsKeyOf};
 
 use crate::merging::join_by_key;
 use crate::partitions::{empty_partitions, pairs_by_partition, run_on};
@@ -74,15 +73,7 @@ impl PagedMap {
     ) -> Result<bool, AllocError>
         requires cache { HasCache line.now }
         requires room { 0 < replies.old.spare }
-        ensures shape { self.new.shape ≡ self.old.shape }
-        ensures replied { OnOk result (replies.new ≡ with_replies
-            (reply_to self.old.shape line.now self.old.pairs ∷ []) replies.old) }
-        ensures accepted { IfOk result
-            (λ is. is ≡ is_accepted self.old.shape line.now self.old.pairs) }
-        ensures after { OnOk result
-            (self.new.pairs ≡ after self.old.shape line.now self.old.pairs) }
-        ensures unchanged { OnErr result (self.new ≡ self.old) }
-        ensures no_reply { OnErr result (replies.new ≡ replies.old) }
+        ensures { AnswersLine line.now self.old self.new replies.old replies.new result }
     {
         match line {
             Line::Good(cmd) => self.run(alloc, cmd, replies),
@@ -101,15 +92,7 @@ impl PagedMap {
     fn run(&mut self, alloc: Global, cmd: &Cmd, replies: &mut Replies) -> Result<bool, AllocError>
         requires cache { HasCache (Good cmd.now) }
         requires room { 0 < replies.old.spare }
-        ensures shape { self.new.shape ≡ self.old.shape }
-        ensures replied { OnOk result (replies.new ≡ with_replies
-            (reply_to self.old.shape (Good cmd.now) self.old.pairs ∷ []) replies.old) }
-        ensures accepted { IfOk result
-            (λ is. is ≡ is_accepted self.old.shape (Good cmd.now) self.old.pairs) }
-        ensures after { OnOk result
-            (self.new.pairs ≡ after self.old.shape (Good cmd.now) self.old.pairs) }
-        ensures unchanged { OnErr result (self.new ≡ self.old) }
-        ensures no_reply { OnErr result (replies.new ≡ replies.old) }
+        ensures { AnswersLine (Good cmd.now) self.old self.new replies.old replies.new result }
     {
         match cmd {
             Cmd::Put { key, .. } => self.run_at(alloc, key.bytes(), cmd, replies),
@@ -138,15 +121,7 @@ impl PagedMap {
         requires cache { HasCache (Good cmd.now) }
         requires key { IsKeyOf key.now cmd.now }
         requires room { 0 < replies.old.spare }
-        ensures shape { self.new.shape ≡ self.old.shape }
-        ensures replied { OnOk result (replies.new ≡ with_replies
-            (reply_to self.old.shape (Good cmd.now) self.old.pairs ∷ []) replies.old) }
-        ensures accepted { IfOk result
-            (λ is. is ≡ is_accepted self.old.shape (Good cmd.now) self.old.pairs) }
-        ensures after { OnOk result
-            (self.new.pairs ≡ after self.old.shape (Good cmd.now) self.old.pairs) }
-        ensures unchanged { OnErr result (self.new ≡ self.old) }
-        ensures no_reply { OnErr result (replies.new ≡ replies.old) }
+        ensures { AnswersLine (Good cmd.now) self.old self.new replies.old replies.new result }
     {
         let part = part_of(key, self.shape.partitions);
         run_on(alloc, self.shape, part, cmd, &mut self.lists, replies)?;

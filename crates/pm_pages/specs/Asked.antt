@@ -1,7 +1,7 @@
 -- The pages that were asked for since `ready`.
-use Rattle.std.specs.Prelude.{◌≡◌, ◌≢◌, ℕ, ◌+◌, Bool, true, false, List, [], ◌∷◌, Option, None, Some}
+use Rattle.std.specs.Prelude.{◌≡◌, ◌≢◌, ◌≤◌, ◌<◌, ℕ, ◌+◌, Bool, true, false, List, [], ◌∷◌, Option, None, Some}
 use Rattle.std.specs.Prelude.{IsSome, IsSomeAnd, IsTrue, if◌then◌else◌, ◌==◌, length, find, unwrap_or}
-use Rattle.std.specs.Prelude.{suc}
+use Rattle.std.specs.Prelude.{suc, ◌||◌, ◌&&◌, nat_lt, nat_le}
 use Rattle.pm_types.specs.Spans.{Coverage}
 use Rattle.pm_pages.specs.declared.asked.Asked.{Asked}
 use Rattle.pm_pages.specs.Paged.{JoinsPatch, IsWhole}
@@ -59,3 +59,28 @@ pub record MakesEntry (page_size : ℕ) (entry : Asked) : Type 0 where
 pub record NotesEntry (was : Asked) (patch : Coverage) (now : Asked) : Type 0 where
   pub lent : now.is_lent ≡ was.is_lent
   pub joins : IsSomeAnd now.patch (JoinsPatch was.patch patch)
+
+-- a patch covers a byte
+abbrev pub has_bytes : Coverage → Bool
+has_bytes patch = patch.whole || nat_lt 0 (length patch.spans)
+
+-- a page with this patch was changed
+abbrev pub is_changed : Option Coverage → Bool
+is_changed None = false
+is_changed (Some patch) = has_bytes patch
+
+-- this is the lowest index, from the given one on, of a page that was changed, or there is none
+abbrev pub IsNextChanged : (ℕ → Option Coverage) → ℕ → Option ℕ → Type 0
+IsNextChanged patch from None = (i : ℕ) → from ≤ i → is_changed (patch i) ≡ false
+IsNextChanged patch from (Some index) = (from ≤ index) × (is_changed (patch index) ≡ true)
+    × ((i : ℕ) → from ≤ i → i < index → is_changed (patch i) ≡ false)
+
+-- whether an index is below the least one so far, if there is one
+abbrev pub is_below : ℕ → Option ℕ → Bool
+is_below index None = true
+is_below index (Some least) = nat_lt index least
+
+-- the lower one of the least index so far and of this one, where that counts: its page was changed, and it is
+-- from a given one on
+abbrev pub lower_of : Bool → ℕ → Option ℕ → ℕ → Option ℕ
+lower_of changed from least index = if changed && nat_le from index && is_below index least then Some index else least

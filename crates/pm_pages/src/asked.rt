@@ -8,7 +8,8 @@ ghost use Rattle.pm_types.specs.PageSizes.{IsPageSize};
 ghost use Rattle.pm_types.specs.Spans.{Covers};
 ghost use Rattle.pm_pages.specs.Paged.{JoinsPatch};
 ghost use Rattle.pm_pages.specs.Asked.{to_read, entry_of, position_of, entry_or_new, HaveSize};
-ghost use Rattle.pm_pages.specs.Asked.{RegistersPage, MakesEntry, NotesEntry};
+ghost use Rattle.pm_pages.specs.Asked.{RegistersPage, MakesEntry, NotesEntry, patch_of, is_changed};
+ghost use Rattle.pm_pages.specs.Asked.{IsNextChanged, is_below, lower_of};
 
 use pm_types::Patch;
 
@@ -129,5 +130,57 @@ fn joined(old: &Option<Patch>, patch: &Patch) -> Patch
             both.join(patch);
             both
         }
+    }
+}
+
+/// The lowest index, from `from` on, of a page that was changed.
+pub fn next_changed(asked: &[Asked], from: u32) -> Option<u32>
+    ensures { IsNextChanged (λ i. patch_of (entry_of asked.now i)) from result }
+{
+    let mut least = None;
+    'each: for i in 0..asked.len() {
+        least = lower(asked, from, least, asked[i].index);
+    }
+    least
+}
+
+// The lower one of the least index so far and of this one, where that is from `from` on and its page was changed.
+fn lower(asked: &[Asked], from: u32, least: Option<u32>, index: u32) -> Option<u32>
+    ensures { result ≡ lower_of (is_changed (patch_of (entry_of asked.now index))) from least index }
+{
+    if is_changed(asked, index) && from <= index && is_below(index, least) {
+        Some(index)
+    } else {
+        least
+    }
+}
+
+// Whether an index is below the least one so far, if there is one.
+fn is_below(index: u32, least: Option<u32>) -> bool
+    ensures { result ≡ is_below index least }
+{
+    match least {
+        Some(least) => index < least,
+        None => true,
+    }
+}
+
+// Whether a page was changed: its patch covers a byte.
+fn is_changed(asked: &[Asked], index: u32) -> bool
+    ensures { result ≡ is_changed (patch_of (entry_of asked.now index)) }
+{
+    match entry(asked, index) {
+        Some(entry) => has_bytes(&entry.patch),
+        None => false,
+    }
+}
+
+// Whether a patch was noted that covers a byte.
+fn has_bytes(patch: &Option<Patch>) -> bool
+    ensures { result ≡ is_changed patch.now }
+{
+    match patch {
+        Some(patch) => patch.is_whole() || patch.len() > 0,
+        None => false,
     }
 }

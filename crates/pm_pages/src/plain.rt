@@ -7,12 +7,13 @@ ghost use Rattle.std.specs.Borrow.{sem, Lends, Array, u8};
 ghost use Rattle.pm_types.specs.PageSizes.{IsPageSize};
 ghost use Rattle.pm_types.specs.declared.limits.TheConstants.{OP_PAGES};
 ghost use Rattle.pm_types.specs.contracts.page.Page.{the_row as page_row};
+ghost use Rattle.pm_pages.specs.Asked.{IsNextChanged};
 ghost use Rattle.pm_pages.specs.PageLists.{pages_in};
 ghost use Rattle.pm_pages.specs.PlainRooms.{AreZeros, IsOfSize};
 ghost use Rattle.pm_pages.specs.Plain.{shown, refilled, plain_seen, plain_count, ArePlain};
 ghost use Rattle.pm_pages.specs.Plain.{ArePlainReady, MakesReady};
 
-use crate::asked::{Asked, ask, entry, lend, make, note};
+use crate::asked::{Asked, ask, entry, lend, make, next_changed, note};
 use crate::pages::Pages;
 use pm_types::{OP_PAGES, Page, PageFault, PageId, Patch, Shape};
 use std::alloc::{AllocError, Global};
@@ -105,6 +106,14 @@ impl PlainPages {
             },
             None => None,
         }
+    }
+
+    /// The lowest index, from `from` on, of a page that was changed since `ready`: one that was made, or of
+    /// which a patch was noted that covers a byte. `None` where there is none.
+    pub fn next_changed(&self, from: u32) -> Option<u32>
+        ensures { IsNextChanged (plain_seen self.now).patch from result }
+    {
+        next_changed(&self.asked, from)
     }
 
     /// Makes room for `OP_PAGES` new pages, and begins anew to count the pages that are asked for.

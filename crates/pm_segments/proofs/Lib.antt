@@ -6,4 +6,5 @@ pub mod OpenLog
 pub mod PastSeal
 pub mod Quiet
 pub mod Reading
+pub mod Removed
 pub mod Sealing

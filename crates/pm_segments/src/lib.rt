@@ -1,6 +1,7 @@
-//! The log over its segments: what it is, how it is read, and how it grows.
+//! The log over its segments: what it is, how it is read, how it grows, and how its begin is removed.
 #![tactic(auto)]
 
+mod dropping;
 mod log;
 mod scan;
 

@@ -17,8 +17,10 @@ ghost use Rattle.pm_segments.specs.Appends.{seal_len, seal_steps, enter_steps, b
 ghost use Rattle.pm_segments.specs.Appends.{rolled, room_steps, roomy, append_steps, grown, steps_of};
 ghost use Rattle.pm_segments.specs.Appends.{tried_log, failed_append, Reaches};
 ghost use Rattle.pm_segments.specs.Ends.{fresh_log, HasRoom, EndsThere, moved};
+ghost use Rattle.pm_segments.specs.Drops.{AreDropped, drop_before_steps, kept_from};
 
-use pm_disk::{Failed, LogFile};
+use crate::dropping::drop_range;
+use pm_disk::{Failed, Host, LogFile};
 use pm_frame::{FRAME_END_MAX, FRAME_EXTRA, FRAME_MAX, SEAL, write_frame};
 use pm_types::Place;
 use std::marker::Model;
@@ -124,6 +126,21 @@ impl Log {
         self.end.off as usize + payload_len + 2 * FRAME_EXTRA <= self.segment_bytes as usize
     }
 
+    /// Where a record with so many bytes of payload goes that is appended next: at the log's end, or at
+    /// the begin of the next segment.
+    pub fn next_place(&self, payload_len: usize) -> Place
+        requires { payload_len ≤ longest }
+        ensures { result ≡ (roomy self.now payload_len).end }
+    {
+        if self.has_room(payload_len) {
+            return self.end;
+        }
+        Place {
+            seg: next_segment(self.end.seg),
+            off: 0,
+        }
+    }
+
     /// Appends a record, and gives its place. Where it doesn't fit into the segment with a SEAL after
     /// it, the log rolls first: a SEAL is written at its end, the segment is forced, the next one is
     /// cut to nothing and forced, and the record goes to its begin. It isn't lasting until the log is
@@ -173,6 +190,32 @@ impl Log {
         ensures cause { HasCause (L.state dev.old) (L.state dev.new) result }
     {
         dev.force_log(self.end.seg)
+    }
+
+    /// Removes the segments below `seg` that are kept and there, the lowest first. The absence of each is
+    /// forced before the next one is removed. It takes no memory.
+    ///
+    /// After `Failed` a prefix of this was done, and the same segments count as kept.
+    pub fn drop_before<H: Host>(&mut self, host: &mut H, seg: u64) -> Result<(), Failed>
+        requires usable { IsUsable (H.Device.state host.old) }
+        requires below_end { seg ≤ self.old.end.seg }
+        requires end { H.Device.tells → EndsThere self.old (H.Device.history host.old).world }
+        ensures kept { OnOk result (self.new ≡ kept_from seg self.old) }
+        ensures unmoved { OnErr result (self.new ≡ self.old) }
+
+        // What is there then: all other segments are as they were.
+        ensures dropped { H.Device.tells → OnOk result (AreDropped self.old.first self.new.first
+            (H.Device.history host.old).world (H.Device.history host.new).world) }
+        ensures ends { H.Device.tells → OnOk result (EndsThere self.new (H.Device.history host.new).world) }
+        ensures steps { H.Device.tells
+            → DoesSteps (H.Device.history host.old) (H.Device.history host.new) result
+            (drop_before_steps self.old seg (H.Device.history host.old).world) self.old.end }
+        ensures cause { HasCause (H.Device.state host.old) (H.Device.state host.new) result }
+    {
+        let to = self.first.max(seg);
+        drop_range(host, self.first, to)?;
+        self.first = to;
+        Ok(())
     }
 
     // Rolls the log where a record with so many bytes of payload doesn't fit.

@@ -10,11 +10,12 @@ use Rattle.pm_types.specs.Ids.{page_id, part_of_id}
 use Rattle.pm_types.specs.Spans.{Coverage}
 use Rattle.pm_disk.specs.Moments.{History}
 use Rattle.pm_disk.specs.States.{DeviceState, IsLaterState}
-use Rattle.pm_pages.specs.Paged.{IsTold, IsThere, NoneLent, JoinsPatch, AsksPage, LendsNone, AsksInVain, IsPageIn, IsInHand, IsLent, MakesPage, NotesPatch, GivesUpPages, IsBadPage}
+use Rattle.pm_pages.specs.Paged.{IsTold, IsThere, NoneLent, JoinsPatch, CoversByte, AsksPage, LendsNone, AsksInVain, IsPageIn, IsInHand, IsLent, MakesPage, NotesPatch, GivesUpPages, IsBadPage}
 use Rattle.pm_locks.specs.Sight.{Sight}
 use Rattle.pm_stripe.specs.declared.held.Held.{Held}
 use Rattle.pm_stripe.specs.declared.stripe.Stripe.{Stripe}
 use Rattle.pm_stripe.specs.declared.bound.Bound.{Bound}
+use Rattle.pm_stripe.specs.Bases.{IsAllCovered}
 use Rattle.pm_stripe.specs.ChangedPages.{is_changed}
 use Rattle.pm_stripe.specs.Fetches.{Fetches}
 use Rattle.pm_stripe.specs.GivenUp.{AreUnlent, GivesUpHeld}
@@ -60,8 +61,9 @@ module _ {Q R : Type 0} (tells : Type 0) (history : R → History) (state : R �
       → h'.page ≡ h.page → h'.frame ≡ h.frame → h'.was.value.bytes ≡ h.was.value.bytes → h'.is_read ≡ h.is_read
       → (is_changed h'.patch ≡ false → is_changed h.patch ≡ false)
       → (IsHeldIn b.locks.now (kept_by b) h → IsHeldIn b.locks.now (kept_by b) h')
+      → (IsAllCovered b.stripe.shape.page_size (Some h) → IsAllCovered b.stripe.shape.page_size (Some h'))
       → KeepsBound tells history state b (record b { stripe = t })
-  replaced_keeps b t id h h' in_part r page frame was_same read_same unchanged still =
+  replaced_keeps b t id h h' in_part r page frame was_same read_same unchanged still covered =
       moved_keeps b t b.seat b.reader id in_part (same_replaced b.stripe t id h h' r) (λ _. refl) (same_state (state b.reader))
       (λ ready.
       let lt = place_some b.stripe.held.items id.0 (some_held (held_at b.stripe.held.items id.0) h r.at) in
@@ -69,7 +71,7 @@ module _ {Q R : Type 0} (tells : Type 0) (history : R → History) (state : R �
       let held : IsHeldIn b.locks.now (kept_by b) h = ready.bound.holds.held (place_at b.stripe.held.items id.0) h (x.2 ∙ sym x.1 ∙ r.at) in
       subst (λ k'. ChangesOnePage b.locks.now tells (file_by history b) (kept_by b) k' id) (sym (kept_replaced b.stripe t b.seat id h h' r))
       (moves_replaced b.locks.now (kept_by b) id h h' (vec_capacity t.held) r.at page frame tells (file_by history b)
-      (subst (λ n. OP_PAGES ≤ n) (sym r.room) ready.bound.holds.held_room) ready.bound.holds (still held) ready.operates.frames was_same read_same unchanged))
+      (subst (λ n. OP_PAGES ≤ n) (sym r.room) ready.bound.holds.held_room) ready.bound.holds (still held) ready.operates.frames was_same read_same unchanged covered))
 
 -- a page was sought
 module _ {Q R : Type 0} (tells : Type 0) (history : R → History) (state : R → DeviceState) (b : Bound Q R) (s : Stripe) (seat : Sight) (r : R) (i : ℕ) (result : Result Bool PageFault) (i32 : i < 4294967296) (ready : IsReady tells history state b)
@@ -137,12 +139,18 @@ module _ {Q R : Type 0} (tells : Type 0) (history : R → History) (state : R �
           unlent = λ e. absurd (cc e);
           from_frame = λ e. let y = held.from_frame e in record { kept = y.kept; follows = y.follows; last = y.last; taken = y.taken };
           from_file = λ e. let y = held.from_file e in record { unkept = y.unkept; bare = y.bare; empty = y.empty; passes = y.passes };
-        }))
+        })
+        (λ all. all))
 
 -- the size of a patch that was joined
 joined_size : (size : ℕ) (old : Option Coverage) (patch joined : Coverage) → IfSome old (λ p. p.page_size ≡ size) → patch.page_size ≡ size → JoinsPatch old patch joined → joined.page_size ≡ size
 joined_size size None patch joined was is joins = ap (λ (p : Coverage). p.page_size) joins ∙ is
 joined_size size (Some old) patch joined was is joins = joins.size ∙ was
+
+-- what a patch covers is covered once it was joined
+joined_all : (size : ℕ) (old : Option Coverage) (patch joined : Coverage) → JoinsPatch old patch joined → ((n : ℕ) → n < size → CoversByte old n) → (n : ℕ) → n < size → CoversByte (Some joined) n
+joined_all size None patch joined joins all n lt = absurd (all n lt)
+joined_all size (Some old) patch joined joins all n lt = joins.keeps n (all n lt)
 
 -- a patch was joined to that of a page in hand
 module _ {Q R : Type 0} (tells : Type 0) (history : R → History) (state : R → DeviceState) (b : Bound Q R) (t : Stripe) (i : ℕ) (patch : Coverage) (in_part : part_of_id (page_id b.part i) ≡ b.part) (size : patch.page_size ≡ b.stripe.shape.page_size) (x : NotesPage b.stripe t (page_id b.part i) patch) where
@@ -165,6 +173,7 @@ module _ {Q R : Type 0} (tells : Type 0) (history : R → History) (state : R �
         from_frame = λ e. let y = held.from_frame e in record { kept = y.kept; follows = y.follows; last = y.last; taken = y.taken };
         from_file = λ e. let y = held.from_file e in record { unkept = y.unkept; bare = y.bare; empty = y.empty; passes = λ c. y.passes (x.changed c) };
       })
+      (joined_all b.stripe.shape.page_size x.page.patch patch x.joined x.joins)
 
 -- a page was made anew
 module _ {Q R : Type 0} (tells : Type 0) (history : R → History) (state : R → DeviceState) (b : Bound Q R) (s : Stripe) (seat : Sight) (i : ℕ) (ready : IsReady tells history state b) (in_part : part_of_id (page_id b.part i) ≡ b.part)
@@ -187,7 +196,7 @@ unlent tells history state b ready = pages.none_was_lent b.locks.now (file_by hi
 
 -- the pages in hand were given up
 module _ {Q R : Type 0} (tells : Type 0) (history : R → History) (state : R → DeviceState) (b : Bound Q R) (s : Stripe) (seat : Sight) (ready : IsReady tells history state b)
-    (same : SameButPages b.stripe s) (g : GivesUpHeld b.locks.now (kept_by b) (kept s seat)) (none : s.held.items ≡ []) where
+    (same : SameButPages b.stripe s) (g : GivesUpHeld b.locks.now (kept_by b) (kept s seat)) (none : s.held.items ≡ []) (unlent_all : AreUnlent b.stripe.held.items) where
   abbrev given_now : Bound Q R
   given_now = record b { stripe = s; seat = seat }
 
@@ -199,4 +208,4 @@ module _ {Q R : Type 0} (tells : Type 0) (history : R → History) (state : R �
 
   pub gives_keeps : KeepsBound tells history state b given_now
   gives_keeps = keeps_by tells history state b given_now refl refl refl same (λ _. refl) (same_state (state b.reader))
-      (λ ready'. pages.after_given b.locks.now tells (file_by history b) (file_by history given_now) (state b.reader).faults b.part (kept_by b) (kept s seat) ready'.bound.clean same_files g none (state b.reader) ready'.bound.reads ready'.operates)
+      (λ ready'. pages.after_given b.locks.now tells (file_by history b) (file_by history given_now) (state b.reader).faults b.part (kept_by b) (kept s seat) ready'.bound.clean same_files g none ready'.bound.holds unlent_all (state b.reader) ready'.bound.reads ready'.operates)

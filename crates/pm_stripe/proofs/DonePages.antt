@@ -1,5 +1,5 @@
 -- Pages in hand are put back, one after another, and may be logged before that.
-use Rattle.std.proofs.Common.{◌≡◌, ◌≢◌, ℕ, zero, suc, ◌+◌, ◌*◌, ◌≤◌, true, List, [], ◌∷◌, ◌++◌, length, Option, Some, None, sym, refl, ap, subst, ◌∙◌, arith, append_assoc, append-nil, length-append}
+use Rattle.std.proofs.Common.{◌≡◌, ◌≢◌, ℕ, zero, suc, ◌+◌, ◌*◌, ◌≤◌, List, [], ◌∷◌, ◌++◌, length, Option, Some, None, sym, refl, ap, subst, ◌∙◌, arith, append_assoc, append-nil, length-append}
 use Rattle.std.proofs.Math.Nat.{suc-mul}
 use Rattle.std.specs.Prelude.{IsTrue, IfSome, slice_get}
 use Rattle.std.proofs.lemmas.List.Sums.{sum_by-cons}
@@ -13,11 +13,10 @@ use Rattle.pm_locks.proofs.Pushing.{slice_get-push, slice_get-front}
 use Rattle.pm_stripe.specs.declared.limits.TheConstants.{PAGE_EXTRA}
 use Rattle.pm_stripe.specs.declared.held.Held.{Held}
 use Rattle.pm_stripe.specs.declared.stripe.Stripe.{Stripe}
-use Rattle.pm_stripe.specs.ChangedPages.{is_changed}
 use Rattle.pm_stripe.specs.Dones.{HasOutboxRoom}
 use Rattle.pm_stripe.specs.Kept.{Kept, held_at, place_of, known_by, is_known, Holds}
 use Rattle.pm_stripe.specs.Listings.{AreLoggable, pages_room}
-use Rattle.pm_stripe.specs.Puts.{AreStayingCovered, IsPutDirty, PutsLast, PutsBack}
+use Rattle.pm_stripe.specs.Puts.{put_flag, put_word, AreStayingCovered, IsPutAs, LeavesWords, PutsLast, PutsBack}
 use Rattle.pm_stripe.proofs.Hands.{none_named}
 
 -- nothing is put back
@@ -29,7 +28,8 @@ puts_none locks k holds = record {
   free = refl;
   shape = refl;
   number = refl;
-  dirty = λ i h is changed. absurd (cc is);
+  left = record { words = refl; met = refl; numbers = refl; knows = λ is. is };
+  put = λ i h is. absurd (cc is);
   only = λ id none. refl;
   staying = λ id is. is;
   at_hand = λ file id is. refl;
@@ -37,7 +37,8 @@ puts_none locks k holds = record {
   told = λ file id is covered. refl;
 }
 
-behind : {X : Type 0} (xs ys : List X) (i j : ℕ) → j ≡ length xs + i → slice_get (xs ++ ys) j ≡ slice_get ys i
+-- an element of the second list, in both
+pub behind : {X : Type 0} (xs ys : List X) (i j : ℕ) → j ≡ length xs + i → slice_get (xs ++ ys) j ≡ slice_get ys i
 behind [] ys i j e = let same : j ≡ i = omega (arith, e) in ap (slice_get ys) same
 behind (x ∷ xs) ys i zero e = absurd (omega (arith, e))
 behind (x ∷ xs) ys i (suc j) e = behind xs ys i j (omega (arith, e))
@@ -69,16 +70,25 @@ module _ (locks : LockTable) (k k₁ k₂ : Kept) (holds : Holds locks k) (x : P
   other_frame : (i : ℕ) (h : Held) → slice_get x.rest i ≡ Some h → h.frame ≢ y.last.frame
   other_frame i h is e = other_place i (holds.apart.held_once.once (length k₁.held + i) (length k₂.held) h y.last (behind_at i h is) last_in e)
 
-  dirty_all : (i : ℕ) (h : Held) → slice_get (y.last ∷ x.rest) i ≡ Some h → is_changed h.patch ≡ true → IsPutDirty k₂ h
-  dirty_all zero h is changed = let e : y.last ≡ h = cc is in subst (IsPutDirty k₂) e (y.dirty (ap (λ (z : Held). is_changed z.patch) e ∙ changed))
-  dirty_all (suc i) h is changed =
-      let d = x.dirty i h is changed in record {
+  put_all : (i : ℕ) (h : Held) → slice_get (y.last ∷ x.rest) i ≡ Some h → IsPutAs k₂ h (put_flag h)
+  put_all zero h is = let e : y.last ≡ h = cc is in subst (λ (z : Held). IsPutAs k₂ z (put_flag z)) e y.put
+  put_all (suc i) h is =
+      let d = x.put i h is in record {
         entry = d.entry;
-        kept = y.place_else h.page (other_name i h is) ∙ d.kept;
         at = y.put_else h.frame (other_frame i h is) ∙ d.at;
         flag_is = d.flag_is;
         bytes_are = d.bytes_are;
+        kept = λ some. y.place_else h.page (other_name i h is) ∙ d.kept some;
+        gone = λ e. y.place_else h.page (other_name i h is) ∙ d.gone e;
       }
+
+  left_all : LeavesWords locks k k₂ put_flag (y.last ∷ x.rest)
+  left_all = record {
+    words = y.left.words ∙ (λ i. (y.last.frame, put_word (x.number i) y.last (put_flag y.last)) ∷ x.left.words i);
+    met = y.left.met ∙ x.left.met;
+    numbers = y.left.numbers ∙ x.left.numbers;
+    knows = λ is. y.left.knows (x.left.knows is);
+  }
 
   -- what is at hand then was so before
   known_before : (id : PageId) → IsTrue (is_known k₂ id) → IsTrue (is_known k₁ id)
@@ -96,7 +106,8 @@ module _ (locks : LockTable) (k k₁ k₂ : Kept) (holds : Holds locks k) (x : P
     free = y.free ∙ x.free;
     shape = y.shape ∙ x.shape;
     number = y.number ∙ x.number;
-    dirty = dirty_all;
+    left = left_all;
+    put = put_all;
     only = λ id none. y.only id (λ e. none_named k.held id.0 (length k₂.held) y.last none last_in (sym e)) ∙ x.only id none;
     staying = λ id is. y.staying id (x.staying id is);
     at_hand = λ file id is. y.at_hand file id is ∙ x.at_hand file id (known_before id is);

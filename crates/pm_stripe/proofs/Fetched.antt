@@ -68,6 +68,7 @@ had locks k id tells stored holds frames lt = record {
   shape = refl;
   number = refl;
   staying = λ j is. is;
+  back = λ j is. is;
   only = λ j ne. refl;
   bare = refl;
   held = inl refl;
@@ -86,6 +87,7 @@ at_home locks k k' id tells stored away home = let x = home.takes in let adds = 
   shape = x.shape;
   number = x.number;
   staying = x.staying;
+  back = x.back;
   only = x.only;
   bare = x.bare;
   held = inr (away, adds);
@@ -104,6 +106,7 @@ nowhere locks k k' id tells stored away home none = let x = home.takes in let lo
   shape = x.shape;
   number = x.number;
   staying = x.staying;
+  back = x.back;
   only = x.only;
   bare = x.bare;
   held = inl lost.0;
@@ -153,6 +156,16 @@ module _ (locks locks' : LockTable) (k k₁ k₂ : Kept) (id : PageId) (tells : 
     stay = x.stay;
   }
 
+  back_by : k₂.places ≡ k₁.places → (j : PageId) → IsStaying k₂ j → IsStaying k₁ j
+  back_by same j x = record {
+    frame = x.frame;
+    tag = x.tag;
+    entry = x.entry;
+    kept = sym (ap (λ (p : Places). place_of (record k₁ { places = p }) j) same) ∙ x.kept;
+    at = sym (λ i. last_put (record k₁ { seat = reads.seat i; number = reads.number i }) x.frame) ∙ x.at;
+    stay = x.stay;
+  }
+
   pub then_read : (result ≡ Ok true) ⊎ (result ≡ Ok true → ⊥) → Fetches locks k k₂ id tells stored result
   then_read decided = record {
     holds = reads.holds;
@@ -161,6 +174,7 @@ module _ (locks locks' : LockTable) (k k₁ k₂ : Kept) (id : PageId) (tells : 
     shape = reads.shape ∙ home.takes.shape;
     number = reads.number ∙ home.takes.number;
     staying = λ j is. staying_by reads.places j (home.takes.staying j is);
+    back = λ j is. home.takes.back j (back_by reads.places j is);
     only = λ j ne. reads.only j ne ∙ home.takes.only j ne;
     bare = reads.bare ∙ home.takes.bare;
     held = is_there decided;

@@ -1,6 +1,7 @@
 -- An empty frame in hand is put back.
-use Rattle.std.proofs.Common.{◌≡◌, ◌≢◌, ℕ, ◌≤◌, false, true, List, [], ◌∷◌, ◌++◌, ⊎_elim, inl, inr, length, Option, Some, None, sym, refl, ap, subst, ◌∙◌, arith, append_assoc, append-nil}
+use Rattle.std.proofs.Common.{◌≡◌, ◌≢◌, ℕ, zero, suc, ◌+◌, ◌≤◌, false, true, List, [], ◌∷◌, ◌++◌, ⊎_elim, inl, inr, length, Option, Some, None, sym, refl, ap, subst, ◌∙◌, arith, append_assoc, append-nil}
 use Rattle.std.specs.Prelude.{IsTrue, slice_get}
+use Rattle.std.specs.FinMap as fin
 use Rattle.std.specs.Option.{option_map}
 use Rattle.std.proofs.lemmas.Bool.{cases_eq}
 use Rattle.std.proofs.lemmas.Option.{slice_get_within}
@@ -21,8 +22,11 @@ use Rattle.pm_locks.proofs.Facts.{out_at-here, out_at-else, entry_at-here, entry
 use Rattle.pm_locks.proofs.Pushing.{slice_get-pushed, slice_get-push, slice_get-front}
 use Rattle.pm_stripe.specs.declared.held.Held.{Held}
 use Rattle.pm_stripe.specs.declared.held.Free.{Free}
-use Rattle.pm_stripe.specs.Frees.{FreesFrames}
+use Rattle.pm_stripe.specs.declared.places.Places.{Places}
+use Rattle.pm_stripe.specs.Frees.{IsPutEmpty, FreesFrames}
 use Rattle.pm_stripe.specs.Kept.{Kept, held_at, place_of, last_put, page_at, out_of, stays, bytes_by, known_by, IsKeptPage, IsHeldPage, IsFreeFrame, IsHeldIn, IsFreeIn, IsInHand, Holds, stays_in}
+use Rattle.pm_stripe.proofs.DonePages.{behind}
+use Rattle.pm_stripe.proofs.MetFrames.{at_append}
 
 may_empty : (o : Out) (bytes : List ℕ) → o.word.flag ≡ flag.Empty → MayPut o flag.Empty bytes
 may_empty o bytes is = record {
@@ -42,20 +46,58 @@ frees_none locks k holds = record {
   held = refl;
   shape = refl;
   number = refl;
+  places = refl;
+  empty = λ i s is. absurd (cc is);
+  put_else = λ f none. refl;
+  puts = λ id f tag is. refl;
   known = λ id. refl;
   staying = λ id is. is;
   pages = λ file id. refl;
   clean = λ file is. is;
 }
 
-pub frees_then : (locks : LockTable) (k k₁ k₂ : Kept) → FreesFrames locks k k₁ → FreesFrames locks k₁ k₂ → FreesFrames locks k k₂
-frees_then locks k k₁ k₂ x y = record {
+module _ (locks : LockTable) (k k₁ k₂ : Kept) (holds : Holds locks k) (x : FreesFrames locks k k₁) (y : FreesFrames locks k₁ k₂) where
+  front_at : (i : ℕ) (s : Free) → slice_get k₁.free i ≡ Some s → slice_get k.free i ≡ Some s
+  front_at i s is = ap (λ fs. slice_get fs i) x.free ∙ slice_get-front k₁.free x.rest i (slice_get_within k₁.free i s is) ∙ is
+
+  later_at : (i : ℕ) (s : Free) → slice_get y.rest i ≡ Some s → slice_get k₁.free (length k₂.free + i) ≡ Some s
+  later_at i s is = ap (λ fs. slice_get fs (length k₂.free + i)) y.free ∙ behind k₂.free y.rest i (length k₂.free + i) refl ∙ is
+
+  earlier_at : (i : ℕ) (s : Free) → slice_get x.rest i ≡ Some s → slice_get k.free (length k₁.free + i) ≡ Some s
+  earlier_at i s is = ap (λ fs. slice_get fs (length k₁.free + i)) x.free ∙ behind k₁.free x.rest i (length k₁.free + i) refl ∙ is
+
+  -- those that were put back later are others
+  others : (i : ℕ) (s : Free) → slice_get x.rest i ≡ Some s → (j : ℕ) (t : Free) → slice_get y.rest j ≡ Some t → t.frame ≢ s.frame
+  others i s is j t at e =
+      let was = later_at j t at in
+      let same : length k₂.free + j ≡ length k₁.free + i = holds.apart.free_once.once (length k₂.free + j) (length k₁.free + i) t s (front_at (length k₂.free + j) t was) (earlier_at i s is) e in
+      omega (arith, same, slice_get_within k₁.free (length k₂.free + j) t was)
+
+  all_empty : (i : ℕ) (s : Free) → slice_get (y.rest ++ x.rest) i ≡ Some s → IsPutEmpty k₂ s
+  all_empty i s is = ⊎_elim
+      (λ late. y.empty i s late)
+      (λ early.
+      let d = x.empty early.0 s early.1 in
+      record { entry = d.entry; at = y.put_else s.frame (others early.0 s early.1) ∙ d.at; flag_is = d.flag_is })
+      (at_append y.rest x.rest i s is)
+
+  all_else : (f : ℕ) → ((i : ℕ) (s : Free) → slice_get (y.rest ++ x.rest) i ≡ Some s → s.frame ≢ f) → last_put k₂ f ≡ last_put k f
+  all_else f none =
+      y.put_else f (λ i s is. none i s (slice_get-front y.rest x.rest i (slice_get_within y.rest i s is) ∙ is))
+      ∙ x.put_else f (λ i s is. none (length y.rest + i) s (behind y.rest x.rest i (length y.rest + i) refl ∙ is))
+
+pub frees_then : (locks : LockTable) (k k₁ k₂ : Kept) → Holds locks k → FreesFrames locks k k₁ → FreesFrames locks k₁ k₂ → FreesFrames locks k k₂
+frees_then locks k k₁ k₂ holds x y = record {
   holds = y.holds;
   rest = y.rest ++ x.rest;
   free = x.free ∙ ap (λ fs. fs ++ x.rest) y.free ∙ append_assoc k₂.free y.rest x.rest;
   held = y.held ∙ x.held;
   shape = y.shape ∙ x.shape;
   number = y.number ∙ x.number;
+  places = y.places ∙ x.places;
+  empty = all_empty locks k k₁ k₂ holds x y;
+  put_else = all_else locks k k₁ k₂ holds x y;
+  puts = λ id f tag is. y.puts id f tag (ap (λ (p : Places). fin.get p.table.entries id.0) x.places ∙ is) ∙ x.puts id f tag is;
   known = λ id. y.known id ∙ x.known id;
   staying = λ id is. y.staying id (x.staying id is);
   pages = λ file id. y.pages file id ∙ x.pages file id;
@@ -193,6 +235,10 @@ module _ (locks : LockTable) (k : Kept) (holds : Holds locks k) (others : List F
     known_same j None None is = refl
     known_same j None (Some p) is = ap stays_in (put_else p.0 (not_here j p.0 p.1 is))
 
+    empty_one : (i : ℕ) (t : Free) → slice_get (s ∷ []) i ≡ Some t → IsPutEmpty k' t
+    empty_one zero t is = let e : s ≡ t = cc is in subst (IsPutEmpty k') e (record { entry = entry; at = put_here; flag_is = refl })
+    empty_one (suc i) t is = absurd (cc is)
+
     pub frees_last : FreesFrames locks k k'
     frees_last = record {
       holds = free_holds;
@@ -201,6 +247,10 @@ module _ (locks : LockTable) (k : Kept) (holds : Holds locks k) (others : List F
       held = refl;
       shape = refl;
       number = refl;
+      places = refl;
+      empty = empty_one;
+      put_else = λ g none. put_else g (λ e. none 0 s refl (sym e));
+      puts = λ j g t is. put_else g (not_here j g t is);
       known = λ j. known_same j (held_at k.held j.0) (place_of k j) refl;
       staying = λ j is. record { frame = is.frame; tag = is.tag; entry = is.entry; kept = is.kept; at = put_else is.frame (not_here j is.frame is.tag is.kept) ∙ is.at; stay = is.stay };
       pages = λ file j. bytes_same file j (held_at k.held j.0) (place_of k j) refl;

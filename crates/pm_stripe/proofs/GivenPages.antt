@@ -46,6 +46,7 @@ gives_none locks k holds = record {
   shape = refl;
   number = refl;
   staying = λ j is. is;
+  back = λ j is. is;
   only = λ j none. refl;
   at_hand = λ file j is. refl;
   clean = λ file is. is;
@@ -69,6 +70,7 @@ gives_then locks k k₁ k₂ x y = record {
   shape = y.shape ∙ x.shape;
   number = y.number ∙ x.number;
   staying = λ j is. y.staying j (x.staying j is);
+  back = λ j is. x.back j (y.back j is);
   only = λ j none. y.only j (none_front k₁.held x.rest j.0 (ap (λ hs. held_at hs j.0) (sym x.held) ∙ none)) ∙ x.only j none;
   at_hand = λ file j is. y.at_hand file j is ∙ x.at_hand file j (known_before locks k₁ k₂ y j is);
   clean = λ file is. y.clean file (x.clean file is);
@@ -135,6 +137,7 @@ module _ (locks : LockTable) (k : Kept) (holds : Holds locks k) (others : List H
         shape = puts.shape;
         number = puts.number;
         staying = puts.staying;
+        back = puts.back (sym (subst (λ (z : Held). z.flag ≡ put_flag z) (sym same) (same_flag h last_bare last_unlent unread)));
         only = λ j none. puts.only j (λ e. not_last j none (e ∙ ap (λ (z : Held). z.page.0) same));
         at_hand = puts.at_hand;
         clean = λ file clean. puts.clean file clean covered;
@@ -217,6 +220,7 @@ module _ (locks : LockTable) (k : Kept) (holds : Holds locks k) (others : List H
       shape = refl;
       number = refl;
       staying = λ j is. record { frame = is.frame; tag = is.tag; entry = is.entry; kept = is.kept; at = is.at; stay = is.stay };
+      back = λ j is. record { frame = is.frame; tag = is.tag; entry = is.entry; kept = is.kept; at = is.at; stay = is.stay };
       only = λ j none. known_else j (not_last j none);
       at_hand = λ file j is. elim (cases_eq j.0 h.page.0) [
         | inl same ↦ absurd (let bad : false ≡ true = sym unknown_here ∙ ap (is_known kb) (sym (same_page j h.page same)) ∙ is in cc bad)

@@ -156,6 +156,7 @@ module _ (locks : LockTable) (k : Kept) (id : PageId) (f tag : ℕ) (seat' : Sig
     number = refl;
     free = refl;
     staying = λ j is. record { frame = is.frame; tag = is.tag; entry = is.entry; kept = rest j (stay_name j is.frame is.tag is.entry is.kept is.at is.stay) ∙ is.kept; at = puts is.frame ∙ is.at; stay = is.stay };
+    back = λ j is. record { frame = is.frame; tag = is.tag; entry = is.entry; kept = (still j (is.frame, is.tag) is.kept).1; at = sym (puts is.frame) ∙ is.at; stay = is.stay };
     only = λ j ne. λ i. known_by (held_at k.held j.0) (rest j ne i) (lost.only.entries i) k.number;
     bare = refl;
     added = λ e. absurd (let q : false ≡ true = e in cc q);

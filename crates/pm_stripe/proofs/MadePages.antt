@@ -1,5 +1,5 @@
 -- A page is made anew.
-use Rattle.std.proofs.Common.{◌≡◌, ◌≢◌, ℕ, ◌≤◌, Bool, true, false, List, [], ◌∷◌, ◌++◌, ◌⊎◌, ⊎_elim, inl, inr, length, set, replicate, Option, Some, None, Result, sym, refl, ap, subst, ◌∙◌, arith, length-append}
+use Rattle.std.proofs.Common.{◌≡◌, ◌≢◌, ℕ, ◌<◌, ◌≤◌, Bool, true, false, List, [], ◌∷◌, ◌++◌, ◌⊎◌, ⊎_elim, inl, inr, length, set, replicate, Option, Some, None, Result, sym, refl, ap, subst, ◌∙◌, arith, length-append}
 use Rattle.std.specs.Prelude.{IfSome, slice_get, ◌||◌, nat_lt}
 use Rattle.std.specs.Vec.{vec_capacity}
 use Rattle.std.proofs.lemmas.List.{length-replicate}
@@ -10,7 +10,7 @@ use Rattle.pm_types.specs.declared.fault.PageFault.{PageFault}
 use Rattle.pm_types.specs.declared.limits.TheConstants.{OP_PAGES}
 use Rattle.pm_types.specs.Spans.{Coverage}
 use Rattle.pm_region.specs.Lease.{Leased}
-use Rattle.pm_pages.specs.Paged.{IsWhole}
+use Rattle.pm_pages.specs.Paged.{IsWhole, CoversByte}
 use Rattle.pm_locks.specs.Answers.{IsSameLease}
 use Rattle.pm_locks.specs.Sight.{Sight, LockTable}
 use Rattle.pm_locks.proofs.Pushing.{slice_get-pushed, slice_get-push}
@@ -18,8 +18,10 @@ use Rattle.pm_stripe.specs.declared.held.Held.{Held}
 use Rattle.pm_stripe.specs.declared.held.Free.{Free}
 use Rattle.pm_stripe.specs.declared.stripe.Stripe.{Stripe}
 use Rattle.pm_stripe.specs.ChangedPages.{is_changed}
+use Rattle.pm_stripe.specs.BaseLaws.{bases_then, bases_told}
+use Rattle.pm_stripe.specs.Bases.{base_bytes, IsAllCovered, KeepsBases}
 use Rattle.pm_stripe.specs.Fetches.{IsUnkept, Fetches, TakesHome}
-use Rattle.pm_stripe.specs.Kept.{Kept, held_at, place_at, place_of, bytes_by, page_bytes, IsHeldIn, Holds, HasFrames, IsAway, AddsPage}
+use Rattle.pm_stripe.specs.Kept.{Kept, held_at, place_at, place_of, bytes_by, page_bytes, IsHeldIn, Holds, HasFrames, IsAway, AddsPage, AreClean}
 use Rattle.pm_stripe.specs.Makes.{MayAddOne, IsMade, MakesAnew}
 use Rattle.pm_stripe.specs.Moves.{IsNamedIn, ChangesOnePage}
 use Rattle.pm_stripe.specs.ReplacedLaws.{found, found_else, long, moves_replaced}
@@ -27,6 +29,8 @@ use Rattle.pm_stripe.specs.Rewrites.{Replaces, ClearsPage}
 use Rattle.pm_stripe.specs.ShownLaws.{written_bytes}
 use Rattle.pm_stripe.specs.Stripes.{kept, SameButPages}
 use Rattle.pm_stripe.specs.Zeros.{zeroed}
+use Rattle.std.proofs.lemmas.Bool.{cases_eq}
+use Rattle.pm_stripe.proofs.BasePages.{base_hand, bases_sought}
 use Rattle.pm_stripe.proofs.Fetched.{no_some, added_some}
 use Rattle.pm_stripe.proofs.Hands.{held_push_else, held_push_here, found_at}
 use Rattle.pm_stripe.proofs.ReadPages.{bare_frame, new_out, new_frame, added_holds, added_frames, added_bare, added_only}
@@ -80,6 +84,7 @@ moves_fetched locks tells file k k' id result f = record {
   shape = f.shape;
   number = f.number;
   staying = f.staying;
+  bases = bases_sought locks (tells × AreClean file k) k.shape.page_size file k k' id f.holds f.held (λ t j. f.keeps.told t.0 file j refl t.1) (f.keeps.at_hand file) f.back;
   only = f.only;
   names = λ i h is. ⊎_elim
       (λ same. inr (named_same k.held k'.held same i h is))
@@ -91,14 +96,15 @@ moves_fetched locks tells file k k' id result f = record {
 }
 
 -- what a page that was sought in the frame that keeps it leaves
-pub moves_taken : (locks : LockTable) (file : PageId → Option (List ℕ)) (k k' : Kept) (id : PageId) (b : Bool) → TakesHome locks k k' id b → ChangesOnePage locks (Unit {0}) file k k' id
-moves_taken locks file k k' id b home = let x = home.takes in record {
+pub moves_taken : (locks : LockTable) (file : PageId → Option (List ℕ)) (k k' : Kept) (id : PageId) (b : Bool) → TakesHome locks k k' id b → (k'.held ≡ k.held) ⊎ (IsAway k id × AddsPage k k' id) → ChangesOnePage locks (Unit {0}) file k k' id
+moves_taken locks file k k' id b home held = let x = home.takes in record {
   holds = x.holds;
   frames = home.frames;
   bare = x.bare;
   shape = x.shape;
   number = x.number;
   staying = x.staying;
+  bases = bases_sought locks (Unit {0} × AreClean file k) k.shape.page_size file k k' id x.holds held (λ t j. x.keeps.told file j t.1) (x.keeps.at_hand file) x.back;
   only = x.only;
   names = λ i h is. by_found b x.added x.lost i h is;
   clean = λ t. x.keeps.clean file;
@@ -118,6 +124,9 @@ moves_then locks tells file k k₁ k₂ id x y = record {
   shape = y.shape ∙ x.shape;
   number = y.number ∙ x.number;
   staying = λ j is. y.staying j (x.staying j is);
+  bases = bases_then k.shape.page_size (tells × AreClean file k) file file file k k₁ k₂ x.bases
+      (bases_told k.shape.page_size (tells × AreClean file k₁) (tells × AreClean file k) file file k₁ k₂ (λ t. (t.0, x.clean t.0 t.1))
+      (subst (λ (s : Shape). KeepsBases s.page_size (tells × AreClean file k₁) file file k₁ k₂) x.shape y.bases));
   only = λ j ne. y.only j ne ∙ x.only j ne;
   names = λ i h is. ⊎_elim
       (λ e. inl e)
@@ -137,6 +146,7 @@ moves_any locks tells file k k' id m = record {
   shape = m.shape;
   number = m.number;
   staying = m.staying;
+  bases = bases_told k.shape.page_size (Unit {0} × AreClean file k) (tells × AreClean file k) file file k k' (λ t. (tt, t.1)) m.bases;
   only = m.only;
   names = m.names;
   clean = λ t. m.clean tt;
@@ -152,6 +162,10 @@ whole_changed : (size : ℕ) (patch : Coverage) → IsWhole size patch → is_ch
 whole_changed size patch whole e =
     let yes : is_changed (Some patch) ≡ true = ap (λ b. b || nat_lt 0 (length patch.spans)) whole.whole in
     let bad : true ≡ false = sym yes ∙ e in cc bad
+
+-- the whole page is covered
+pub whole_covers : (size : ℕ) (patch : Coverage) → IsWhole size patch → (n : ℕ) → n < size → CoversByte (Some patch) n
+whole_covers size patch whole n lt = inl (whole.whole, omega (arith, lt, whole.size))
 
 -- a page in hand was made anew
 module _ (locks : LockTable) (k : Kept) (holds : Holds locks k) (frames : HasFrames k) (id : PageId) (h : Held) (patch : Coverage) (room' : ℕ) (at : held_at k.held id.0 ≡ Some h) (held : IsHeldIn locks k h) (whole : IsWhole k.shape.page_size patch) (room : OP_PAGES ≤ room') where
@@ -175,7 +189,7 @@ module _ (locks : LockTable) (k : Kept) (holds : Holds locks k) (frames : HasFra
 
   pub made_in_hand : MakesAnew locks k (record k { held = set k.held (place_at k.held id.0) h'; held_room = room' }) id
   made_in_hand = record {
-    moves = λ file. moves_replaced locks k id h h' room' at refl refl (Unit {0}) file room holds cleared frames refl refl (λ c. absurd (whole_changed k.shape.page_size patch whole c));
+    moves = λ file. moves_replaced locks k id h h' room' at refl refl (Unit {0}) file room holds cleared frames refl refl (λ c. absurd (whole_changed k.shape.page_size patch whole c)) (λ _ n lt. whole_covers k.shape.page_size patch whole n lt);
     made = record { page = h'; patch = patch; at = found locks k id h h' room' at refl refl; lent = refl; patched = refl; whole = whole; zeros = zero_bytes h.lease ∙ ap (λ n. replicate n 0) held.out.long };
     hands = found_else locks k id h h' room' at refl refl;
     count = inl (long locks k id h h' room' at refl refl);
@@ -194,7 +208,7 @@ pub taken_made : (locks : LockTable) (k k₁ k₂ : Kept) (id : PageId) → IsAw
 taken_made locks k k₁ k₂ id away home m =
     let adds = home.takes.added refl in
     let size : k₁.shape.page_size ≡ k.shape.page_size = ap (λ (z : Shape). z.page_size) home.takes.shape in record {
-      moves = λ file. moves_then locks (Unit {0}) file k k₁ k₂ id (moves_taken locks file k k₁ id true home) (m.moves file);
+      moves = λ file. moves_then locks (Unit {0}) file k k₁ k₂ id (moves_taken locks file k k₁ id true home (inr (away, adds))) (m.moves file);
       made = subst (IsMade k₂.held id.0) size m.made;
       hands = λ j ne. m.hands j ne ∙ ap (λ hs. held_at hs j) adds.added ∙ held_push_else k.held adds.page j (λ e. ne (sym e ∙ ap (λ (p : PageId). p.0) adds.page_is));
       count = ⊎_elim
@@ -208,7 +222,7 @@ pub lost_made : (locks : LockTable) (k k₁ k₂ : Kept) (id : PageId) → Takes
 lost_made locks k k₁ k₂ id home m =
     let same = (home.takes.lost refl).0 in
     let size : k₁.shape.page_size ≡ k.shape.page_size = ap (λ (z : Shape). z.page_size) home.takes.shape in record {
-      moves = λ file. moves_then locks (Unit {0}) file k k₁ k₂ id (moves_taken locks file k k₁ id false home) (m.moves file);
+      moves = λ file. moves_then locks (Unit {0}) file k k₁ k₂ id (moves_taken locks file k k₁ id false home (inl same)) (m.moves file);
       made = subst (IsMade k₂.held id.0) size m.made;
       hands = λ j ne. m.hands j ne ∙ ap (λ hs. held_at hs j) same;
       count = subst (λ (hs : List Held). MayAddOne hs k₂.held id.0) same m.count;
@@ -248,6 +262,31 @@ module _ (locks : LockTable) (k : Kept) (holds : Holds locks k) (frames : HasFra
   bytes_else : (file : PageId → Option (List ℕ)) (j : PageId) → j.0 ≢ new.page.0 → page_bytes file k₂ j ≡ page_bytes file k j
   bytes_else file j ne = ap (λ o. bytes_by o (place_of k j) k.seat.view.entries k.number (file j)) (held_push_else k.held new j.0 (λ e. ne (sym e)))
 
+  covers_all : IsAllCovered k.shape.page_size (Some new)
+  covers_all n lt = subst (λ o. CoversByte o n) (sym patched) (whole_covers k.shape.page_size patch whole n lt)
+
+  new_found : (j : PageId) → j.0 ≡ new.page.0 → held_at k₂.held j.0 ≡ Some new
+  new_found j same = held_push_here k.held new j.0 (sym same) (ap (held_at k.held) same ∙ away.away)
+
+  else_found : (j : PageId) → j.0 ≢ new.page.0 → held_at k₂.held j.0 ≡ held_at k.held j.0
+  else_found j ne = held_push_else k.held new j.0 (λ e. ne (sym e))
+
+  base_or : (file : PageId → Option (List ℕ)) (j : PageId) → IsAllCovered k.shape.page_size (held_at k₂.held j.0) ⊎ (base_bytes file k₂ j ≡ base_bytes file k j)
+  base_or file j = ⊎_elim
+      (λ same. inl (subst (IsAllCovered k.shape.page_size) (sym (new_found j same)) covers_all))
+      (λ ne. inr (base_hand file file k k₂ j (bytes_else file j ne) (held_at k.held j.0) refl (else_found j ne)))
+      (cases_eq j.0 new.page.0)
+
+  made_bases : (T : Type 0) (file : PageId → Option (List ℕ)) → KeepsBases k.shape.page_size T file file k k₂
+  made_bases T file = record {
+    whole = λ j is. ⊎_elim
+        (λ same. absurd (subst (IsAllCovered k.shape.page_size) (ap (held_at k.held) same ∙ away.away) is))
+        (λ ne. subst (IsAllCovered k.shape.page_size) (sym (else_found j ne)) is)
+        (cases_eq j.0 new.page.0);
+    told = λ _. base_or file;
+    stay = λ j is. (record { frame = is.frame; tag = is.tag; entry = is.entry; kept = is.kept; at = is.at; stay = is.stay }, base_or file j);
+  }
+
   pub made_new : MakesAnew locks k k₂ new.page
   made_new = record {
     moves = λ file. record {
@@ -257,6 +296,7 @@ module _ (locks : LockTable) (k : Kept) (holds : Holds locks k) (frames : HasFra
       shape = refl;
       number = refl;
       staying = λ j is. record { frame = is.frame; tag = is.tag; entry = is.entry; kept = is.kept; at = is.at; stay = is.stay };
+      bases = made_bases (Unit {0} × AreClean file k) file;
       only = added_only locks k holds frames rest s list (zeroed s.lease) z_same z_long new room' room free_room' free_room away frame_is is_read;
       names = λ i h is. named_push k.held new (k.held ++ new ∷ []) refl i h is;
       clean = λ t clean. record {

@@ -12,7 +12,7 @@ use Rattle.pm_types.specs.declared.page_id.PageId.{PageId}
 use Rattle.pm_types.specs.declared.limits.TheConstants.{OP_PAGES}
 use Rattle.pm_types.specs.Spans.{Coverage}
 use Rattle.pm_pages.specs.Paged.{CoversByte}
-use Rattle.pm_locks.specs.Words.{LockWord, IsReachedFrom, code_of, put_as}
+use Rattle.pm_locks.specs.Words.{LockWord, AT_HOME, IsReachedFrom, code_of, put_as}
 use Rattle.pm_locks.specs.declared.view.View.{View}
 use Rattle.pm_locks.specs.declared.view.Entry.{Entry}
 use Rattle.pm_locks.specs.declared.view.Out.{Out}
@@ -21,7 +21,7 @@ use Rattle.pm_locks.specs.Steps.{entry_as, put_back}
 use Rattle.pm_locks.specs.Answers.{out_or, IsOwnOut, IsSameLease, MayPut}
 use Rattle.pm_locks.specs.Answers as answers
 use Rattle.pm_locks.specs.Views.{entry_at, out_at, is_among}
-use Rattle.pm_locks.specs.Sight.{Sight, LockTable, IsSeatOf}
+use Rattle.pm_locks.specs.Sight.{Sight, LockTable, IsSeatOf, KnowsAll}
 use Rattle.pm_locks.proofs.Facts.{out_at-here, out_at-else, entry_at-here, entry_at-other_frame}
 use Rattle.pm_locks.proofs.Pushing.{slice_get-pushed, slice_get-push, slice_get-front}
 use Rattle.pm_stripe.specs.declared.held.Held.{Held}
@@ -29,7 +29,7 @@ use Rattle.pm_stripe.specs.declared.held.Free.{Free}
 use Rattle.pm_stripe.specs.declared.places.Places.{Places}
 use Rattle.pm_stripe.specs.ChangedPages.{is_changed, has_bytes}
 use Rattle.pm_stripe.specs.Reads.{Passes}
-use Rattle.pm_stripe.specs.Puts.{is_empty, put_flag, IsCovered, AreCovered, AreStayingCovered, IsPutDirty, PutsLast}
+use Rattle.pm_stripe.specs.Puts.{is_empty, put_flag, put_word, IsCovered, AreCovered, AreStayingCovered, IsPutAs, LeavesWords, PutsLast}
 use Rattle.pm_stripe.specs.Kept.{Kept, held_at, place_of, last_put, page_at, out_of, stays, bytes_by, page_bytes, known_by, is_known, IsKeptPage, IsHeldPage, IsFreeFrame, IsHeldIn, IsFreeIn, IsKeptIn, IsInHand, Holds, AreClean, IsStaying, stays_in}
 use Rattle.std.specs.FinMap as fin
 use Rattle.std.proofs.lemmas.List.{length-set}
@@ -103,8 +103,12 @@ pub way : (h : Held) → Way h (put_flag h)
 way h = way_by h (is_changed h.patch) h.is_lent (stays h.flag) h.is_read refl refl refl refl
 
 -- a page that was changed is put as Dirty
-dirty_flag : (h : Held) → is_changed h.patch ≡ true → put_flag h ≡ flag.Dirty
+pub dirty_flag : (h : Held) → is_changed h.patch ≡ true → put_flag h ≡ flag.Dirty
 dirty_flag h changed = ap (λ b. if b then flag.Dirty else if h.is_lent && not (stays h.flag) then flag.Empty else if h.is_read then flag.Clean else h.flag) changed
+
+-- an entry whose flag is reached by Empty is Empty
+pub empty_before : (was now : Flag) → IsReachedFrom was now → now ≡ flag.Empty → was ≡ flag.Empty
+empty_before was now r e = ⊎_elim (λ same. same ∙ e) (λ p. absurd (let z = ap code_of e in let a = p.0 in let b = p.1 in omega (arith, z))) r
 
 -- the last page in hand
 module _ (locks : LockTable) (k : Kept) (holds : Holds locks k) (others : List Held) (h : Held) (list : k.held ≡ others ++ h ∷ []) where
@@ -142,9 +146,6 @@ module _ (locks : LockTable) (k : Kept) (holds : Holds locks k) (others : List H
   -- an entry whose flag is reached by Clean is Clean
   clean_before : (was now : Flag) → IsReachedFrom was now → now ≡ flag.Clean → was ≡ flag.Clean
   clean_before was now r e = ⊎_elim (λ same. same ∙ e) (λ p. absurd (let z = ap code_of e in let a = p.0 in let b = p.1 in omega (arith, z))) r
-
-  pub empty_before : (was now : Flag) → IsReachedFrom was now → now ≡ flag.Empty → was ≡ flag.Empty
-  empty_before was now r e = ⊎_elim (λ same. same ∙ e) (λ p. absurd (let z = ap code_of e in let a = p.0 in let b = p.1 in omega (arith, z))) r
 
   -- what follows a frame that stays does
   stays_after : (was now : Flag) → IsReachedFrom was now → IsTrue (stays was) → IsTrue (stays now)
@@ -212,6 +213,7 @@ module _ (locks : LockTable) (k : Kept) (holds : Holds locks k) (others : List H
   module _ (now : Flag) (now_is : now ≡ put_flag h) (seat' : Sight) (places' : Places) (room' : ℕ) (room : OP_PAGES ≤ room') (seat_of : IsSeatOf locks seat')
       (put : seat'.view ≡ put_back k.seat.view h.frame (put_as now (answers.out_of k.seat.view h.frame).word) h.lease.bytes) (many : length places'.pages.items ≡ length k.places.pages.items)
       (rest : (j : PageId) → j.0 ≢ h.page.0 → place_of (record k { places = places' }) j ≡ place_of k j) (page_else : (g : ℕ) → g ≢ h.frame → page_at (record k { places = places' }) g ≡ page_at k g)
+      (knows : KnowsAll locks k.seat.view → KnowsAll locks seat'.view)
       (kept_or : ((place_of (record k { places = places' }) h.page ≡ Some (h.frame, h.tag)) × (now ≢ flag.Empty)) ⊎ ((place_of (record k { places = places' }) h.page ≡ None) × (now ≡ flag.Empty))) where
     abbrev k' : Kept
     k' = record k { seat = seat'; places = places'; held = others; held_room = room' }
@@ -463,14 +465,65 @@ module _ (locks : LockTable) (k : Kept) (holds : Holds locks k) (others : List H
         (λ ne. record { frame = is.frame; tag = is.tag; entry = is.entry; kept = rest j ne ∙ is.kept; at = put_else is.frame (not_here j is.frame is.tag is.kept ne) ∙ is.at; stay = is.stay })
         (cases_eq j.0 h.page.0)
 
-    -- a page that was changed is Dirty in its frame
-    put_dirty : is_changed h.patch ≡ true → IsPutDirty k' h
-    put_dirty changed =
-        let is : now ≡ flag.Dirty = now_is ∙ dirty_flag h changed in
-        ⊎_elim
-        (λ p. record { entry = entry; kept = p.0; at = put_here; flag_is = is; bytes_are = refl })
-        (λ p. absurd (let bad : true ≡ false = ap is_empty (sym p.1 ∙ is) in cc bad))
+    stays_before : (was after : Flag) → IsReachedFrom was after → IsTrue (stays after) → IsTrue (stays was)
+    stays_before was after reached stay = ⊎_elim (λ same. ap stays same ∙ stay) (λ p. far was p.0) reached
+      where
+        far : (was : Flag) → 2 ≤ code_of was → IsTrue (stays was)
+        far flag.Empty le = absurd (omega (arith, le))
+        far flag.Clean le = absurd (omega (arith, le))
+        far flag.Dirty le = refl
+        far flag.Due le = refl
+        far flag.Done le = refl
+
+    -- what is put with the flag that it had stays where it stayed before
+    back_here : put_flag h ≡ h.flag → IsStaying k' h.page → (read : Bool) → h.is_read ≡ read → IsStaying k h.page
+    back_here same is read r = ⊎_elim
+        (λ p.
+        let q : Some (is.frame, is.tag) ≡ Some (h.frame, h.tag) = sym is.kept ∙ p.0 in
+        let e : ◌≡◌ {A = ℕ × ℕ} (is.frame, is.tag) (h.frame, h.tag) = cc q in
+        let there : Some entry ≡ Some is.entry = sym put_here ∙ ap (last_put k') (sym (ap (λ (z : ℕ × ℕ). z.0) e)) ∙ is.at in
+        let d : entry ≡ is.entry = cc there in
+        let stay : IsTrue (stays h.flag) = ap stays (sym (now_is ∙ same)) ∙ ap (λ (z : Entry). stays z.flag) d ∙ is.stay in
+        by_read read r stay)
+        (λ p. absurd (let bad : None ≡ Some (is.frame, is.tag) = sym p.0 ∙ is.kept in cc bad))
         kept_or
+      where
+        by_read : (read : Bool) → h.is_read ≡ read → IsTrue (stays h.flag) → IsStaying k h.page
+        by_read true r stay = absurd (let bad : false ≡ true = ap stays (sym (last_held.from_file r).empty) ∙ stay in cc bad)
+        by_read false r stay =
+            let x = last_held.from_frame r in
+            let y = holds.kept h.page h.frame h.tag x.kept in
+            record { frame = h.frame; tag = h.tag; entry = y.entry; kept = x.kept; at = y.at; stay = stays_before y.entry.flag h.flag (x.follows y.entry y.at) stay }
+
+    still_back : put_flag h ≡ h.flag → (j : PageId) → IsStaying k' j → IsStaying k j
+    still_back same_flag j is = ⊎_elim
+        (λ same. let eq = same_page j h.page same in subst (IsStaying k) (sym eq) (back_here same_flag (subst (IsStaying k') eq is) h.is_read refl))
+        (λ ne.
+        let was = sym (rest j ne) ∙ is.kept in
+        record { frame = is.frame; tag = is.tag; entry = is.entry; kept = was; at = sym (put_else is.frame (not_here j is.frame is.tag was ne)) ∙ is.at; stay = is.stay })
+        (cases_eq j.0 h.page.0)
+
+    -- the page is put as its flag says
+    put_so : IsPutAs k' h (put_flag h)
+    put_so = record {
+      entry = entry;
+      at = put_here;
+      flag_is = now_is;
+      bytes_are = refl;
+      kept = λ some. ⊎_elim (λ p. p.0) (λ p. absurd (some (sym now_is ∙ p.1))) kept_or;
+      gone = λ e. ⊎_elim (λ p. absurd (p.1 (now_is ∙ e))) (λ p. p.0) kept_or;
+    }
+
+    left_word : word ≡ put_word k.number h (put_flag h)
+    left_word = λ i. record { tag = tag_is i; owner = owner_is i; holder = AT_HOME; flag = now_is i }
+
+    left : LeavesWords locks k k' put_flag (h ∷ [])
+    left = record {
+      words = ap (λ (v : View). v.words) put ∙ ap (λ w. (h.frame, w) ∷ k.seat.view.words) left_word;
+      met = ap (λ (v : View). v.met) put;
+      numbers = ap (λ (v : View). v.numbers) put;
+      knows = knows;
+    }
 
     pub puts_last : PutsLast locks k k'
     puts_last = record {
@@ -480,11 +533,13 @@ module _ (locks : LockTable) (k : Kept) (holds : Holds locks k) (others : List H
       free = refl;
       shape = refl;
       number = refl;
-      dirty = put_dirty;
+      left = left;
+      put = put_so;
       put_else = put_else;
       place_else = rest;
       only = known_only;
       staying = still_stays;
+      back = still_back;
       at_hand = λ file j is. all_same file j (λ same e. absurd (known_kept j is same e));
       clean = λ file clean covered. clean_new file clean;
       told = λ file j clean covered. all_same file j (λ _. given_up file clean covered);
@@ -504,24 +559,25 @@ module _ (locks : LockTable) (k : Kept) (holds : Holds locks k) (others : List H
         let own = k.places.agree.kept h.page h.frame h.tag (last_held.from_frame r).kept in
         ap (λ m. fin.get m h.page.0) (table ∙ ap (forgotten k.places.table.entries) own) ∙ get_removed k.places.table.entries h.page.0
 
-    pub forgot : (now : Flag) → now ≡ put_flag h → (seat' : Sight) (room' : ℕ) → OP_PAGES ≤ room' → IsSeatOf locks seat' → seat'.view ≡ put_back k.seat.view h.frame (put_as now (answers.out_of k.seat.view h.frame).word) h.lease.bytes → now ≡ flag.Empty
+    pub forgot : (now : Flag) → now ≡ put_flag h → (seat' : Sight) (room' : ℕ) → OP_PAGES ≤ room' → IsSeatOf locks seat' → seat'.view ≡ put_back k.seat.view h.frame (put_as now (answers.out_of k.seat.view h.frame).word) h.lease.bytes → (KnowsAll locks k.seat.view → KnowsAll locks seat'.view) → now ≡ flag.Empty
         → PutsLast locks k (record k { seat = seat'; places = places'; held = others; held_room = room' })
-    forgot now is seat' room' room seat_of put empty =
+    forgot now is seat' room' room seat_of put knows empty =
         puts_last now is seat' places' room' room seat_of put (ap length pages ∙ length-set k.places.pages.items h.frame None) (forgot_rest h.is_read refl)
-        (λ g ne. ap (λ ps. slice_get ps g) pages ∙ set_else k.places.pages.items h.frame g None ne) (inr (forgot_gone h.is_read refl, empty))
+        (λ g ne. ap (λ ps. slice_get ps g) pages ∙ set_else k.places.pages.items h.frame g None ne) knows (inr (forgot_gone h.is_read refl, empty))
 
   -- the frame keeps the page that was read from now on
   pub placed : (places' : Places) → places'.table.entries ≡ fin.insert k.places.table.entries h.page.0 (h.frame, h.tag) → places'.pages.items ≡ set k.places.pages.items h.frame (Some h.page)
-      → (now : Flag) → now ≡ put_flag h → (seat' : Sight) (room' : ℕ) → OP_PAGES ≤ room' → IsSeatOf locks seat' → seat'.view ≡ put_back k.seat.view h.frame (put_as now (answers.out_of k.seat.view h.frame).word) h.lease.bytes → now ≢ flag.Empty
+      → (now : Flag) → now ≡ put_flag h → (seat' : Sight) (room' : ℕ) → OP_PAGES ≤ room' → IsSeatOf locks seat' → seat'.view ≡ put_back k.seat.view h.frame (put_as now (answers.out_of k.seat.view h.frame).word) h.lease.bytes → (KnowsAll locks k.seat.view → KnowsAll locks seat'.view) → now ≢ flag.Empty
       → PutsLast locks k (record k { seat = seat'; places = places'; held = others; held_room = room' })
-  placed places' table pages now is seat' room' room seat_of put some =
+  placed places' table pages now is seat' room' room seat_of put knows some =
       puts_last now is seat' places' room' room seat_of put (ap length pages ∙ length-set k.places.pages.items h.frame (Some h.page))
       (λ j ne. ap (λ m. fin.get m j.0) table ∙ get_other k.places.table.entries h.page.0 (h.frame, h.tag) j.0 ne)
       (λ g ne. ap (λ ps. slice_get ps g) pages ∙ set_else k.places.pages.items h.frame g (Some h.page) ne)
+      knows
       (inl (ap (λ m. fin.get m h.page.0) table ∙ get_put k.places.table.entries h.page.0 (h.frame, h.tag), some))
 
   -- the frame that keeps the page still does
-  pub returned : (now : Flag) → now ≡ put_flag h → (seat' : Sight) (room' : ℕ) → OP_PAGES ≤ room' → IsSeatOf locks seat' → seat'.view ≡ put_back k.seat.view h.frame (put_as now (answers.out_of k.seat.view h.frame).word) h.lease.bytes → now ≢ flag.Empty → h.is_read ≡ false
+  pub returned : (now : Flag) → now ≡ put_flag h → (seat' : Sight) (room' : ℕ) → OP_PAGES ≤ room' → IsSeatOf locks seat' → seat'.view ≡ put_back k.seat.view h.frame (put_as now (answers.out_of k.seat.view h.frame).word) h.lease.bytes → (KnowsAll locks k.seat.view → KnowsAll locks seat'.view) → now ≢ flag.Empty → h.is_read ≡ false
       → PutsLast locks k (record k { seat = seat'; held = others; held_room = room' })
-  returned now is seat' room' room seat_of put some r =
-      puts_last now is seat' k.places room' room seat_of put refl (λ j ne. refl) (λ g ne. refl) (inl ((last_held.from_frame r).kept, some))
+  returned now is seat' room' room seat_of put knows some r =
+      puts_last now is seat' k.places room' room seat_of put refl (λ j ne. refl) (λ g ne. refl) knows (inl ((last_held.from_frame r).kept, some))

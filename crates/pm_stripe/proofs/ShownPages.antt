@@ -23,6 +23,7 @@ use Rattle.pm_stripe.specs.ReplacedLaws.{known_same, hand_same, found, found_els
 use Rattle.pm_stripe.specs.Shown.{is_held, is_lent, patch_of, paged}
 use Rattle.pm_stripe.specs.ShownLaws.{names_apart, any_file, IsInOrder, clean_file, may_read}
 use Rattle.pm_stripe.specs.Stripes.{MayReadOthers}
+use Rattle.pm_stripe.proofs.BasePages.{bases_given}
 use Rattle.pm_stripe.proofs.Fetched.{no_some, decided}
 use Rattle.pm_stripe.proofs.GivenPages.{known_before}
 use Rattle.pm_stripe.proofs.Hands.{held_push_else, held_push_here, found_at, none_named}
@@ -351,8 +352,11 @@ module _ (locks : LockTable) (tells : Type 0) (file file' : PageId → Option (L
       by_held None is = is
       by_held (Some h) is = let x = found_at k.held j.0 h is in absurd (ne (ap (λ n. n / 2 ^ 32 % 2 ^ 16) (sym x.2) ∙ alone x.0 h x.1))
 
-  pub after_given : (state : DeviceState) → MayReadOthers locks.workers state k → HasOperation locks part k → IsInOrder locks tells file file' state part k k'
-  after_given state reads op = record {
+  unlent_same : Holds locks k → AreUnlent k.held → (i : ℕ) (h : Held) → slice_get k.held i ≡ Some h → (h.lease.bytes ≡ h.was.value.bytes) × (h.patch ≡ None)
+  unlent_same holds unlent i h is = (holds.held i h is).unlent (unlent i h is)
+
+  pub after_given : Holds locks k → AreUnlent k.held → (state : DeviceState) → MayReadOthers locks.workers state k → HasOperation locks part k → IsInOrder locks tells file file' state part k k'
+  after_given holds unlent state reads op = record {
     holds = g.holds;
     reads = may_read locks.workers state state k k' (record { later = omega arith; access = refl; usable = λ is. is }) g.shape g.number g.staying reads;
     clean = λ t. clean_file file file' k' (told t) (g.clean file (clean t));
@@ -367,6 +371,7 @@ module _ (locks : LockTable) (tells : Type 0) (file file' : PageId → Option (L
       known = λ j ne. g.only j (not_in_hand op.alone j ne);
       pages = λ j ne. ⊎_elim (λ t. given_bytes j (inl t)) (λ known. given_bytes j (inr (g.only j (not_in_hand op.alone j ne) ∙ known)));
     };
+    bases = bases_given locks tells file file' k k' holds (unlent_same holds unlent) none given_bytes g.back;
   }
 
 -- none of the pages in hand was lent, where none of the partition was

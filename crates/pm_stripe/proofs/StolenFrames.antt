@@ -242,6 +242,12 @@ module _ (locks : LockTable) (k : Kept) (holds : Holds locks k) (f tag : ℕ) (l
       (λ ne. ap (λ t. bytes_by None t seat'.view.entries k.number (file j)) (left j p.0 p.1 is ne) ∙ ap (option_map (λ (e : Entry). e.bytes)) (put_else p.0 ne))
       (cases_eq p.0 f)
 
+  known_before : (j : PageId) (o : Option Held) (t : Option (ℕ × ℕ)) → place_of k' j ≡ t → IsTrue (known_by o t seat'.view.entries k.number) → IsTrue (known_by o (place_of k j) k.seat.view.entries k.number)
+  known_before j (Some h) t is known = refl
+  known_before j None None is known = absurd (let q : false ≡ true = known in cc q)
+  known_before j None (Some p) is known =
+      ap (λ t. known_by None t k.seat.view.entries k.number) (was_kept j p.0 p.1 is) ∙ ap stays_in (sym (put_else p.0 (not_here j p.0 p.1 is))) ∙ known
+
   pub got_one : StealsFrame locks k k' f true
   got_one = record {
     holds = stolen_holds;
@@ -258,6 +264,8 @@ module _ (locks : LockTable) (k : Kept) (holds : Holds locks k) (f tag : ℕ) (l
     number = refl;
     held = refl;
     staying = λ j is. let ne = stay_frame is.frame is.entry is.at is.stay in record { frame = is.frame; tag = is.tag; entry = is.entry; kept = left j is.frame is.tag is.kept ne; at = put_else is.frame ne ∙ is.at; stay = is.stay };
+    unmoved = λ j g t e is at stay. let ne = stay_frame g e at stay in (left j g t is ne, put_else g ne ∙ at);
+    back = λ j is. known_before j (held_at k.held j.0) (place_of k' j) refl is;
     added = λ _. record { frame = new; added = refl; is = refl };
     not_added = λ e. absurd (let q : true ≡ false = e in cc q);
   }
@@ -293,6 +301,8 @@ only_one locks k f seat' holds seat_of only =
       number = refl;
       held = refl;
       staying = λ j is. record { frame = is.frame; tag = is.tag; entry = is.entry; kept = is.kept; at = puts is.frame ∙ is.at; stay = is.stay };
+      unmoved = λ j g t e is at stay. (is, puts g ∙ at);
+      back = λ j is. ap (λ es. known_by (held_at k.held j.0) (place_of k j) es k.number) (sym only.entries) ∙ is;
       added = λ e. absurd (let q : false ≡ true = e in cc q);
       not_added = λ _. refl;
     }

@@ -157,6 +157,7 @@ module _ (locks : LockTable) (k : Kept) (new : Held) (seat' : Sight) (room' : �
     number = refl;
     free = refl;
     staying = λ j is. record { frame = is.frame; tag = is.tag; entry = is.entry; kept = is.kept; at = puts is.frame ∙ is.at; stay = is.stay };
+    back = λ j is. record { frame = is.frame; tag = is.tag; entry = is.entry; kept = is.kept; at = sym (puts is.frame) ∙ is.at; stay = is.stay };
     only = λ j ne. ap (λ o. known_by o (place_of k j) seat'.view.entries k.number) (held_push_else k.held new j.0 (λ e. ne (sym e)))
         ∙ ap (λ es. known_by (held_at k.held j.0) (place_of k j) es k.number) took.entries;
     bare = omega (arith, read_push k.held new, ap read_one unread);

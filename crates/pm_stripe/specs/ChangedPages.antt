@@ -7,6 +7,7 @@ use Rattle.pm_types.specs.declared.page_id.PageId.{PageId}
 use Rattle.pm_types.specs.Spans.{Coverage}
 use Rattle.pm_frame.specs.Frames.{Frame}
 use Rattle.pm_records.specs.Records.{Record, Snapshot, Delta, kind_of, payload_of}
+pub use Rattle.pm_pages.specs.Asked.{has_bytes, is_changed}
 use Rattle.pm_pages.specs.Deltas.{delta_of}
 use Rattle.pm_records.specs.Operations.{frame_of}
 use Rattle.pm_stripe.specs.declared.held.Held.{Held}
@@ -30,15 +31,6 @@ page_record p =
 -- a record as an operation has it
 abbrev pub frame_for : Record → Frame
 frame_for rec = frame_of (kind_of rec) (payload_of rec)
-
--- the patch covers a byte
-abbrev pub has_bytes : Coverage → Bool
-has_bytes patch = patch.whole || nat_lt 0 (length patch.spans)
-
--- a page with this patch was changed
-abbrev pub is_changed : Option Coverage → Bool
-is_changed None = false
-is_changed (Some patch) = has_bytes patch
 
 -- a page whose frame is Dirty was changed, and logged, since the last checkpoint began
 abbrev pub is_logged : Flag → Bool

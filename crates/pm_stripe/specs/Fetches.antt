@@ -50,6 +50,7 @@ pub record Fetches (locks : LockTable) (k k' : Kept) (id : PageId) (tells : Type
   pub shape : k'.shape ≡ k.shape
   pub number : k'.number ≡ k.number
   pub staying : (j : PageId) → IsStaying k j → IsStaying k' j
+  pub back : (j : PageId) → IsStaying k' j → IsStaying k j
   pub only : (j : PageId) → j.0 ≢ id.0 → is_known k' j ≡ is_known k j
   pub bare : bare_count k' ≡ bare_count k
   pub held : (k'.held ≡ k.held) ⊎ (IsAway k id × AddsPage k k' id)

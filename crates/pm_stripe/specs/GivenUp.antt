@@ -20,6 +20,7 @@ pub record GivesUpHeld (locks : LockTable) (k k' : Kept) : Type 0 where
   pub shape : k'.shape ≡ k.shape
   pub number : k'.number ≡ k.number
   pub staying : (j : PageId) → IsStaying k j → IsStaying k' j
+  pub back : (j : PageId) → IsStaying k' j → IsStaying k j
   pub only : (j : PageId) → held_at k.held j.0 ≡ None → is_known k' j ≡ is_known k j
   pub at_hand : (file : PageId → Option (List ℕ)) (j : PageId) → is_known k' j ≡ true
       → page_bytes file k' j ≡ page_bytes file k j

@@ -281,6 +281,7 @@ pub record TakesPage (locks : LockTable) (k k' : Kept) (id : PageId) (found : Bo
   pub number : k'.number ≡ k.number
   pub free : k'.free ≡ k.free
   pub staying : (j : PageId) → IsStaying k j → IsStaying k' j
+  pub back : (j : PageId) → IsStaying k' j → IsStaying k j
   pub only : (j : PageId) → j.0 ≢ id.0 → is_known k' j ≡ is_known k j
   pub bare : bare_count k' ≡ bare_count k
   pub added : found ≡ true → AddsPage k k' id

@@ -5,6 +5,7 @@ use Rattle.pm_types.specs.declared.page_id.PageId.{PageId}
 use Rattle.pm_types.specs.Ids.{part_of_id}
 use Rattle.pm_locks.specs.Sight.{LockTable}
 use Rattle.pm_stripe.specs.declared.held.Held.{Held}
+use Rattle.pm_stripe.specs.Bases.{KeepsBases}
 use Rattle.pm_stripe.specs.Kept.{Kept, Holds, HasFrames, AreClean, IsStaying, page_bytes, is_known, bare_count}
 
 -- a page in hand has this name
@@ -24,6 +25,7 @@ pub record ChangesOnePage (locks : LockTable) (tells : Type 0) (file : PageId �
   pub shape : k'.shape ≡ k.shape
   pub number : k'.number ≡ k.number
   pub staying : (j : PageId) → IsStaying k j → IsStaying k' j
+  pub bases : KeepsBases k.shape.page_size (tells × AreClean file k) file file k k'
   pub only : (j : PageId) → j.0 ≢ id.0 → is_known k' j ≡ is_known k j
   pub names : (i : ℕ) (h : Held) → slice_get k'.held i ≡ Some h → (h.page ≡ id) ⊎ IsNamedIn k.held h.page
   pub clean : tells → AreClean file k → AreClean file k'

@@ -28,3 +28,10 @@ abbrev pub forgotten : FinMap nat_cmp (ℕ × ℕ) → Option (Option PageId) �
 forgotten table None = table
 forgotten table (Some None) = table
 forgotten table (Some (Some page)) = map.remove table page.0
+
+-- no frame has a page, and the table names none
+abbrev pub AreAllEmpty : List (Option PageId) → Type 0
+AreAllEmpty pages = (f : ℕ) (page : PageId) → slice_get pages f ≡ Some (Some page) → ⊥
+
+abbrev pub KeepsNoPage : FinMap nat_cmp (ℕ × ℕ) → Type 0
+KeepsNoPage table = (id : ℕ) → map.get table id ≡ None

@@ -12,6 +12,7 @@ use Rattle.pm_stripe.specs.declared.held.Held.{Held}
 use Rattle.pm_stripe.specs.ChangedPages.{is_changed}
 use Rattle.pm_stripe.specs.HandLaws.{set_here, set_else, place_there, place_some, held_is, held_set_here}
 use Rattle.pm_stripe.specs.HandLaws.{held_set_else, read_set}
+use Rattle.pm_stripe.specs.Bases.{base_by, base_bytes, IsAllCovered}
 use Rattle.pm_stripe.specs.Kept.{Kept, held_at, place_at, place_of, out_of, bytes_by, page_bytes, known_by}
 use Rattle.pm_stripe.specs.Kept.{is_known, IsHeldIn, IsInHand, Holds, HasFrames, AreClean}
 use Rattle.pm_stripe.specs.Moves.{ChangesOnePage}
@@ -164,12 +165,32 @@ module _ (locks : LockTable) (k : Kept) (id : PageId) (h h' : Held) (room' : ℕ
         (cases i g is);
   }
 
+  -- it came into hand with the same bytes
+  base_same : (file : PageId → Option (List ℕ)) → h'.was.value.bytes ≡ h.was.value.bytes → (j : PageId)
+      → base_bytes file replaced j ≡ base_bytes file k j
+  base_same file was_same j =
+      hand_same (λ o. base_by o (place_of k j) k.seat.view.entries k.number (file j)) (ap Some was_same) j.0
+
+  covered_still : (j : PageId)
+      → (IsAllCovered k.shape.page_size (Some h) → IsAllCovered k.shape.page_size (Some h'))
+      → IsAllCovered k.shape.page_size (held_at k.held j.0)
+      → IsAllCovered k.shape.page_size (held_at replaced.held j.0)
+  covered_still j still_covered is = elim (cases_eq j.0 id.0) [
+    | inl same ↦
+        let was : IsAllCovered k.shape.page_size (Some h) =
+        subst (IsAllCovered k.shape.page_size) (ap (held_at k.held) same ∙ at) is in
+        subst (IsAllCovered k.shape.page_size) (sym (ap (held_at replaced.held) same ∙ found))
+        (still_covered was)
+    | inr ne ↦ subst (IsAllCovered k.shape.page_size) (sym (found_else j.0 ne)) is
+  ]
+
   -- a page in hand was replaced
   pub moves_replaced : (tells : Type 0) (file : PageId → Option (List ℕ)) → OP_PAGES ≤ room' → Holds locks k
       → IsHeldIn locks k h' → HasFrames k → h'.was.value.bytes ≡ h.was.value.bytes → h'.is_read ≡ h.is_read
       → (is_changed h'.patch ≡ false → is_changed h.patch ≡ false)
+      → (IsAllCovered k.shape.page_size (Some h) → IsAllCovered k.shape.page_size (Some h'))
       → ChangesOnePage locks tells file k replaced id
-  moves_replaced tells file room holds new frames was_same read_same unchanged = record {
+  moves_replaced tells file room holds new frames was_same read_same unchanged still_covered = record {
     holds = holds_replaced room holds new;
     frames = record { few = omega (arith, frames.few, long); enough = omega (arith, frames.enough, long) };
     bare = omega (arith, read_set k.held here h h' there read_same);
@@ -182,6 +203,14 @@ module _ (locks : LockTable) (k : Kept) (id : PageId) (h h' : Held) (room' : ℕ
       kept = is.kept;
       at = is.at;
       stay = is.stay;
+    };
+    bases = record {
+      whole = λ j. covered_still j still_covered;
+      told = λ t j. inr (base_same file was_same j);
+      stay = λ j is. (
+        record { frame = is.frame; tag = is.tag; entry = is.entry; kept = is.kept; at = is.at; stay = is.stay },
+        inr (base_same file was_same j),
+      );
     };
     only = λ j ne. known_same j;
     names = λ i g is. let x = was i g is in inr (record { place = i; page = x.0; at = x.1; is = sym x.2 });

@@ -18,6 +18,8 @@ use Rattle.pm_pages.specs.Paged.{WritesPage}
 use Rattle.pm_locks.specs.Sight.{LockTable}
 use Rattle.pm_stripe.specs.declared.held.Held.{Held}
 use Rattle.pm_stripe.specs.declared.bound.Bound.{Bound}
+use Rattle.pm_stripe.specs.BaseLaws.{bases_refl, bases_then, bases_file, bases_told}
+use Rattle.pm_stripe.specs.Bases.{KeepsBases}
 use Rattle.pm_stripe.specs.HandLaws.{place_there, place_some, held_is}
 use Rattle.pm_stripe.specs.Kept.{Kept, held_at, place_at, place_of, bytes_by, page_bytes, known_by, is_known}
 use Rattle.pm_stripe.specs.Kept.{IsPageOf, IsHeldIn, IsStaying, Holds, AreClean}
@@ -53,6 +55,7 @@ pub record IsInOrder (locks : LockTable) (tells : Type 0) (file file' : PageId �
   pub clean : tells → AreClean file' k'
   pub operates : HasOperation locks part k'
   pub others : KeepsOthers tells file file' part k k'
+  pub bases : KeepsBases k.shape.page_size tells file file' k k'
 
 pub clean_file : (file file' : PageId → Option (List ℕ)) (k : Kept) → ((j : PageId) → file' j ≡ file j)
     → AreClean file k → AreClean file' k
@@ -106,6 +109,8 @@ after_moved locks tells file file' state state' part k k' id same later reads cl
         (λ known. any_file file' file k' j (m.only j (other_part part j id in_part ne) ∙ known)
         ∙ m.at_hand j (other_part part j id in_part ne) known);
   };
+  bases = bases_file k.shape.page_size tells file file' k k' same
+      (bases_told k.shape.page_size (tells × AreClean file k) tells file file k k' (λ t. (t, clean t)) m.bases);
 }
 
 module _ {Q R : Type 0} (tells : Type 0) (history : R → History) (state : R → DeviceState) where
@@ -139,11 +144,13 @@ module _ {Q R : Type 0} (tells : Type 0) (history : R → History) (state : R �
               reads = subst (λ (l : LockTable). MayReadOthers l.workers (state c.reader) (kept_by c))
                   (sym table) x.reads;
               clean = x.clean;
+              few = omega (arith, x.operates.bare);
             };
             operates = subst (λ (p : LockTable × ℕ). HasOperation p.0 p.1 (kept_by c))
                 (λ i. (sym table i, sym part i)) x.operates;
           };
           others = x.others;
+          bases = x.bases;
         };
   }
 
@@ -158,6 +165,7 @@ module _ {Q R : Type 0} (tells : Type 0) (history : R → History) (state : R �
     leaves = λ ready. record {
       ready = ready;
       others = record { known = λ j ne. refl; pages = λ j ne told. refl };
+      bases = bases_refl b.stripe.shape.page_size tells (file_by history b) (kept_by b);
     };
   }
 
@@ -191,6 +199,10 @@ module _ {Q R : Type 0} (tells : Type 0) (history : R → History) (state : R �
                 (⊎_elim (λ t. inl t) (λ known. inr (p.others.known j ne ∙ known)) told)
                 ∙ p.others.pages j ne told;
           };
+          bases = bases_then b.stripe.shape.page_size tells (file_by history b) (file_by history c)
+              (file_by history d) (kept_by b) (kept_by c) (kept_by d) p.bases
+              (subst (λ (s : Shape). KeepsBases s.page_size tells (file_by history c) (file_by history d)
+              (kept_by c) (kept_by d)) x.same.shape q.bases);
         };
   }
 
@@ -317,7 +329,7 @@ module _ {Q R : Type 0} (tells : Type 0) (history : R → History) (state : R �
       later r.bound.reads r.bound.clean r.operates in_part
       (moves_replaced b.locks.now (kept_by b) (page_id b.part i) x.page (rewritten x.page bytes)
       (vec_capacity b.stripe.held) x.found refl refl tells (file_by history b) r.bound.holds.held_room
-      r.bound.holds new_held r.operates.frames refl refl (λ e. e)))
+      r.bound.holds new_held r.operates.frames refl refl (λ e. e) (λ all. all)))
 
 module _ {Q R : Type 0} (tells : Type 0) (history : R → History) (state : R → DeviceState) where
   -- a page that was lent is of the partition that is meant

@@ -1,19 +1,26 @@
 -- What stealing a frame does to what a worker keeps.
-use Rattle.std.specs.Prelude.{◌≡◌, ◌⊎◌, ℕ, Bool, true, false, [], ◌∷◌, ◌++◌}
+use Rattle.std.specs.Prelude.{◌≡◌, ◌⊎◌, ℕ, Bool, true, false, [], ◌∷◌, ◌++◌, Some, IsTrue}
 use Rattle.pm_types.specs.declared.page_id.PageId.{PageId}
 use Rattle.pm_locks.specs.Words.{LockWord, CanBeStolen}
 use Rattle.pm_locks.specs.declared.view.View.{View}
+use Rattle.pm_locks.specs.declared.view.Entry.{Entry}
 use Rattle.pm_locks.specs.Steps.{IsMet}
 use Rattle.pm_locks.specs.Answers.{MetTwo}
 use Rattle.pm_locks.specs.Sight.{LockTable}
 use Rattle.pm_stripe.specs.declared.held.Free.{Free}
-use Rattle.pm_stripe.specs.Kept.{Kept, Holds, KeepsPages, IsStaying}
+use Rattle.pm_stripe.specs.Kept.{Kept, Holds, KeepsPages, IsStaying, is_known, last_put, place_of, stays}
 
 -- one more empty frame is in hand, this one
 pub record AddsFrame (k k' : Kept) (f : ℕ) : Type 0 where
   pub frame : Free
   pub added : k'.free ≡ k.free ++ frame ∷ []
   pub is : frame.frame ≡ f
+
+-- a page in a frame that isn't given to another page is there still, as it was put there
+abbrev pub LeavesStaying : Kept → Kept → Type 0
+LeavesStaying k k' = (j : PageId) (f tag : ℕ) (e : Entry) → place_of k j ≡ Some (f, tag)
+    → last_put k f ≡ Some e → IsTrue (stays e.flag)
+    → (place_of k' j ≡ Some (f, tag)) × (last_put k' f ≡ Some e)
 
 -- The frame is in hand, empty, or nothing changed but what the seat met. No page is lost, and none at hand.
 pub record StealsFrame (locks : LockTable) (k k' : Kept) (f : ℕ) (found : Bool) : Type 0 where
@@ -23,6 +30,8 @@ pub record StealsFrame (locks : LockTable) (k k' : Kept) (f : ℕ) (found : Bool
   pub number : k'.number ≡ k.number
   pub held : k'.held ≡ k.held
   pub staying : (j : PageId) → IsStaying k j → IsStaying k' j
+  pub unmoved : LeavesStaying k k'
+  pub back : (j : PageId) → IsTrue (is_known k' j) → IsTrue (is_known k j)
   pub added : found ≡ true → AddsFrame k k' f
   pub not_added : found ≡ false → k'.free ≡ k.free
 

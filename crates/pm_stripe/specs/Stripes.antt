@@ -72,6 +72,14 @@ pub record SameButPages (s t : Stripe) : Type 0 where
   pub is_running : t.is_running ≡ s.is_running
   pub outbox : t.outbox ≡ s.outbox
 
+-- all but the pages, the frames in hand and where the next sweep begins is as it was
+pub record SameButFrames (s t : Stripe) : Type 0 where
+  pub number : t.number ≡ s.number
+  pub shape : t.shape ≡ s.shape
+  pub files : t.files ≡ s.files
+  pub is_running : t.is_running ≡ s.is_running
+  pub outbox : t.outbox ≡ s.outbox
+
 -- what the partitions' files have, as far as the stripe reads them
 abbrev pub file_of : Stripe → History → PageId → Option (List ℕ)
 file_of s history id = if s.files then stored history.world s.shape.page_size id else None

@@ -1,6 +1,6 @@
 //! A stripe with a seat and a reader: one worker's pages in a round.
 
-ghost use Rattle.std.specs.Prelude.{◌≡◌, ◌%◌, ◌<◌, false};
+ghost use Rattle.std.specs.Prelude.{◌≡◌, ◌≤◌, ◌%◌, ◌<◌, false, length, drop};
 ghost use Rattle.pm_stripe.specs.Stripes.{kept, file_of, IsAtRest, MayReadOthers};
 ghost use Rattle.pm_stripe.specs.Kept.{AreClean};
 
@@ -23,7 +23,9 @@ pub struct Bound<'a, Q, R> {
 }
 
 impl<'a, Q, R: PageReader> Bound<'a, Q, R> {
-    ghost use Rattle.pm_stripe.specs.Bounds.{IsBound, SameButPart};
+    ghost use Rattle.pm_stripe.specs.Begins.{MayBegin};
+    ghost use Rattle.pm_stripe.specs.Bounds.{IsBound, SameButPart, SameButSent};
+    ghost use Rattle.pm_stripe.specs.Shown.{IsReady};
 
     /// Binds a stripe to the worker's seat and to what reads its pages.
     pub fn new(
@@ -54,7 +56,8 @@ impl<'a, Q, R: PageReader> Bound<'a, Q, R> {
         }
     }
 
-    /// Names the partition whose pages are meant from here on.
+    /// Names the partition whose pages are meant from here on. Where an operation may begin it may do so still,
+    /// on this partition.
     pub fn at(&mut self, part: u16)
         requires there { part < self.old.stripe.shape.partitions }
         requires own { part % self.old.locks.now.workers ≡ self.old.stripe.number }
@@ -62,7 +65,34 @@ impl<'a, Q, R: PageReader> Bound<'a, Q, R> {
         ensures same { SameButPart self.old self.new }
         ensures bound { IsBound R.tells R.history R.state self.old
             → IsBound R.tells R.history R.state self.new }
+        ensures begins { MayBegin R.tells R.history R.state self.old
+            → MayBegin R.tells R.history R.state self.new }
+        ensures ready { MayBegin R.tells R.history R.state self.old
+            → IsReady R.tells R.history R.state self.new }
     {
         self.part = part;
+    }
+
+    /// What its operations hand to the log writer and is not sent yet.
+    pub fn outbox(&self) -> &[u8]
+        ensures { result.now ≡ self.now.stripe.outbox }
+    {
+        self.stripe.outbox()
+    }
+
+    /// Takes the first so many bytes out of the outbox, which were sent. It may be called between any two
+    /// calls, also in the middle of an operation.
+    pub fn sent(&mut self, n: usize)
+        requires { n ≤ length self.old.stripe.outbox }
+        ensures sent { self.new.stripe.outbox ≡ drop n self.old.stripe.outbox }
+        ensures same { SameButSent self.old self.new }
+        ensures bound { IsBound R.tells R.history R.state self.old
+            → IsBound R.tells R.history R.state self.new }
+        ensures begins { MayBegin R.tells R.history R.state self.old
+            → MayBegin R.tells R.history R.state self.new }
+        ensures ready { IsReady R.tells R.history R.state self.old
+            → IsReady R.tells R.history R.state self.new }
+    {
+        self.stripe.sent(n);
     }
 }

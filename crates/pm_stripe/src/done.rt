@@ -4,7 +4,7 @@ ghost use Rattle.std.specs.Prelude.{◌≡◌, []};
 ghost use Rattle.std.specs.Option.{option_copied};
 ghost use Rattle.pm_stripe.specs.Kept.{Holds};
 ghost use Rattle.pm_stripe.specs.Listings.{MayBeLogical, given_record, GrowsByOperation};
-ghost use Rattle.pm_stripe.specs.Puts.{AreCovered, AreStayingCovered, PutsBack};
+ghost use Rattle.pm_stripe.specs.Puts.{AreStayingCovered, AreToldCovered, PutsBack};
 ghost use Rattle.pm_stripe.specs.Stripes.{kept, SameButPages};
 
 use crate::bound::Bound;
@@ -21,14 +21,17 @@ impl<'a, Q, R: PageReader> Bound<'a, Q, R> {
     /// given, and then by one record of each page that it changed, by rising name; of an operation that has
     /// neither it doesn't grow. A page counts as changed where a patch that isn't empty was noted of it.
     ///
-    /// No page is in hand then, and the frame of each changed page is Dirty, also where its bytes are as
-    /// before. Until pages are made ready anew none may be asked for.
+    /// No page is in hand then. The frame of each changed page is Dirty, also where its bytes are as before; a
+    /// page that was only read is Clean where it was read from its file, and else has the flag that it had; and
+    /// one that was lent and not noted is given up, but for one that stays. Until pages are made ready anew
+    /// none may be asked for.
     pub fn done(&mut self, line: u32, rec: Option<&LogRecord<'_>>)
         requires ready { IsReady R.tells R.history R.state self.old }
         requires room { HasOutboxRoom self.old.stripe }
         requires logical { MayBeLogical (given_record (option_copied rec)) }
-        // each byte that was changed since the pages were made ready is of its page's patch
-        requires covered { AreCovered self.old.stripe.held.items }
+        // each byte that was changed since the pages were made ready is of its page's patch, of a page that
+        // stays in its frame, and of any where the reader's content is told
+        requires covered { AreToldCovered R.tells self.old.stripe.held.items }
         ensures grows { GrowsByOperation line (given_record (option_copied rec.entry))
             self.old.stripe.held.items self.old.stripe.outbox self.new.stripe.outbox }
         ensures ends { EndsOperation R.tells R.history R.state self.old self.new }

@@ -3,10 +3,14 @@
 
 mod bound;
 mod done;
+mod ending;
 mod fetching;
+mod forgetting;
 mod freeing;
 mod giving;
+mod halt;
 mod held;
+mod laws;
 mod lending;
 mod limits;
 mod making;
@@ -17,14 +21,20 @@ mod places;
 mod putting;
 mod read;
 mod reading;
+mod readying;
 mod record;
 mod stealing;
 mod stripe;
+mod sweeping;
 mod take;
 mod taking;
 
 pub use bound::Bound;
+pub use halt::Halt;
+pub use laws::{a_new_stripe_rests, edits_are_covered};
 pub use stripe::Stripe;
 
+#[cfg(test)]
+mod rounds;
 #[cfg(test)]
 mod tests;

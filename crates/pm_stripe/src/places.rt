@@ -2,7 +2,9 @@
 
 ghost use Rattle.std.specs.Prelude.{◌≡◌, ◌+◌, ◌≤◌, ◌<◌, Some, None, set, length, slice_get, IfOk, MatchOption};
 ghost use Rattle.std.specs.FinMap as map;
+ghost use Rattle.pm_ptable.specs.declared.table.TheConstants.{FRAMES_MAX};
 ghost use Rattle.pm_stripe.specs.PlacedPages.{AgreeOnPages, kept_count, KeepsNone, forgotten};
+ghost use Rattle.pm_stripe.specs.PlacedPages.{KeepsNoPage, AreAllEmpty};
 
 use pm_ptable::{FRAMES_MAX, PageTable};
 use pm_types::{FrameNo, PageId, Tag};
@@ -16,12 +18,13 @@ pub(crate) struct Places {
     /// The page of each frame, by the frame's number.
     pub(crate) pages: Vec<Option<PageId>>,
     ghost agree: { AgreeOnPages table.entries pages.items },
+    ghost few: { length pages.items ≤ FRAMES_MAX },
     ghost room: { table.spare + kept_count pages.items ≡ length pages.items },
 }
 
 impl Places {
     /// No page yet, of so many frames. Fails where memory runs out.
-    pub(crate) fn new(alloc: Global, frames: u32) -> Result<Places, AllocError>
+    pub fn new(alloc: Global, frames: u32) -> Result<Places, AllocError>
         requires some { 1 ≤ frames }
         requires few { frames ≤ FRAMES_MAX }
         ensures empty { IfOk result (λ places. places.table.entries ≡ map.empty) }
@@ -32,15 +35,22 @@ impl Places {
         Ok(Places { table, pages })
     }
 
+    /// How many frames there are.
+    pub fn frames(&self) -> u32
+        ensures { result ≡ length self.now.pages.items }
+    {
+        self.pages.len() as u32
+    }
+
     /// The frame that keeps the page, and the frame's tag.
-    pub(crate) fn get(&self, page: PageId) -> Option<(FrameNo, Tag)>
+    pub fn get(&self, page: PageId) -> Option<(FrameNo, Tag)>
         ensures { result ≡ map.get self.now.table.entries page.0 }
     {
         self.table.get(page)
     }
 
     /// The page that the frame keeps, and the frame's tag.
-    pub(crate) fn page_in(&self, frame: FrameNo) -> Option<(PageId, Tag)>
+    pub fn page_in(&self, frame: FrameNo) -> Option<(PageId, Tag)>
         requires { frame < length self.now.pages.items }
         ensures { MatchOption result (KeepsNone self.now.table.entries frame)
             (λ found. map.get self.now.table.entries found.0.0 ≡ Some (frame, found.1)) }
@@ -51,7 +61,7 @@ impl Places {
     }
 
     /// The frame keeps the page from now on, under this tag.
-    pub(crate) fn put(&mut self, page: PageId, frame: FrameNo, tag: Tag)
+    pub fn put(&mut self, page: PageId, frame: FrameNo, tag: Tag)
         requires empty { slice_get self.old.pages.items frame ≡ Some None }
         requires unnamed { map.get self.old.table.entries page.0 ≡ None }
         ensures table { self.new.table.entries ≡ map.insert self.old.table.entries page.0 (frame, tag) }
@@ -62,7 +72,7 @@ impl Places {
     }
 
     /// The frame keeps no page from now on.
-    pub(crate) fn forget(&mut self, frame: FrameNo)
+    pub fn forget(&mut self, frame: FrameNo)
         requires { frame < length self.old.pages.items }
         ensures table { self.new.table.entries
             ≡ forgotten self.old.table.entries (slice_get self.old.pages.items frame) }
@@ -71,6 +81,17 @@ impl Places {
         if let Some(page) = self.pages[frame as usize] {
             self.table.remove(page);
             self.pages[frame as usize] = None;
+        }
+    }
+
+    /// No frame keeps a page from now on.
+    pub fn clear(&mut self)
+        ensures count { length self.new.pages.items ≡ length self.old.pages.items }
+        ensures none { KeepsNoPage self.new.table.entries }
+        ensures empty { AreAllEmpty self.new.pages.items }
+    {
+        'frames: for frame in 0..self.frames() {
+            self.forget(frame);
         }
     }
 }

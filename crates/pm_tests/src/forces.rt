@@ -22,18 +22,27 @@ const SEGMENT: &str = "lasts/wal-0000000000000001.seg";
 /// A script, which is answered twice.
 const SCRIPT: &[u8] = b"put 0 a 1\nget 0 a\nremove 0 a\nput 1 b 2\n";
 
+/// A folder in folders that aren't there.
+const DEEP_FOLDER: &str = "deep/down/store";
+
+/// The file of its log's first segment.
+const DEEP_SEGMENT: &str = "deep/down/store/wal-0000000000000001.seg";
+
+/// The folders that get the names of those that are made for it, by the paths that they are synced by.
+const ABOVE: [&str; 3] = [".", "deep", "deep/down"];
+
 /// The status with which a script is answered over a host.
-fn status_of<H: Host>(rt: &impl AllocGlobal, host: &mut H) -> Result<u8, Fail>
+fn status_of<H: Host>(rt: &impl AllocGlobal, host: &mut H, folder: &str) -> Result<u8, Fail>
     requires { (H.state host.old).access.is_lent ≡ false }
 {
-    let report = call_with(rt, &["run", FOLDER], host)?;
+    let report = call_with(rt, &["run", folder], host)?;
     Ok(report.status)
 }
 
-/// Answers a script over the folder. Answers the status.
-fn run_recorded(rt: &HostRuntime, script: &'static [u8]) -> Result<u8, Fail> {
+/// Answers a script over a folder. Answers the status.
+fn run_recorded(rt: &HostRuntime, folder: &str, script: &'static [u8]) -> Result<u8, Fail> {
     let mut host = recorded_host(rt, script)?;
-    status_of(rt, &mut host)
+    status_of(rt, &mut host, folder)
 }
 
 /// Looks at the trace of so many runs: whenever something was printed the segment lasted, and the names, and so
@@ -48,11 +57,24 @@ fn look_at_forces(rt: &(impl Abort + AllocGlobal + Files), runs: usize) -> Resul
 
 #[test]
 fn what_a_run_prints_lasts(rt: HostRuntime) -> Result<(), Fail> {
-    assert_eq!(rt; run_recorded(&rt, SCRIPT)?, 0);
+    assert_eq!(rt; run_recorded(&rt, FOLDER, SCRIPT)?, 0);
     look_at_forces(&rt, 1)?;
-    assert_eq!(rt; run_recorded(&rt, SCRIPT)?, 0);
+    assert_eq!(rt; run_recorded(&rt, FOLDER, SCRIPT)?, 0);
     look_at_forces(&rt, 2)?;
     fs::remove_dir_all(&rt, FOLDER)?;
+    fs::remove_file(&rt, TRACE)?;
+    Ok(fs::remove_file(&rt, SAID)?)
+}
+
+#[test]
+fn each_folder_that_is_made_lasts_before_a_reply(rt: HostRuntime) -> Result<(), Fail> {
+    assert_eq!(rt; run_recorded(&rt, DEEP_FOLDER, SCRIPT)?, 0);
+    let trace = fs::read_to_string(&rt, TRACE)?;
+    for folder in ABOVE {
+        let count = count_prints(&trace, folder, DEEP_SEGMENT);
+        assert_eq!(rt; count, Some(1), "{folder}");
+    }
+    fs::remove_dir_all(&rt, "deep")?;
     fs::remove_file(&rt, TRACE)?;
     Ok(fs::remove_file(&rt, SAID)?)
 }

@@ -8,8 +8,6 @@ mod batches;
 #[cfg(test)]
 mod calls;
 #[cfg(test)]
-mod checkpoints;
-#[cfg(test)]
 mod configurations;
 #[cfg(test)]
 mod consoles;
@@ -48,6 +46,10 @@ pub mod rounds;
 mod runs;
 #[cfg(test)]
 mod scripts;
+#[cfg(test)]
+mod segment_crashes;
+#[cfg(test)]
+mod shapes;
 #[cfg(test)]
 mod stores;
 #[cfg(test)]

@@ -112,6 +112,18 @@ pub fn run_configured(
     run_on(rt, host)
 }
 
+/// Runs a script over an empty disk with a configuration, up to a stop.
+pub fn run_configured_until(
+    rt: &impl AllocGlobal,
+    config: &[u8],
+    script: &[u8],
+    stop: u64,
+) -> Result<Run, Fail> {
+    let disk = MemDisk::empty(rt.alloc());
+    let host = MemHost::new(rt.alloc(), script, config, disk, &[], Some(stop))?;
+    run_on(rt, host)
+}
+
 /// Runs a script over a disk, up to a stop.
 pub fn run_until(
     rt: &impl AllocGlobal,

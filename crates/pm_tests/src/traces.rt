@@ -12,10 +12,10 @@ struct Lasting {
     names: bool,
 }
 
-/// Whether the path is one of a file in the folder.
+/// Whether the path is one of a file in the folder, and not in a folder below it.
 fn is_in(path: &str, folder: &str) -> bool {
     match path.strip_prefix(folder) {
-        Some(rest) => rest.starts_with('/'),
+        Some(rest) => rest.rfind('/') == Some(0),
         None => false,
     }
 }
@@ -86,7 +86,7 @@ pub fn count_syncs(trace: &str, file: &str) -> usize {
 }
 
 /// Traces of the file `d/f`, each with how often it was forced.
-const TRACES: [(&str, Option<usize>); 9] = [
+const TRACES: [(&str, Option<usize>); 10] = [
     ("", Some(0)),
     ("forced d/f\n", None),
     ("synced d\nforced d/f\n", Some(1)),
@@ -98,6 +98,7 @@ const TRACES: [(&str, Option<usize>); 9] = [
     ),
     ("synced d\nsynced d/f\nchanged d/f\nforced d/f\n", None),
     ("synced d\nremoved d/g\nforced d/f\n", None),
+    ("synced d\nmade d/e/g\nforced d/f\n", Some(1)),
     (
         "changed d/f\nremoved d/f\nsynced d\nmade e/f\nforced d/f\n",
         Some(1),

@@ -15,6 +15,7 @@ invariant_of-self c =
     let room : c.remove.new.self.spare ≡ places.table.spare + 1 = c.remove.ensures.spare ∙ ap (λ b. places.table.spare + (if b then 1 else 0)) there in
     record {
       agree = subst (λ m. AgreeOnPages m (set items c.args.frame None)) (sym c.remove.ensures.entries) (agree_forget places.table.entries items places.agree page c.args.frame at);
+      few = omega (arith, places.few, length-set items c.args.frame None);
       room = omega (arith, room, places.room, count_forget items c.args.frame page at, length-set items c.args.frame None);
     }
 

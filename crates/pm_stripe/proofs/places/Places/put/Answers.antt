@@ -22,5 +22,6 @@ invariant_of-self c =
     let room : c.set.new.self.spare ≡ places.table.spare - 1 = c.set.ensures.spare ∙ ap (λ b. if b then places.table.spare else places.table.spare - 1) unnamed in
     record {
       agree = subst (λ m. AgreeOnPages m (set items c.args.frame (Some c.args.page))) (sym c.set.ensures.entries) (agree_put places.table.entries items places.agree c.args.page c.args.frame c.args.tag c.requires.empty c.requires.unnamed);
+      few = omega (arith, places.few, length-set items c.args.frame (Some c.args.page));
       room = omega (arith, room, places.room, count_put items c.args.frame c.args.page c.requires.empty, count_less items c.args.frame c.requires.empty, length-set items c.args.frame (Some c.args.page));
     }

@@ -49,7 +49,7 @@ returns-clause-gives c =
     let y = c.requires.holds.kept h.page h.frame h.tag from.kept in
     gives_put c.args.locks.now k c.requires.holds c.pop.new.self.items h list c.requires.unlent (kept (record c.args.self.now { held = c.pop.new.self }) c.own_put.new.seat) refl
     (returned c.args.locks.now k c.requires.holds c.pop.new.self.items h list h.flag (same_flag h bare unlent c.if-is_read.false) c.own_put.new.seat (vec_capacity c.pop.new.self) (omega (arith, c.pop.ensures.capacity, c.requires.holds.held_room))
-    c.own_put.ensures.seat c.own_put.ensures.put (λ e. y.some (empty_before c.args.locks.now k c.requires.holds c.pop.new.self.items h list y.entry.flag h.flag (from.follows y.entry y.at) e)) c.if-is_read.false)
+    c.own_put.ensures.seat c.own_put.ensures.put c.own_put.ensures.knows (λ e. y.some (empty_before y.entry.flag h.flag (from.follows y.entry y.at) e)) c.if-is_read.false)
     c.if-is_read.false
 
 pub returns-then-is_read-clause-count : goal.returns-then-is_read-clause-count

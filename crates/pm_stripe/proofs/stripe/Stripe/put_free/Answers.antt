@@ -14,7 +14,7 @@ each-init c = record {
 
 pub each-preserved : goal.each-preserved
 each-preserved c = record {
-  frees = frees_then c.args.locks.now (kept c.args.self.now c.args.seat.now) (kept c.each.self c.each.seat) (kept c.put_free_last.new.self c.put_free_last.new.seat) c.each.invariant.frees c.put_free_last.ensures.frees;
+  frees = frees_then c.args.locks.now (kept c.args.self.now c.args.seat.now) (kept c.each.self c.each.seat) (kept c.put_free_last.new.self c.put_free_last.new.seat) c.requires.holds c.each.invariant.frees c.put_free_last.ensures.frees;
   same = same_then c.args.self.now c.each.self c.put_free_last.new.self c.each.invariant.same c.put_free_last.ensures.same;
   count = omega (arith, c.each.invariant.count, c.put_free_last.ensures.count);
 }

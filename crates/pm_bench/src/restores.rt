@@ -1,0 +1,207 @@
+//! A restart over a host in memory, and what it does with a log that holds a page of a checkpoint without its
+//! end marker.
+
+ghost use Rattle.std.specs.Prelude.{◌≤◌, ◌<◌, length, IfOk};
+ghost use Rattle.pm_disk.specs.States.{IsUsable};
+ghost use Rattle.pm_disk_mem.specs.Hosts.{state_of};
+ghost use Rattle.pm_marks.specs.Slots.{IsMark};
+ghost use Rattle.pm_types.specs.Shapes.{IsShape};
+
+use pm_disk::{Failed, Host, PageReader};
+use pm_disk_mem::{MemDisk, MemHost, Pick};
+use pm_frame::{CP_BEGIN, RESTART, SNAPSHOT};
+use pm_marks::{read_marks, write_start};
+use pm_redo::restore;
+use pm_segments::Log;
+use pm_types::{Field, Mark, OpenFault, PageId, Place, Shape, StoreFault};
+use std::process::Abort;
+use std::test::Fail;
+
+/// How many bytes a page has.
+const PAGE_BYTES: usize = 1_024;
+
+/// The begin of checkpoint 1, which is replayed from segment 1 on.
+const BEGIN: [u8; 20] = [1, 0, 0, 0, 0, 0, 0, 0, 1, 0, 0, 0, 0, 0, 0, 0, 0, 0, 0, 0];
+
+/// The payload of a RESTART of `shape`.
+const SHAPE: [u8; 16] = [0, 4, 0, 0, 1, 0, 1, 0, 9, 0, 0, 0, 0, 0, 1, 0];
+
+/// A shape with this many rows at most.
+fn shape(max_rows: u32) -> Shape
+    requires some { 1 ≤ max_rows }
+    requires few { max_rows < 10 }
+    ensures { IsShape result }
+{
+    Shape {
+        page_size: 1_024,
+        partitions: 1,
+        version: 1,
+        max_rows,
+        segment_bytes: 65_536,
+    }
+}
+
+/// The mark of checkpoint 1, whose begin stands at this offset of the first segment.
+fn mark(begin: u32) -> Mark
+    requires { begin < 60000 }
+    ensures { IsMark result }
+{
+    Mark {
+        number: 1,
+        begin: Place { seg: 1, off: begin },
+        replay: Place {
+            seg: 1,
+            off: begin.saturating_add(41),
+        },
+        from: Place { seg: 1, off: 37 },
+        shape: shape(9),
+    }
+}
+
+/// The payload of the page's record: its name and its bytes.
+fn page_record(rt: &impl AllocGlobal) -> Result<Vec<u8>, Fail>
+    ensures { IfOk result (λ bytes. length bytes.items ≤ 1032) }
+{
+    let mut payload = Vec::from_slice(rt.alloc(), &[0, 0, 0, 0, 0, 0, 1, 0])?;
+    payload.extend_from_slice(&vec![in rt.alloc(); 7; PAGE_BYTES]?)?;
+    Ok(payload)
+}
+
+/// Logs a RESTART, the page, a RESTART more where it is asked for, and the begin of the checkpoint, and
+/// forces them.
+fn write_log<H: Host>(host: &mut H, page: &[u8], again: bool) -> Result<(), Failed>
+    requires usable { IsUsable (H.state host.old) }
+    requires short { length page.now ≤ 1032 }
+    ensures usable { IsUsable (H.state host.new) }
+{
+    let mut log = Log::cut_tail(host, 1, Place { seg: 1, off: 0 }, 65_536)?;
+    log.append(host, RESTART, &SHAPE)?;
+    log.append(host, SNAPSHOT, page)?;
+    if again {
+        log.append(host, RESTART, &SHAPE)?;
+    }
+    log.append(host, CP_BEGIN, &BEGIN)?;
+    log.force(host)
+}
+
+/// A host over this disk, with a folder bound.
+fn host_over(rt: &impl AllocGlobal, disk: MemDisk) -> Result<MemHost, Fail>
+    ensures { IfOk result (λ host. IsUsable (state_of host)) }
+{
+    let mut host = MemHost::new(rt.alloc(), b"", b"", disk, &[], None)?;
+    host.bind("store")?;
+    Ok(host)
+}
+
+/// A store with that log, and a start marker whose begin stands at this offset.
+fn store(rt: &impl AllocGlobal, again: bool, begin: u32) -> Result<MemDisk, Fail>
+    requires { begin < 60000 }
+{
+    let mut host = host_over(rt, MemDisk::empty(rt.alloc()))?;
+    write_log(&mut host, &page_record(rt)?, again)?;
+    write_start(&mut host, &mark(begin))?;
+    Ok(host.image(rt.alloc(), Pick::Lost)?)
+}
+
+/// What came of a restart.
+#[derive(Debug, PartialEq, Eq, Drop)]
+struct Outcome {
+    fault: Option<OpenFault>,
+    ended: bool,
+    page: Option<u8>,
+}
+
+/// A restart that asks for this shape, and what is there after a power failure then.
+fn restored(rt: &impl AllocGlobal, disk: MemDisk, wanted: &Shape) -> Result<Outcome, Fail>
+    requires { IsShape wanted.now }
+{
+    let mut host = host_over(rt, disk)?;
+    let fault = fault_of(rt, &mut host, wanted);
+    let mut later = host_over(rt, host.image(rt.alloc(), Pick::Lost)?)?;
+    let marks = read_marks(&mut later)?;
+    Ok(Outcome {
+        fault,
+        ended: marks.ended,
+        page: first_byte(&mut later)?,
+    })
+}
+
+/// The fault of a restart, if there is one.
+fn fault_of<H: Host>(rt: &impl AllocGlobal, host: &mut H, wanted: &Shape) -> Option<OpenFault>
+    requires usable { IsUsable (H.state host.old) }
+    requires wanted { IsShape wanted.now }
+{
+    match restore(rt.alloc(), host, wanted) {
+        Ok(_) => None,
+        Err(fault) => Some(fault),
+    }
+}
+
+/// The first byte of page 0 in its file.
+fn first_byte(host: &mut MemHost) -> Result<Option<u8>, Failed>
+    requires { IsUsable (state_of host.old) }
+{
+    let mut bytes = [0; PAGE_BYTES];
+    if host.read_page(PageId(0x1_0000_0000_0000), &mut bytes)? {
+        Ok(Some(bytes[0]))
+    } else {
+        Ok(None)
+    }
+}
+
+#[test]
+fn a_checkpoint_without_its_end_is_ended_with_its_page(rt: HostRuntime) -> Result<(), Fail> {
+    let expected = Outcome {
+        fault: None,
+        ended: true,
+        page: Some(7),
+    };
+    assert_eq!(rt;
+        restored(&rt, store(&rt, false, 1_090)?, &shape(9))?,
+        expected
+    );
+    Ok(())
+}
+
+#[test]
+fn a_restart_after_the_page_voids_it(rt: HostRuntime) -> Result<(), Fail> {
+    let expected = Outcome {
+        fault: None,
+        ended: true,
+        page: None,
+    };
+    assert_eq!(rt;
+        restored(&rt, store(&rt, true, 1_127)?, &shape(9))?,
+        expected
+    );
+    Ok(())
+}
+
+#[test]
+fn a_begin_that_does_not_stand_there_is_named(rt: HostRuntime) -> Result<(), Fail> {
+    let begin = Place { seg: 1, off: 1_091 };
+    let expected = Outcome {
+        fault: Some(OpenFault::Store(StoreFault::BadRecord(begin))),
+        ended: false,
+        page: None,
+    };
+    assert_eq!(rt;
+        restored(&rt, store(&rt, false, 1_091)?, &shape(9))?,
+        expected
+    );
+    Ok(())
+}
+
+#[test]
+fn another_shape_is_refused_and_changes_nothing(rt: HostRuntime) -> Result<(), Fail> {
+    let expected = Outcome {
+        fault: Some(OpenFault::Shape(Field::MaxRows)),
+        ended: false,
+        page: None,
+    };
+    assert_eq!(rt;
+        restored(&rt, store(&rt, false, 1_090)?, &shape(8))?,
+        expected
+    );
+    Ok(())
+}

@@ -1,0 +1,9 @@
+pub mod Finishing
+pub mod GoingOn
+pub mod Home
+pub mod Once
+pub mod Opening
+pub mod Orders
+pub mod Stages
+pub mod Whole
+pub mod Written

@@ -1,0 +1,48 @@
+//! The end of a checkpoint: its pages are written, their files forced, and its end marker written.
+
+ghost use Rattle.std.specs.Prelude.{◌≡◌, ◌+◌, OnOk, IfOk, length, All};
+ghost use Rattle.pm_disk.specs.States.{HasCause, IsUsable};
+ghost use Rattle.pm_marks.specs.Slots.{IsMark};
+ghost use Rattle.pm_core.specs.PageSets.{AreOnce};
+ghost use Rattle.pm_ckpt.specs.Checkpoints.{MayEnd};
+ghost use Rattle.pm_ckpt.specs.Writes.{held_in, IsHeld, Finishes, AreHome};
+
+use crate::writing::write_pages;
+use pm_core::{Begun, Ended};
+use pm_disk::{Failed, Host};
+use pm_pages::PlainPages;
+use pm_types::PageId;
+
+/// Writes the pages of the checkpoint, of which none is written yet, each once and in this order, forces
+/// their files, and then writes the end marker and forces it. After `Failed` a prefix of this was done.
+pub(crate) fn finish_written<H: Host>(
+    host: &mut H,
+    begun: Begun,
+    pages: &[PlainPages],
+    order: &[PageId],
+    size: u32,
+) -> Result<Ended, Failed>
+    requires usable { IsUsable (H.Device.state host.old) }
+    requires mark { IsMark begun.mark }
+    requires size { size ≡ begun.mark.shape.page_size }
+    requires set { begun.set.pages ≡ order.now }
+    requires left { begun.left ≡ order.now }
+    requires once { AreOnce order.now }
+    requires held { All (IsHeld size (held_in pages.now)) order.now }
+    requires guard { H.Device.tells
+        → MayEnd begun.mark (held_in pages.now) order.now (H.Device.history host.old).world }
+    ensures ended { IfOk result
+        (λ ended. ended ≡ record { mark = begun.mark; room = length begun.set.pages + begun.set.spare }) }
+    ensures steps { H.Device.tells → Finishes (H.Device.history host.old) (H.Device.history host.new) result
+        (held_in pages.now) order.now begun.mark }
+    ensures home { H.Device.tells → OnOk result
+        (AreHome size (held_in pages.now) order.now (H.Device.history host.new).world) }
+    ensures log { H.Device.tells → OnOk result
+        ((H.Device.history host.new).world.log ≡ (H.Device.history host.old).world.log) }
+    ensures cause { HasCause (H.Device.state host.old) (H.Device.state host.new) result }
+{
+    let mut begun = begun;
+    write_pages(host, pages, order, size)?;
+    begun.wrote(order);
+    begun.finish(host)
+}

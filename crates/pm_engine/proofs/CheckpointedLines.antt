@@ -1,0 +1,63 @@
+-- The lines of a store that is checkpointed, and what a crash leaves between two moments of a run.
+use Rattle.std.proofs.Common.{◌≡◌, ℕ, ◌^◌, ◌<◌, List, [], ◌∷◌, sym, ap, ◌∙◌, subst, arith, append-nil}
+use Rattle.pm_types.specs.declared.shape.Shape.{Shape}
+use Rattle.pm_types.specs.declared.shape.Mark.{Mark}
+use Rattle.pm_disk.specs.Worlds.{World}
+use Rattle.pm_model.specs.declared.line.Line.{Line}
+use Rattle.pm_model.specs.Eval.{Pairs}
+use Rattle.pm_records.specs.LogSteps.{Force, frames_in}
+use Rattle.pm_records.proofs.Writing.{frames_in-append}
+use Rattle.pm_segments.specs.Appends.{append_steps}
+use Rattle.pm_core.specs.Calls.{MakesPrefix}
+use Rattle.pm_core.specs.Machine.{DiskStep, CanAll, states, worlds}
+use Rattle.pm_core.specs.Replays.{replayed}
+use Rattle.pm_core.specs.Starts.{appended}
+use Rattle.pm_core.specs.States.{State}
+use Rattle.pm_core.proofs.CrashLaw.{run_grows, run_start}
+use Rattle.pm_ckpt.specs.Checkpoints.{CanCheckpoint, IsStateAfter, whole_steps}
+use Rattle.pm_ckpt.specs.Marked.{number_after, begin_frame, begin_log}
+use Rattle.pm_ckpt.specs.Writes.{Writing}
+use Rattle.pm_ckpt.proofs.GoingOn.{begin_is}
+use Rattle.pm_engine.specs.RunningLines.{KeepsLines, HasRun, CrashHoldsLines}
+use Rattle.pm_engine.specs.RunningStores.{StoreState, HasSegmentsFor, map_of, mark_after, checkpointed}
+use Rattle.pm_engine.proofs.CheckpointedStores.{store_checkpointed, t_first, t_appended}
+use Rattle.pm_engine.proofs.HasRunLines.{newest_since, run_crash}
+use Rattle.pm_engine.proofs.RunningCheckpoints.{is_mark}
+use Rattle.pm_engine.proofs.RunningLines.{ChangeNoMap, append_no_map, keeps_still}
+
+module _ (wanted : Shape) (told : List ℕ → ℕ) (from : ℕ) (start : Pairs) (lines : List Line) (store : StoreState) (s : State) (w : World) (has : HasRun wanted told from start lines store s w) (numbered : number_after store.mark < 2 ^ 64)
+    (segments : HasSegmentsFor store.log 1) (can : CanCheckpoint wanted told s store.log (mark_after store) store.pages store.logged w) (xs : List Writing)
+    (guards : CanAll told (whole_steps store.log (mark_after store) can.rebuilt store.pages xs s w) s w)
+    (leaves : IsStateAfter store.log (mark_after store) (states (whole_steps store.log (mark_after store) can.rebuilt store.pages xs s w) s w)) where
+  abbrev mark : Mark
+  mark = mark_after store
+
+  abbrev whole : List DiskStep
+  whole = whole_steps store.log mark can.rebuilt store.pages xs s w
+
+  begin_no_map : ChangeNoMap store.shape (frames_in (begin_log store.log mark))
+  begin_no_map =
+      let frame = begin_frame mark in
+      subst (ChangeNoMap store.shape) (sym (frames_in-append (append_steps store.log frame) (Force ∷ []) ∙ append-nil (frames_in (append_steps store.log frame))))
+      (append_no_map store.shape store.log frame [] (λ pairs. ap (λ o. replayed store.shape o pairs) (begin_is mark (is_mark wanted told store s w has.runs numbered)), tt))
+
+  pub checkpoint_has_run : HasRun wanted told from start lines (checkpointed store) (states whole s w) (worlds whole s w)
+  checkpoint_has_run = record {
+    runs = store_checkpointed wanted told store s w has.runs numbered segments can xs guards leaves;
+    lasting = omega (arith, has.lasting, run_grows whole s w);
+    map = has.map;
+    keeps = subst (λ (p : Pairs). KeepsLines store.shape from start lines p (appended (states whole s w))) (sym (t_first wanted told store s w has.runs numbered segments can xs guards leaves))
+        (subst (λ l. KeepsLines store.shape from start lines s.first l) (sym (t_appended wanted told store s w has.runs numbered segments can xs guards leaves))
+        (keeps_still store.shape from start lines s.first (map_of store) (appended s) (frames_in (begin_log store.log mark)) has.keeps (newest_since wanted told store s w has.runs) has.map begin_no_map));
+  }
+
+-- steps that lead on from where the store has done some lines to where it has done others
+pub between_crash : (wanted : Shape) (told : List ℕ → ℕ) (from : ℕ) (start : Pairs) (lines others : List Line) (store new : StoreState) (s : State) (w now : World) (steps : List DiskStep) → HasRun wanted told from start lines store s w
+    → CanAll told steps s w → HasRun wanted told from start others new (states steps s w) (worlds steps s w) → MakesPrefix steps s w now → CrashHoldsLines wanted store.shape start others now
+between_crash wanted told from start lines others store new s w now steps has can after some =
+    let same = run_start steps s w in
+    let shape : new.shape ≡ store.shape = sym after.runs.log.shape ∙ same.shape ∙ has.runs.log.shape in
+    let keeps : KeepsLines store.shape from start others s.first (appended (states steps s w)) =
+    subst (λ (k : Shape). KeepsLines k from start others s.first (appended (states steps s w))) shape
+    (subst (λ (p : Pairs). KeepsLines new.shape from start others p (appended (states steps s w))) same.first after.keeps) in
+    run_crash wanted told from start lines store s w has others steps can keeps now some

@@ -1,0 +1,5 @@
+use Rattle.pm_engine.proofs.CheckpointedStores.{store_checkpointed}
+use Rattle.pm_engine.proofs.running.a_checkpoint_leaves_a_running_store.Goals as goal
+
+pub returns : goal.returns
+returns c = λ wanted told store s world runs numbered segments can writings guards leaves. store_checkpointed wanted told store s world runs numbered segments can writings guards leaves

@@ -1,0 +1,11 @@
+pub mod EndingSteps
+pub mod Entries
+pub mod Listed
+pub mod MoreFrames
+pub mod RangeReads
+pub mod Restored
+pub mod RestoringSteps
+pub mod SoundStores
+pub mod StartMarks
+pub mod Taking
+pub mod WrittenPages

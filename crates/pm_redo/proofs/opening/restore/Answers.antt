@@ -1,0 +1,114 @@
+use Rattle.std.proofs.Common.{rules, ◌≡◌, inr, sym, ◌∙◌, subst}
+use Rattle.std.specs.Prelude.{IsErrOf}
+use Rattle.std.proofs.lemmas.Result.{err_from_is_err_and}
+use Rattle.pm_types.specs.declared.fault.StoreFault.TheVariants.{BadRecord, BadPage}
+use Rattle.pm_disk.specs.Worlds.{World}
+use Rattle.pm_disk.proofs.Chain.{at_last}
+use Rattle.pm_records.specs.LogFiles.{contents}
+use Rattle.pm_marks.specs.InForce.{replay_of, marks_of}
+use Rattle.pm_core.specs.Held.{in_force}
+use Rattle.pm_core.specs.LogAlone.{image_of}
+use Rattle.pm_redo.specs.declared.opening.Base.{Base}
+use Rattle.pm_redo.specs.LogEnds.{LogEndsAt}
+use Rattle.pm_redo.specs.Rebuilding.{IsSame}
+use Rattle.pm_redo.specs.Restoring.{IsLeft, IsBadLog, CutsLog, IsBase, Restores, first_of, segment_bytes_of, left_state}
+use Rattle.pm_redo.proofs.Restored.{left_of, restores_within, restores_all, begins_after, restores_after, start_marks, replay_marks, leaves_store, fault_is}
+use Rattle.pm_redo.proofs.RestoringSteps.{begins_none}
+use Rattle.pm_redo.proofs.opening.restore.Goals as goal
+
+pub returns-in_err-found-clause-within : goal.returns-in_err-found-clause-within
+returns-in_err-found-clause-within g c t told shape pairs can =
+    let old = g.H.Device.history c.args.host.now in
+    let read = g.H.Device.history c.find.new.host in
+    let wanted = c.args.wanted.now in
+    restores_within wanted told shape pairs old read can
+    (begins_none wanted told (in_force (image_of old.world)) (left_state can) old (left_of wanted told old.world shape pairs can) read (c.find.ensures.same t))
+
+pub returns-in-Some-clause-within : goal.returns-in-Some-clause-within
+returns-in-Some-clause-within g c t told shape pairs can =
+    let old = g.H.Device.history c.args.host.now in
+    let read = g.H.Device.history c.find.new.host in
+    let wanted = c.args.wanted.now in
+    restores_within wanted told shape pairs old read can
+    (begins_none wanted told (in_force (image_of old.world)) (left_state can) old (left_of wanted told old.world shape pairs can) read (c.find.ensures.same t))
+
+pub restore_log-requires-clause-marks : goal.restore_log-requires-clause-marks
+restore_log-requires-clause-marks g c κs within t =
+    let old = g.H.Device.history c.args.host.now in
+    let read = g.H.Device.history c.find.new.host in
+    let same = at_last old read (IsSame old.world) (g.H.Device.sound c.find.new.host t) (c.find.ensures.same t) in
+    subst (λ (w : World). c.in_ok-found.found.marks ≡ marks_of (in_force (image_of w))) (sym same) (c.in_ok-found.ensures.marks t)
+
+pub returns-in_err-log-clause-bad : goal.returns-in_err-log-clause-bad
+returns-in_err-log-clause-bad g c t at is =
+    let old = g.H.Device.history c.args.host.now in
+    let read = g.H.Device.history c.find.new.host in
+    let same = at_last old read (IsSame old.world) (g.H.Device.sound c.find.new.host t) (c.find.ensures.same t) in
+    let its : IsErrOf c.restore_log.result (BadRecord at) = search rules in
+    inr (subst (λ (w : World). IsBadLog (in_force (image_of w)) (contents w.log) at) same (c.restore_log.ensures.bad t at its))
+
+pub returns-in_err-log-clause-untouched : goal.returns-in_err-log-clause-untouched
+returns-in_err-log-clause-untouched g c t =
+    let old = g.H.Device.history c.args.host.now in
+    let read = g.H.Device.history c.find.new.host in
+    let new = g.H.Device.history c.restore_log.new.host in
+    let same = at_last old read (IsSame old.world) (g.H.Device.sound c.find.new.host t) (c.find.ensures.same t) in
+    let out = err_from_is_err_and c.from_residual-in_err-log.result c.from_residual-in_err-log.ensures.1 in
+    let fault = c.in_err-log.field-0.0 in
+    leaves_store old.world new.world c.from_residual-in_err-log.result fault out.0 out.1 out.2
+    (λ at is. c.restore_log.ensures.untouched t at (fault_is c.restore_log.result fault (BadRecord at) c.in_err-log.was is) ∙ same)
+    (λ page is. c.restore_log.ensures.cause.no_page page (fault_is c.restore_log.result fault (BadPage page) c.in_err-log.was is))
+
+pub returns-in_err-log-clause-within : goal.returns-in_err-log-clause-within
+returns-in_err-log-clause-within g c t told shape pairs can =
+    let old = g.H.Device.history c.args.host.now in
+    let read = g.H.Device.history c.find.new.host in
+    let new = g.H.Device.history c.restore_log.new.host in
+    let wanted = c.args.wanted.now in
+    let s = left_state can in
+    let same = at_last old read (IsSame old.world) (g.H.Device.sound c.find.new.host t) (c.find.ensures.same t) in
+    let left = subst (λ (w : World). IsLeft wanted told (in_force (image_of w)) s w) (sym same) (left_of wanted told old.world shape pairs can) in
+    restores_within wanted told shape pairs old new can (begins_after told s old read new same (c.find.ensures.same t) (c.restore_log.ensures.begun t wanted told s left))
+
+pub returns-clause-within : goal.returns-clause-within
+returns-clause-within g c t told shape pairs can =
+    let old = g.H.Device.history c.args.host.now in
+    let read = g.H.Device.history c.find.new.host in
+    let new = g.H.Device.history c.restore_log.new.host in
+    let wanted = c.args.wanted.now in
+    let s = left_state can in
+    let same = at_last old read (IsSame old.world) (g.H.Device.sound c.find.new.host t) (c.find.ensures.same t) in
+    let left = subst (λ (w : World). IsLeft wanted told (in_force (image_of w)) s w) (sym same) (left_of wanted told old.world shape pairs can) in
+    restores_within wanted told shape pairs old new can (begins_after told s old read new same (c.find.ensures.same t) (c.restore_log.ensures.begun t wanted told s left))
+
+pub returns-clause-restored : goal.returns-clause-restored
+returns-clause-restored g c t told shape pairs can =
+    let old = g.H.Device.history c.args.host.now in
+    let read = g.H.Device.history c.find.new.host in
+    let new = g.H.Device.history c.restore_log.new.host in
+    let wanted = c.args.wanted.now in
+    let s = left_state can in
+    let same = at_last old read (IsSame old.world) (g.H.Device.sound c.find.new.host t) (c.find.ensures.same t) in
+    let left = subst (λ (w : World). IsLeft wanted told (in_force (image_of w)) s w) (sym same) (left_of wanted told old.world shape pairs can) in
+    let made = c.in_ok-log.ensures.restored t wanted told s left in
+    let there = restores_after told s old read new same (c.find.ensures.same t) (in_force (image_of read.world)) made in
+    restores_all wanted told shape pairs old new can (subst (λ (w : World). Restores told (in_force (image_of w)) s old new) same there)
+
+pub returns-clause-base : goal.returns-clause-base
+returns-clause-base g c t =
+    let old = g.H.Device.history c.args.host.now in
+    let read = g.H.Device.history c.find.new.host in
+    let wanted = c.args.wanted.now in
+    let marks = c.in_ok-found.found.marks in
+    let same = at_last old read (IsSame old.world) (g.H.Device.sound c.find.new.host t) (c.find.ensures.same t) in
+    let checkpoint = in_force (image_of old.world) in
+    let is = c.in_ok-found.ensures.marks t in
+    let cut = subst (λ (w : World). CutsLog (contents w.log) (replay_of (in_force (image_of w))) (first_of (in_force (image_of w))) (segment_bytes_of (in_force (image_of w)) wanted.segment_bytes) c.in_ok-log.log) same (c.in_ok-log.ensures.log t) in
+    subst (λ (b : Base). IsBase checkpoint wanted (contents old.world.log) (g.H.Device.history c.restore_log.new.host).world b) (sym c.with_log.ensures) (record {
+      shape = c.in_ok-found.ensures.shape t;
+      mark = start_marks checkpoint marks is;
+      replay = replay_marks checkpoint marks is;
+      ends = subst (λ p. LogEndsAt (contents old.world.log) p c.in_ok-log.log.end) (sym (replay_marks checkpoint marks is)) cut.ends;
+      cut = cut.is;
+      there = c.in_ok-log.ensures.there t;
+    })

@@ -1,0 +1,9 @@
+pub mod Differences
+pub mod Ending
+pub mod Faults
+pub mod FoundMarks
+pub mod LogEnds
+pub mod PageMaps
+pub mod Pictures
+pub mod Rebuilding
+pub mod Restoring

@@ -1,0 +1,136 @@
+//! The end of a checkpoint that a restart found without its end marker.
+
+ghost use Rattle.std.specs.Prelude.{◌≡◌, ℕ, List, [], OnOk};
+ghost use Rattle.pm_types.specs.declared.limits.TheConstants.{PARTITIONS_MAX};
+ghost use Rattle.pm_types.specs.declared.shape.Shape.{Shape};
+ghost use Rattle.pm_types.specs.declared.shape.Mark.{Mark};
+ghost use Rattle.pm_disk.specs.States.{HasCause, IsUsable};
+ghost use Rattle.pm_marks.specs.Slots.{IsMark};
+ghost use Rattle.pm_core.specs.Calls.{MakesSteps, force_steps, finish_steps};
+ghost use Rattle.pm_core.specs.PageSets.{has_part};
+ghost use Rattle.pm_core.specs.States.{State};
+ghost use Rattle.pm_redo.specs.Ending.{IsUnended, BeginsSteps, WritesOne, WritesPages, MayEnd, EndsCheckpoint};
+
+use crate::rebuilt_pages::RebuiltPages;
+use pm_disk::{Failed, Host};
+use pm_marks::write_end;
+use pm_types::{Mark, PARTITIONS_MAX, PageId};
+
+/// Writes the pages that were rebuilt to their files, forces these files, and then writes the end marker
+/// and forces it. After `Failed` some of this may be done, and it is to be done again.
+pub(crate) fn end_checkpoint<H: Host>(
+    host: &mut H,
+    mark: &Mark,
+    rebuilt: &RebuiltPages,
+    pages: &Vec<PageId>,
+) -> Result<(), Failed>
+    requires usable { IsUsable (H.Device.state host.old) }
+    requires mark { IsMark mark.now }
+    ensures begun { H.Device.tells → (wanted : Shape) (told : List ℕ → ℕ) (s : State)
+        → MayEnd wanted told mark.now rebuilt.now pages.now.items s (H.Device.history host.old).world
+        → BeginsSteps told s (H.Device.history host.old) (H.Device.history host.new) }
+    ensures ended { H.Device.tells → (wanted : Shape) (told : List ℕ → ℕ) (s : State)
+        → MayEnd wanted told mark.now rebuilt.now pages.now.items s (H.Device.history host.old).world
+        → OnOk result (EndsCheckpoint told mark.now s (H.Device.history host.old) (H.Device.history host.new)) }
+    ensures log { H.Device.tells → OnOk result
+        ((H.Device.history host.new).world.log ≡ (H.Device.history host.old).world.log) }
+    ensures cause { HasCause (H.Device.state host.old) (H.Device.state host.new) result }
+{
+    write_pages(host, rebuilt, pages)?;
+    finish(host, mark, pages)
+}
+
+// Writes pages to their files.
+fn write_pages<H: Host>(
+    host: &mut H,
+    rebuilt: &RebuiltPages,
+    pages: &Vec<PageId>,
+) -> Result<(), Failed>
+    requires usable { IsUsable (H.Device.state host.old) }
+    ensures begun { H.Device.tells → (told : List ℕ → ℕ) (mark : Mark) (s : State)
+        → IsUnended mark rebuilt.now s
+        → BeginsSteps told s (H.Device.history host.old) (H.Device.history host.new) }
+    ensures written { H.Device.tells → (told : List ℕ → ℕ) (mark : Mark) (s : State)
+        → IsUnended mark rebuilt.now s → OnOk result (WritesPages told rebuilt.now pages.now.items [] s
+        (H.Device.history host.old) (H.Device.history host.new)) }
+    ensures log { H.Device.tells → OnOk result
+        ((H.Device.history host.new).world.log ≡ (H.Device.history host.old).world.log) }
+    ensures cause { HasCause (H.Device.state host.old) (H.Device.state host.new) result }
+{
+    'each: for page in pages {
+        write_one(host, rebuilt, *page)?;
+    }
+    Ok(())
+}
+
+// Writes a page to its file, if it is one that was rebuilt.
+fn write_one<H: Host>(host: &mut H, rebuilt: &RebuiltPages, page: PageId) -> Result<(), Failed>
+    requires usable { IsUsable (H.Device.state host.old) }
+    ensures begun { H.Device.tells → (told : List ℕ → ℕ) (mark : Mark) (s : State)
+        → IsUnended mark rebuilt.now s
+        → BeginsSteps told s (H.Device.history host.old) (H.Device.history host.new) }
+    ensures written { H.Device.tells → (told : List ℕ → ℕ) (mark : Mark) (s : State)
+        → IsUnended mark rebuilt.now s → OnOk result (WritesOne told rebuilt.now page s
+        (H.Device.history host.old) (H.Device.history host.new)) }
+    ensures log { H.Device.tells → OnOk result
+        ((H.Device.history host.new).world.log ≡ (H.Device.history host.old).world.log) }
+    ensures cause { HasCause (H.Device.state host.old) (H.Device.state host.new) result }
+{
+    match rebuilt.page(page) {
+        Some(bytes) => host.write_page(page, bytes),
+        None => Ok(()),
+    }
+}
+
+// Forces the files of these pages' partitions, and then writes the end marker and forces it.
+fn finish<H: Host>(host: &mut H, mark: &Mark, pages: &Vec<PageId>) -> Result<(), Failed>
+    requires usable { IsUsable (H.Device.state host.old) }
+    requires mark { IsMark mark.now }
+    ensures steps { H.Device.tells → (s : State)
+        → MakesSteps (H.Device.history host.old) (H.Device.history host.new) result
+        (finish_steps mark.now pages.now.items) s }
+    ensures cause { HasCause (H.Device.state host.old) (H.Device.state host.new) result }
+{
+    force_parts(host, pages)?;
+    write_end(host, mark)
+}
+
+// Forces the files of the partitions of these pages.
+fn force_parts<H: Host>(host: &mut H, pages: &Vec<PageId>) -> Result<(), Failed>
+    requires usable { IsUsable (H.Device.state host.old) }
+    ensures steps { H.Device.tells → (s : State)
+        → MakesSteps (H.Device.history host.old) (H.Device.history host.new) result
+        (force_steps 0 PARTITIONS_MAX pages.now.items) s }
+    ensures cause { HasCause (H.Device.state host.old) (H.Device.state host.new) result }
+{
+    'each: for part in 0..PARTITIONS_MAX {
+        force_part(host, part, pages)?;
+    }
+    Ok(())
+}
+
+// Forces a partition's file, where one of the pages is of it.
+fn force_part<H: Host>(host: &mut H, part: u16, pages: &Vec<PageId>) -> Result<(), Failed>
+    requires usable { IsUsable (H.Device.state host.old) }
+    ensures steps { H.Device.tells → (s : State)
+        → MakesSteps (H.Device.history host.old) (H.Device.history host.new) result
+        (force_steps part 1 pages.now.items) s }
+    ensures cause { HasCause (H.Device.state host.old) (H.Device.state host.new) result }
+{
+    if has_part(part, pages) {
+        host.force_pages(part)?;
+    }
+    Ok(())
+}
+
+// Whether one of the pages is of this partition.
+fn has_part(part: u16, pages: &Vec<PageId>) -> bool
+    ensures { result ≡ has_part part pages.now.items }
+{
+    'each: for page in pages {
+        if page.part() == part {
+            return true;
+        }
+    }
+    false
+}

@@ -1,0 +1,17 @@
+//! What a restart does before it replays the log: the pages that the log rebuilds, and the base pages.
+#![tactic(auto)]
+
+mod base;
+mod difference;
+mod ending;
+pub mod laws;
+mod log_end;
+mod log_pages;
+mod markers;
+mod opening;
+mod rebuilt_pages;
+
+pub use base::{Pictures, base_pages};
+pub use log_pages::rebuild;
+pub use opening::{Base, restore};
+pub use rebuilt_pages::{PageNumber, RebuiltPages};

@@ -1,0 +1,82 @@
+//! One script over stores of several shapes, which has the same replies over each.
+
+use crate::runs::{Run, run_configured};
+use pm_disk_mem::MemDisk;
+use std::process::Abort;
+use std::test::Fail;
+
+/// How many lines the script has before its scans.
+const LINES: u32 = 200_000;
+
+/// How many keys each cache may have.
+const KEYS: u32 = 20_000;
+
+/// The configuration of the first run.
+const FIRST: &[u8] = b"{\"partitions\": 4, \"page_size\": 4096}";
+
+/// Other numbers of partitions with its size of page, and each other size with one number of partitions.
+const OTHERS: [&[u8]; 7] = [
+    b"{\"partitions\": 1, \"page_size\": 4096}",
+    b"{\"partitions\": 3, \"page_size\": 4096}",
+    b"{\"partitions\": 64, \"page_size\": 4096}",
+    b"{\"partitions\": 3, \"page_size\": 1024}",
+    b"{\"partitions\": 3, \"page_size\": 2048}",
+    b"{\"partitions\": 3, \"page_size\": 8192}",
+    b"{\"partitions\": 3, \"page_size\": 16384}",
+];
+
+/// The next draw of a generator.
+fn next_draw(draw: u32) -> u32 {
+    draw.wrapping_mul(1_664_525).wrapping_add(1_013_904_223)
+}
+
+/// A line: of ten six are puts, two gets and two removals. A value's length grows with the draw, so that a row
+/// that is written again often has another length.
+fn line_of(rt: &impl AllocGlobal, draw: u32, number: u32) -> Result<String, Fail> {
+    let cache = draw / 65_536 % 2;
+    let key = draw / 1_024 % KEYS;
+    let width = (draw % 97) as usize;
+    let line = match number % 10 {
+        0..=5 => format!(in rt.alloc(); "put {cache} k{key} v{number:0width$}\n")?,
+        6 => format!(in rt.alloc(); "get {cache} k{key}\n")?,
+        7 => format!(in rt.alloc(); "get {cache} k{key}x\n")?,
+        _ => format!(in rt.alloc(); "remove {cache} k{key}\n")?,
+    };
+    Ok(line)
+}
+
+/// The script, which ends with a scan of each cache.
+fn script(rt: &impl AllocGlobal) -> Result<Vec<u8>, Fail> {
+    let mut script = Vec::new(rt.alloc());
+    let mut draw = 1;
+    for number in 0..LINES {
+        draw = next_draw(draw);
+        script.extend_from_slice(line_of(rt, draw, number)?.as_bytes())?;
+    }
+    script.extend_from_slice(b"scan 0\nscan 1\n")?;
+    Ok(script)
+}
+
+/// Runs the script over an empty store with this configuration.
+fn run_to_its_end(
+    rt: &(impl Abort + AllocGlobal),
+    config: &[u8],
+    script: &[u8],
+) -> Result<Run, Fail> {
+    let run = run_configured(rt, config, script, MemDisk::empty(rt.alloc()))?;
+    assert_eq!(rt; run.report.status, 0, "{config:?}");
+    assert_eq!(rt; run.report.lines, u64::from(LINES) + 2, "{config:?}");
+    Ok(run)
+}
+
+#[test]
+fn partitions_and_page_sizes_change_no_reply(rt: HostRuntime) -> Result<(), Fail> {
+    let script = script(&rt)?;
+    let first = run_to_its_end(&rt, FIRST, &script)?;
+    assert!(rt; first.said().len() > 2_000_000);
+    for config in OTHERS {
+        let run = run_to_its_end(&rt, config, &script)?;
+        assert!(rt; run.said() == first.said(), "{config:?}");
+    }
+    Ok(())
+}
