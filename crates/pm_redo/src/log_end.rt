@@ -16,11 +16,7 @@ use pm_types::{Place, StoreFault};
 use std::alloc::Global;
 
 /// Where the log ends, read from this place on.
-pub fn log_end<H: Host>(
-    alloc: Global,
-    host: &mut H,
-    from: Place,
-) -> Result<Place, StoreFault>
+pub fn log_end<H: Host>(alloc: Global, host: &mut H, from: Place) -> Result<Place, StoreFault>
     requires usable { IsUsable (H.Device.state host.old) }
     requires within { from.off ≤ last_end }
     ensures ends { H.Device.tells → IfOk result (λ end.
