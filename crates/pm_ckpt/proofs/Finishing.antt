@@ -8,10 +8,12 @@ use Rattle.pm_types.specs.declared.shape.Mark.{Mark}
 use Rattle.pm_types.specs.declared.shape.Shape.{Shape}
 use Rattle.pm_types.specs.Ids.{part_of_id, index_of_id}
 use Rattle.pm_disk.specs.Files.{File}
+use Rattle.pm_disk.specs.declared.mark.MarkFile.TheVariants as mark_file
 use Rattle.pm_disk.specs.Worlds.{World}
+use Rattle.pm_marks.specs.MarkWrites.{first_written}
 use Rattle.pm_core.specs.BasePages.{Partitions, page_in_file}
-use Rattle.pm_core.specs.Calls.{AreRebuilt, CanFinish, MayFinish, force_steps, finish_steps}
-use Rattle.pm_core.specs.Machine.{DiskStep, ForcePages, WriteEnd, ForceEnd, OthersStay, CanAll, CanEnd, next_state, next_world, states, worlds}
+use Rattle.pm_core.specs.Calls.{AreRebuilt, CanFinish, MayFinish, end_steps, force_steps, finish_steps}
+use Rattle.pm_core.specs.Machine.{DiskStep, ForcePages, CanAll, CanEnd, next_state, next_world, states, worlds}
 use Rattle.pm_core.specs.PageSets.{AreAmong, AreOnce, has_index, has_page, has_part, left_after, without_page}
 use Rattle.pm_core.specs.States.{State}
 use Rattle.pm_core.specs.Stands.{Stands}
@@ -80,7 +82,6 @@ module _ (wanted : Shape) (told : List ℕ → ℕ) (s : State) (mark : Mark) (h
       runs = can.runs;
       alone = can.alone;
       fits = can.fits;
-      others = subst (λ (f : File). OthersStay mark f) (sym (ends_stay xs w)) can.others;
       pages_are = λ part index some.
           let page = option_some (s.now.rebuilt part index) some in
           (named_some held order part index page.0 (sym (can.rebuilds part index) ∙ page.1)).0;
@@ -89,10 +90,6 @@ module _ (wanted : Shape) (told : List ℕ → ℕ) (s : State) (mark : Mark) (h
           all_home s.shape.page_size held xs w (subst (λ ps. All (IsHeld s.shape.page_size held) ps) (sym pages_are) held_here) gaps part index page named.1
           (inr (subst (λ ps. has_index part index ps ≡ true) (sym pages_are) named.0));
     }
-      where
-        ends_stay : (xs : List Writing) (w : World) → (after_writes held xs w).ends ≡ w.ends
-        ends_stay [] w = refl
-        ends_stay (x ∷ xs) w = ends_stay xs _
 
     pub may_finish : (mid : World) → mid ≡ after_writes held xs w → MayFinish mark order mid
     may_finish mid is = record {
@@ -125,7 +122,7 @@ forces_keep from (suc n) pages s w =
 
 pub finish_log : (mark : Mark) (pages : List PageId) (s : State) (w : World) → (worlds (finish_steps mark pages) s w).log ≡ w.log
 finish_log mark pages s w =
-    ap (λ (v : World). v.log) (worlds_join (force_steps 0 PARTITIONS_MAX pages) (WriteEnd mark ∷ ForceEnd ∷ []) s w) ∙ (forces_keep 0 PARTITIONS_MAX pages s w).1
+    ap (λ (v : World). v.log) (worlds_join (force_steps 0 PARTITIONS_MAX pages) (end_steps mark) s w) ∙ (forces_keep 0 PARTITIONS_MAX pages s w).1
 
 pub writes_log : (held : Partitions) (xs : List Writing) (w : World) → (after_writes held xs w).log ≡ w.log
 writes_log held [] w = refl
@@ -138,10 +135,11 @@ module _ (wanted : Shape) (told : List ℕ → ℕ) (s : State) (mark : Mark) (h
   home new is =
       let v = after_writes held xs w in
       let forces = force_steps 0 PARTITIONS_MAX order in
-      let end_there : CanEnd mark (states forces s v) (worlds forces s v) =
-      (can_rest told forces (WriteEnd mark ∷ ForceEnd ∷ []) s v (finish_all wanted told s mark held order w can held_all xs pages_are gaps)).0 in
-      let end : CanEnd mark s (worlds forces s v) = subst (λ (r : State). CanEnd mark r (worlds forces s v)) (forces_keep 0 PARTITIONS_MAX order s v).0 end_there in
-      let pages : new.pages ≡ (worlds forces s v).pages = ap (λ (u : World). u.pages) (is ∙ worlds_join forces (WriteEnd mark ∷ ForceEnd ∷ []) s v) in
+      let ready : World = first_written mark_file.End (worlds forces s v) in
+      let end_there : CanEnd mark (states forces s v) ready =
+      (can_rest told forces (end_steps mark) s v (finish_all wanted told s mark held order w can held_all xs pages_are gaps)).1.0.0 in
+      let end : CanEnd mark s ready = subst (λ (r : State). CanEnd mark r ready) (forces_keep 0 PARTITIONS_MAX order s v).0 end_there in
+      let pages : new.pages ≡ (worlds forces s v).pages = ap (λ (u : World). u.pages) (is ∙ worlds_join forces (end_steps mark) s v) in
       record {
         quiet = λ k d lt.
             let page = get_or order k d in

@@ -129,7 +129,6 @@ module _ (log : LogEnd) (mark : Mark) (held : Partitions) (dirty order : List Pa
     rebuilt = can.rebuilt;
     guard = can.guard;
     rebuilds = λ part index. can.rebuilds part index ∙ ap (λ (b : Bool). if b then held part index else None) (sym (index_same part index dirty order same));
-    others = can.others;
   }
 
   pub may_order : MayCheckpoint log mark held dirty w → MayCheckpoint log mark held order w

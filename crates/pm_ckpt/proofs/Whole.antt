@@ -7,25 +7,22 @@ use Rattle.pm_types.specs.declared.page_id.PageId.{PageId}
 use Rattle.pm_types.specs.declared.place.Place.{Place}
 use Rattle.pm_types.specs.declared.shape.Mark.{Mark}
 use Rattle.pm_types.specs.declared.shape.Shape.{Shape}
-use Rattle.pm_disk.specs.Files.{File}
 use Rattle.pm_disk.specs.Worlds.{World}
 use Rattle.pm_records.specs.LogSteps.{Step, CutTail, Append, Force, NextSegment, DropSegment, ForceSegment, step_end, step_world, end_after}
-use Rattle.pm_records.proofs.QuietLog.{steps_change}
 use Rattle.pm_records.proofs.Tracing.{end_after-append}
 use Rattle.pm_marks.specs.InForce.{Ended}
 use Rattle.pm_segments.specs.Appends.{append_steps, grown}
 use Rattle.pm_segments.specs.Drops.{is_there, drop_steps, drop_before_steps}
 use Rattle.pm_segments.specs.Ends.{LogEnd}
 use Rattle.pm_core.specs.BasePages.{Partitions}
-use Rattle.pm_core.specs.Calls.{begin_steps, force_steps, finish_steps}
-use Rattle.pm_core.specs.Machine.{DiskStep, WriteEnd, ForceEnd, OthersStay, CanAll, CanDrop, log_state, next_state, next_world, states, worlds}
+use Rattle.pm_core.specs.Calls.{begin_steps, end_steps, force_steps, finish_steps}
+use Rattle.pm_core.specs.Machine.{DiskStep, CanAll, CanDrop, log_state, next_state, next_world, states, worlds}
 use Rattle.pm_core.specs.Rounds.{on_log}
 use Rattle.pm_core.specs.States.{State}
 use Rattle.pm_core.specs.Stands.{Stands}
 use Rattle.pm_core.proofs.CrashLaw.{run_stands}
 use Rattle.pm_core.proofs.Finishing.{begin_can}
 use Rattle.pm_core.proofs.Joins.{can-append}
-use Rattle.pm_core.proofs.LogCalls.{log_worlds}
 use Rattle.pm_core.proofs.Making.{worlds_join}
 use Rattle.pm_ckpt.specs.Checkpoints.{opening_steps, ending_steps, whole_steps, CanCheckpoint, CanEndOnce, IsStateAfter}
 use Rattle.pm_ckpt.specs.Marked.{begin_frame, begin_log, kept_segment}
@@ -128,10 +125,6 @@ module _ (wanted : Shape) (told : List ℕ → ℕ) (s : State) (log : LogEnd) (
   begun_is : begun ≡ worlds (begin_steps mark can.rebuilt) (states logs s w) (worlds logs s w)
   begun_is = worlds_join logs (begin_steps mark can.rebuilt) s w
 
-  ends_stay : begun.ends ≡ w.ends
-  ends_stay =
-      ap (λ (v : World). v.ends) begun_is ∙ ap (λ (v : World). v.ends) (log_worlds (begin_log log mark) s w) ∙ (steps_change (begin_log log mark) s.end w).ends
-
   pub can_end : CanEndOnce wanted told open_state mark held order begun
   can_end = record {
     stands = run_stands wanted told opening s w can.stands opening_can;
@@ -139,7 +132,6 @@ module _ (wanted : Shape) (told : List ℕ → ℕ) (s : State) (log : LogEnd) (
     alone = ap (λ (r : State). r.soon) open_is;
     fits = can.guard.fits;
     shaped = can.guard.shaped ∙ sym (ap (λ (r : State). r.shape) open_is);
-    others = subst (λ (f : File). OthersStay mark f) (sym ends_stay) can.others;
     rebuilds = λ part index. ap (λ (r : State). r.now.rebuilt part index) open_is ∙ can.rebuilds part index;
   }
 
@@ -177,15 +169,15 @@ module _ (wanted : Shape) (told : List ℕ → ℕ) (s : State) (log : LogEnd) (
     ended = worlds ending s w
 
     -- the state after the end marker
-    end_is : end_state ≡ states (WriteEnd mark ∷ ForceEnd ∷ []) open_state (worlds (force_steps 0 PARTITIONS_MAX (map written_page xs)) open_state (worlds (write_steps held xs) open_state begun))
+    end_is : end_state ≡ states (end_steps mark) open_state (worlds (force_steps 0 PARTITIONS_MAX (map written_page xs)) open_state (worlds (write_steps held xs) open_state begun))
     end_is =
         let pages = map written_page xs in
         let forces = force_steps 0 PARTITIONS_MAX pages in
         let wrote = worlds (write_steps held xs) open_state begun in
         states_join opening rest s w ∙ states_join (write_steps held xs) (finish_steps mark pages) open_state begun
         ∙ ap (λ (r : State). states (finish_steps mark pages) r wrote) (writes_keep held xs open_state begun)
-        ∙ states_join forces (WriteEnd mark ∷ ForceEnd ∷ []) open_state wrote
-        ∙ ap (λ (r : State). states (WriteEnd mark ∷ ForceEnd ∷ []) r (worlds forces open_state wrote)) (forces_keep 0 PARTITIONS_MAX pages open_state wrote).0
+        ∙ states_join forces (end_steps mark) open_state wrote
+        ∙ ap (λ (r : State). states (end_steps mark) r (worlds forces open_state wrote)) (forces_keep 0 PARTITIONS_MAX pages open_state wrote).0
 
     end_runs : end_state.now.checkpoint ≡ Ended mark
     end_runs = ap (λ (r : State). r.now.checkpoint) end_is

@@ -1,10 +1,10 @@
 -- A whole checkpoint: when it may be made, and which steps of the disk machine it makes.
 --
 --   CP_BEGIN is appended, and the log forced past it
---   the start marker is written and forced
+--   the first slot of the file of start markers is made to be there, and the start marker is written and forced
 --   each page of the checkpoint is written to its file, by rising partition and index
 --   the files of these pages are forced
---   the end marker is written and forced
+--   the same of the end marker
 --   the segments below both places of the mark are dropped, and the absence of each is forced
 use Rattle.std.specs.Prelude.{◌≡◌, ◌≤◌, ◌<◌, ℕ, List, [], ◌++◌, map, None, Result}
 use Rattle.pm_types.specs.declared.page_id.PageId.{PageId}
@@ -22,7 +22,7 @@ use Rattle.pm_core.specs.BasePages.{Partitions}
 use Rattle.pm_core.specs.Calls.{MakesSteps, AreRebuilt, begin_steps, finish_steps}
 use Rattle.pm_core.specs.Held.{in_force}
 use Rattle.pm_core.specs.LogAlone.{image_of}
-use Rattle.pm_core.specs.Machine.{DiskStep, OthersStay, CanStart, CanAll, states, worlds}
+use Rattle.pm_core.specs.Machine.{DiskStep, CanStart, CanAll, states, worlds}
 use Rattle.pm_core.specs.Rounds.{on_log}
 use Rattle.pm_core.specs.States.{State}
 use Rattle.pm_core.specs.Stands.{Stands}
@@ -70,8 +70,6 @@ pub record CanCheckpoint (wanted : Shape) (told : List ℕ → ℕ) (s : State) 
   pub guard : CanStart mark rebuilt (states (on_log (begin_log log mark)) s world)
       (worlds (on_log (begin_log log mark)) s world)
   pub rebuilds : (part index : ℕ) → rebuilt part index ≡ named_of held dirty part index
-  -- with the end marker written, the other slot of its file reads as it does now
-  pub others : OthersStay mark world.ends
 
 -- In some state of the disk the checkpoint with this mark may be begun, with these pages: once its CP_BEGIN
 -- is appended and forced, its start marker may be written.
@@ -95,7 +93,6 @@ pub record CanEndOnce (wanted : Shape) (told : List ℕ → ℕ) (s : State) (ma
   pub alone : s.soon ≡ None
   pub fits : IsMark mark
   pub shaped : mark.shape ≡ s.shape
-  pub others : OthersStay mark world.ends
   pub rebuilds : (part index : ℕ) → s.now.rebuilt part index ≡ named_of held order part index
 
 -- In some state of the disk it may be ended once these pages are written.

@@ -11,13 +11,13 @@ use Rattle.pm_core.specs.Replays.{all_replayed}
 use Rattle.pm_core.specs.Sound.{SoundImage, IsTrueImage}
 use Rattle.pm_core.specs.States.{State}
 use Rattle.pm_core.specs.Stands.{Stands}
-use Rattle.pm_core.specs.Machine.{DiskStep, OnLog, WriteStart, ForceStart, WritePage, ForcePages, WriteEnd, ForceEnd, Say, log_state, next_state, next_world, Can, CanAll, states, worlds}
+use Rattle.pm_core.specs.Machine.{DiskStep, OnLog, WriteFirst, WriteStart, ForceStart, WritePage, ForcePages, WriteEnd, ForceEnd, Say, log_state, next_state, next_world, Can, CanAll, states, worlds}
 use Rattle.pm_core.specs.Starts.{appended}
 use Rattle.pm_core.specs.Prefixes.{KeepsPrefix}
 use Rattle.pm_core.specs.Calls.{MakesPrefix}
 use Rattle.pm_core.proofs.Images.{image_law}
 use Rattle.pm_core.proofs.LogSteps.{log_step}
-use Rattle.pm_core.proofs.MarkSteps.{force_start_step, force_end_step, write_start_step}
+use Rattle.pm_core.proofs.MarkSteps.{force_start_step, force_end_step, write_first_step, write_start_step}
 use Rattle.pm_core.proofs.PageSteps.{write_page_step, force_pages_step, write_end_step}
 
 say_step : (wanted : Shape) (told : List ℕ → ℕ) (s : State) (w : World) (bytes : List ℕ) → Stands wanted told s w → Can told (Say bytes) s w → Stands wanted told (next_state (Say bytes) s w) (next_world (Say bytes) s w)
@@ -38,11 +38,12 @@ say_step wanted told s w bytes stands can = record {
 -- Each step keeps the disk as the state says.
 pub step_stands : (wanted : Shape) (told : List ℕ → ℕ) (t : DiskStep) (s : State) (w : World) → Stands wanted told s w → Can told t s w → Stands wanted told (next_state t s w) (next_world t s w)
 step_stands wanted told (OnLog step) s w stands can = log_step wanted told s w stands step can
-step_stands wanted told (WriteStart mark rebuilt) s w stands can = write_start_step wanted told s w mark rebuilt stands can
+step_stands wanted told (WriteFirst file) s w stands can = write_first_step wanted told s w stands can file
+step_stands wanted told (WriteStart mark rebuilt) s w stands can = write_start_step wanted told s w mark rebuilt stands can.0 can.1
 step_stands wanted told ForceStart s w stands can = force_start_step wanted told s w stands can
 step_stands wanted told (WritePage page gap bytes) s w stands can = write_page_step wanted told s w page gap bytes stands can
 step_stands wanted told (ForcePages part) s w stands can = force_pages_step wanted told s w part stands
-step_stands wanted told (WriteEnd mark) s w stands can = write_end_step wanted told s w mark stands can
+step_stands wanted told (WriteEnd mark) s w stands can = write_end_step wanted told s w mark stands can.0 can.1
 step_stands wanted told ForceEnd s w stands can = force_end_step wanted told s w stands can
 step_stands wanted told (Say bytes) s w stands can = say_step wanted told s w bytes stands can
 
@@ -66,6 +67,7 @@ log_appends (ForceSegment seg) s = ([], append-nil (appended s))
 
 pub step_appends : (t : DiskStep) (s : State) (w : World) → (rest : List Frame) × (appended s ++ rest ≡ appended (next_state t s w))
 step_appends (OnLog step) s w = log_appends step s
+step_appends (WriteFirst file) s w = ([], append-nil (appended s))
 step_appends (WriteStart mark rebuilt) s w = ([], append-nil (appended s))
 step_appends ForceStart s w = ([], append-nil (appended s))
 step_appends (WritePage page gap bytes) s w = ([], append-nil (appended s))
@@ -98,6 +100,7 @@ log_start (ForceSegment seg) s = record { shape = refl; first = refl }
 
 step_start : (t : DiskStep) (s : State) (w : World) → SameStart s (next_state t s w)
 step_start (OnLog step) s w = log_start step s
+step_start (WriteFirst file) s w = record { shape = refl; first = refl }
 step_start (WriteStart mark rebuilt) s w = record { shape = refl; first = refl }
 step_start ForceStart s w = record { shape = refl; first = refl }
 step_start (WritePage page gap bytes) s w = record { shape = refl; first = refl }
@@ -155,6 +158,7 @@ log_grows (ForceSegment seg) s = omega arith
 
 step_grows : (t : DiskStep) (s : State) (w : World) → length s.order ≤ length (next_state t s w).order
 step_grows (OnLog step) s w = log_grows step s
+step_grows (WriteFirst file) s w = omega arith
 step_grows (WriteStart mark rebuilt) s w = omega arith
 step_grows ForceStart s w = omega arith
 step_grows (WritePage page gap bytes) s w = omega arith

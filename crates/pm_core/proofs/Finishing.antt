@@ -15,11 +15,14 @@ use Rattle.pm_disk.specs.Files.{File, content, all_forced}
 use Rattle.pm_disk.specs.Worlds.{World, pages_forced}
 use Rattle.pm_disk.proofs.Families.{file_here, file_cases}
 use Rattle.pm_disk.proofs.Files.{quiet_content}
+use Rattle.pm_disk.specs.declared.mark.MarkFile.TheVariants as mark_file
+use Rattle.pm_marks.specs.MarkWrites.{first_written}
+use Rattle.pm_marks.proofs.FirstSlots.{first_there}
 use Rattle.pm_records.specs.Records.{Record, Logical, Snapshot, Delta, CpBegin, Restart, Seal}
 use Rattle.pm_marks.specs.InForce.{Checkpoint, NoStart, Started, Ended}
 use Rattle.pm_core.specs.BasePages.{Partitions, no_pages, with_page, whole, patched, page_in_file, rebuilt_by, rebuilt_from, since_restart, records_in, rebuilt_of}
-use Rattle.pm_core.specs.Calls.{begin_steps, force_steps, finish_steps, CanFinish}
-use Rattle.pm_core.specs.Machine.{DiskStep, ForcePages, WriteEnd, ForceEnd, OthersStay, CanStart, CanEnd, CanAll, states, worlds}
+use Rattle.pm_core.specs.Calls.{begin_steps, end_steps, force_steps, finish_steps, CanFinish}
+use Rattle.pm_core.specs.Machine.{DiskStep, ForcePages, CanStart, CanEnd, CanAll, states, worlds}
 use Rattle.pm_core.specs.PageSets.{has_part}
 use Rattle.pm_core.specs.States.{State}
 use Rattle.pm_core.specs.Stands.{IsViewOf, RebuiltIsLasting, Stands}
@@ -27,9 +30,51 @@ use Rattle.pm_core.proofs.Joins.{can-append}
 use Rattle.pm_core.proofs.Rebuilt.{found_some}
 use Rattle.pm_core.proofs.Sets.{part_of_page}
 
--- a start marker is forced once it is written
+-- the first slots of the marker files don't matter to the guards
+start_then : (mark : Mark) (rebuilt : Partitions) (s : State) (w : World) → CanStart mark rebuilt s w → CanStart mark rebuilt s (first_written mark_file.Start w)
+start_then mark rebuilt s w can = record {
+  alone = can.alone;
+  idle = can.idle;
+  next = can.next;
+  fits = can.fits;
+  shaped = can.shaped;
+  before = can.before;
+  after = can.after;
+  leads = can.leads;
+  reaches = can.reaches;
+  begins = can.begins;
+  in_grammar = can.in_grammar;
+  rebuilds = can.rebuilds;
+  has_meta = can.has_meta;
+  frames = can.frames;
+  replay = can.replay;
+  based = can.based;
+  based_is = can.based_is;
+  same_map = can.same_map;
+}
+
+end_then : (mark : Mark) (s : State) (w : World) → CanEnd mark s w → CanEnd mark s (first_written mark_file.End w)
+end_then mark s w can = record { runs = can.runs; alone = can.alone; fits = can.fits; quiet = can.quiet; written = can.written }
+
+-- a start marker is written once the first slot is there, and forced once it is written
 pub begin_can : (told : List ℕ → ℕ) (mark : Mark) (rebuilt : Partitions) (s : State) (w : World) → CanStart mark rebuilt s w → CanAll told (begin_steps mark rebuilt) s w
-begin_can told mark rebuilt s w can = (can, (record { mark = mark; view = record { checkpoint = Started mark; rebuilt = rebuilt }; is = refl; says = refl }, tt))
+begin_can told mark rebuilt s w can = (
+  can.alone,
+  (
+    (start_then mark rebuilt s w can, first_there w.starts),
+    (record { mark = mark; view = record { checkpoint = Started mark; rebuilt = rebuilt }; is = refl; says = refl }, tt),
+  ),
+)
+
+-- and an end marker
+pub end_can : (told : List ℕ → ℕ) (mark : Mark) (s : State) (w : World) → CanEnd mark s w → CanAll told (end_steps mark) s w
+end_can told mark s w can = (
+  can.alone,
+  (
+    (end_then mark s w can, first_there w.ends),
+    (record { mark = mark; view = record { checkpoint = Ended mark; rebuilt = no_pages }; is = refl; says = refl }, tt),
+  ),
+)
 
 -- ---- the log rebuilds pages of the shape's partitions alone
 
@@ -107,7 +152,6 @@ now_inside log low at (Started other) rebuilt mark is lasts part index some =
 
 -- some files were forced, and nothing else happened
 record ForcesSome (from n : ℕ) (pages : List PageId) (w v : World) : Type 0 where
-  ends : v.ends ≡ w.ends
   same : (part : ℕ) → content (v.pages part) ≡ content (w.pages part)
   still : (part : ℕ) → (w.pages part).since ≡ [] → (v.pages part).since ≡ []
   forced : (part : ℕ) → has_part part pages ≡ true → from ≤ part → part < from + n → (v.pages part).since ≡ []
@@ -118,7 +162,7 @@ unfolding force_steps
 after_forces told from zero pages s w = (
   tt,
   refl,
-  record { ends = refl; same = λ part. refl; still = λ part quiet. quiet; forced = λ part has le lt. absurd (omega (arith, le, lt)) },
+  record { same = λ part. refl; still = λ part quiet. quiet; forced = λ part has le lt. absurd (omega (arith, le, lt)) },
 )
 after_forces told from (suc n) pages s w =
     let P : Bool → Type 0 = λ b. has_part from pages ≡ b
@@ -132,7 +176,6 @@ after_forces told from (suc n) pages s w =
             (tt, rest.0),
             rest.1,
             record {
-              ends = rest.2.ends;
               same = λ part. rest.2.same part ∙ file_cases w.pages from (all_forced (w.pages from)) (λ k f. content f ≡ content (w.pages k)) refl (λ k other. refl) part;
               still = λ part quiet. rest.2.still part (file_cases w.pages from (all_forced (w.pages from)) (λ k f. (w.pages k).since ≡ [] → f.since ≡ []) (λ q. refl) (λ k other q. q) part quiet);
               forced = λ part has_it le lt. elim (cases_eq part from) [
@@ -146,7 +189,6 @@ after_forces told from (suc n) pages s w =
             rest.0,
             rest.1,
             record {
-              ends = rest.2.ends;
               same = rest.2.same;
               still = rest.2.still;
               forced = λ part has_it le lt. elim (cases_eq part from) [
@@ -174,7 +216,6 @@ finish_can wanted told mark pages s w stands can =
       runs = can.runs;
       alone = can.alone;
       fits = can.fits;
-      others = subst (λ (f : File). OthersStay mark f) (sym after.2.ends) can.others;
       quiet = quiet;
       written = λ part index bytes is.
           let some : IsSome (s.now.rebuilt part index) = ap (λ o. is_some o) is in
@@ -182,5 +223,4 @@ finish_can wanted told mark pages s w stands can =
           ap (λ (o : Option (List ℕ)). page_in_file s.shape.page_size o index) same ∙ can.written part index bytes is;
     } in
     let end_there : CanEnd mark (states forces s w) v = subst (λ (r : State). CanEnd mark r v) (sym after.1) end in
-    can-append told forces (WriteEnd mark ∷ ForceEnd ∷ []) s w after.0
-    (end_there, (record { mark = mark; view = record { checkpoint = Ended mark; rebuilt = no_pages }; is = refl; says = refl }, tt))
+    can-append told forces (end_steps mark) s w after.0 (end_can told mark (states forces s w) v end_there)

@@ -13,7 +13,7 @@ use Rattle.pm_types.specs.declared.shape.Shape.{Shape}
 use Rattle.pm_types.specs.PageSizes.{IsPageSize}
 use Rattle.pm_types.specs.Shapes.{IsShape}
 use Rattle.pm_types.proofs.PageSizeBounds.{page_size_bounds}
-use Rattle.pm_disk.specs.Files.{File, bytes_of, content, absent, changed, gapped}
+use Rattle.pm_disk.specs.Files.{File, bytes_of, content, changed, gapped}
 use Rattle.pm_disk.specs.Worlds.{World, empty_world, page_at, slot_at}
 use Rattle.pm_disk.specs.declared.mark.TheConstants.{SLOT_LEN}
 use Rattle.pm_frame.specs.Frames.{Frame}
@@ -31,7 +31,7 @@ use Rattle.pm_pages.specs.WellFormed.{IsWellFormed}
 use Rattle.pm_records.proofs.FrameGrammar.{frame_laws}
 use Rattle.pm_records.proofs.Runs.{none_past, bool_cases, option_cases}
 use Rattle.pm_marks.specs.Slots.{IsMark, mark_at}
-use Rattle.pm_marks.specs.InForce.{Checkpoint, NoStart, Started, Ended, replay_of}
+use Rattle.pm_marks.specs.InForce.{Checkpoint, NoStart, Ended, replay_of}
 use Rattle.pm_marks.proofs.SlotMarks.{mark_at-short}
 use Rattle.pm_marks.proofs.SlotWrites.{other_stays}
 use Rattle.pm_core.specs.BasePages.{Partitions, no_pages, with_page, page_in_file, since_restart, whole, rebuilt_from, rebuilt_of, pages_of, laid_over, counted, RebuiltAre}
@@ -40,7 +40,8 @@ use Rattle.pm_pages.specs.RowMaps.{entry_of}
 use Rattle.pm_core.specs.Held.{in_force, pairs_in}
 use Rattle.pm_core.specs.Sound.{LogIsAlone, Sound}
 use Rattle.pm_core.specs.FirstRun.{first_page, first_id, first_rebuilt, restart_frame, page_frame, begin_frame, seal_frame, first_mark, log_begun, log_goes_on, checkpoint_made, log_dropped, first_run}
-use Rattle.pm_core.specs.Machine.{DiskStep, OnLog, WriteStart, ForceStart, WritePage, ForcePages, OthersStay, CanAppend, CanStart, CanWritePage, CanEnd, CanAll, map_or, log_state, next_state, next_world, states, worlds}
+use Rattle.pm_core.specs.Calls.{begin_steps}
+use Rattle.pm_core.specs.Machine.{DiskStep, OnLog, WritePage, ForcePages, OthersStay, CanAppend, CanStart, CanWritePage, CanEnd, CanAll, map_or, log_state, next_state, next_world, states, worlds}
 use Rattle.pm_core.specs.Replays.{replayed, then_replayed, all_replayed}
 use Rattle.pm_core.specs.Starts.{CanBegin, start_state}
 use Rattle.pm_core.specs.States.{State}
@@ -52,6 +53,7 @@ use Rattle.pm_core.proofs.LogSteps.{written_by, is_written, from_end}
 use Rattle.pm_core.proofs.NoFiles.{nothing_is_sound}
 use Rattle.pm_core.proofs.OnePage.{length_page, alone as alone_page, no_rows_there, is_well_formed}
 use Rattle.pm_core.proofs.Ranges.{no_page, page_there}
+use Rattle.pm_core.proofs.Finishing.{begin_can, end_can}
 use Rattle.pm_core.proofs.Starting.{stands_first}
 use Rattle.pm_core.proofs.WithoutStart.{none_in_force, flat_none, none_either, none_counted, none_well_formed}
 
@@ -73,9 +75,6 @@ others_stay mark file whole = λ slot apart. elim (bool_cases (nat_lt slot 2)) [
   | inl low ↦ other_stays (content file) mark slot apart (ltb-true _ _ low) (whole slot (ltb-true _ _ low))
   | inr high ↦ no_such_slot slot _ (omega (arith, ltb-false _ _ high)) ∙ sym (no_such_slot slot _ (omega (arith, ltb-false _ _ high)))
 ]
-
-pub others_stay_absent : (mark : Mark) → OthersStay mark absent
-others_stay_absent mark = others_stay mark absent (λ slot small. inr (omega arith))
 
 -- ---- the first state
 
@@ -418,7 +417,6 @@ module _ (shape : Shape) (shaped : IsShape shape) where
     next = refl;
     fits = may;
     shaped = refl;
-    others = others_stay_absent mark;
     before = snapshot ∷ [];
     after = begin ∷ [];
     leads = written_so.log.leads;
@@ -435,10 +433,10 @@ module _ (shape : Shape) (shaped : IsShape shape) where
   }
 
   abbrev running : State
-  running = states (WriteStart mark (first_rebuilt shape) ∷ ForceStart ∷ []) begun now
+  running = states (begin_steps mark (first_rebuilt shape)) begun now
 
   abbrev started : World
-  started = worlds (WriteStart mark (first_rebuilt shape) ∷ ForceStart ∷ []) begun now
+  started = worlds (begin_steps mark (first_rebuilt shape)) begun now
 
   page_can : CanWritePage first_id [] page running started
   page_can = record { mark = mark; runs = refl; alone = refl; sized = length_page shape shaped; reaches = omega arith; due = refl }
@@ -462,12 +460,11 @@ module _ (shape : Shape) (shaped : IsShape shape) where
       ∙ ap (λ n. Some (take n page)) (let len : 0 + size - 0 ≡ size = omega arith in len)
       ∙ ap (λ bytes. Some bytes) (take_all size page (omega (arith, count)))
 
-  end_can : CanEnd mark (states forced running started) (worlds forced running started)
-  end_can = record {
+  may_end : CanEnd mark (states forced running started) (worlds forced running started)
+  may_end = record {
     runs = refl;
     alone = refl;
     fits = may;
-    others = others_stay_absent mark;
     quiet = λ part index is. subst (λ p. ((worlds forced running started).pages p).since ≡ []) (sym (is_first part index is).0) refl;
     written = λ part index bytes is.
         let first_one = is_first part index (subst IsSome (sym is) refl) in
@@ -478,13 +475,10 @@ module _ (shape : Shape) (shaped : IsShape shape) where
   }
 
   checkpoint_can : CanAll length (checkpoint_made shape) begun now
-  checkpoint_can = (
-    start_can,
-    (
-      record { mark = mark; view = record { checkpoint = Started mark; rebuilt = first_rebuilt shape }; is = refl; says = refl },
-      (page_can, (tt, (end_can, (record { mark = mark; view = record { checkpoint = Ended mark; rebuilt = no_pages }; is = refl; says = refl }, tt)))),
-    ),
-  )
+  checkpoint_can =
+      let begins = begin_can length mark (first_rebuilt shape) begun now start_can in
+      let ends = end_can length mark (states forced running started) (worlds forced running started) may_end in
+      (begins.0, (begins.1.0, (begins.1.1.0, (page_can, (tt, ends)))))
 
   -- ---- the first segment is dropped
 

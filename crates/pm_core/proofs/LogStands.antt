@@ -179,7 +179,7 @@ module _ (wanted shape : Shape) (sound : IsShape shape) (world : World) (end : P
         ends = written.ends;
         marks = quiet_marks absent absent state.now refl refl (no_marks, no_marks);
         reads = (no_marks, no_marks);
-        quiet = (refl, refl);
+        quiet = (inl refl, inl refl);
         good = λ view is. subst (λ (v : View). IsGood wanted state world.log (log_only world).pages v) (sym is) good;
         well = replays_well shape s.pending start front.0 front.1;
         newest = front.0;

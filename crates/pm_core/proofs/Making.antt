@@ -12,8 +12,8 @@ use Rattle.pm_disk.specs.Moments.{History, IsHistory, Does, AllMoments}
 use Rattle.pm_disk.proofs.Chain.{started, does, joined, weaker}
 use Rattle.pm_marks.specs.MarkWrites.{WritesMarkSoFar}
 use Rattle.pm_core.specs.BasePages.{Partitions}
-use Rattle.pm_core.specs.Machine.{DiskStep, WriteEnd, ForceEnd, ForcePages, next_state, next_world, states, worlds}
-use Rattle.pm_core.specs.Calls.{MakesPrefix, MakesSteps, begin_steps, force_steps}
+use Rattle.pm_core.specs.Machine.{DiskStep, ForcePages, next_state, next_world, states, worlds}
+use Rattle.pm_core.specs.Calls.{MakesPrefix, MakesSteps, begin_steps, end_steps, force_steps}
 use Rattle.pm_core.specs.PageSets.{has_part}
 use Rattle.pm_core.specs.States.{State}
 
@@ -83,20 +83,19 @@ broke_off old new result steps s is moments = record { all = on_ok-err result (n
 
 start_so_far : (mark : Mark) (rebuilt : Partitions) (s : State) (old now : World) → WritesMarkSoFar mark_file.Start mark old now → MakesPrefix (begin_steps mark rebuilt) s old now
 start_so_far mark rebuilt s old now (inl same) = (0, omega arith, same)
-start_so_far mark rebuilt s old now (inr (inl written)) = (1, omega arith, written)
-start_so_far mark rebuilt s old now (inr (inr forced)) = (2, omega arith, forced)
+start_so_far mark rebuilt s old now (inr (inl first)) = (1, omega arith, first)
+start_so_far mark rebuilt s old now (inr (inr (inl written))) = (2, omega arith, written)
+start_so_far mark rebuilt s old now (inr (inr (inr forced))) = (3, omega arith, forced)
 
 pub start_moments : (old new : History) (mark : Mark) (rebuilt : Partitions) (s : State) → AllMoments old new (WritesMarkSoFar mark_file.Start mark old.world) → AllMoments old new (MakesPrefix (begin_steps mark rebuilt) s old.world)
 start_moments old new mark rebuilt s moments =
     weaker old new (WritesMarkSoFar mark_file.Start mark old.world) (MakesPrefix (begin_steps mark rebuilt) s old.world) (λ w some. start_so_far mark rebuilt s old.world w some) moments
 
-abbrev pub end_steps : Mark → List DiskStep
-end_steps mark = WriteEnd mark ∷ ForceEnd ∷ []
-
 end_so_far : (mark : Mark) (s : State) (old now : World) → WritesMarkSoFar mark_file.End mark old now → MakesPrefix (end_steps mark) s old now
 end_so_far mark s old now (inl same) = (0, omega arith, same)
-end_so_far mark s old now (inr (inl written)) = (1, omega arith, written)
-end_so_far mark s old now (inr (inr forced)) = (2, omega arith, forced)
+end_so_far mark s old now (inr (inl first)) = (1, omega arith, first)
+end_so_far mark s old now (inr (inr (inl written))) = (2, omega arith, written)
+end_so_far mark s old now (inr (inr (inr forced))) = (3, omega arith, forced)
 
 pub end_moments : (old new : History) (mark : Mark) (s : State) → AllMoments old new (WritesMarkSoFar mark_file.End mark old.world) → AllMoments old new (MakesPrefix (end_steps mark) s old.world)
 end_moments old new mark s moments =

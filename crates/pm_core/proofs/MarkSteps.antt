@@ -1,5 +1,5 @@
 -- Each step of the markers keeps the disk as the machine's state says.
-use Rattle.std.proofs.Common.{◌≡◌, ◌⊎◌, inl, inr, ℕ, zero, suc, ◌+◌, ◌≤◌, List, [], ◌∷◌, ◌++◌, length, take, Option, Some, None, refl, sym, ◌∙◌, ap, subst, arith, true, false}
+use Rattle.std.proofs.Common.{◌≡◌, ◌⊎◌, inl, inr, ℕ, zero, suc, ◌+◌, ◌<◌, ◌≤◌, List, [], ◌∷◌, ◌++◌, length, take, Option, Some, None, refl, sym, ◌∙◌, ap, subst, arith, true, false}
 use Rattle.std.specs.Prelude.{◌≢◌, slice_get, IsSome, is_some}
 use Rattle.std.specs.Option.{option_or}
 use Rattle.std.proofs.lemmas.Bool.{cases_eq}
@@ -18,20 +18,81 @@ use Rattle.pm_records.specs.Logs.{all_frames, next_place, after_frames, is_over,
 use Rattle.pm_records.proofs.Runs.{option_cases, after_frames-append, rises_from, neither, over-append}
 use Rattle.pm_marks.specs.Slots.{IsMark, slot_of, slot_bytes, bytes_in_slot, mark_at}
 use Rattle.pm_marks.specs.InForce.{Checkpoint, NoStart, Started, Ended, number_in}
-use Rattle.pm_marks.specs.MarkWrites.{mark_change}
+use Rattle.pm_disk.specs.declared.mark.MarkFile.{MarkFile}
+use Rattle.pm_disk.specs.declared.mark.MarkFile.TheVariants as mark_file
+use Rattle.pm_marks.specs.MarkWrites.{mark_change, first_change, HasFirstSlot, with_first}
+use Rattle.pm_marks.proofs.FirstSlots.{cleared_there, cleared_none, short_none, first_cases, first_reads, others_stay}
 use Rattle.pm_marks.proofs.SlotMarks.{length-slot_bytes, mark_in-some, mark_within}
 use Rattle.pm_marks.proofs.SlotWrites.{mark_stands, mark_stays}
 use Rattle.pm_core.specs.BasePages.{Partitions, no_pages, laid_over}
 use Rattle.pm_core.specs.States.{State, View}
-use Rattle.pm_core.specs.Stands.{MarksSay, IsViewOf, soon_or, soon_checkpoint, QuietMarks, MarksLeave, RebuiltIsLasting, IsGood, Stands}
-use Rattle.pm_core.specs.Machine.{WriteStart, ForceStart, ForceEnd, OthersStay, CanStart, IsSoon, next_state, next_world}
+use Rattle.pm_core.specs.Stands.{IsInForce, HasNewFirst, IsStill, MarksSay, IsViewOf, soon_or, soon_checkpoint, QuietMarks, MarksLeave, RebuiltIsLasting, IsGood, Stands}
+use Rattle.pm_core.specs.Machine.{WriteFirst, WriteStart, ForceStart, ForceEnd, CanStart, IsSoon, next_state, next_world}
 
--- marker files with nothing pending read as they stand
+-- ---- marker files with nothing pending but the zeros of a first slot
+
+-- a file that has had nothing pending
+all_old : (file : File) → file.since ≡ [] → (k : ℕ) → at_change file k ≡ content file
+all_old file quiet k = subst (λ (cs : List Change). after (take k cs) file.forced ≡ after cs file.forced) (sym quiet) (none k)
+  where
+    none : (k : ℕ) → after (take k []) file.forced ≡ file.forced
+    none zero = refl
+    none (suc k) = refl
+
+-- before and after the zeros no slot is valid
+new_first_none : (file : File) → HasNewFirst file → (k slot : ℕ) → mark_at slot (bytes_of (at_change file k)) ≡ None
+new_first_none file new k slot = subst (λ (cs : List Change). mark_at slot (bytes_of (after (take k cs) file.forced)) ≡ None) (sym new.since) (none k)
+  where
+    none : (k : ℕ) → mark_at slot (bytes_of (after (take k (first_change file.forced ∷ [])) file.forced)) ≡ None
+    none zero = short_none file.forced new.short slot
+    none (suc zero) = cleared_none file.forced new.short slot
+    none (suc (suc k)) = cleared_none file.forced new.short slot
+
+new_first_content : (file : File) → HasNewFirst file → (slot : ℕ) → mark_at slot (bytes_of (content file)) ≡ None
+new_first_content file new slot =
+    subst (λ (cs : List Change). mark_at slot (bytes_of (after cs file.forced)) ≡ None) (sym new.since) (cleared_none file.forced new.short slot)
+
+-- what stood at any moment stands now
+still_known : (file : File) → IsStill file → (k slot : ℕ) (y : Mark) → mark_at slot (bytes_of (at_change file k)) ≡ Some y → mark_at slot (bytes_of (content file)) ≡ Some y
+still_known file (inl quiet) k slot y is = ap (λ (o : Option (List ℕ)). mark_at slot (bytes_of o)) (sym (all_old file quiet k)) ∙ is
+still_known file (inr new) k slot y is = let no : None ≡ Some y = sym (new_first_none file new k slot) ∙ is in absurd cc
+
+-- what a crash leaves reads as the file does
+pub still_reads : (file : File) (left : Option (List ℕ)) → IsStill file → Leaves file left → IsTrueOf mark_at file left → (slot : ℕ) → mark_at slot (bytes_of left) ≡ mark_at slot (bytes_of (content file))
+still_reads file left (inl quiet) leaves honest slot = ap (mark_at slot) (quiet_left file left quiet leaves ∙ sym (ap bytes_of (quiet_content file quiet)))
+still_reads file left (inr new) leaves honest slot = elim (option_cases (mark_at slot (bytes_of left))) [
+  | inl none ↦ none ∙ sym (new_first_content file new slot)
+  | inr some ↦
+      let was = honest.stood slot some.0 some.1 in
+      let no : None ≡ Some some.0 = sym (new_first_none file new was.0 slot) ∙ was.2 in
+      absurd cc
+]
+
+-- the marker files say the same while their slots read the same
+pub in_force_same : (x : Mark) (st lt : List ℕ) → ((slot : ℕ) → mark_at slot lt ≡ mark_at slot st) → IsInForce x st → IsInForce x lt
+in_force_same x st lt same is = record {
+  there = same (slot_of x.number) ∙ is.there;
+  highest = λ slot y there. is.highest slot y (sym (same slot) ∙ there);
+}
+
+pub say_same : (checkpoint : Checkpoint) (st en lt ln : List ℕ) → ((slot : ℕ) → mark_at slot lt ≡ mark_at slot st) → ((slot : ℕ) → mark_at slot ln ≡ mark_at slot en) → MarksSay checkpoint st en → MarksSay checkpoint lt ln
+say_same NoStart st en lt ln same_st same_en is = (λ slot. same_st slot ∙ is.0 slot, λ slot. same_en slot ∙ is.1 slot)
+say_same (Started x) st en lt ln same_st same_en is =
+    (in_force_same x st lt same_st is.0, λ slot y there. is.1 slot y (sym (same_en slot) ∙ there), λ there. is.2 (sym (same_en (slot_of x.number)) ∙ there))
+say_same (Ended x) st en lt ln same_st same_en is =
+    (in_force_same x st lt same_st is.0, λ slot y there. is.1 slot y (sym (same_en slot) ∙ there), same_en (slot_of x.number) ∙ is.2)
+
+-- marker files with nothing else pending read as they stand
+pub still_marks : (starts ends : File) (view : View) → IsStill starts → IsStill ends → MarksSay view.checkpoint (bytes_of (content starts)) (bytes_of (content ends)) → MarksLeave starts ends view None
+still_marks starts ends view qs qe is st en leaves_st true_st leaves_en true_en = (
+  view,
+  refl,
+  say_same view.checkpoint (bytes_of (content starts)) (bytes_of (content ends)) (bytes_of st) (bytes_of en)
+      (still_reads starts st qs leaves_st true_st) (still_reads ends en qe leaves_en true_en) is,
+)
+
 pub quiet_marks : (starts ends : File) (view : View) → starts.since ≡ [] → ends.since ≡ [] → MarksSay view.checkpoint (bytes_of (content starts)) (bytes_of (content ends)) → MarksLeave starts ends view None
-quiet_marks starts ends view qs qe is st en leaves_st true_st leaves_en true_en =
-    let s : bytes_of (content starts) ≡ bytes_of st = ap bytes_of (quiet_content starts qs) ∙ sym (quiet_left starts st qs leaves_st) in
-    let e : bytes_of (content ends) ≡ bytes_of en = ap bytes_of (quiet_content ends qe) ∙ sym (quiet_left ends en qe leaves_en) in
-    (view, refl, subst (λ (a : List ℕ). MarksSay view.checkpoint a (bytes_of en)) s (subst (λ (b : List ℕ). MarksSay view.checkpoint (bytes_of (content starts)) b) e is))
+quiet_marks starts ends view qs qe is = still_marks starts ends view (inl qs) (inl qe) is
 
 -- a state with other markers
 pub remark : (wanted : Shape) (s : State) (log pages : ℕ → File) (now : View) (soon : Option View) (view : View) → IsGood wanted s log pages view → IsGood wanted (record s { now = now; soon = soon }) log pages view
@@ -53,7 +114,7 @@ remark wanted s log pages now soon view good = record {
 }
 
 -- Once the marker is forced its checkpoint is the one in force.
-forced_step : (wanted : Shape) (told : List ℕ → ℕ) (s : State) (w v : World) (view : View) → Stands wanted told s w → s.soon ≡ Some view → v.log ≡ w.log → v.pages ≡ w.pages → v.starts.since ≡ [] → v.ends.since ≡ []
+forced_step : (wanted : Shape) (told : List ℕ → ℕ) (s : State) (w v : World) (view : View) → Stands wanted told s w → s.soon ≡ Some view → v.log ≡ w.log → v.pages ≡ w.pages → IsStill v.starts → IsStill v.ends
     → content v.starts ≡ content w.starts → content v.ends ≡ content w.ends → v.said ≡ w.said → Stands wanted told (record s { now = soon_or s.soon s.now; soon = None }) v
 forced_step wanted told s w v view stands soon log pages qs qe starts ends said =
     let next : View = soon_or s.soon s.now in
@@ -64,7 +125,7 @@ forced_step wanted told s w v view stands soon log pages qs qe starts ends said 
     record {
       log = subst (λ (l : ℕ → File). FilesHoldLog all_frames l s.low s.at s.pending s.tail) (sym log) stands.log;
       ends = stands.ends;
-      marks = quiet_marks v.starts v.ends next qs qe reads;
+      marks = still_marks v.starts v.ends next qs qe reads;
       reads = reads;
       quiet = (qs, qe);
       good = λ u u_is.
@@ -86,16 +147,16 @@ soon_is s view checkpoint starts ends is says quiet =
 
 pub force_start_step : (wanted : Shape) (told : List ℕ → ℕ) (s : State) (w : World) → Stands wanted told s w → IsSoon Started s → Stands wanted told (next_state ForceStart s w) (next_world ForceStart s w)
 force_start_step wanted told s w stands can =
-    forced_step wanted told s w (next_world ForceStart s w) can.view stands can.is refl refl refl
+    forced_step wanted told s w (next_world ForceStart s w) can.view stands can.is refl refl (inl refl)
     (soon_is s can.view (Started can.mark) w.starts w.ends can.is can.says stands.quiet) refl refl refl
 
 pub force_end_step : (wanted : Shape) (told : List ℕ → ℕ) (s : State) (w : World) → Stands wanted told s w → IsSoon Ended s → Stands wanted told (next_state ForceEnd s w) (next_world ForceEnd s w)
 force_end_step wanted told s w stands can =
     forced_step wanted told s w (next_world ForceEnd s w) can.view stands can.is refl refl
-    (soon_is s can.view (Ended can.mark) w.starts w.ends can.is can.says stands.quiet) refl refl refl refl
+    (soon_is s can.view (Ended can.mark) w.starts w.ends can.is can.says stands.quiet) (inl refl) refl refl refl
 
--- A mark is written into a file with nothing pending.
-module _ (x : Mark) (file : File) (quiet : file.since ≡ []) (fits : IsMark x) (others : OthersStay x file) where
+-- A mark is written into a file with nothing else pending, whose first slot is there.
+module _ (x : Mark) (file : File) (still : IsStill file) (fits : IsMark x) (there_first : HasFirstSlot file) where
   abbrev c : Change
   c = mark_change (content file) x
 
@@ -115,38 +176,81 @@ module _ (x : Mark) (file : File) (quiet : file.since ≡ []) (fits : IsMark x) 
         let at : mark_at slot new ≡ Some x = ap (λ n. mark_at n new) here ∙ mark_stands (content file) x fits in
         let same : Some y ≡ Some x = sym is ∙ at in
         inr cc
-    | inr apart ↦ inl (sym (others slot apart) ∙ is)
+    | inr apart ↦ inl (sym (others_stay x file there_first slot apart) ∙ is)
   ]
 
   -- what an image of it reads: no other marks
   pub image_known : (left : Option (List ℕ)) → IsTrueOf mark_at (with_change file c) left → (slot : ℕ) (y : Mark) → mark_at slot (bytes_of left) ≡ Some y → Known slot y
   image_known left honest slot y is =
       let was = honest.stood slot y is in
-      each_change file c (λ o. mark_at slot (bytes_of o) ≡ Some y → Known slot y)
-      (λ k le there. inl (ap (λ (o : Option (List ℕ)). mark_at slot (bytes_of o)) (sym (all_old k)) ∙ there))
-      (λ there. now_known slot y there) was.0 was.1 was.2
-    where
-      all_old : (k : ℕ) → at_change file k ≡ content file
-      all_old k = subst (λ (cs : List Change). after (take k cs) file.forced ≡ after cs file.forced) (sym quiet) (none k)
-        where
-          none : (k : ℕ) → after (take k []) file.forced ≡ file.forced
-          none zero = refl
-          none (suc k) = refl
+      each_change file c (λ o. mark_at slot (bytes_of o) ≡ Some y → Known slot y) (λ k le there. inl (still_known file still k slot y there)) (λ there. now_known slot y there) was.0 was.1 was.2
 
   -- and the other slot as it was
   pub image_keeps : (left : Option (List ℕ)) → Leaves (with_change file c) left → (slot : ℕ) (y : Mark) → slot ≢ slot_of x.number → mark_at slot old ≡ Some y → mark_at slot (bytes_of left) ≡ Some y
-  image_keeps left leaves slot y apart is =
-      let there = mark_within slot old y is in
-      let forced : old ≡ bytes_of file.forced = ap bytes_of (quiet_content file quiet) in
-      let there_forced = ap (λ (l : List ℕ). length l) forced in
-      let low = slot_at slot in
-      let high = slot_at slot + SLOT_LEN in
-      let keeps : KeepsRange (content file) c low high = slot_alone (content file) (slot_bytes x) (slot_of x.number) slot (length-slot_bytes x) apart in
-      let lasting : Lasting (with_change file c) low high =
-      lasting_push file c low high (quiet_lasting file low high quiet (omega (arith, there, there_forced)))
-      (λ i le lt. keeps.apart i le lt (omega (arith, lt, there))) (omega (arith, there, keeps.no_shorter)) (λ i le lt. keeps.same i le lt (omega (arith, lt, there))) in
-      let k = kept_range (with_change file c) low high left lasting leaves in
-      mark_stays slot old (bytes_of left) y is k.long (λ i le lt. k.same i le lt ∙ ap (λ (l : List ℕ). slice_get l i) (sym forced))
+  image_keeps left leaves slot y apart is = elim still [
+    | inr zeros ↦ let no : None ≡ Some y = sym (new_first_content file zeros slot) ∙ is in absurd cc
+    | inl quiet ↦
+        let there = mark_within slot old y is in
+        let forced : old ≡ bytes_of file.forced = ap bytes_of (quiet_content file quiet) in
+        let there_forced = ap (λ (l : List ℕ). length l) forced in
+        let low = slot_at slot in
+        let high = slot_at slot + SLOT_LEN in
+        let keeps : KeepsRange (content file) c low high = slot_alone (content file) (slot_bytes x) (slot_of x.number) slot (length-slot_bytes x) apart in
+        let lasting : Lasting (with_change file c) low high =
+        lasting_push file c low high (quiet_lasting file low high quiet (omega (arith, there, there_forced)))
+        (λ i le lt. keeps.apart i le lt (omega (arith, lt, there))) (omega (arith, there, keeps.no_shorter)) (λ i le lt. keeps.same i le lt (omega (arith, lt, there))) in
+        let k = kept_range (with_change file c) low high left lasting leaves in
+        mark_stays slot old (bytes_of left) y is k.long (λ i le lt. k.same i le lt ∙ ap (λ (l : List ℕ). slice_get l i) (sym forced))
+  ]
+
+-- ---- the first slot is made to be there
+
+still_first : (file : File) → IsStill file → IsStill (with_first file)
+still_first file still = first_cases file IsStill (λ short. elim still [
+  | inl quiet ↦
+      let same : content file ≡ file.forced = quiet_content file quiet in
+      inr (record {
+        short = subst (λ (o : Option (List ℕ)). length (bytes_of o) < SLOT_LEN) same short;
+        since = ap (λ (cs : List Change). cs ++ first_change (content file) ∷ []) quiet ∙ ap (λ (o : Option (List ℕ)). first_change o ∷ []) same;
+      })
+  | inr new ↦
+      let there : SLOT_LEN ≤ length (bytes_of (content file)) =
+      subst (λ (cs : List Change). SLOT_LEN ≤ length (bytes_of (after cs file.forced))) (sym new.since) (cleared_there file.forced new.short) in
+      absurd (omega (arith, short, there))
+]) (λ there. still)
+
+module _ (wanted : Shape) (told : List ℕ → ℕ) (s : State) (w : World) (stands : Stands wanted told s w) (alone : s.soon ≡ None) where
+  still_both : IsStill w.starts × IsStill w.ends
+  still_both = subst (λ o. QuietMarks (soon_checkpoint o) w.starts w.ends) alone stands.quiet
+
+  -- whatever the marker files are then, as long as they are still and read as before
+  files_still : (starts ends : File) → IsStill starts → IsStill ends → ((slot : ℕ) → mark_at slot (bytes_of (content starts)) ≡ mark_at slot (bytes_of (content w.starts)))
+      → ((slot : ℕ) → mark_at slot (bytes_of (content ends)) ≡ mark_at slot (bytes_of (content w.ends))) → Stands wanted told s (record w { starts = starts; ends = ends })
+  files_still starts ends qs qe same_st same_en =
+      let next : View = soon_or s.soon s.now in
+      let is : next ≡ s.now = ap (λ o. soon_or o s.now) alone in
+      let reads : MarksSay next.checkpoint (bytes_of (content starts)) (bytes_of (content ends)) =
+      say_same next.checkpoint (bytes_of (content w.starts)) (bytes_of (content w.ends)) (bytes_of (content starts)) (bytes_of (content ends)) same_st same_en stands.reads in
+      record {
+        log = stands.log;
+        ends = stands.ends;
+        marks = subst (λ o. MarksLeave starts ends s.now o) (sym alone)
+            (still_marks starts ends s.now qs qe (subst (λ (v : View). MarksSay v.checkpoint (bytes_of (content starts)) (bytes_of (content ends))) is reads));
+        reads = reads;
+        quiet = subst (λ o. QuietMarks (soon_checkpoint o) starts ends) (sym alone) (qs, qe);
+        good = stands.good;
+        well = stands.well;
+        newest = stands.newest;
+        newest_is = stands.newest_is;
+        said = stands.said;
+        since_first = stands.since_first;
+      }
+
+  pub write_first_step : (file : MarkFile) → Stands wanted told (next_state (WriteFirst file) s w) (next_world (WriteFirst file) s w)
+  write_first_step mark_file.Start =
+      files_still (with_first w.starts) w.ends (still_first w.starts still_both.0) still_both.1 (λ slot. first_reads slot w.starts) (λ slot. refl)
+  write_first_step mark_file.End =
+      files_still w.starts (with_first w.ends) still_both.0 (still_first w.ends still_both.1) (λ slot. refl) (λ slot. first_reads slot w.ends)
 
 odd_even : (n : ℕ) → slot_of n ≢ slot_of (n + 1)
 odd_even n is = omega (arith, is)
@@ -262,11 +366,11 @@ may_start wanted s w mark rebuilt good may = record {
     ]
 
 -- START is written.
-module _ (wanted : Shape) (told : List ℕ → ℕ) (s : State) (w : World) (x : Mark) (rebuilt : Partitions) (stands : Stands wanted told s w) (can : CanStart x rebuilt s w) where
+module _ (wanted : Shape) (told : List ℕ → ℕ) (s : State) (w : World) (x : Mark) (rebuilt : Partitions) (stands : Stands wanted told s w) (can : CanStart x rebuilt s w) (there_first : HasFirstSlot w.starts) where
   abbrev begun : View
   begun = record { checkpoint = Started x; rebuilt = rebuilt }
 
-  quiet : (w.starts.since ≡ []) × (w.ends.since ≡ [])
+  quiet : IsStill w.starts × IsStill w.ends
   quiet = subst (λ o. QuietMarks (soon_checkpoint o) w.starts w.ends) can.alone stands.quiet
 
   reads : MarksSay s.now.checkpoint (bytes_of (content w.starts)) (bytes_of (content w.ends))
@@ -316,14 +420,15 @@ module _ (wanted : Shape) (told : List ℕ → ℕ) (s : State) (w : World) (x :
     log = stands.log;
     ends = stands.ends;
     marks = λ st en leaves_st true_st leaves_en true_en.
-        let e : bytes_of (content w.ends) ≡ bytes_of en = ap bytes_of (quiet_content w.ends quiet.1) ∙ sym (quiet_left w.ends en quiet.1 leaves_en) in
-        let is : MarksSay s.now.checkpoint (bytes_of (content w.starts)) (bytes_of en) = subst (λ (b : List ℕ). MarksSay s.now.checkpoint (bytes_of (content w.starts)) b) e reads in
-        let known = image_known x w.starts quiet.0 can.fits can.others st true_st in
-        let keeps = image_keeps x w.starts quiet.0 can.fits can.others st leaves_st in
+        let is : MarksSay s.now.checkpoint (bytes_of (content w.starts)) (bytes_of en) =
+        say_same s.now.checkpoint (bytes_of (content w.starts)) (bytes_of (content w.ends)) (bytes_of (content w.starts)) (bytes_of en) (λ slot. refl)
+        (still_reads w.ends en quiet.1 leaves_en true_en) reads in
+        let known = image_known x w.starts quiet.0 can.fits there_first st true_st in
+        let keeps = image_keeps x w.starts quiet.0 can.fits there_first st leaves_st in
         which st en is known keeps (option_cases (mark_at (slot_of x.number) (bytes_of st)));
     reads = subst (λ (o : Option (List ℕ)). MarksSay (Started x) (bytes_of o) (bytes_of (content w.ends))) (sym (content_change w.starts change))
         (say_begins s.now.checkpoint x (bytes_of (content w.starts)) (bytes_of (changed change (content w.starts))) (bytes_of (content w.ends)) can.next reads
-        (now_known x w.starts quiet.0 can.fits can.others) (mark_stands (content w.starts) x can.fits));
+        (now_known x w.starts quiet.0 can.fits there_first) (mark_stands (content w.starts) x can.fits));
     quiet = quiet.1;
     good = λ view is. remark wanted s w.log w.pages s.now (Some begun) view (elim is [
       | inl now ↦ subst (λ (v : View). IsGood wanted s w.log w.pages v) (sym now) good_now

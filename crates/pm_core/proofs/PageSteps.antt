@@ -11,19 +11,19 @@ use Rattle.pm_disk.specs.Files.{File, Change, bytes_of, content, changed, after,
 use Rattle.pm_disk.specs.Images.{Leaves, Lasting, KeepsRange}
 use Rattle.pm_disk.specs.Worlds.{World, with_file, pages_in, page_at}
 use Rattle.pm_disk.proofs.Families.{file_there, file_cases}
-use Rattle.pm_disk.proofs.Files.{quiet_left, quiet_lasting, quiet_content, lasting_push, forced_change, at_change-last, content_change}
+use Rattle.pm_disk.proofs.Files.{quiet_lasting, lasting_push, forced_change, at_change-last, content_change}
 use Rattle.pm_disk.proofs.Gaps.{page_alone}
 use Rattle.pm_records.proofs.Runs.{option_cases}
 use Rattle.pm_marks.specs.Slots.{slot_of, mark_at}
 use Rattle.pm_marks.specs.InForce.{Checkpoint, NoStart, Started, Ended}
-use Rattle.pm_marks.specs.MarkWrites.{mark_change}
+use Rattle.pm_marks.specs.MarkWrites.{mark_change, HasFirstSlot}
 use Rattle.pm_marks.proofs.SlotWrites.{mark_stands}
 use Rattle.pm_core.specs.BasePages.{Partitions, no_pages, page_in_file, pages_of, laid_over}
 use Rattle.pm_core.specs.States.{State, View, HavePairs}
-use Rattle.pm_core.specs.Stands.{page_low, page_high, IsInForce, AreUpTo, MarksSay, IsViewOf, soon_or, soon_checkpoint, QuietMarks, PagesStand, IsGood, Stands}
+use Rattle.pm_core.specs.Stands.{page_low, page_high, IsStill, IsInForce, AreUpTo, MarksSay, IsViewOf, soon_or, soon_checkpoint, QuietMarks, PagesStand, IsGood, Stands}
 use Rattle.pm_core.specs.Machine.{WritePage, ForcePages, WriteEnd, CanWritePage, CanEnd, forced_pages, next_state, next_world}
 use Rattle.pm_core.proofs.LeftPages.{have_pairs_grow, pages_grow, still_some}
-use Rattle.pm_core.proofs.MarkSteps.{now_known, image_known}
+use Rattle.pm_core.proofs.MarkSteps.{now_known, image_known, still_reads, in_force_same}
 use Rattle.pm_core.proofs.Ranges.{page_own, page_within, page_there}
 
 -- other page files, with the same pages that count
@@ -276,7 +276,7 @@ module _ (wanted : Shape) (told : List ℕ → ℕ) (s : State) (w : World) (x :
   both : IsGood wanted ended w.log w.pages s.now × IsGood wanted ended w.log w.pages finished
   both = by s.now.checkpoint s.now.rebuilt can.runs (quiet_pages s.shape.page_size s.now.rebuilt w.pages all_quiet) old grown alone_pairs metas
 
-  quiet : (w.starts.since ≡ []) × (w.ends.since ≡ [])
+  quiet : IsStill w.starts × IsStill w.ends
   quiet = subst (λ o. QuietMarks (soon_checkpoint o) w.starts w.ends) can.alone stands.quiet
 
   reads : MarksSay (Started x) (bytes_of (content w.starts)) (bytes_of (content w.ends))
@@ -311,16 +311,16 @@ module _ (wanted : Shape) (told : List ℕ → ℕ) (s : State) (w : World) (x :
     | inr same ↦ (finished, inr refl, (force, up_to en known, some.1 ∙ ap (λ (z : Mark). Some z) same))
   ]
 
-  pub write_end_step : Stands wanted told (next_state (WriteEnd x) s w) (next_world (WriteEnd x) s w)
-  write_end_step = record {
+  pub write_end_step : HasFirstSlot w.ends → Stands wanted told (next_state (WriteEnd x) s w) (next_world (WriteEnd x) s w)
+  write_end_step there_first = record {
     log = stands.log;
     ends = stands.ends;
     marks = λ st en leaves_st true_st leaves_en true_en.
-        let e : bytes_of (content w.starts) ≡ bytes_of st = ap bytes_of (quiet_content w.starts quiet.0) ∙ sym (quiet_left w.starts st quiet.0 leaves_st) in
-        which (bytes_of st) (bytes_of en) (subst (λ (b : List ℕ). IsInForce x b) e reads.0) (image_known x w.ends quiet.1 can.fits can.others en true_en)
+        which (bytes_of st) (bytes_of en) (in_force_same x (bytes_of (content w.starts)) (bytes_of st) (still_reads w.starts st quiet.0 leaves_st true_st) reads.0)
+        (image_known x w.ends quiet.1 can.fits there_first en true_en)
         (option_cases (mark_at (slot_of x.number) (bytes_of en)));
     reads = subst (λ (o : Option (List ℕ)). MarksSay (Ended x) (bytes_of (content w.starts)) (bytes_of o)) (sym (content_change w.ends change))
-        (reads.0, up_to (bytes_of (changed change (content w.ends))) (now_known x w.ends quiet.1 can.fits can.others), mark_stands (content w.ends) x can.fits);
+        (reads.0, up_to (bytes_of (changed change (content w.ends))) (now_known x w.ends quiet.1 can.fits there_first), mark_stands (content w.ends) x can.fits);
     quiet = quiet.0;
     good = λ view is. elim is [
       | inl now ↦ subst (λ (v : View). IsGood wanted ended w.log w.pages v) (sym now) both.0

@@ -177,7 +177,7 @@ module _ (wanted : Shape) (told : List ℕ → ℕ) (w : World) (shape : Shape) 
         ends = (refl, refl);
         marks = quiet_marks w.starts w.ends first.now can.quiet.starts can.quiet.ends say;
         reads = say;
-        quiet = (can.quiet.starts, can.quiet.ends);
+        quiet = (inl can.quiet.starts, inl can.quiet.ends);
         good = λ view is. subst (λ (v : View). IsGood wanted first w.log w.pages v) (sym is) good;
         well = tt;
         newest = pairs;

@@ -5,14 +5,15 @@ use Rattle.pm_types.specs.declared.limits.TheConstants.{PARTITIONS_MAX}
 use Rattle.pm_types.specs.declared.page_id.PageId.{PageId}
 use Rattle.pm_types.specs.declared.shape.Mark.{Mark}
 use Rattle.pm_types.specs.declared.shape.Shape.{Shape}
+use Rattle.pm_disk.specs.declared.mark.MarkFile.TheVariants as mark_file
 use Rattle.pm_disk.specs.Worlds.{World}
 use Rattle.pm_disk.specs.Files.{content}
 use Rattle.pm_disk.specs.Moments.{History, AllMoments}
 use Rattle.pm_marks.specs.Slots.{IsMark}
 use Rattle.pm_marks.specs.InForce.{Started}
 use Rattle.pm_core.specs.BasePages.{Partitions, page_in_file}
-use Rattle.pm_core.specs.Machine.{DiskStep, WriteStart, ForceStart, ForcePages, WriteEnd, ForceEnd}
-use Rattle.pm_core.specs.Machine.{OthersStay, CanStart, worlds}
+use Rattle.pm_core.specs.Machine.{DiskStep, WriteFirst, WriteStart, ForceStart, ForcePages, WriteEnd}
+use Rattle.pm_core.specs.Machine.{ForceEnd, CanStart, worlds}
 use Rattle.pm_core.specs.PageSets.{has_index, has_part}
 use Rattle.pm_core.specs.States.{State}
 use Rattle.pm_core.specs.Stands.{Stands}
@@ -27,9 +28,13 @@ pub record MakesSteps {T E : Type 0} (old new : History) (result : Result T E) (
   pub all : OnOk result (new.world ≡ worlds steps s old.world)
   pub moments : AllMoments old new (MakesPrefix steps s old.world)
 
--- a start marker is written and forced
+-- the first slot is made to be there, and a start marker is written and forced
 abbrev pub begin_steps : Mark → Partitions → List DiskStep
-begin_steps mark rebuilt = WriteStart mark rebuilt ∷ ForceStart ∷ []
+begin_steps mark rebuilt = WriteFirst mark_file.Start ∷ WriteStart mark rebuilt ∷ ForceStart ∷ []
+
+-- the same of an end marker
+abbrev pub end_steps : Mark → List DiskStep
+end_steps mark = WriteFirst mark_file.End ∷ WriteEnd mark ∷ ForceEnd ∷ []
 
 -- the files of the partitions from this one on that these pages are of are forced
 unfoldable pub force_steps : ℕ → ℕ → List PageId → List DiskStep
@@ -39,7 +44,7 @@ force_steps from (suc n) pages =
 
 -- the files of these pages' partitions are forced, and then the end marker is written and forced
 abbrev pub finish_steps : Mark → List PageId → List DiskStep
-finish_steps mark pages = force_steps 0 PARTITIONS_MAX pages ++ (WriteEnd mark ∷ ForceEnd ∷ [])
+finish_steps mark pages = force_steps 0 PARTITIONS_MAX pages ++ end_steps mark
 
 -- these are the pages that the log rebuilds
 abbrev pub AreRebuilt : List PageId → Partitions → Type 0
@@ -61,7 +66,6 @@ pub record CanFinish (mark : Mark) (pages : List PageId) (s : State) (world : Wo
   pub runs : s.now.checkpoint ≡ Started mark
   pub alone : s.soon ≡ None
   pub fits : IsMark mark
-  pub others : OthersStay mark world.ends
   pub pages_are : AreRebuilt pages s.now.rebuilt
   pub written : (part index : ℕ) (bytes : List ℕ) → s.now.rebuilt part index ≡ Some bytes
       → page_in_file s.shape.page_size (content (world.pages part)) index ≡ Some bytes

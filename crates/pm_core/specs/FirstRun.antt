@@ -10,7 +10,8 @@ use Rattle.pm_records.specs.Records.{Record, Snapshot, CpBegin, Restart, Seal, k
 use Rattle.pm_records.specs.Logs.{place}
 use Rattle.pm_records.specs.LogSteps.{CutTail, Append, Force, NextSegment, DropSegment, ForceSegment}
 use Rattle.pm_core.specs.BasePages.{Partitions, no_pages, with_page}
-use Rattle.pm_core.specs.Machine.{DiskStep, OnLog, WriteStart, ForceStart, WritePage, ForcePages}
+use Rattle.pm_disk.specs.declared.mark.MarkFile.TheVariants as mark_file
+use Rattle.pm_core.specs.Machine.{DiskStep, OnLog, WriteFirst, WriteStart, ForceStart, WritePage, ForcePages}
 use Rattle.pm_core.specs.Machine.{WriteEnd, ForceEnd, Say}
 
 -- the first page of the first partition, where it has no other one: its name, its kind, and 1 for
@@ -67,9 +68,9 @@ log_goes_on shape = OnLog (Append (page_frame shape)) ∷ OnLog (Append (begin_f
 -- the checkpoint begins, its page is written, and it ends
 abbrev pub checkpoint_made : Shape → List DiskStep
 checkpoint_made shape =
-    WriteStart (first_mark shape) (first_rebuilt shape) ∷ ForceStart ∷ WritePage first_id []
-    (first_page shape.page_size)
-    ∷ ForcePages 0 ∷ WriteEnd (first_mark shape) ∷ ForceEnd ∷ []
+    WriteFirst mark_file.Start ∷ WriteStart (first_mark shape) (first_rebuilt shape) ∷ ForceStart
+    ∷ WritePage first_id [] (first_page shape.page_size)
+    ∷ ForcePages 0 ∷ WriteFirst mark_file.End ∷ WriteEnd (first_mark shape) ∷ ForceEnd ∷ []
 
 -- the log's first segment is dropped, and a byte is said
 abbrev pub log_dropped : List DiskStep

@@ -1,6 +1,7 @@
 -- The disk machine: its steps, and when each may be made. Each is one call on the host.
 --
 --   OnLog         a step of the log: cut, append, force, the next segment, drop
+--   WriteFirst    zeros are written to the first slot of a marker file that ends before that slot does
 --   WriteStart    a start marker is written to its slot
 --   ForceStart    the file of start markers is forced
 --   WritePage     a page of the running checkpoint is written to its partition's file
@@ -17,6 +18,7 @@ use Rattle.pm_frame.specs.Frames.{Frame, is_frame}
 use Rattle.pm_disk.specs.Files.{File, bytes_of, changed, missing, gapped, content}
 use Rattle.pm_disk.specs.Worlds.{World, page_at, pages_in, pages_changed, pages_forced, starts_forced}
 use Rattle.pm_disk.specs.Worlds.{ends_forced, with_said}
+use Rattle.pm_disk.specs.declared.mark.MarkFile.{MarkFile}
 use Rattle.pm_disk.specs.declared.mark.MarkFile.TheVariants as mark_file
 use Rattle.pm_model.specs.Eval.{Pairs}
 use Rattle.pm_records.specs.LogFiles.{Uncut, AfterSeal, Cutting, Ready, HasLasting}
@@ -27,7 +29,7 @@ use Rattle.pm_records.specs.LogSteps.{ForceSegment, next_begin, step_world, tail
 use Rattle.pm_records.specs.Records.{Restart}
 use Rattle.pm_marks.specs.Slots.{IsMark, slot_of, mark_at}
 use Rattle.pm_marks.specs.InForce.{Checkpoint, Started, Ended, number_in}
-use Rattle.pm_marks.specs.MarkWrites.{mark_change, mark_written}
+use Rattle.pm_marks.specs.MarkWrites.{mark_change, mark_written, first_written, HasFirstSlot}
 use Rattle.pm_core.specs.Replays.{all_replayed}
 use Rattle.pm_core.specs.BasePages.{Partitions, no_pages, page_in_file, pages_of, laid_over, rebuilt_of}
 use Rattle.pm_core.specs.States.{State, View, AllInGrammar, BeginIsFirst, HavePairs}
@@ -35,6 +37,7 @@ use Rattle.pm_core.specs.Stands.{soon_or}
 
 pub data DiskStep : Type 0 where
   OnLog : (step : Step) → DiskStep
+  WriteFirst : (file : MarkFile) → DiskStep
   -- with the pages that the log rebuilds for it
   WriteStart : (mark : Mark) (rebuilt : Partitions) → DiskStep
   ForceStart : DiskStep
@@ -72,6 +75,7 @@ forced_pages s world = pages_of s.shape.page_size (λ part. (world.pages part).f
 -- the state after a step
 abbrev pub next_state : DiskStep → State → World → State
 next_state (OnLog step) s world = log_state step s
+next_state (WriteFirst file) s world = s
 next_state (WriteStart mark rebuilt) s world =
     record s { soon = Some (record { checkpoint = Started mark; rebuilt = rebuilt }) }
 next_state ForceStart s world = record s { now = soon_or s.soon s.now; soon = None }
@@ -88,6 +92,7 @@ next_state (Say bytes) s world = s
 -- the world after a step
 abbrev pub next_world : DiskStep → State → World → World
 next_world (OnLog step) s world = step_world step s.end world
+next_world (WriteFirst file) s world = first_written file world
 next_world (WriteStart mark rebuilt) s world = mark_written mark_file.Start mark world
 next_world ForceStart s world = starts_forced world
 next_world (WritePage page gap bytes) s world =
@@ -133,7 +138,7 @@ OthersStay mark file = (slot : ℕ) → slot ≢ slot_of mark.number
     → mark_at slot (bytes_of (changed (mark_change (content file) mark) (content file)))
     ≡ mark_at slot (bytes_of (content file))
 
--- The next checkpoint's start marker may be written: no checkpoint runs, the lasting log leads from
+-- The next checkpoint's start marker may be written, once the first slot of its file is there: no checkpoint runs, the lasting log leads from
 -- the from place over the begin place, where its CP_BEGIN stands, to its end, and with the marker
 -- in force the disk would hold what it holds.
 pub record CanStart (mark : Mark) (rebuilt : Partitions) (s : State) (world : World) : Type 0 where
@@ -142,7 +147,6 @@ pub record CanStart (mark : Mark) (rebuilt : Partitions) (s : State) (world : Wo
   pub next : mark.number ≡ number_in s.now.checkpoint + 1
   pub fits : IsMark mark
   pub shaped : mark.shape ≡ s.shape
-  pub others : OthersStay mark world.starts
   -- up to the begin place, and from it on
   pub before : List Frame
   pub after : List Frame
@@ -169,12 +173,12 @@ pub record CanWritePage (page : PageId) (gap bytes : List ℕ) (s : State) (worl
   pub reaches : length gap ≡ missing (page_at page (length bytes)) (pages_in world (part_of_id page))
   pub due : IsSome (s.now.rebuilt (part_of_id page) (index_of_id page))
 
--- The end marker may be written: each page that the log rebuilds is forced in its file.
+-- The end marker may be written, once the first slot of its file is there: each page that the log rebuilds is
+-- forced in its file.
 pub record CanEnd (mark : Mark) (s : State) (world : World) : Type 0 where
   pub runs : s.now.checkpoint ≡ Started mark
   pub alone : s.soon ≡ None
   pub fits : IsMark mark
-  pub others : OthersStay mark world.ends
   pub quiet : (part index : ℕ) → IsSome (s.now.rebuilt part index) → (world.pages part).since ≡ []
   pub written : (part index : ℕ) (bytes : List ℕ) → s.now.rebuilt part index ≡ Some bytes
       → page_in_file s.shape.page_size (world.pages part).forced index ≡ Some bytes
@@ -186,14 +190,16 @@ pub record IsSoon (checkpoint : Mark → Checkpoint) (s : State) : Type 0 where
   pub is : s.soon ≡ Some view
   pub says : view.checkpoint ≡ checkpoint mark
 
--- when a step may be made; `told` is of how many appended records the replies speak that begin in these bytes
+-- When a step may be made; a marker is written only where the first slot of its file is there, so that nothing
+-- is filled up there. `told` is of how many appended records the replies speak that begin in these bytes
 abbrev pub Can : (List ℕ → ℕ) → DiskStep → State → World → Type 0
 Can told (OnLog step) s world = CanLog step s
-Can told (WriteStart mark rebuilt) s world = CanStart mark rebuilt s world
+Can told (WriteFirst file) s world = s.soon ≡ None
+Can told (WriteStart mark rebuilt) s world = CanStart mark rebuilt s world × HasFirstSlot world.starts
 Can told ForceStart s world = IsSoon Started s
 Can told (WritePage page gap bytes) s world = CanWritePage page gap bytes s world
 Can told (ForcePages part) s world = Unit {0}
-Can told (WriteEnd mark) s world = CanEnd mark s world
+Can told (WriteEnd mark) s world = CanEnd mark s world × HasFirstSlot world.ends
 Can told ForceEnd s world = IsSoon Ended s
 Can told (Say bytes) s world = told (world.said ++ bytes) ≤ length s.order
 

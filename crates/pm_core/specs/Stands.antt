@@ -1,5 +1,5 @@
 -- When the disk is as the machine's state says.
-use Rattle.std.specs.Prelude.{◌≡◌, ◌⊎◌, ◌<◌, ◌≤◌, ◌+◌, ◌*◌, ℕ, List, [], ◌++◌, length, Option, Some}
+use Rattle.std.specs.Prelude.{◌≡◌, ◌⊎◌, ◌<◌, ◌≤◌, ◌+◌, ◌*◌, ℕ, List, [], ◌∷◌, ◌++◌, length, Option, Some}
 use Rattle.std.specs.Prelude.{None, IsSome}
 use Rattle.pm_types.specs.declared.place.Place.{Place}
 use Rattle.pm_types.specs.declared.shape.Mark.{Mark}
@@ -12,6 +12,8 @@ use Rattle.pm_model.specs.Eval.{Pairs}
 use Rattle.pm_records.specs.LogFiles.{FilesHoldLog, HasLasting, EndIs}
 use Rattle.pm_records.specs.Logs.{all_frames, after_frames}
 use Rattle.pm_marks.specs.Slots.{mark_at, slot_of}
+use Rattle.pm_disk.specs.declared.mark.TheConstants.{SLOT_LEN}
+use Rattle.pm_marks.specs.MarkWrites.{first_change}
 use Rattle.pm_marks.specs.InForce.{Checkpoint, NoStart, Started, Ended, replay_of}
 use Rattle.pm_core.specs.Replays.{all_replayed}
 use Rattle.pm_core.specs.BasePages.{Partitions, no_pages, page_in_file, laid_over, rebuilt_of}
@@ -57,12 +59,21 @@ abbrev pub soon_or : Option View → View → View
 soon_or None now = now
 soon_or (Some soon) now = soon
 
--- a marker file has something pending only while its marker isn't forced
+-- zeros were written to the first slot of a marker file that had ended before that slot did, and nothing else
+pub record HasNewFirst (file : File) : Type 0 where
+  pub short : length (bytes_of file.forced) < SLOT_LEN
+  pub since : file.since ≡ first_change file.forced ∷ []
+
+-- a marker file has nothing pending but the zeros of its first slot
+abbrev pub IsStill : File → Type 0
+IsStill file = (file.since ≡ []) ⊎ HasNewFirst file
+
+-- a marker file has a marker pending only while that marker isn't forced
 abbrev pub QuietMarks : Option Checkpoint → File → File → Type 0
-QuietMarks None starts ends = (starts.since ≡ []) × (ends.since ≡ [])
+QuietMarks None starts ends = IsStill starts × IsStill ends
 QuietMarks (Some NoStart) starts ends = ⊥
-QuietMarks (Some (Started mark)) starts ends = ends.since ≡ []
-QuietMarks (Some (Ended mark)) starts ends = starts.since ≡ []
+QuietMarks (Some (Started mark)) starts ends = IsStill ends
+QuietMarks (Some (Ended mark)) starts ends = IsStill starts
 
 -- the checkpoint whose marker isn't forced
 abbrev pub soon_checkpoint : Option View → Option Checkpoint

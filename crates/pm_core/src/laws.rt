@@ -12,6 +12,7 @@ ghost use Rattle.pm_disk.specs.declared.mark.TheConstants.{SLOT_LEN};
 ghost use Rattle.pm_model.specs.Eval.{Pairs};
 ghost use Rattle.pm_records.specs.Records.{Record, Restart};
 ghost use Rattle.pm_marks.specs.InForce.{Checkpoint, Started, Ended};
+ghost use Rattle.pm_marks.specs.MarkWrites.{HasFirstSlot};
 ghost use Rattle.pm_core.specs.BasePages.{Partitions, base_of, rebuilt_from, since_restart};
 ghost use Rattle.pm_core.specs.PageLaws.{Grows, after_record};
 ghost use Rattle.pm_core.specs.LogAlone.{Holds};
@@ -191,10 +192,11 @@ pub fn a_run_meets_its_guards()
         ≡ Ended (first_mark shape) }
 {}
 
-/// A marker's write leaves the other slot as it reads, where each slot of the file is there in full
-/// or not at all.
+/// A marker's write leaves the other slot as it reads, where the first slot of the file is there in full, and
+/// where each slot is there in full or not at all.
 pub fn a_marker_leaves_the_other()
-    ensures { (mark : Mark) (file : File) → ((slot : ℕ) → slot < 2
+    ensures first { (mark : Mark) (file : File) → HasFirstSlot file → OthersStay mark file }
+    ensures whole { (mark : Mark) (file : File) → ((slot : ℕ) → slot < 2
         → (slot_at slot + SLOT_LEN ≤ length (bytes_of (content file)))
         ⊎ (length (bytes_of (content file)) ≤ slot_at slot))
         → OthersStay mark file }

@@ -9,6 +9,8 @@ use Rattle.pm_types.specs.declared.shape.Mark.{Mark}
 use Rattle.pm_types.specs.declared.shape.Shape.{Shape}
 use Rattle.pm_frame.specs.Frames.{Frame}
 use Rattle.pm_disk.specs.Files.{File, Change, after, at_change, bytes_of}
+use Rattle.pm_disk.specs.declared.mark.MarkFile.TheVariants as mark_file
+use Rattle.pm_marks.specs.MarkWrites.{first_written}
 use Rattle.pm_disk.specs.Worlds.{World}
 use Rattle.pm_model.specs.Eval.{Pairs}
 use Rattle.pm_records.specs.LogFiles.{HasLasting, forced_contents}
@@ -22,8 +24,8 @@ use Rattle.pm_segments.specs.Ends.{LogEnd}
 use Rattle.pm_segments.proofs.Removed.{dropped_one}
 use Rattle.pm_marks.specs.InForce.{Checkpoint, Ended}
 use Rattle.pm_core.specs.BasePages.{Partitions, page_in_file, laid_over}
-use Rattle.pm_core.specs.Calls.{begin_steps, force_steps}
-use Rattle.pm_core.specs.Machine.{DiskStep, WriteEnd, ForceEnd, CanAll, CanEnd, next_state, next_world, states, worlds}
+use Rattle.pm_core.specs.Calls.{begin_steps, end_steps, force_steps}
+use Rattle.pm_core.specs.Machine.{DiskStep, CanAll, CanEnd, next_state, next_world, states, worlds}
 use Rattle.pm_core.specs.PageLaws.{Grows}
 use Rattle.pm_core.specs.PageSets.{has_index}
 use Rattle.pm_core.specs.Replays.{all_replayed}
@@ -164,7 +166,7 @@ module _ (wanted : Shape) (told : List ℕ → ℕ) (store : StoreState) (s : St
   forces = force_steps 0 PARTITIONS_MAX named
 
   abbrev ends : List DiskStep
-  ends = WriteEnd mark ∷ ForceEnd ∷ []
+  ends = end_steps mark
 
   abbrev ended : World
   ended = worlds (opening ++ (writes ++ (forces ++ ends))) s w
@@ -207,8 +209,8 @@ module _ (wanted : Shape) (told : List ℕ → ℕ) (store : StoreState) (s : St
   parts : CanAll told front s w × CanAll told (ends ++ on_log drops) s5 w5
   parts = can_parts told front (ends ++ on_log drops) s w (subst (λ l. CanAll told l s w) whole_is guards)
 
-  can_end : CanEnd mark s5 w5
-  can_end = parts.1.0
+  can_end : CanEnd mark s5 (first_written mark_file.End w5)
+  can_end = parts.1.1.0.0
 
   stands_there : Stands wanted told s5 w5
   stands_there = run_stands wanted told front s w runs.log.stands parts.0

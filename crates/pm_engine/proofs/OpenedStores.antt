@@ -99,8 +99,8 @@ ended_mark (Ended mark) = refl
 
 -- the state that a restart leaves is one of a restored store
 pub restored_store : (wanted : Shape) (told : List ℕ → ℕ) (checkpoint : Checkpoint) (s t : State) (w : World) (log : LogEnd) → IsRestored checkpoint s t → Stands wanted told t w → IsShape t.shape → IsLogEnd log → log.end ≡ s.at
-    → log.end.off ≤ FRAME_END_MAX → HasSegmentsFor log 1 → BeginWithFirst t.files → IsRestoredStore wanted told t.shape log (mark_of checkpoint) t w
-restored_store wanted told checkpoint s t w log is stands sound limits end early segments first = record {
+    → log.end.off ≤ FRAME_END_MAX → HasSegmentsFor log 1 → IsRestoredStore wanted told t.shape log (mark_of checkpoint) t w
+restored_store wanted told checkpoint s t w log is stands sound limits end early segments = record {
   stands = stands;
   shaped = refl;
   is_shape = sound;
@@ -115,7 +115,7 @@ restored_store wanted told checkpoint s t w log is stands sound limits end early
     numbered = omega (arith, segments);
   };
   nothing_pending = is.nothing_pending;
-  first_pages = first;
+  first_pages = subst BeginWithFirst (sym is.files.1) (file_begins t.shape.page_size is.files.0);
 }
 
 -- ---- the log

@@ -17,7 +17,6 @@ use Rattle.pm_records.specs.LogSteps.{Step, Append, Force, next_segment, step_en
 use Rattle.pm_records.specs.Logs.{place, all_frames, seal_frame, after_frames, place_after, frames_len}
 use Rattle.pm_records.specs.Records.{Seal}
 use Rattle.pm_records.proofs.FileSteps.{plain_after}
-use Rattle.pm_records.proofs.QuietLog.{steps_change}
 use Rattle.pm_records.proofs.Runs.{bool_cases, after_frames-append}
 use Rattle.pm_records.proofs.Tracing.{end_after-append}
 use Rattle.pm_records.proofs.Writing.{CanAll as CanWriteAll, steps_keep, frames_after, frames_in-append}
@@ -30,14 +29,13 @@ use Rattle.pm_marks.specs.InForce.{Started, number_in}
 use Rattle.pm_marks.specs.Slots.{IsMark, IsMarkPlace}
 use Rattle.pm_core.specs.BasePages.{Partitions, laid_over, counted}
 use Rattle.pm_core.specs.Held.{AllWellFormed}
-use Rattle.pm_core.specs.Machine.{OthersStay, CanStart, states, worlds}
+use Rattle.pm_core.specs.Machine.{CanStart, states, worlds}
 use Rattle.pm_core.specs.PageLaws.{Grows}
 use Rattle.pm_core.specs.Replays.{all_replayed}
 use Rattle.pm_core.specs.Rounds.{on_log}
 use Rattle.pm_core.specs.States.{State, HavePairs}
 use Rattle.pm_core.proofs.Finishing.{rebuilt_inside}
 use Rattle.pm_core.proofs.Junk.{counted_same, pairs_same}
-use Rattle.pm_core.proofs.LogCalls.{log_worlds}
 use Rattle.pm_core.proofs.LogSteps.{written_by, is_written, from_end}
 use Rattle.pm_pages.specs.Rows.{Partition}
 use Rattle.pm_pages.specs.WellFormed.{IsWellFormed}
@@ -290,9 +288,6 @@ module _ (wanted : Shape) (told : List ℕ → ℕ) (store : StoreState) (s : St
         let long : (begin_of log).off + (BEGIN_LEN + FRAME_EXTRA) ≡ (begin_of log).off + frame_len frame = omega (arith, len_is) in
         ap (λ n. place (begin_of log).seg n) long ∙ ap (λ n. place_after (roomy log n).end frame) (sym len_is) ∙ sym begun_runs.ends ∙ last
 
-    starts_stay : w2.starts ≡ w.starts
-    starts_stay = ap (λ (v : World). v.starts) (log_worlds steps s w) ∙ (steps_change steps s.end w).starts
-
     files_stay : s2.files ≡ s.files
     files_stay = (state_follows steps runs.log.lasting s w).files
 
@@ -318,14 +313,13 @@ module _ (wanted : Shape) (told : List ℕ → ℕ) (store : StoreState) (s : St
         (subst (λ (files : Partitions). HavePairs store.shape (laid_over rebuilt files) (map_of store)) (sym files_stay)
         (base_pairs store before runs.files s.files tracks_begin runs.grows runs.holds.well_formed))
 
-    pub may_start : OthersStay mark w.starts → CanStart mark rebuilt s2 w2
-    may_start others = record {
+    pub may_start : CanStart mark rebuilt s2 w2
+    may_start = record {
       alone = begun_runs.alone;
       idle = λ other is. not_started store.mark other (sym begun_runs.checkpoint ∙ is);
       next = number_next store.mark ∙ ap (λ c. number_in c + 1) (sym begun_runs.checkpoint);
       fits = is_mark;
       shaped = sym begun_runs.shape;
-      others = subst (λ (f : File). OthersStay mark f) (sym starts_stay) others;
       before = before;
       after = frame ∷ [];
       leads = leads_there;
@@ -341,14 +335,13 @@ module _ (wanted : Shape) (told : List ℕ → ℕ) (store : StoreState) (s : St
       same_map = ap (λ (p : Pairs). Some p) (sym map_there);
     }
 
-    pub may_checkpoint : OthersStay mark w.starts → OthersStay mark w.ends → CanCheckpoint wanted told s log mark store.pages store.logged w
-    may_checkpoint starts ends = record {
+    pub may_checkpoint : CanCheckpoint wanted told s log mark store.pages store.logged w
+    may_checkpoint = record {
       stands = runs.log.stands;
       ends = runs.log.ends;
       is_open = runs.log.is_open;
       begun = runs.log.begun;
       rebuilt = rebuilt;
-      guard = may_start starts;
+      guard = may_start;
       rebuilds = tracks_begin.each;
-      others = ends;
     }

@@ -17,7 +17,7 @@ ghost use Rattle.pm_segments.specs.Appends.{append_steps};
 ghost use Rattle.pm_segments.specs.Ends.{LogEnd, IsLogEnd};
 ghost use Rattle.pm_marks.specs.InForce.{Checkpoint};
 ghost use Rattle.pm_marks.specs.Slots.{IsMark};
-ghost use Rattle.pm_core.specs.Machine.{CanAll, OthersStay, states, worlds};
+ghost use Rattle.pm_core.specs.Machine.{CanAll, states, worlds};
 ghost use Rattle.pm_core.specs.Rounds.{on_log};
 ghost use Rattle.pm_core.specs.Stands.{Stands};
 ghost use Rattle.pm_core.specs.States.{State};
@@ -38,12 +38,12 @@ ghost use Rattle.pm_engine.specs.RunningSteps.{ChangesStore, operation_frames, o
 /// that count, none is logged, and the newest map is the one that it held. Once the lines that the log has from
 /// the replay place on are applied again to the pages, the store runs.
 ///
-/// A restart leaves such a store. No file of pages has a page and not its first one.
+/// A restart leaves such a store, since no file of pages has a page and not its first one.
 pub fn a_restored_store_may_be_opened()
     ensures restored { (wanted : Shape) (told : List ℕ → ℕ) (checkpoint : Checkpoint) (s t : State)
         (world : World) (log : LogEnd)
         → IsRestored checkpoint s t → Stands wanted told t world → IsShape t.shape → IsLogEnd log
-        → log.end ≡ s.at → log.end.off ≤ FRAME_END_MAX → HasSegmentsFor log 1 → BeginWithFirst t.files
+        → log.end ≡ s.at → log.end.off ≤ FRAME_END_MAX → HasSegmentsFor log 1
         → IsRestoredStore wanted told t.shape log (mark_of checkpoint) t world }
     ensures can { (wanted : Shape) (told : List ℕ → ℕ) (shape : Shape) (log : LogEnd) (mark : Option Mark)
         (s : State) (world : World)
@@ -109,9 +109,6 @@ pub fn a_running_store_may_force()
 /// A store that runs may be checkpointed at any time: its next checkpoint's mark is one that a marker may say,
 /// each logged page is there, and once its CP_BEGIN is appended and forced the start marker may be written, for
 /// exactly the logged pages.
-///
-/// A write of a marker has to leave the other slot of its file as it reads: a part of a slot that a crash left
-/// is no valid slot by chance.
 pub fn a_running_store_may_be_checkpointed()
     ensures mark { (wanted : Shape) (told : List ℕ → ℕ) (store : StoreState) (s : State) (world : World)
         → IsRunning wanted told store s world → number_after store.mark < 2 ^ 64 → IsMark (mark_after store) }
@@ -120,8 +117,7 @@ pub fn a_running_store_may_be_checkpointed()
         → All (IsHeld store.shape.page_size store.pages) store.logged }
     ensures checkpoint { (wanted : Shape) (told : List ℕ → ℕ) (store : StoreState) (s : State) (world : World)
         → IsRunning wanted told store s world → number_after store.mark < 2 ^ 64
-        → HasSegmentsFor store.log 1 → OthersStay (mark_after store) world.starts
-        → OthersStay (mark_after store) world.ends
+        → HasSegmentsFor store.log 1
         → CanCheckpoint wanted told s store.log (mark_after store) store.pages store.logged world }
 {}
 

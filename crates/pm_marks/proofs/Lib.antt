@@ -1,2 +1,4 @@
+pub mod FirstSlots
 pub mod SlotMarks
 pub mod SlotWrites
+pub mod Writing

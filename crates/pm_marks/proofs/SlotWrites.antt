@@ -25,10 +25,10 @@ same_elements (x ∷ xs) (y ∷ ys) e same =
     cc
 
 -- an element of a slot's bytes
-slot_element : (slot : ℕ) (file : List ℕ) (i : ℕ) → i < SLOT_LEN → slice_get (bytes_in_slot slot file) i ≡ slice_get file (slot_at slot + i)
+pub slot_element : (slot : ℕ) (file : List ℕ) (i : ℕ) → i < SLOT_LEN → slice_get (bytes_in_slot slot file) i ≡ slice_get file (slot_at slot + i)
 slot_element slot file i lt = slice_get-take SLOT_LEN (drop (slot_at slot) file) i lt ∙ slice_get-drop (slot_at slot) file i
 
-slot_length : (slot : ℕ) (file : List ℕ) → slot_at slot + SLOT_LEN ≤ length file → length (bytes_in_slot slot file) ≡ SLOT_LEN
+pub slot_length : (slot : ℕ) (file : List ℕ) → slot_at slot + SLOT_LEN ≤ length file → length (bytes_in_slot slot file) ≡ SLOT_LEN
 slot_length slot file there = omega (arith, there, length-take SLOT_LEN (drop (slot_at slot) file), length-drop (slot_at slot) file)
 
 -- a slot that is there in full stays while its bytes do
@@ -68,7 +68,7 @@ module _ (file : Option (List ℕ)) (mark : Mark) where
       same_elements (bytes_in_slot at now) (slot_bytes mark) (full ∙ sym count)
       (λ i lt. slot_element at now i (omega (arith, lt, full)) ∙ puts.there i (omega (arith, lt, full, count)))
 
-  length_now : length now ≡ max (length (bytes_of file)) (slot_at at + length (slot_bytes mark))
+  pub length_now : length now ≡ max (length (bytes_of file)) (slot_at at + length (slot_bytes mark))
   length_now = length-gapped file (slot_at at) (replicate (missing (slot_at at) file) 0) (slot_bytes mark) (length-replicate {A = ℕ} (missing (slot_at at) file) 0)
 
   pub mark_stands : IsMark mark → mark_at at now ≡ Some mark

@@ -8,7 +8,7 @@ ghost use Rattle.pm_disk.specs.Worlds.{marks_in};
 ghost use Rattle.pm_disk.specs.Moments.{Does};
 ghost use Rattle.pm_marks.specs.Slots.{IsMark, slot_of, mark_at};
 ghost use Rattle.pm_marks.specs.InForce.{higher, start_in, has_slot, checkpoint_in, marks_of};
-ghost use Rattle.pm_marks.specs.MarkWrites.{WritesMark};
+ghost use Rattle.pm_marks.specs.MarkWrites.{WritesFirst, WritesMark};
 
 use crate::slot::{mark_in, slot_bytes};
 use pm_disk::{Failed, Host, MarkFile, SLOT_LEN};
@@ -50,8 +50,10 @@ pub fn read_marks<H: Host>(host: &mut H) -> Result<Marks, Failed>
     }
 }
 
-/// Writes a checkpoint's start marker and forces its file. What is there of the other slot stays. After
-/// `Failed` the marker may be written or not, and forced or not.
+/// Writes a checkpoint's start marker and forces its file. What is there in full of the other slot stays.
+/// Where the file ends before the end of its first slot, zeros are written to that slot first: a part of
+/// a slot that a crash left isn't filled up. After `Failed` the zeros and the marker may be written or not,
+/// and forced or not.
 pub fn write_start<H: Host>(host: &mut H, mark: &Mark) -> Result<(), Failed>
     requires usable { IsUsable (H.Device.state host.old) }
     requires mark { IsMark mark.now }
@@ -62,8 +64,8 @@ pub fn write_start<H: Host>(host: &mut H, mark: &Mark) -> Result<(), Failed>
     write_mark(host, MarkFile::Start, mark)
 }
 
-/// Writes a checkpoint's end marker, which has the bytes of its start marker, and forces its file. What
-/// is there of the other slot stays. After `Failed` the marker may be written or not, and forced or not.
+/// Writes a checkpoint's end marker, which has the bytes of its start marker, and forces its file, as
+/// `write_start` does.
 pub fn write_end<H: Host>(host: &mut H, mark: &Mark) -> Result<(), Failed>
     requires usable { IsUsable (H.Device.state host.old) }
     requires mark { IsMark mark.now }
@@ -120,15 +122,30 @@ fn has_end<H: Host>(host: &mut H, mark: &Mark) -> Result<bool, Failed>
     Ok(whole && bytes == slot_bytes(mark))
 }
 
-// Writes a mark to its slot and forces the file.
+// Makes the file have its first slot, writes a mark to its slot and forces the file.
 fn write_mark<H: Host>(host: &mut H, file: MarkFile, mark: &Mark) -> Result<(), Failed>
     requires usable { IsUsable (H.Device.state host.old) }
     ensures writes { H.Device.tells
         → WritesMark (H.Device.history host.old) (H.Device.history host.new) result file mark.now }
     ensures cause { HasCause (H.Device.state host.old) (H.Device.state host.new) result }
 {
+    write_first(host, file)?;
     host.write_mark(file, slot_of(mark.number), &slot_bytes(mark))?;
     host.force_mark(file)
+}
+
+// Writes zeros to the first slot of a file that ends before that slot does.
+fn write_first<H: Host>(host: &mut H, file: MarkFile) -> Result<(), Failed>
+    requires usable { IsUsable (H.Device.state host.old) }
+    ensures writes { H.Device.tells
+        → WritesFirst (H.Device.history host.old) (H.Device.history host.new) result file }
+    ensures cause { HasCause (H.Device.state host.old) (H.Device.state host.new) result }
+{
+    let mut bytes = [0; SLOT_LEN];
+    if host.read_mark(file, 0, &mut bytes)? {
+        return Ok(());
+    }
+    host.write_mark(file, 0, &[0; SLOT_LEN])
 }
 
 // The slot of the checkpoint of this number.

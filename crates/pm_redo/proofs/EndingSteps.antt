@@ -22,8 +22,8 @@ use Rattle.pm_records.specs.LogFiles.{Uncut}
 use Rattle.pm_records.specs.Logs.{place}
 use Rattle.pm_marks.specs.InForce.{NoStart}
 use Rattle.pm_core.specs.BasePages.{Partitions, no_pages, page_in_file, pages_of, laid_over}
-use Rattle.pm_core.specs.Calls.{MakesPrefix, force_steps, finish_steps, CanFinish}
-use Rattle.pm_core.specs.Machine.{DiskStep, WritePage, ForcePages, WriteEnd, ForceEnd, CanWritePage, OthersStay, CanAll, next_state, next_world, states, worlds, forced_pages}
+use Rattle.pm_core.specs.Calls.{MakesPrefix, end_steps, force_steps, finish_steps, CanFinish}
+use Rattle.pm_core.specs.Machine.{DiskStep, WritePage, ForcePages, CanWritePage, CanAll, next_state, next_world, states, worlds, forced_pages}
 use Rattle.pm_core.specs.PageLaws.{Grows}
 use Rattle.pm_core.specs.PageSets.{has_part, has_index}
 use Rattle.pm_core.specs.Stands.{page_low, page_high, IsViewOf, IsGood, Stands}
@@ -219,7 +219,6 @@ module _ (wanted : Shape) (told : List ℕ → ℕ) (mark : Mark) (kept : PageMa
     runs = may.unended.runs;
     alone = may.unended.alone;
     fits = fits;
-    others = subst (λ (f : File). OthersStay mark f) (sym wrote.ends) may.others;
     pages_are = λ part index some. may.pages_are part index (sym (ap (λ (p : Partitions). is_some (p part index)) may.unended.rebuilt) ∙ some);
     written = λ part index bytes is.
         let there : kept_pages kept part index ≡ Some bytes = sym (ap (λ (p : Partitions). p part index) may.unended.rebuilt) ∙ is in
@@ -242,13 +241,13 @@ module _ (wanted : Shape) (told : List ℕ → ℕ) (mark : Mark) (kept : PageMa
   ended_by : states (finish_steps mark pages) s mid.world ≡ ended_state mark (forced_pages s (worlds (force_steps 0 PARTITIONS_MAX pages) s mid.world)) s
   ended_by =
       let forces = force_steps 0 PARTITIONS_MAX pages in
-      states_join forces (WriteEnd mark ∷ ForceEnd ∷ []) s mid.world
-      ∙ ap (λ (r : State). states (WriteEnd mark ∷ ForceEnd ∷ []) r (worlds forces s mid.world)) (forces_still 0 PARTITIONS_MAX pages s mid.world)
+      states_join forces (end_steps mark) s mid.world
+      ∙ ap (λ (r : State). states (end_steps mark) r (worlds forces s mid.world)) (forces_still 0 PARTITIONS_MAX pages s mid.world)
 
   same_files : new.world ≡ worlds (finish_steps mark pages) s mid.world → (part : ℕ) → content (new.world.pages part) ≡ content (mid.world.pages part)
   same_files is part =
       let forces = force_steps 0 PARTITIONS_MAX pages in
-      ap (λ (w : World). content (w.pages part)) (is ∙ worlds_join forces (WriteEnd mark ∷ ForceEnd ∷ []) s mid.world) ∙ forces_content 0 PARTITIONS_MAX pages s mid.world part
+      ap (λ (w : World). content (w.pages part)) (is ∙ worlds_join forces (end_steps mark) s mid.world) ∙ forces_content 0 PARTITIONS_MAX pages s mid.world part
 
   now_good : IsGood wanted s mid.world.log mid.world.pages s.now
   now_good = stands_mid.good s.now (subst (λ o. IsViewOf s.now o s.now) (sym may.unended.alone) refl)
@@ -296,6 +295,7 @@ module _ (wanted : Shape) (told : List ℕ → ℕ) (mark : Mark) (kept : PageMa
     moments = moments_all at_each;
     is = world_joined old.world mid.world new.world wrote.steps (finish_steps mark pages) s wrote.is (is ∙ ap (λ (r : State). worlds (finish_steps mark pages) r mid.world) (sym wrote.still));
     files = forced_pages s (worlds (force_steps 0 PARTITIONS_MAX pages) s mid.world);
+    of_files = ((λ part. ((worlds (force_steps 0 PARTITIONS_MAX pages) s mid.world).pages part).forced), refl);
     state = state_all;
     pages = grows is;
   }
@@ -333,4 +333,4 @@ forces_log from (suc n) pages s w = by (λ v. forces_log (from + 1) n pages s v)
 pub finish_log : (mark : Mark) (pages : List PageId) (s : State) (w : World) → (worlds (finish_steps mark pages) s w).log ≡ w.log
 finish_log mark pages s w =
     let forces = force_steps 0 PARTITIONS_MAX pages in
-    ap (λ (v : World). v.log) (worlds_join forces (WriteEnd mark ∷ ForceEnd ∷ []) s w) ∙ forces_log 0 PARTITIONS_MAX pages s w
+    ap (λ (v : World). v.log) (worlds_join forces (end_steps mark) s w) ∙ forces_log 0 PARTITIONS_MAX pages s w

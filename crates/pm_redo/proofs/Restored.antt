@@ -33,7 +33,7 @@ use Rattle.pm_core.specs.Prefixes.{KeepsPrefix}
 use Rattle.pm_core.specs.Replays.{all_replayed}
 use Rattle.pm_core.specs.Sound.{SoundImage}
 use Rattle.pm_core.specs.Stands.{HasShape, MarksSay, soon_or, Stands}
-use Rattle.pm_core.specs.Starts.{appended}
+use Rattle.pm_core.specs.Starts.{CanBegin, appended}
 use Rattle.pm_core.specs.States.{State, View}
 use Rattle.pm_core.proofs.CrashLaw.{run_stands, law_of_call}
 use Rattle.pm_core.proofs.Saying.{say_in_force}
@@ -43,7 +43,7 @@ use Rattle.pm_redo.specs.FoundMarks.{replay_from}
 use Rattle.pm_redo.specs.Pictures.{files_in}
 use Rattle.pm_redo.specs.Rebuilding.{IsSame}
 use Rattle.pm_redo.proofs.RestoringSteps.{rebuilds_once}
-use Rattle.pm_redo.specs.Restoring.{shape_of, mark_of, LeavesStore, IsLeft, with_end, IsRestored, Restores, CanRestore, left_state, CrashHolds, RestoresWithin, RestoresAll}
+use Rattle.pm_redo.specs.Restoring.{shape_of, mark_of, LeavesStore, IsLeft, with_end, IsRestored, Restores, left_state, CrashHolds, RestoresWithin, RestoresAll}
 
 -- ---- the state of a store that was left
 
@@ -52,24 +52,23 @@ shaped_of wanted shape NoStart frames is = tt
 shaped_of wanted shape (Started mark) frames is = sym is
 shaped_of wanted shape (Ended mark) frames is = sym is
 
-module _ (wanted : Shape) (told : List ℕ → ℕ) (world : World) (shape : Shape) (pairs : Pairs) (can : CanRestore wanted told world shape pairs) where
+module _ (wanted : Shape) (told : List ℕ → ℕ) (world : World) (shape : Shape) (pairs : Pairs) (can : CanBegin wanted told world shape pairs) where
   -- what is there of the pages' files is forced
   same_files : files_in world ≡ (λ part. (world.pages part).forced)
-  same_files = λ i part. quiet_content (world.pages part) (can.can.quiet.pages part) i
+  same_files = λ i part. quiet_content (world.pages part) (can.quiet.pages part) i
 
   pub left_of : IsLeft wanted told (in_force (image_of world)) (left_state can) world
   left_of = record {
-    stands = stands_first wanted told world shape pairs can.can;
+    stands = stands_first wanted told world shape pairs can;
     now = refl;
     alone = refl;
-    rebuilt = can.can.sound.holds.rebuilt_are;
-    shaped = shaped_of wanted shape (in_force (image_of world)) can.can.sound.holds.frames can.can.sound.holds.told;
+    rebuilt = can.sound.holds.rebuilt_are;
+    shaped = shaped_of wanted shape (in_force (image_of world)) can.sound.holds.frames can.sound.holds.told;
     uncut = refl;
-    ends = record { frames = can.can.sound.holds.frames; is_log = can.can.sound.holds.log; ends = refl };
+    ends = record { frames = can.sound.holds.frames; is_log = can.sound.holds.log; ends = refl };
     at_end = refl;
     nothing_pending = refl;
     files = ap (pages_of shape.page_size) (sym same_files);
-    others = can.others;
   }
 
 -- the base pages of a checkpoint and of the one with its end marker
@@ -92,7 +91,7 @@ no_first zero = refl
 no_first (suc count) = refl
 
 -- whatever a crash leaves of such steps holds what the store held
-module _ (wanted : Shape) (told : List ℕ → ℕ) (shape : Shape) (pairs : Pairs) (old new : History) (can : CanRestore wanted told old.world shape pairs) where
+module _ (wanted : Shape) (told : List ℕ → ℕ) (shape : Shape) (pairs : Pairs) (old new : History) (can : CanBegin wanted told old.world shape pairs) where
   abbrev s : State
   s = left_state can
 

@@ -18,7 +18,7 @@ use Rattle.pm_records.proofs.Runs.{one_log}
 use Rattle.pm_marks.specs.InForce.{Checkpoint, Started}
 use Rattle.pm_core.specs.BasePages.{Partitions, no_pages, pages_of, laid_over, Rebuilds, rebuilt_of}
 use Rattle.pm_core.specs.Calls.{MakesPrefix, AreRebuilt}
-use Rattle.pm_core.specs.Machine.{DiskStep, OthersStay, CanAll, map_or, states, worlds}
+use Rattle.pm_core.specs.Machine.{DiskStep, CanAll, map_or, states, worlds}
 use Rattle.pm_core.specs.Replays.{all_replayed}
 use Rattle.pm_core.specs.Rounds.{on_log}
 use Rattle.pm_core.specs.Stands.{Stands}
@@ -31,7 +31,7 @@ use Rattle.pm_core.proofs.Making.{moments_joined, world_joined}
 use Rattle.pm_redo.specs.Ending.{BeginsSteps, MayEnd, EndsCheckpoint, ended_state}
 use Rattle.pm_redo.specs.LogEnds.{LogEndsAt}
 use Rattle.pm_redo.specs.PageMaps.{PageMap, kept_pages}
-use Rattle.pm_redo.specs.Pictures.{files_in}
+use Rattle.pm_redo.specs.Pictures.{files_in, AreOfFiles}
 use Rattle.pm_redo.specs.Rebuilding.{IsSame}
 use Rattle.pm_redo.specs.Restoring.{IsLeft, Restores, with_end}
 use Rattle.pm_redo.proofs.EndingSteps.{states_join}
@@ -140,6 +140,7 @@ module _ (wanted : Shape) (told : List ℕ → ℕ) (checkpoint : Checkpoint) (s
         at_end = left.at_end;
         nothing_pending = refl;
         shape = refl;
+        files = (files_in old.world, left.files);
         map = cut_map;
         order = cut_order;
       };
@@ -176,6 +177,7 @@ module _ (wanted : Shape) (told : List ℕ → ℕ) (checkpoint : Checkpoint) (s
               at_end = ap (λ (t : State). t.end) state ∙ left.at_end;
               nothing_pending = ap (λ (t : State). t.pending) state;
               shape = ap (λ (t : State). t.shape) state;
+              files = subst (λ (t : State). AreOfFiles t.shape.page_size t.files) (sym state) ends.of_files;
               map = ap (λ (t : State). t.map) state ∙ cut_map;
               order = ap (λ (t : State). t.order) state ∙ cut_order;
             };
@@ -203,7 +205,6 @@ may_end wanted told mark kept pages s old new left is rebuilds shaped pages_are 
     shaped = sym left.shaped ∙ sym shaped;
   };
   pages_are = pages_are;
-  others = subst (λ (w : World). OthersStay mark w.ends) (sym is) (left.others mark refl);
 }
 
 -- a call that failed

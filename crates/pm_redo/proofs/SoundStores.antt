@@ -1,5 +1,5 @@
 -- In a sound store no record is bad.
-use Rattle.std.proofs.Common.{◌≡◌, ◌⊎◌, inl, inr, ℕ, ◌≤◌, List, [], ◌∷◌, length, Some, None, true, false, sym, ◌∙◌, ap, refl, arith}
+use Rattle.std.proofs.Common.{◌≡◌, inl, inr, ℕ, ◌≤◌, List, [], ◌∷◌, length, Some, None, true, false, sym, ◌∙◌, ap, refl, arith}
 use Rattle.std.proofs.lemmas.Option.{same_Some}
 use Rattle.pm_types.specs.declared.place.Place.{Place}
 use Rattle.pm_frame.specs.Frames.{Frame}

@@ -10,14 +10,14 @@ use Rattle.pm_disk.specs.Worlds.{World}
 use Rattle.pm_marks.specs.InForce.{Started, Ended}
 use Rattle.pm_core.specs.BasePages.{Partitions, no_pages, page_in_file, pages_of, laid_over}
 use Rattle.pm_core.specs.Calls.{MakesPrefix, AreRebuilt}
-use Rattle.pm_core.specs.Machine.{DiskStep, OthersStay, CanAll, states, worlds}
+use Rattle.pm_core.specs.Machine.{DiskStep, CanAll, states, worlds}
 use Rattle.pm_core.specs.PageLaws.{Grows}
 use Rattle.pm_core.specs.PageSets.{has_index}
 use Rattle.pm_core.specs.Stands.{Stands}
 use Rattle.pm_core.specs.Starts.{appended}
 use Rattle.pm_core.specs.States.{State}
 use Rattle.pm_redo.specs.PageMaps.{PageMap, kept_pages}
-use Rattle.pm_redo.specs.Pictures.{files_in}
+use Rattle.pm_redo.specs.Pictures.{files_in, AreOfFiles}
 
 -- In this state this checkpoint runs alone, and these are the pages that the log rebuilds for it.
 pub record IsUnended (mark : Mark) (kept : PageMap) (s : State) : Type 0 where
@@ -74,7 +74,6 @@ pub record MayEnd (wanted : Shape) (told : List ℕ → ℕ) (mark : Mark) (kept
   pub stands : Stands wanted told s world
   pub unended : IsUnended mark kept s
   pub pages_are : AreRebuilt pages (kept_pages kept)
-  pub others : OthersStay mark world.ends
 
 -- the state once the checkpoint is ended, with the pages that are forced in their files
 abbrev pub ended_state : Mark → Partitions → State → State
@@ -91,6 +90,7 @@ pub record EndsCheckpoint (told : List ℕ → ℕ) (mark : Mark) (s : State) (o
   pub moments : AllMoments old new (MakesPrefix steps s old.world)
   pub is : new.world ≡ worlds steps s old.world
   pub files : Partitions
+  pub of_files : AreOfFiles s.shape.page_size files
   pub state : states steps s old.world ≡ ended_state mark files s
   -- the partitions' files hold the base pages, and others only where those have a meta page
   pub pages : (part : ℕ) → Grows (laid_over s.now.rebuilt s.files part)

@@ -5,7 +5,7 @@ use Rattle.pm_types.specs.declared.shape.Shape.{Shape}
 use Rattle.pm_disk.specs.Files.{content}
 use Rattle.pm_disk.specs.Worlds.{World}
 use Rattle.pm_marks.specs.InForce.{Checkpoint, NoStart, Started, Ended}
-use Rattle.pm_core.specs.BasePages.{Partitions, no_pages, RebuiltAre}
+use Rattle.pm_core.specs.BasePages.{Partitions, no_pages, pages_of, RebuiltAre}
 use Rattle.pm_redo.specs.PageMaps.{PageMap, kept_pages}
 
 -- the pages that were rebuilt; without a start marker there is no map of them
@@ -32,6 +32,10 @@ pub record ArePictures (pictures : Option PageMap) (checkpoint : Checkpoint) (lo
 -- the partitions' files as they are
 abbrev pub files_in : World → ℕ → Option (List ℕ)
 files_in world part = content (world.pages part)
+
+-- these pages are those of files of this page size
+abbrev pub AreOfFiles : ℕ → Partitions → Type 0
+AreOfFiles size pages = (files : ℕ → Option (List ℕ)) × (pages ≡ pages_of size files)
 
 -- a page is there and was read, or there is none
 abbrev pub ReadsPage : Option (List ℕ) → List ℕ → Bool → Type 0

@@ -28,7 +28,7 @@ use Rattle.pm_core.specs.BasePages.{Partitions, no_pages, pages_of, laid_over, b
 use Rattle.pm_core.specs.Calls.{MakesPrefix}
 use Rattle.pm_core.specs.Held.{in_force}
 use Rattle.pm_core.specs.LogAlone.{image_of}
-use Rattle.pm_core.specs.Machine.{DiskStep, OthersStay, CanAll, states, worlds}
+use Rattle.pm_core.specs.Machine.{DiskStep, CanAll, states, worlds}
 use Rattle.pm_core.specs.PageLaws.{Grows}
 use Rattle.pm_core.specs.Sound.{SoundImage, IsTrueImage}
 use Rattle.pm_core.specs.Stands.{HasShape, Stands}
@@ -37,7 +37,7 @@ use Rattle.pm_core.specs.States.{State}
 use Rattle.pm_redo.specs.declared.opening.Base.{Base}
 use Rattle.pm_redo.specs.Ending.{BeginsSteps}
 use Rattle.pm_redo.specs.LogEnds.{LogEndsAt}
-use Rattle.pm_redo.specs.Pictures.{files_in}
+use Rattle.pm_redo.specs.Pictures.{files_in, AreOfFiles}
 use Rattle.pm_redo.specs.Rebuilding.{CanNotRebuildFor}
 
 -- ---- the shape
@@ -140,9 +140,6 @@ pub record CutsLog (log : ℕ → List ℕ) (replay : Place) (first segment_byte
 
 -- The disk is as this state says, and nothing was done since the store was left: this checkpoint is in
 -- force, and the log ends where it ends when it is read from the replay place.
---
--- A write of the end marker leaves the other slot of its file as it reads: a part of a slot that a crash
--- left is no valid slot by chance once zeros fill it up.
 pub record IsLeft (wanted : Shape) (told : List ℕ → ℕ) (checkpoint : Checkpoint) (s : State) (world : World)
     : Type 0 where
   pub stands : Stands wanted told s world
@@ -155,7 +152,6 @@ pub record IsLeft (wanted : Shape) (told : List ℕ → ℕ) (checkpoint : Check
   pub at_end : s.end ≡ s.at
   pub nothing_pending : s.pending ≡ []
   pub files : s.files ≡ pages_of s.shape.page_size (files_in world)
-  pub others : (mark : Mark) → checkpoint ≡ Started mark → OthersStay mark world.ends
 
 -- the checkpoint with its end marker
 abbrev pub with_end : Checkpoint → Checkpoint
@@ -173,6 +169,8 @@ pub record IsRestored (checkpoint : Checkpoint) (s t : State) : Type 0 where
   pub at_end : t.end ≡ s.at
   pub nothing_pending : t.pending ≡ []
   pub shape : t.shape ≡ s.shape
+  -- its pages are those of the partitions' files
+  pub files : AreOfFiles t.shape.page_size t.files
   pub map : t.map ≡ s.map
   pub order : t.order ≡ s.order
 
@@ -190,16 +188,10 @@ pub record Restores (told : List ℕ → ℕ) (checkpoint : Checkpoint) (s : Sta
 
 -- ---- the whole
 
--- A store may be restored: it is sound and nothing is pending.
-pub record CanRestore (wanted : Shape) (told : List ℕ → ℕ) (world : World) (shape : Shape) (pairs : Pairs)
-    : Type 0 where
-  pub can : CanBegin wanted told world shape pairs
-  pub others : (mark : Mark) → in_force (image_of world) ≡ Started mark → OthersStay mark world.ends
-
--- the state in which it is
+-- the state of a store that may be restored: it is sound and nothing is pending
 abbrev pub left_state : {wanted : Shape} {told : List ℕ → ℕ} {world : World} {shape : Shape} {pairs : Pairs}
-    → CanRestore wanted told world shape pairs → State
-left_state {wanted} {told} {world} {shape} {pairs} can = start_state wanted world shape pairs can.can.sound
+    → CanBegin wanted told world shape pairs → State
+left_state {wanted} {told} {world} {shape} {pairs} can = start_state wanted world shape pairs can.sound
 
 -- whatever a crash leaves, as long as no sum is right by chance, is sound and holds this map
 abbrev pub CrashHolds : Shape → Shape → Pairs → World → Type 0

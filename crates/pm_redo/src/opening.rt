@@ -19,6 +19,7 @@ ghost use Rattle.pm_marks.specs.InForce.{Started, marks_of, replay_of};
 ghost use Rattle.pm_marks.specs.Slots.{IsMark};
 ghost use Rattle.pm_core.specs.Held.{in_force};
 ghost use Rattle.pm_core.specs.LogAlone.{image_of};
+ghost use Rattle.pm_core.specs.Starts.{CanBegin};
 ghost use Rattle.pm_core.specs.States.{State};
 ghost use Rattle.pm_redo.specs.Differences.{difference_from};
 ghost use Rattle.pm_redo.specs.Ending.{BeginsSteps};
@@ -29,7 +30,7 @@ ghost use Rattle.pm_redo.specs.Rebuilding.{CanNotRebuild, IsSame};
 ghost use Rattle.pm_redo.specs.Restoring.{found_shape, shape_of, first_frame, first_of, first_kept};
 ghost use Rattle.pm_redo.specs.Restoring.{segment_bytes_of, ComparesShape, IsBadRestore, LeavesStore};
 ghost use Rattle.pm_redo.specs.Restoring.{IsBadFirst, IsBadFirstFor, IsBadLog, IsPastEnd, CutsLog, IsLeft};
-ghost use Rattle.pm_redo.specs.Restoring.{Restores, CanRestore, left_state, IsBase, RestoresWithin};
+ghost use Rattle.pm_redo.specs.Restoring.{Restores, left_state, IsBase, RestoresWithin};
 ghost use Rattle.pm_redo.specs.Restoring.{RestoresAll};
 
 use crate::difference::difference_from;
@@ -92,11 +93,11 @@ pub fn restore<H: Host>(alloc: Global, host: &mut H, wanted: &Shape) -> Result<B
 
     // What it makes of a sound store with nothing pending, and what a crash leaves meanwhile.
     ensures within { H.Device.tells → (told : List ℕ → ℕ) (shape : Shape) (pairs : Pairs)
-        → (can : CanRestore wanted.now told (H.Device.history host.old).world shape pairs)
+        → (can : CanBegin wanted.now told (H.Device.history host.old).world shape pairs)
         → RestoresWithin wanted.now told shape pairs (left_state can)
         (H.Device.history host.old) (H.Device.history host.new) }
     ensures restored { H.Device.tells → (told : List ℕ → ℕ) (shape : Shape) (pairs : Pairs)
-        → (can : CanRestore wanted.now told (H.Device.history host.old).world shape pairs)
+        → (can : CanBegin wanted.now told (H.Device.history host.old).world shape pairs)
         → OnOk result (RestoresAll wanted.now told (in_force (image_of (H.Device.history host.old).world))
         shape pairs (left_state can) (H.Device.history host.old) (H.Device.history host.new)) }
     ensures cause { HasOpenFault (H.Device.state host.old) (H.Device.state host.new) result }

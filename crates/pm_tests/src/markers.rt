@@ -224,10 +224,10 @@ fn marks_left(rt: &impl AllocGlobal, host: &MemHost, pick: Pick) -> Result<Marks
     marks_on(rt, host.image(rt.alloc(), pick)?)
 }
 
-/// Whether a crash with this pick leaves a marker whose write was stopped at this call: the first call writes
-/// it, and the second one forces it.
+/// Whether a crash with this pick leaves a marker whose write was stopped at this call: the first call reads
+/// whether the first slot is there, the second one writes the marker, and the third one forces it.
 fn is_written(stop: u64, pick: Pick) -> bool {
-    stop > 2 || (stop == 2 && pick == Pick::Kept)
+    stop > 3 || (stop == 3 && pick == Pick::Kept)
 }
 
 /// A host that was stopped at this call in the start of checkpoint 2.
@@ -239,7 +239,7 @@ fn stop_in_start(rt: &impl AllocGlobal, stop: u64) -> Result<MemHost, Fail> {
 
 #[test]
 fn a_crash_in_a_start_leaves_the_one_before_or_it(rt: HostRuntime) -> Result<(), Fail> {
-    for stop in 1..4 {
+    for stop in 1..5 {
         let host = stop_in_start(&rt, stop)?;
         for pick in PICKS {
             let wanted = if is_written(stop, pick) {
@@ -262,7 +262,7 @@ fn stop_in_end(rt: &impl AllocGlobal, stop: u64) -> Result<MemHost, Fail> {
 
 #[test]
 fn a_crash_in_an_end_leaves_it_whole_or_none(rt: HostRuntime) -> Result<(), Fail> {
-    for stop in 1..4 {
+    for stop in 1..5 {
         let host = stop_in_end(&rt, stop)?;
         for pick in PICKS {
             let wanted = if is_written(stop, pick) {
@@ -273,5 +273,33 @@ fn a_crash_in_an_end_leaves_it_whole_or_none(rt: HostRuntime) -> Result<(), Fail
             assert_eq!(rt; marks_left(&rt, &host, pick)?, wanted, "{stop} {pick:?}");
         }
     }
+    Ok(())
+}
+
+/// The number of a checkpoint whose slot has zero for its last byte.
+const ZERO_AT_LAST: u32 = 546;
+
+/// A disk whose file of start markers has so many bytes of that slot.
+fn disk_cut(rt: &impl AllocGlobal, count: usize) -> Result<MemDisk, Fail> {
+    let whole = disk_with(rt, &[ZERO_AT_LAST], &[])?;
+    let starts = bytes_of(rt, &whole, STARTS)?;
+    disk_of(rt, starts.get(..count).unwrap_or(b""), b"")
+}
+
+/// What is in force once checkpoint 1 has begun there.
+fn begun_over(rt: &impl AllocGlobal, disk: MemDisk) -> Result<Marks, Fail> {
+    let mut host = host_over(rt, disk, None)?;
+    write_starts(&mut host, &[1])?;
+    marks_left(rt, &host, Pick::Lost)
+}
+
+#[test]
+fn a_part_of_a_slot_is_not_filled_up(rt: HostRuntime) -> Result<(), Fail> {
+    for count in 0..64 {
+        let begun = begun_over(&rt, disk_cut(&rt, count)?)?;
+        assert_eq!(rt; begun, started(1), "{count}");
+    }
+    let whole = begun_over(&rt, disk_cut(&rt, 64)?)?;
+    assert_eq!(rt; whole, started(ZERO_AT_LAST));
     Ok(())
 }

@@ -9,4 +9,4 @@ pub returns-clause-held : goal.returns-clause-held
 returns-clause-held c = λ wanted told store s world runs. all_held store.shape runs.frames runs.files store.pages store.logged runs.tracks
 
 pub returns-clause-checkpoint : goal.returns-clause-checkpoint
-returns-clause-checkpoint c = λ wanted told store s world runs numbered segments starts ends. may_checkpoint wanted told store s world runs numbered segments starts ends
+returns-clause-checkpoint c = λ wanted told store s world runs numbered segments. may_checkpoint wanted told store s world runs numbered segments

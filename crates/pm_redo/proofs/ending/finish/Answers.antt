@@ -1,8 +1,8 @@
 use Rattle.std.proofs.lemmas.Result.{on_ok_weaker}
 use Rattle.pm_types.specs.declared.limits.TheConstants.{PARTITIONS_MAX}
-use Rattle.pm_core.specs.Calls.{force_steps, finish_steps}
+use Rattle.pm_core.specs.Calls.{end_steps, force_steps, finish_steps}
 use Rattle.pm_core.specs.Machine.{states}
-use Rattle.pm_core.proofs.Making.{end_steps, end_moments, moments_first, moments_joined, world_joined, broke_off}
+use Rattle.pm_core.proofs.Making.{end_moments, moments_first, moments_joined, world_joined, broke_off}
 use Rattle.pm_redo.proofs.ending.finish.Goals as goal
 
 pub returns-in_err-force_parts-clause-steps : goal.returns-in_err-force_parts-clause-steps

@@ -3,10 +3,10 @@ use Rattle.pm_types.specs.declared.limits.TheConstants.{PARTITIONS_MAX}
 use Rattle.pm_types.specs.declared.page_id.PageId.{PageId}
 use Rattle.pm_types.specs.declared.shape.Mark.{Mark}
 use Rattle.pm_disk.specs.Moments.{AllMoments}
-use Rattle.pm_core.specs.Calls.{MakesPrefix, force_steps, finish_steps}
+use Rattle.pm_core.specs.Calls.{MakesPrefix, end_steps, force_steps, finish_steps}
 use Rattle.pm_core.specs.Machine.{states, worlds}
 use Rattle.pm_core.specs.PageSets.{Running}
-use Rattle.pm_core.proofs.Making.{end_steps, end_moments, moments_first, moments_joined, world_joined, broke_off}
+use Rattle.pm_core.proofs.Making.{end_moments, moments_first, moments_joined, world_joined, broke_off}
 use Rattle.pm_core.proofs.checkpoint.Begun.finish.Goals as goal
 
 pub returns-in_err-force_parts-clause-steps : goal.returns-in_err-force_parts-clause-steps
