@@ -2,8 +2,10 @@
 #![tactic(auto)]
 
 mod base;
+mod cutting;
 mod difference;
 mod ending;
+mod found;
 pub mod laws;
 mod log_end;
 mod log_pages;

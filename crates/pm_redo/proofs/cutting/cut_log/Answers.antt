@@ -7,7 +7,7 @@ use Rattle.pm_records.specs.LogSteps.{DoesSteps, cut_steps, world_after}
 use Rattle.pm_redo.specs.LogEnds.{LogEndsAt}
 use Rattle.pm_redo.specs.Rebuilding.{IsSame}
 use Rattle.pm_redo.proofs.RestoringSteps.{one_end, end_within, read_then, read_and_cut, on_err}
-use Rattle.pm_redo.proofs.opening.cut_log.Goals as goal
+use Rattle.pm_redo.proofs.cutting.cut_log.Goals as goal
 
 pub cut_tail-requires-clause-long : goal.cut_tail-requires-clause-long
 cut_tail-requires-clause-long g c t =

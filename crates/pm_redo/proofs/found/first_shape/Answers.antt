@@ -4,7 +4,7 @@ use Rattle.pm_records.specs.Logs.{place}
 use Rattle.pm_segments.specs.Scans.{Scanned, frame_ahead}
 use Rattle.pm_redo.proofs.RangeReads.{first_found}
 use Rattle.pm_redo.proofs.Restored.{no_restart, bad_place}
-use Rattle.pm_redo.proofs.opening.first_shape.Goals as goal
+use Rattle.pm_redo.proofs.found.first_shape.Goals as goal
 
 pub returns-in-Some-clause-bad : goal.returns-in-Some-clause-bad
 returns-in-Some-clause-bad g c t at is =

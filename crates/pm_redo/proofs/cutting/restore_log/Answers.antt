@@ -10,7 +10,7 @@ use Rattle.pm_redo.specs.Restoring.{IsLeft, IsBadLog, Restores}
 use Rattle.pm_redo.proofs.Restored.{is_ended, no_start}
 use Rattle.pm_redo.proofs.RestoringSteps.{begins_cut, cut_world, cut_restores}
 use Rattle.pm_redo.proofs.StartMarks.{is_started}
-use Rattle.pm_redo.proofs.opening.restore_log.Goals as goal
+use Rattle.pm_redo.proofs.cutting.restore_log.Goals as goal
 
 pub returns-then-marks-clause-begun : goal.returns-then-marks-clause-begun
 returns-then-marks-clause-begun g c t wanted told s left =

@@ -10,7 +10,7 @@ use Rattle.pm_redo.specs.LogEnds.{LogEndsAt}
 use Rattle.pm_redo.specs.Rebuilding.{IsSame}
 use Rattle.pm_redo.specs.Restoring.{CutsLog, IsPastEnd}
 use Rattle.pm_redo.proofs.RestoringSteps.{begins_none, begins_cut, begins_then, restores_then, cut_world, cut_state, may_end}
-use Rattle.pm_redo.proofs.opening.restore_started.Goals as goal
+use Rattle.pm_redo.proofs.cutting.restore_started.Goals as goal
 
 pub returns-in_err-rebuilt-clause-begun : goal.returns-in_err-rebuilt-clause-begun
 returns-in_err-rebuilt-clause-begun g c t wanted told s left =

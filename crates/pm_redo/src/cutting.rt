@@ -1,0 +1,152 @@
+//! The log of a store that is restored, cut where it ends, and the end of its checkpoint.
+
+ghost use Rattle.std.specs.Prelude.{◌≡◌, ◌⊎◌, ◌≤◌, ℕ, List, None, IfOk, OnOk, IsErrOf, IfSome};
+ghost use Rattle.pm_types.specs.declared.limits.TheConstants.{SEGMENT_BYTES_MIN, SEGMENT_BYTES_MAX};
+ghost use Rattle.pm_types.specs.declared.place.Place.{Place};
+ghost use Rattle.pm_types.specs.declared.shape.Shape.{Shape};
+ghost use Rattle.pm_disk.specs.States.{IsUsable};
+ghost use Rattle.pm_frame.specs.declared.limits.TheConstants.{SEGMENT_END_MAX as last_end};
+ghost use Rattle.pm_records.specs.LogFiles.{contents};
+ghost use Rattle.pm_records.specs.LogSteps.{DoesSteps, cut_steps};
+ghost use Rattle.pm_segments.specs.Ends.{EndsThere};
+ghost use Rattle.pm_marks.specs.InForce.{Started, marks_of, replay_of};
+ghost use Rattle.pm_marks.specs.Slots.{IsMark};
+ghost use Rattle.pm_core.specs.Held.{in_force};
+ghost use Rattle.pm_core.specs.LogAlone.{image_of};
+ghost use Rattle.pm_core.specs.States.{State};
+ghost use Rattle.pm_redo.specs.Ending.{BeginsSteps};
+ghost use Rattle.pm_redo.specs.Faults.{HasStoreFault};
+ghost use Rattle.pm_redo.specs.LogEnds.{LogEndsAt};
+ghost use Rattle.pm_redo.specs.Rebuilding.{CanNotRebuild};
+ghost use Rattle.pm_redo.specs.Restoring.{first_of, first_kept, segment_bytes_of, IsBadLog};
+ghost use Rattle.pm_redo.specs.Restoring.{IsPastEnd, CutsLog, IsLeft, Restores};
+
+use crate::ending::end_checkpoint;
+use crate::found::FIRST;
+use crate::log_end::{log_end, reaches};
+use crate::log_pages::rebuild;
+use pm_disk::Host;
+use pm_marks::Marks;
+use pm_segments::Log;
+use pm_types::{Mark, Place, StoreFault};
+use std::alloc::Global;
+
+/// Cuts the log where it ends, and ends a checkpoint that has no end marker.
+pub(crate) fn restore_log<H: Host>(
+    alloc: Global,
+    host: &mut H,
+    marks: &Marks,
+    segment_bytes: u32,
+) -> Result<Log, StoreFault>
+    requires usable { IsUsable (H.Device.state host.old) }
+    requires marks { H.Device.tells
+        → marks.now ≡ marks_of (in_force (image_of (H.Device.history host.old).world)) }
+    requires fits { IfSome marks.now.start IsMark }
+    requires size_from { SEGMENT_BYTES_MIN ≤ segment_bytes }
+    requires size_to { segment_bytes ≤ SEGMENT_BYTES_MAX }
+    ensures log { H.Device.tells → IfOk result (CutsLog (contents (H.Device.history host.old).world.log)
+        (replay_of (in_force (image_of (H.Device.history host.old).world)))
+        (first_of (in_force (image_of (H.Device.history host.old).world)))
+        (segment_bytes_of (in_force (image_of (H.Device.history host.old).world)) segment_bytes)) }
+    ensures there { H.Device.tells → IfOk result (λ log. EndsThere log (H.Device.history host.new).world) }
+    ensures bad { H.Device.tells → (at : Place) → IsErrOf result (StoreFault.BadRecord at)
+        → IsBadLog (in_force (image_of (H.Device.history host.old).world))
+        (contents (H.Device.history host.old).world.log) at }
+    ensures untouched { H.Device.tells → (at : Place) → IsErrOf result (StoreFault.BadRecord at)
+        → (H.Device.history host.new).world ≡ (H.Device.history host.old).world }
+    ensures begun { H.Device.tells → (wanted : Shape) (told : List ℕ → ℕ) (s : State)
+        → IsLeft wanted told (in_force (image_of (H.Device.history host.old).world)) s
+        (H.Device.history host.old).world
+        → BeginsSteps told s (H.Device.history host.old) (H.Device.history host.new) }
+    ensures restored { H.Device.tells → (wanted : Shape) (told : List ℕ → ℕ) (s : State)
+        → IsLeft wanted told (in_force (image_of (H.Device.history host.old).world)) s
+        (H.Device.history host.old).world → OnOk result (Restores told
+        (in_force (image_of (H.Device.history host.old).world)) s
+        (H.Device.history host.old) (H.Device.history host.new)) }
+    ensures cause { HasStoreFault (H.Device.state host.old) (H.Device.state host.new) result }
+{
+    match marks.start {
+        Some(mark) => {
+            if marks.ended {
+                let first = first_kept(&mark);
+                cut_log(alloc, host, mark.replay, first, mark.shape.segment_bytes)
+            } else {
+                restore_started(alloc, host, &mark)
+            }
+        }
+        None => cut_log(alloc, host, FIRST, 1, segment_bytes),
+    }
+}
+
+// Cuts the log where it ends when it is read from the replay place.
+fn cut_log<H: Host>(
+    alloc: Global,
+    host: &mut H,
+    replay: Place,
+    first: u64,
+    segment_bytes: u32,
+) -> Result<Log, StoreFault>
+    requires usable { IsUsable (H.Device.state host.old) }
+    requires within { replay.off ≤ last_end }
+    requires kept { first ≤ replay.seg }
+    requires size_from { SEGMENT_BYTES_MIN ≤ segment_bytes }
+    requires size_to { segment_bytes ≤ SEGMENT_BYTES_MAX }
+    ensures log { H.Device.tells → IfOk result (CutsLog
+        (contents (H.Device.history host.old).world.log) replay first segment_bytes) }
+    ensures there { H.Device.tells → IfOk result (λ log. EndsThere log (H.Device.history host.new).world) }
+    ensures bad { H.Device.tells → (at : Place) → IsErrOf result (StoreFault.BadRecord at)
+        → IsPastEnd (contents (H.Device.history host.old).world.log) replay at }
+    ensures untouched { H.Device.tells → (at : Place) → IsErrOf result (StoreFault.BadRecord at)
+        → (H.Device.history host.new).world ≡ (H.Device.history host.old).world }
+    ensures steps { H.Device.tells → (end : Place)
+        → LogEndsAt (contents (H.Device.history host.old).world.log) replay end
+        → DoesSteps (H.Device.history host.old) (H.Device.history host.new) result cut_steps end }
+    ensures cause { HasStoreFault (H.Device.state host.old) (H.Device.state host.new) result }
+{
+    if !reaches(host, replay)? {
+        return Err(StoreFault::BadRecord(replay));
+    }
+    let end = log_end(alloc, host, replay)?;
+    Ok(Log::cut_tail(host, first, end, segment_bytes)?)
+}
+
+// Restores a store with a checkpoint that has no end marker.
+fn restore_started<H: Host>(alloc: Global, host: &mut H, mark: &Mark) -> Result<Log, StoreFault>
+    requires usable { IsUsable (H.Device.state host.old) }
+    requires mark { IsMark mark.now }
+    ensures log { H.Device.tells → IfOk result (CutsLog
+        (contents (H.Device.history host.old).world.log) mark.now.replay (first_kept mark.now)
+        mark.now.shape.segment_bytes) }
+    ensures there { H.Device.tells → IfOk result (λ log. EndsThere log (H.Device.history host.new).world) }
+    ensures bad { H.Device.tells → (at : Place) → IsErrOf result (StoreFault.BadRecord at)
+        → CanNotRebuild mark.now (contents (H.Device.history host.old).world.log) at
+        ⊎ IsPastEnd (contents (H.Device.history host.old).world.log) mark.now.replay at }
+    ensures untouched { H.Device.tells → (at : Place) → IsErrOf result (StoreFault.BadRecord at)
+        → (H.Device.history host.new).world ≡ (H.Device.history host.old).world }
+    ensures begun { H.Device.tells → (wanted : Shape) (told : List ℕ → ℕ) (s : State)
+        → IsLeft wanted told (Started mark.now) s (H.Device.history host.old).world
+        → BeginsSteps told s (H.Device.history host.old) (H.Device.history host.new) }
+    ensures restored { H.Device.tells → (wanted : Shape) (told : List ℕ → ℕ) (s : State)
+        → IsLeft wanted told (Started mark.now) s (H.Device.history host.old).world → OnOk result (Restores
+        told (Started mark.now) s (H.Device.history host.old) (H.Device.history host.new)) }
+    ensures cause { HasStoreFault (H.Device.state host.old) (H.Device.state host.new) result }
+{
+    let rebuilt = rebuild(alloc, host, mark)?;
+    let pages = rebuilt.pages(alloc)?;
+    let log = cut_log(
+        alloc,
+        host,
+        mark.replay,
+        first_kept(mark),
+        mark.shape.segment_bytes,
+    )?;
+    end_checkpoint(host, mark, &rebuilt, &pages)?;
+    Ok(log)
+}
+
+// The lowest segment that a start marker names.
+fn first_kept(mark: &Mark) -> u64
+    ensures { result ≡ first_kept mark.now }
+{
+    mark.from.seg.min(mark.begin.seg.min(mark.replay.seg))
+}
