@@ -28,7 +28,7 @@ use std::test::Fail;
 /// How far a crash may leave the store at least and at most, where this many calls were done. It is the number
 /// of its frames where no start marker is valid, 6 with a start marker, 7 with an end marker, and 8 where the
 /// first segment is gone besides.
-const BOUNDS: [(u32, u32); 29] = [
+const BOUNDS: [(u32, u32); 33] = [
     // The folder is bound, and the log is cut and forced. Each call that changes bytes of the log is the second
     // of two: the length of its segment is asked for before.
     (0, 0),
@@ -54,13 +54,18 @@ const BOUNDS: [(u32, u32); 29] = [
     (3, 4),
     (3, 5),
     (5, 5),
-    // The start marker is written and forced.
+    // The first slot of the start markers is looked for and gets zeros, and then the start marker is written
+    // and forced.
+    (5, 5),
+    (5, 5),
     (5, 6),
     (6, 6),
     // The page is written and forced.
     (6, 6),
     (6, 6),
-    // The end marker is written and forced.
+    // The same of the end marker.
+    (6, 6),
+    (6, 6),
     (6, 7),
     (7, 7),
     // The first segment is there, is removed, and that is forced.
@@ -238,13 +243,13 @@ fn run_until(rt: &impl AllocGlobal, stop: u64) -> Result<(MemHost, bool), Fail> 
     Ok((host.host, is_done))
 }
 
-// Twenty-eight calls are made: the checkpoint is in force from its start marker's force on, and its log is dropped
+// Thirty-two calls are made: the checkpoint is in force from its start marker's force on, and its log is dropped
 // only once its page is.
 #[test]
 fn each_crash_of_a_checkpoint_leaves_it_or_the_log_before_it(rt: HostRuntime) -> Result<(), Fail> {
     for (stop, (least, most)) in BOUNDS.iter().enumerate() {
         let (host, is_done) = run_until(&rt, stop as u64)?;
-        assert_eq!(rt; is_done, stop == 28);
+        assert_eq!(rt; is_done, stop == 32);
         look_at_crashes(&rt, &host, *least, *most)?;
     }
     Ok(())
