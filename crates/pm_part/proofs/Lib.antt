@@ -36,7 +36,6 @@ pub mod PairItems
 pub mod PairWalks
 pub mod PartCauses
 pub mod PlacedPages
-pub mod Quantified
 pub mod ReadOn
 pub mod ReadRows
 pub mod Relinked
