@@ -5,6 +5,7 @@ pub mod DeltaLaw
 pub mod EditedPages
 pub mod Exactly
 pub mod GrownPartitions
+pub mod KeptPages
 pub mod ListedKeys
 pub mod NextChanges
 pub mod PageReads
