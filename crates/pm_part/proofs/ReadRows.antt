@@ -1,18 +1,14 @@
 -- Rows that stand on data pages are rows of the partition.
-use Rattle.std.proofs.Common.{◌≡◌, ℕ, zero, suc, ◌+◌, ◌<◌, ◌≤◌, List, [], ◌∷◌, ◌++◌, Option, None, Some, refl, sym, ap, subst, ◌∙◌, inl, inr, arith}
-use Rattle.std.specs.List.{flat_map, range_with_len}
-use Rattle.std.proofs.lemmas.Bool.{cases_eq, cases_lt}
-use Rattle.pm_types.specs.declared.page_id.PageId.{PageId}
-use Rattle.pm_types.specs.Ids.{page_id, link}
+use Rattle.std.proofs.Common.{◌≡◌, ℕ, ◌<◌, List, Some, refl, sym, ap, ◌∙◌}
 use Rattle.pm_data.specs.Rows.{row_value}
 use Rattle.pm_data.specs.DataPages as data_page
 use Rattle.pm_data.specs.DataPages.{row_at}
-use Rattle.pm_pages.specs.Rows.{Partition, bytes_of, page_at, page_count, rows_from, rows_on, rows_of, row_of}
-use Rattle.pm_pages.proofs.RowsFrom.{rows_on-data}
+use Rattle.pm_pages.specs.Rows.{Partition, bytes_of, page_at, page_count, kind_of, rows_of}
 use Rattle.pm_pages.proofs.PageReads.{page_at-below}
+use Rattle.pm_pages.proofs.Quantified.{Holds}
+use Rattle.pm_pages.proofs.RowPlaces.{row_stands}
 use Rattle.pm_part.specs.Spots.{IsRowOn}
 use Rattle.pm_part.proofs.KeyedRows.{HasValue}
-use Rattle.pm_pages.proofs.Quantified.{Holds}
 
 -- a row of a page of the partition is one of its rows
 pub row_is_there : (part : ℕ) (pages : Partition) (i item cache : ℕ) (key row page : List ℕ) → i < page_count pages → pages i ≡ Some page → IsRowOn page item cache key row → Holds (HasValue cache key (row_value row)) (rows_of part pages)
