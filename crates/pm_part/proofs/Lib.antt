@@ -39,6 +39,7 @@ pub mod PlacedPages
 pub mod Quantified
 pub mod ReadOn
 pub mod ReadRows
+pub mod RefusedCommands
 pub mod Relinked
 pub mod RemovalSteps
 pub mod RemovedKeys
