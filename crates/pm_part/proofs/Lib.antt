@@ -38,6 +38,7 @@ pub mod PartCauses
 pub mod PlacedPages
 pub mod ReadOn
 pub mod ReadRows
+pub mod RefusedCommands
 pub mod Relinked
 pub mod RemovalSteps
 pub mod RemovedKeys
