@@ -20,7 +20,7 @@ use Rattle.pm_model.specs.Partitions.{part_of}
 use Rattle.pm_model.specs.Eval.{Pairs, cache_key, cache_key_cmp, pairs_among, pairs_of}
 use Rattle.pm_model.proofs.CacheKeys.{exact_cache_keys}
 use Rattle.pm_part.proofs.KeyedRows.{equal}
-use Rattle.pm_part.proofs.Quantified.{Each, each_of, all_of, each_map, each_join, each_left}
+use Rattle.pm_pages.proofs.Quantified.{Each, each_of, all_of, each_map, each_join, each_left}
 use Rattle.pm_core.specs.BasePages.{Partitions}
 use Rattle.pm_core.specs.Held.{AllWellFormed, pairs_in}
 use Rattle.pm_engine.specs.Merges.{HasRisingKeys}

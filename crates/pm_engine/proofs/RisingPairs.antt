@@ -16,7 +16,7 @@ use Rattle.std.proofs.lemmas.Map.Lookups.{exact_bytes}
 use Rattle.itertools.proofs.KMergeLemmas.{sorted-tail, sorted-cons}
 use Rattle.pm_tree.proofs.KeyOrder.{key_cases, equal, greater}
 use Rattle.pm_part.proofs.KeyedRows.{equal as is_tied}
-use Rattle.pm_part.proofs.Quantified.{Each, each_of, all_of}
+use Rattle.pm_pages.proofs.Quantified.{Each, each_of, all_of}
 use Rattle.pm_engine.specs.Merges.{is_below, HasRisingKeys}
 
 abbrev pub PairsList : Type 0

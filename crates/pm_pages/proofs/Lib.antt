@@ -5,12 +5,16 @@ pub mod DeltaLaw
 pub mod EditedPages
 pub mod Exactly
 pub mod GrownPartitions
+pub mod KeptPages
+pub mod ListedKeys
 pub mod NextChanges
 pub mod PageReads
 pub mod PassingLooks
 pub mod PassingPages
 pub mod PlainSteps
+pub mod Quantified
 pub mod ReadablePages
+pub mod RowPlaces
 pub mod RowsFrom
 pub mod SamePages
 pub mod SoundPages

@@ -2,7 +2,7 @@
 use Rattle.std.specs.Prelude.{◌≡◌, ◌≢◌, ◌≤◌, ◌<◌, ℕ, ◌+◌, Bool, true, false, List, [], ◌∷◌, Option, None, Some}
 use Rattle.std.specs.Prelude.{IsSome, IsSomeAnd, IsTrue, if◌then◌else◌, ◌==◌, length, find, unwrap_or}
 use Rattle.std.specs.Prelude.{suc, ◌||◌, ◌&&◌, nat_lt, nat_le}
-use Rattle.pm_types.specs.Spans.{Coverage}
+use Rattle.pm_types.specs.Spans.{Coverage, IsPatch}
 use Rattle.pm_pages.specs.declared.asked.Asked.{Asked}
 use Rattle.pm_pages.specs.Paged.{JoinsPatch, IsWhole}
 
@@ -38,10 +38,15 @@ abbrev pub patch_of : Option Asked → Option Coverage
 patch_of None = None
 patch_of (Some entry) = entry.patch
 
--- every patch is of pages of this size
-abbrev pub HaveSize : ℕ → List Asked → Type 0
-HaveSize size asked = (j : ℕ) (patch : Coverage) → patch_of (entry_of asked j) ≡ Some patch
-    → patch.page_size ≡ size
+-- the patch of a page of this size
+pub record IsPatchFor (size : ℕ) (patch : Coverage) : Type 0 where
+  pub fits : IsPatch patch
+  pub size_is : patch.page_size ≡ size
+
+-- every patch is that of a page of this size
+abbrev pub HavePatchesFor : ℕ → List Asked → Type 0
+HavePatchesFor size asked = (j : ℕ) (patch : Coverage) → patch_of (entry_of asked j) ≡ Some patch
+    → IsPatchFor size patch
 
 -- page i was asked for, and every other entry is as it was
 pub record RegistersPage (was now : List Asked) (i : ℕ) : Type 0 where
@@ -54,11 +59,14 @@ pub record RegistersPage (was now : List Asked) (i : ℕ) : Type 0 where
 pub record MakesEntry (page_size : ℕ) (entry : Asked) : Type 0 where
   pub lent : IsTrue entry.is_lent
   pub whole : IsSomeAnd entry.patch (IsWhole page_size)
+  pub fits : IsSomeAnd entry.patch IsPatch
 
--- an entry, with a patch joined to its own
+-- an entry, with a patch joined to its own; one that is the whole page stays so
 pub record NotesEntry (was : Asked) (patch : Coverage) (now : Asked) : Type 0 where
   pub lent : now.is_lent ≡ was.is_lent
   pub joins : IsSomeAnd now.patch (JoinsPatch was.patch patch)
+  pub fits : IsSomeAnd now.patch IsPatch
+  pub stays_whole : (size : ℕ) → IsSomeAnd was.patch (IsWhole size) → IsSomeAnd now.patch (IsWhole size)
 
 -- a patch covers a byte
 abbrev pub has_bytes : Coverage → Bool

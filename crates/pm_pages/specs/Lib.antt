@@ -4,6 +4,7 @@ pub mod Deltas
 pub mod Edits
 pub mod FileForms
 pub mod Growth
+pub mod KeptPages
 pub mod PageLists
 pub mod Paged
 pub mod Passes

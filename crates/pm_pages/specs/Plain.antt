@@ -1,12 +1,13 @@
 -- What contracts see of plain pages.
-use Rattle.std.specs.Prelude.{Vec, ◌≡◌, ℕ, ◌-◌, true, List, Option, None, Some, length, slice_get}
+use Rattle.std.specs.Prelude.{Vec, ◌≡◌, ℕ, ◌-◌, ◌<◌, ◌≤◌, true, List, Option, None, Some, IsSomeAnd, length}
+use Rattle.std.specs.Prelude.{slice_get}
 use Rattle.std.specs.Global.{Global}
 use Rattle.std.specs.Vec.{vec_capacity, with_item, with_items}
 use Rattle.pm_types.specs.declared.limits.TheConstants.{OP_PAGES}
 use Rattle.pm_types.specs.declared.page.Page.{Page}
 use Rattle.pm_pages.specs.declared.asked.Asked.{Asked}
 use Rattle.pm_pages.specs.declared.plain.PlainPages.{PlainPages}
-use Rattle.pm_pages.specs.Asked.{entry_of, is_asked, is_lent_in, patch_of}
+use Rattle.pm_pages.specs.Asked.{entry_of, is_asked, is_lent_in, patch_of, MakesEntry}
 use Rattle.pm_pages.specs.PageLists.{pages_in}
 use Rattle.pm_pages.specs.Paged.{Paged, NoneLent, SamePartition}
 use Rattle.pm_pages.specs.PlainRooms.{IsOrdered, AreReady}
@@ -60,11 +61,18 @@ abbrev pub ArePlainReady : PlainPages → Type 0
 ArePlainReady p = AreReady p.shape.page_size p.pages.items p.rooms.items p.asked.items
     (vec_capacity p.pages) (vec_capacity p.asked)
 
--- what no call changes
+-- page i was made anew since `ready`: it was lent, and its patch is the whole page
+abbrev pub IsMade : PlainPages → ℕ → Type 0
+IsMade p i = IsSomeAnd (entry_of p.asked.items i) (MakesEntry p.shape.page_size)
+
+-- What no call changes. No page goes, and one that comes was made: its patch is the whole page, and stays so.
 pub record KeepsPlain (p q : PlainPages) : Type 0 where
   pub shape : q.shape ≡ p.shape
   pub part : q.part ≡ p.part
   pub ready : ArePlainReady p → ArePlainReady q
+  pub stay : plain_count p ≤ plain_count q
+  pub come : (i : ℕ) → plain_count p ≤ i → i < plain_count q → IsMade q i
+  pub made : (i : ℕ) → IsMade p i → IsMade q i
 
 -- a page with these bytes
 abbrev pub refilled : Page → List ℕ → Page

@@ -1,5 +1,5 @@
 -- The laws of plain pages.
-use Rattle.std.proofs.Common.{◌≡◌, ℕ, ◌<◌, List, length, set, take, drop, ◌++◌, refl, sym, ap, subst}
+use Rattle.std.proofs.Common.{◌≡◌, ℕ, ◌<◌, ◌≤◌, List, length, set, take, drop, ◌++◌, refl, sym, ap, subst}
 use Rattle.std.proofs.Common.{◌∙◌, inl, inr, arith}
 use Rattle.std.specs.Prelude.{Vec, Option, None, Some, IsSome, IsTrue, All, slice_get}
 use Rattle.std.specs.Global.{Global}
@@ -17,10 +17,18 @@ use Rattle.pm_pages.specs.Asked.{entry_of, is_lent_in}
 use Rattle.pm_pages.specs.PageLists.{pages_in}
 use Rattle.pm_pages.specs.Paged.{with_page, WritesPage}
 use Rattle.pm_pages.specs.PlainRooms.{IsOfSize, AreReady}
-use Rattle.pm_pages.specs.Plain.{refilled, pages_with, plain_seen, plain_written, ArePlainReady, KeepsPlain}
+use Rattle.pm_pages.specs.Plain.{refilled, pages_with, plain_seen, plain_written, plain_count}
+use Rattle.pm_pages.specs.Plain.{ArePlainReady, KeepsPlain}
 
 pub kept_refl : (p : PlainPages) → KeepsPlain p p
-kept_refl p = record { shape = refl; part = refl; ready = λ is. is }
+kept_refl p = record {
+  shape = refl;
+  part = refl;
+  ready = λ is. is;
+  stay = omega arith;
+  come = λ i past below. absurd (omega (arith, past, below));
+  made = λ i is. is;
+}
 
 pub kept_then : (p q r : PlainPages) → KeepsPlain p q → KeepsPlain q r → KeepsPlain p r
 kept_then p q r x y = record {
@@ -28,6 +36,12 @@ kept_then p q r x y = record {
   part = y.part
       ∙ x.part;
   ready = λ is. y.ready (x.ready is);
+  stay = omega (arith, x.stay, y.stay);
+  come = λ i past below. elim (cases_lt i (plain_count q)) [
+    | inl lt ↦ y.made i (x.come i past lt)
+    | inr le ↦ y.come i le below
+  ];
+  made = λ i is. y.made i (x.made i is);
 }
 
 -- the pages, with one of them replaced
@@ -75,6 +89,7 @@ ready_set size pages rooms asked pages_room asked_room i page is fits =
       ordered = record {
         is_size = is.ordered.is_size;
         sized = All-set (IsOfSize size) pages i page fits is.ordered.sized;
+        indexed = omega (arith, long, is.ordered.indexed);
         zeros = is.ordered.zeros;
         there = λ j some. omega (arith, long, is.ordered.there j some);
         few = is.ordered.few;
@@ -131,6 +146,12 @@ ready_found size v i (Some page) bytes rooms asked asked_room is lt long ready =
     ready_set size v.items rooms asked (vec_capacity v) asked_room i (refilled page bytes) ready
     (ap length same ∙ long)
 
+-- as many pages as before
+count_found : (v : Vec Page Global) (i : ℕ) (o : Option Page) (bytes : List ℕ)
+    → length (pages_with v i o bytes).items ≡ length v.items
+count_found v i None bytes = refl
+count_found v i (Some page) bytes = length-set v.items i (refilled page bytes)
+
 pub kept_written : (p : PlainPages) (i : ℕ) (bytes : List ℕ) → ArePlainReady p
     → IsTrue ((plain_seen p).lent i) → length bytes ≡ (plain_seen p).page_size
     → KeepsPlain p (plain_written p i bytes)
@@ -140,6 +161,10 @@ kept_written p i bytes ready lent long = record {
   ready = λ is. ready_found p.shape.page_size p.pages i
       (slice_get p.pages.items i) bytes p.rooms.items p.asked.items (vec_capacity p.asked) refl
       (is.ordered.there i (lent_asked (entry_of p.asked.items i) lent)) long is;
+  stay = omega (arith, count_found p.pages i (slice_get p.pages.items i) bytes);
+  come = λ j past below. absurd
+      (omega (arith, past, below, count_found p.pages i (slice_get p.pages.items i) bytes));
+  made = λ j is. is;
 }
 
 -- a page below the number of pages is there

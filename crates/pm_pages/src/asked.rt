@@ -1,13 +1,13 @@
 //! The pages that were asked for since `ready`, with their patches.
 
 ghost use Rattle.std.specs.Prelude.{◌≡◌, ℕ, ◌+◌, ◌<◌, ◌≤◌, ◌⊎◌, ◌++◌, [], ◌∷◌, true, Option, Some};
-ghost use Rattle.std.specs.Prelude.{IsSome, IsSomeAnd, IfSome, length};
+ghost use Rattle.std.specs.Prelude.{IsSome, IsSomeAnd, IfSome, IsTrue, length};
 ghost use Rattle.std.specs.Option.{option_copied};
 ghost use Rattle.std.specs.Vec.{vec_capacity};
 ghost use Rattle.pm_types.specs.PageSizes.{IsPageSize};
-ghost use Rattle.pm_types.specs.Spans.{Covers};
+ghost use Rattle.pm_types.specs.Spans.{AlsoCovers, Covers, IsPatch};
 ghost use Rattle.pm_pages.specs.Paged.{JoinsPatch};
-ghost use Rattle.pm_pages.specs.Asked.{to_read, entry_of, position_of, entry_or_new, HaveSize};
+ghost use Rattle.pm_pages.specs.Asked.{to_read, entry_of, position_of, entry_or_new, HavePatchesFor};
 ghost use Rattle.pm_pages.specs.Asked.{RegistersPage, MakesEntry, NotesEntry, patch_of, is_changed};
 ghost use Rattle.pm_pages.specs.Asked.{IsNextChanged, is_below, lower_of};
 
@@ -99,6 +99,8 @@ pub fn make(asked: &mut Vec<Asked>, index: u32, page_size: u32)
     let position = ask(asked, index);
     let mut whole = Patch::none(page_size);
     whole.add(0, page_size as u16);
+    // What every patch keeps.
+    let _ranges = whole.len();
     let entry = &mut asked[position];
     entry.is_lent = true;
     entry.patch = Some(whole);
@@ -107,7 +109,7 @@ pub fn make(asked: &mut Vec<Asked>, index: u32, page_size: u32)
 /// Joins a patch to that of a page which was asked for.
 pub fn note(asked: &mut Vec<Asked>, index: u32, patch: &Patch)
     requires there { IsSome (entry_of asked.old.items index) }
-    requires size { HaveSize patch.now.page_size asked.old.items }
+    requires patches { HavePatchesFor patch.now.page_size asked.old.items }
     ensures entry { IsSomeAnd (entry_of asked.new.items index)
         (NotesEntry (entry_or_new asked.old.items index) patch.now) }
     ensures registers { RegistersPage asked.old.items asked.new.items index }
@@ -118,19 +120,34 @@ pub fn note(asked: &mut Vec<Asked>, index: u32, patch: &Patch)
     asked[position].patch = Some(joined);
 }
 
-// The patch that covers what both cover.
+// The patch that covers what both cover. One that is the whole page stays so.
 fn joined(old: &Option<Patch>, patch: &Patch) -> Patch
     requires { IfSome old.now (λ old. old.page_size ≡ patch.now.page_size) }
-    ensures { JoinsPatch old.now patch.now result }
+    ensures joins { JoinsPatch old.now patch.now result }
+    ensures fits { IsPatch result }
+    ensures whole { IfSome old.now (λ old. IsTrue old.whole → IsTrue result.whole) }
 {
+    // What every patch keeps.
+    let _ranges = patch.len();
     match old {
         None => patch.copy(),
-        Some(old) => {
-            let mut both = old.copy();
-            both.join(patch);
-            both
-        }
+        Some(old) => join(old, patch),
     }
+}
+
+// A patch, and what another one covers besides.
+fn join(old: &Patch, patch: &Patch) -> Patch
+    requires size { old.now.page_size ≡ patch.now.page_size }
+    requires fits { IsPatch patch.now }
+    ensures joins { AlsoCovers old.now result (Covers patch.now) }
+    ensures fits { IsPatch result }
+    ensures whole { IsTrue old.now.whole → IsTrue result.whole }
+{
+    let _ranges_before = old.len();
+    let mut both = old.copy();
+    both.join(patch);
+    let _ranges = both.len();
+    both
 }
 
 /// The lowest index, from `from` on, of a page that was changed.

@@ -29,6 +29,6 @@ pub use row::Row;
 pub use sealing::{seal, unseal};
 pub use spare::{give_page, new_page};
 pub use well_formed::{
-    all_pass, bucket_chain, has_chain, has_keys_once, has_reuse_chain, is_tree, is_well_formed,
-    page_count, reuse_chain, rows_of,
+    all_pass, bucket_chain, has_chain, has_reuse_chain, is_tree, is_well_formed, page_count,
+    reuse_chain, rows_of,
 };

@@ -1,6 +1,6 @@
 //! The pages of a partition as a list in memory.
 
-ghost use Rattle.std.specs.Prelude.{◌≡◌, ℕ, ◌+◌, ◌<◌, ◌≤◌, ◌++◌, [], ◌∷◌, None, Some, IfOk, OnOk};
+ghost use Rattle.std.specs.Prelude.{◌≡◌, ℕ, ◌+◌, ◌^◌, ◌<◌, ◌≤◌, ◌++◌, [], ◌∷◌, None, Some, IfOk, OnOk};
 ghost use Rattle.std.specs.Prelude.{OnErr, MatchOption, All, length, replicate};
 ghost use Rattle.std.specs.Vec.{vec_capacity};
 ghost use Rattle.std.specs.Borrow.{sem, Lends, Array, u8};
@@ -49,7 +49,7 @@ impl PlainPages {
         PlainPages::of(alloc, shape, part, Vec::new(alloc))
     }
 
-    /// These pages, of a partition with this number, in a store of this shape.
+    /// These pages, of a partition with this number, in a store of this shape. Each has an index of 32 bits.
     pub fn of(
         alloc: Global,
         shape: &Shape,
@@ -58,6 +58,7 @@ impl PlainPages {
     ) -> Result<PlainPages, AllocError>
         requires size { IsPageSize shape.now.page_size }
         requires sized { All (IsOfSize shape.now.page_size) pages.items }
+        requires indexed { length pages.items ≤ 2 ^ 32 }
         ensures plain { IfOk result ArePlain }
         ensures shows { IfOk result (λ made. shown made ≡ record {
           page_size = shape.now.page_size;

@@ -136,16 +136,17 @@ fn lay(rt: &impl Abort, page: &mut [u8], at: u16, bytes: &[u8]) {
     page[from..from + bytes.len()].copy_from_slice(bytes);
 }
 
-// Whether all pages pass, and the keys, the chain of bucket 15 and the reuse chain are as they have to be.
+// Whether all pages pass, the chain of bucket 15 and the reuse chain are as they have to be, and the partition is
+// well formed.
 fn tests_of(alloc: Global, pages: &[Page]) -> Result<(bool, bool, bool, bool), AllocError> {
+    let whole = is_well_formed(alloc, &SHAPE, 0, pages)?;
     if !all_pass(&SHAPE, 0, pages) {
-        return Ok((false, false, false, false));
+        return Ok((false, false, false, whole));
     }
-    let rows = rows_of(alloc, 0, pages)?;
-    let keys = has_keys_once(&SHAPE, 0, pages, rows.as_slice());
     let chain = has_chain(alloc, pages, 15)?;
     let reuse = reuse_chain(alloc, pages)?;
-    Ok((true, keys, chain, has_reuse_chain(pages, reuse.as_slice())))
+    let has_reuse = has_reuse_chain(pages, reuse.as_slice());
+    Ok((true, chain, has_reuse, whole))
 }
 
 #[test]
@@ -179,63 +180,77 @@ fn one_wrong_byte_of_a_partition_is_found(rt: HostRuntime) -> Result<(), Fail> {
             0,
             168,
             b"\x03",
-            (true, false, true, true),
+            (true, true, true, false),
             "a row too many in the count",
         ),
         (
             1,
             1016,
             b"a",
-            (true, false, true, true),
+            (true, true, true, false),
             "a key that stands twice",
+        ),
+        (
+            2,
+            104,
+            b"\x01",
+            (true, true, true, false),
+            "an item that names another row",
+        ),
+        (
+            2,
+            33,
+            b"A",
+            (true, true, true, false),
+            "a key that no row has",
         ),
         (
             0,
             156,
             b"\x00",
-            (true, true, false, true),
+            (true, false, true, false),
             "a data page in no chain",
         ),
         (
             0,
             152,
             b"\x01\x00\x00\x00\x00",
-            (true, true, false, true),
+            (true, false, true, false),
             "a data page in another chain",
         ),
         (
             1,
             16,
             b"\x02",
-            (true, true, false, true),
+            (true, false, true, false),
             "a page before the first",
         ),
         (
             1,
             20,
             b"\x01",
-            (true, true, false, true),
+            (true, false, true, false),
             "a chain that turns",
         ),
         (
             0,
             156,
             b"\x02",
-            (true, true, false, true),
+            (true, false, true, false),
             "a leaf in a chain",
         ),
         (
             0,
             160,
             b"\x02",
-            (true, true, true, false),
+            (true, true, false, false),
             "a leaf in the reuse chain",
         ),
         (
             3,
             16,
             b"\x01",
-            (true, true, true, false),
+            (true, true, false, false),
             "a data page after a reuse page",
         ),
     ];

@@ -14,7 +14,6 @@ mod trees;
 
 pub use chains::{bucket_chain, has_chain, has_reuse_chain, reuse_chain};
 pub use deciding::is_well_formed;
-pub use keys::has_keys_once;
 pub use listed::page_count;
 pub use passing::all_pass;
 pub use rows::rows_of;

@@ -20,7 +20,7 @@ use Rattle.pm_pages.specs.SoundPages.{PassesAll}
 use Rattle.pm_tree.proofs.MapLists.{get_found}
 use Rattle.pm_tree.proofs.SoundLooks.{tree_some}
 use Rattle.pm_part.proofs.KeyedRows.{HasKey}
-use Rattle.pm_part.proofs.Quantified.{Holds, Each, each_of, all_of, holds_of, any_of}
+use Rattle.pm_pages.proofs.Quantified.{Holds, Each, each_of, all_of, holds_of, any_of}
 
 -- a cache has an index, which lists its rows
 pub record HasIndex (pages : Partition) (rows : List Row) (cache : ℕ) : Type 0 where

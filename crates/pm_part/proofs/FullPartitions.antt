@@ -15,7 +15,7 @@ use Rattle.pm_pages.specs.declared.row.Row.{Row}
 use Rattle.pm_pages.specs.RowMaps.{map_of}
 use Rattle.pm_pages.specs.WellFormed.{AreDifferent}
 use Rattle.pm_part.proofs.KeyedRows.{HasKey, get_absent}
-use Rattle.pm_part.proofs.Quantified.{Holds, Each, each_of}
+use Rattle.pm_pages.proofs.Quantified.{Holds, Each, each_of}
 use Rattle.pm_part.proofs.OneMore.{EachPair, each_pair_of}
 use Rattle.pm_part.proofs.RowKeys.{HasNoRow, no_row_in, row_or_none}
 use Rattle.pm_part.proofs.MappedRows.{contains_key_there, contains_key_absent}

@@ -14,7 +14,7 @@ use Rattle.pm_pages.specs.WellFormed.{AreDifferent}
 use Rattle.pm_tree.specs.Maps.{by_order}
 use Rattle.pm_tree_del.specs.Maps.{remove_in}
 use Rattle.pm_free.specs.Placed.{HasOneMore}
-use Rattle.pm_part.proofs.Quantified.{Each, each_of, holds_of}
+use Rattle.pm_pages.proofs.Quantified.{Each, each_of, holds_of}
 use Rattle.pm_part.proofs.RowKeys.{once_less}
 use Rattle.pm_part.proofs.ListedRows.{lists_taken, lists_other_taken}
 use Rattle.pm_part.proofs.TreeSteps.{set_at, set_here, set_other, lists_set}

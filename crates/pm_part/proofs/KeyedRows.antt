@@ -13,7 +13,7 @@ use Rattle.pm_model.proofs.CacheKeys.{value_at, get_value, exact_cache_keys, cac
 use Rattle.pm_pages.specs.declared.row.Row.{Row}
 use Rattle.pm_pages.specs.RowMaps.{entry_of, map_of}
 use Rattle.pm_pages.specs.WellFormed.{AreDifferent}
-use Rattle.pm_part.proofs.Quantified.{Holds, Each, first_pairs, later_pairs}
+use Rattle.pm_pages.proofs.Quantified.{Holds, Each, first_pairs, later_pairs}
 
 -- the row of a key of a cache
 pub record HasKey (cache : ℕ) (key : List ℕ) (row : Row) : Type 0 where

@@ -36,7 +36,7 @@ use Rattle.pm_part.proofs.SameIndexes.{index_below}
 use Rattle.pm_part.proofs.Layouts.{data_one, data_none, in_index}
 use Rattle.pm_part.proofs.Levels.{levels_are}
 use Rattle.pm_part.proofs.PlacedPages.{all_chains, chains_none, chains_once, placed_times}
-use Rattle.pm_part.proofs.Quantified.{Holds, Each, each_of, holds_of}
+use Rattle.pm_pages.proofs.Quantified.{Holds, Each, each_of, holds_of}
 
 abbrev bit : Bool → ℕ
 bit b = if b then 1 else 0

@@ -36,9 +36,9 @@ pub mod PairItems
 pub mod PairWalks
 pub mod PartCauses
 pub mod PlacedPages
-pub mod Quantified
 pub mod ReadOn
 pub mod ReadRows
+pub mod RefusedCommands
 pub mod Relinked
 pub mod RemovalSteps
 pub mod RemovedKeys

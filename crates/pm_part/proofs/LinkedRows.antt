@@ -19,42 +19,16 @@ use Rattle.pm_pages.specs.Paged.{Paged}
 use Rattle.pm_pages.proofs.PageReads.{page_at-below}
 use Rattle.pm_pages.proofs.PassingLooks.{meta_passes, page_passes, page_there}
 use Rattle.pm_pages.proofs.ReadablePages.{passes_read}
+use Rattle.pm_pages.proofs.RowPlaces.{StandsAt, all_stand, live_row}
 use Rattle.pm_pages.proofs.StoredPages.{count_small, meta_there}
 use Rattle.pm_tree.specs.Indexes.{as_link}
 use Rattle.pm_part.specs.Runs.{IsPartitionOf}
 use Rattle.pm_part.specs.Spots.{IsRowOn}
 use Rattle.pm_part.specs.PairReads.{WasRead}
 use Rattle.pm_part.specs.PairFaults.{NamedNoRow}
-use Rattle.pm_part.proofs.NamedRows.{rows_each}
-use Rattle.pm_part.proofs.Quantified.{Holds, Each, holds_of, each_left}
+use Rattle.pm_pages.proofs.Quantified.{Each, holds_of, each_left, meets}
 use Rattle.pm_part.proofs.ToldPairs.{passes_of}
 use Rattle.pm_part.proofs.TreeLeaves.{page_told}
-
--- where a row of the partition stands
-pub record StandsAt (part : ℕ) (pages : Partition) (row : Row) : Type 0 where
-  pub at : ℕ
-  pub item : ℕ
-  pub bytes : List ℕ
-  pub is : row ≡ row_of (link (page_id part at) item) bytes
-  pub below : at < page_count pages
-  pub kind : kind_of (page_at pages at) ≡ DATA_KIND
-  pub live : row_at (data_page.rows_of (page_at pages at)) item ≡ Some bytes
-
-all_stand : (part : ℕ) (pages : Partition) → Each (StandsAt part pages) (rows_of part pages)
-all_stand part pages = rows_each (StandsAt part pages) part pages (λ j k bytes lt kind live. record { at = j; item = k; bytes = bytes; is = refl; below = lt; kind = kind; live = live })
-
-meets : {A : Type 0} (P Q : A → Type 0) (C : Type 0) (xs : List A) → Each P xs → Holds Q xs → ((x : A) → P x → Q x → C) → C
-meets P Q C [] each any then = absurd any
-meets P Q C (x ∷ xs) each any then = elim any [ inl here ↦ then x each.0 here | inr later ↦ meets P Q C xs each.1 later then ]
-
--- the bytes of an item of a page are a row
-live_row : (page : List ℕ) (item : ℕ) (bytes : List ℕ) → IsDataPage page → row_at (data_page.rows_of page) item ≡ Some bytes → IsRow bytes
-live_row page item bytes is live =
-    let there = live_item page item (ap is_some live) in
-    elim (is.rows.each item there.0) [
-      | inl empty ↦ absurd (false≢true (sym there.1 ∙ empty))
-      | inr holds ↦ (let same = sym (get_or-rows_of page item None there.0 ∙ row_in_live page (slot_at page item) there.1) ∙ live in subst IsRow (cc same) holds.row)
-    ]
 
 -- the first page is no data page, and any other of this kind reads as one
 data_page_is : (shape : Shape) (a : Paged) (i : ℕ) → IsPartitionOf shape a → i < page_count a.pages → kind_of (page_at a.pages i) ≡ DATA_KIND → (1 ≤ i) × IsDataPage (page_at a.pages i)

@@ -19,7 +19,7 @@ use Rattle.pm_tree.proofs.MapLists.{put_before}
 use Rattle.pm_tree.proofs.MapLaws.{put_rising, get_put_here, get_put_other}
 use Rattle.pm_tree_del.specs.Maps.{remove_in}
 use Rattle.pm_tree_del.proofs.RemovedItems.{Rises, rises_from, remove_rising, get_remove_here, get_remove_other}
-use Rattle.pm_part.proofs.Quantified.{Each}
+use Rattle.pm_pages.proofs.Quantified.{Each}
 use Rattle.pm_part.proofs.RowKeys.{HasNoRow, same_key, each_less, each_one, each_more, holds_one, holds_more, holds_cases, no_other_row}
 use Rattle.pm_part.proofs.RowItems.{HasLink, maps_rows, lists_rows}
 

@@ -16,7 +16,7 @@ use Rattle.pm_pages.specs.RowMaps.{entry_of, map_of}
 use Rattle.pm_pages.specs.WellFormed.{AreDifferent}
 use Rattle.pm_free.specs.Placed.{HasOneMore}
 use Rattle.pm_part.proofs.KeyedRows.{HasKey, HasValue, value_there, value_absent, get_there, get_absent}
-use Rattle.pm_part.proofs.Quantified.{Holds}
+use Rattle.pm_pages.proofs.Quantified.{Holds}
 use Rattle.pm_part.proofs.RowKeys.{HasNoRow, holds_one, no_other_row, once_replaced}
 
 tied : (o : Ordering) → is_eq o ≡ true → o ≡ Equal

@@ -14,7 +14,7 @@ use Rattle.pm_pages.specs.RowMaps.{entry_of, map_of}
 use Rattle.pm_pages.specs.WellFormed.{AreDifferent}
 use Rattle.pm_part.specs.OneMap.{HasSameRows, HasEachRow, HasNoOther}
 use Rattle.pm_part.proofs.KeyedRows.{HasKey, HasValue, equal, get_there, get_absent}
-use Rattle.pm_part.proofs.Quantified.{Holds, Each, each_of, all_of, each_map, holds_of}
+use Rattle.pm_pages.proofs.Quantified.{Holds, Each, each_of, all_of, each_map, holds_of}
 use Rattle.pm_part.proofs.RowKeys.{row_or_none}
 
 holds_map : {A : Type 0} (P Q : A → Type 0) (xs : List A) → ((x : A) → P x → Q x) → Holds P xs → Holds Q xs

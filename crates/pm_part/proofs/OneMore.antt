@@ -1,7 +1,7 @@
 -- A list with one element more: what holds of its elements, of each and of some, and of each two.
 use Rattle.std.proofs.Common.{◌≡◌, zero, suc, ◌⊎◌, List, [], ◌∷◌, ◌++◌, length, refl, ap, inl, inr, arith}
 use Rattle.std.specs.Prelude.{AllPairs}
-use Rattle.pm_part.proofs.Quantified.{Holds, Each, all_of, first_pairs, later_pairs}
+use Rattle.pm_pages.proofs.Quantified.{Holds, Each, all_of, first_pairs, later_pairs}
 
 pub each_weaker : {A : Type 0} (P Q : A → Type 0) (xs : List A) → ((x : A) → P x → Q x) → Each P xs → Each Q xs
 each_weaker P Q [] f each = tt

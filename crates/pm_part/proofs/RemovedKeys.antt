@@ -17,7 +17,7 @@ use Rattle.pm_part.specs.Spots.{HasRowIn}
 use Rattle.pm_part.specs.Runs.{IsPartitionOf}
 use Rattle.pm_part.specs.Removals.{DropsKey, RemovesKey}
 use Rattle.pm_part.proofs.KeyedRows.{HasValue, get_there, get_absent}
-use Rattle.pm_part.proofs.Quantified.{Holds}
+use Rattle.pm_pages.proofs.Quantified.{Holds}
 use Rattle.pm_part.proofs.ReadRows.{row_is_there}
 use Rattle.pm_part.proofs.CacheIndexes.{HasIndex, no_row}
 

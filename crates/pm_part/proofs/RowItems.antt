@@ -14,7 +14,7 @@ use Rattle.pm_tree.specs.Nodes.{Keys}
 use Rattle.pm_tree.proofs.KeyOrder.{at_less, at_equal}
 use Rattle.pm_tree_del.proofs.RemovedItems.{Rises, rises_from}
 use Rattle.pm_part.proofs.KeyedRows.{HasKey}
-use Rattle.pm_part.proofs.Quantified.{Holds, Each, each_of, all_of, holds_of, any_of}
+use Rattle.pm_pages.proofs.Quantified.{Holds, Each, each_of, all_of, holds_of, any_of}
 use Rattle.pm_part.proofs.OneMore.{each_weaker, holds_weaker, met, each_among}
 use Rattle.pm_part.proofs.RowKeys.{HasNoRow}
 

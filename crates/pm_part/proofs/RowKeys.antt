@@ -8,7 +8,7 @@ use Rattle.pm_pages.specs.WellFormed.{AreDifferent}
 use Rattle.pm_free.specs.Placed.{HasOneMore}
 use Rattle.pm_tree.proofs.KeyOrder.{key_cases, not_below_itself}
 use Rattle.pm_part.proofs.KeyedRows.{HasKey}
-use Rattle.pm_part.proofs.Quantified.{Holds, Each, each_of, all_of}
+use Rattle.pm_pages.proofs.Quantified.{Holds, Each, each_of, all_of}
 use Rattle.pm_part.proofs.OneMore.{each_weaker, EachPair, each_pair_of, all_pairs_of, around_less, around_one, around_more, around_some, around_cases, around_length}
 
 -- no row of this cache has this key

@@ -7,8 +7,8 @@ use Rattle.pm_data.specs.declared.layout.TheConstants.{DATA_KIND}
 use Rattle.pm_pages.specs.declared.row.Row.{Row}
 use Rattle.pm_pages.specs.Rows.{Partition, page_at, page_count, kind_of, rows_of}
 use Rattle.pm_free.specs.Placed.{HasOneMore}
-use Rattle.pm_part.proofs.NamedRows.{rows_each}
-use Rattle.pm_part.proofs.Quantified.{Each}
+use Rattle.pm_pages.proofs.RowPlaces.{rows_each}
+use Rattle.pm_pages.proofs.Quantified.{Each}
 use Rattle.pm_part.proofs.RowKeys.{each_one}
 
 link_named : (part at item : ℕ) → part < 2 ^ 16 → at < 2 ^ 32 → 1 ≤ at → IsLink part (link (page_id part at) item).0

@@ -23,7 +23,7 @@ use Rattle.pm_tree.specs.Nodes.{Keys}
 use Rattle.pm_tree_del.proofs.RemovedItems.{Rises, rises_from}
 use Rattle.pm_part.specs.PairReads.{PairsList}
 use Rattle.pm_part.proofs.KeyedRows.{HasKey, HasValue, get_there, get_absent}
-use Rattle.pm_part.proofs.Quantified.{Holds, Each, each_of, holds_of}
+use Rattle.pm_pages.proofs.Quantified.{Holds, Each, each_of, holds_of}
 
 -- the pair of an item: its key, with the value of the key's row
 pub record IsPairOf (rows : List Row) (cache : ℕ) (item : Item) (pair : List ℕ × List ℕ) : Type 0 where

@@ -33,9 +33,9 @@ use Rattle.pm_part.specs.RowNames.{NamesRow}
 use Rattle.pm_part.specs.Runs.{IsPartitionOf}
 use Rattle.pm_part.proofs.CacheIndexes.{HasIndex}
 use Rattle.pm_part.proofs.DroppedRows.{few_pages, meta_no_data}
-use Rattle.pm_part.proofs.NamedRows.{rows_each, same_name}
+use Rattle.pm_pages.proofs.RowPlaces.{rows_each, same_name}
 use Rattle.pm_part.proofs.OneMore.{met}
-use Rattle.pm_part.proofs.Quantified.{Holds, Each, each_of, holds_of}
+use Rattle.pm_pages.proofs.Quantified.{Holds, Each, each_of, holds_of}
 
 -- the item of a key that has a word
 get_some : (items : List Item) (key : List ℕ) (word : ℕ) → get_in items key ≡ Some word → Holds (λ (item : Item). (item.key ≡ key) × (item.word ≡ word)) items

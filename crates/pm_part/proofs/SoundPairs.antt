@@ -26,7 +26,7 @@ use Rattle.pm_part.specs.Reads.{ReadsPages}
 use Rattle.pm_part.specs.PairReads.{WasFirstLeaf}
 use Rattle.pm_part.specs.PairFaults.{WasBad, HadWrongItem, IsDownFault, IsLeavesFault, IsPairsFault, HasPairsCause}
 use Rattle.pm_part.proofs.CacheIndexes.{index_of}
-use Rattle.pm_part.proofs.Quantified.{Each, each_of, all_of}
+use Rattle.pm_pages.proofs.Quantified.{Each, each_of, all_of}
 use Rattle.pm_part.proofs.ToldPairs.{passes_of}
 use Rattle.pm_part.proofs.TreeLeaves.{number_told, page_told, tree_kinds, on_left, first_is, split, leaf_some, HasSplit}
 use Rattle.pm_part.proofs.LinkedRows.{item_names, leaf_items}

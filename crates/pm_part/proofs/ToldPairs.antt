@@ -18,7 +18,7 @@ use Rattle.pm_part.specs.Runs.{IsPartitionOf}
 use Rattle.pm_part.specs.PairReads.{PairsList, AppendsPairs, WasFirstLeaf, HadPair, HadPairs, HadTreePairs, HadTree}
 use Rattle.pm_part.proofs.CacheIndexes.{index_of}
 use Rattle.pm_part.proofs.KeyedRows.{HasValue}
-use Rattle.pm_part.proofs.Quantified.{Holds}
+use Rattle.pm_pages.proofs.Quantified.{Holds}
 use Rattle.pm_part.proofs.ReadRows.{row_is_there}
 use Rattle.pm_part.proofs.SortedPairs.{IsPairOf, ArePairsOf, pairs_are}
 use Rattle.pm_part.proofs.TreeLeaves.{read_told, number_told, first_is, all_items}

@@ -13,7 +13,7 @@ use Rattle.pm_pages.proofs.PageReads.{page_at-below}
 use Rattle.pm_pages.proofs.BelowTrees.{some_child, all_leaves}
 use Rattle.pm_tree.proofs.SoundLooks.{tree_some}
 use Rattle.pm_part.specs.PairReads.{PairsList, WasRead, HadNumber, LeadsDown, WasFirstLeaf, HadPairs, HadLeaf, HadLeaves, HadAllLeaves}
-use Rattle.pm_part.proofs.Quantified.{Each, each_of, each_middle}
+use Rattle.pm_pages.proofs.Quantified.{Each, each_of, each_middle}
 
 -- the bytes of a page that was read
 pub read_told : (T : Type 0) (a : Paged) (i : ℕ) (page : List ℕ) → T → WasRead T a i page → a.pages i ≡ Some page

@@ -23,7 +23,7 @@ use Rattle.pm_tree.specs.Puts.{IsSpare}
 use Rattle.pm_tree.proofs.SoundLooks.{tree_some}
 use Rattle.pm_pages.specs.SoundPages.{PassesAll}
 use Rattle.pm_part.specs.LaidOut.{joined, IsLaidOut, is_data}
-use Rattle.pm_part.proofs.Quantified.{Holds, Each, all_of, any_of}
+use Rattle.pm_pages.proofs.Quantified.{Holds, Each, all_of, any_of}
 use Rattle.pm_part.proofs.JoinedLists.{in_one, one_in}
 use Rattle.pm_part.proofs.SameIndexes.{index_kind}
 use Rattle.pm_part.proofs.Layouts.{data_one, data_none}

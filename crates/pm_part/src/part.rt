@@ -14,7 +14,7 @@ ghost use Rattle.pm_pages.specs.RowMaps.{map_of};
 ghost use Rattle.pm_pages.specs.SoundPages.{NoBadPage};
 ghost use Rattle.pm_model.specs.Eval.{pairs_of};
 ghost use Rattle.pm_part.specs.Reads.{ReadsPages};
-ghost use Rattle.pm_part.specs.Commands.{IsPartCmd, RepliesOnce};
+ghost use Rattle.pm_part.specs.Commands.{IsPartCmd, IsRefused, RepliesOnce};
 ghost use Rattle.pm_part.specs.Faults.{HasPartCause, IsFaultOf, IsFaultOfPut, IsFaultOfGet, IsFaultOfRemove};
 ghost use Rattle.pm_part.specs.PairFaults.{HasPairsCause, NamesNoBadPage};
 ghost use Rattle.pm_part.specs.Runs.{IsPartitionOf, RunsCmd, IsGet};
@@ -68,7 +68,9 @@ impl Part {
     /// Where the store reports its pages and they are those of a well-formed partition, the reply
     /// and the rows are those of the evaluation: `Full` comes exactly where the key is new and the
     /// partition has as many rows as it may have, over all caches. The partition stays well formed.
-    /// A get changes no page.
+    ///
+    /// Whatever the pages are: a get changes no page, nor does a command whose reply says that it wasn't
+    /// accepted, a put into a full partition or a removal of a key that isn't there.
     ///
     /// `Failed` comes only where a call on the disk failed. `BadPage` names a page that is bad, or
     /// one that names a wrong page or row, as the command's own key meets it; it never comes of a
@@ -88,6 +90,8 @@ impl Part {
         ensures readable { AllReadable (P.seen pages.new) }
         ensures changes { OnOk result (EditsPages P.tells (P.seen pages.old) (P.seen pages.new)
             (λ j. IsTrue ((P.seen pages.new).asked j)) OP_PAGES) }
+        ensures refused { OnOk result (IsRefused cmd.now replies.old replies.new
+            → LooksAtPages P.tells (P.seen pages.old) (P.seen pages.new) OP_PAGES) }
         ensures replied { RepliesOnce replies.old replies.new result }
         ensures cause { HasPartCause P.tells (P.seen pages.old) (P.seen pages.new)
             (IsFaultOf P.tells (P.seen pages.new) cmd.now) result }
@@ -162,6 +166,8 @@ fn run_put<P: Pages>(
     ensures readable { AllReadable (P.seen pages.new) }
     ensures changes { OnOk result (EditsPages P.tells (P.seen pages.old) (P.seen pages.new)
         (λ j. IsTrue ((P.seen pages.new).asked j)) 32) }
+    ensures refused { OnOk result (IsRefused (Put cache key.now value.now) replies.old replies.new
+        → LooksAtPages P.tells (P.seen pages.old) (P.seen pages.new) 32) }
     ensures replied { RepliesOnce replies.old replies.new result }
     ensures cause { HasPartCause P.tells (P.seen pages.old) (P.seen pages.new)
         (IsFaultOfPut P.tells (P.seen pages.new) cache key.now) result }
@@ -228,6 +234,8 @@ fn run_remove<P: Pages>(
     ensures readable { AllReadable (P.seen pages.new) }
     ensures changes { OnOk result (EditsPages P.tells (P.seen pages.old) (P.seen pages.new)
         (λ j. IsTrue ((P.seen pages.new).asked j)) 32) }
+    ensures refused { OnOk result (IsRefused (Remove cache key.now) replies.old replies.new
+        → LooksAtPages P.tells (P.seen pages.old) (P.seen pages.new) 32) }
     ensures replied { RepliesOnce replies.old replies.new result }
     ensures cause { HasPartCause P.tells (P.seen pages.old) (P.seen pages.new)
         (IsFaultOfRemove P.tells (P.seen pages.new) cache key.now) result }
@@ -237,7 +245,7 @@ fn run_remove<P: Pages>(
         (P.seen pages.new).pages replies.old replies.new) }
     ensures sound { P.tells → (shape : Shape) → IsPartitionOf shape (P.seen pages.old) → NoBadPage result }
 {
-    let was = remove(pages, cache, key)?;
-    replies.push(Reply::Was(was));
+    let was_there = remove(pages, cache, key)?;
+    replies.push(Reply::Was(was_there));
     Ok(())
 }

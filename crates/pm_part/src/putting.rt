@@ -1,13 +1,13 @@
 //! Puts.
 
 ghost use Rattle.std.specs.Prelude.{◌≡◌, ◌≢◌, ℕ, ◌+◌, ◌-◌, ◌^◌, ◌<◌};
-ghost use Rattle.std.specs.Prelude.{◌≤◌, List, None, true, IfOk, OnOk, IsTrue, IfSome, IsSomeAnd, length};
+ghost use Rattle.std.specs.Prelude.{◌≤◌, List, None, true, false, IfOk, OnOk, IsTrue, IfSome, IsSomeAnd, length};
 ghost use Rattle.pm_types.specs.declared.limits.TheConstants.{CACHES};
 ghost use Rattle.pm_types.specs.Keys.{HasKeyLength, HasValueLength};
 ghost use Rattle.pm_data.specs.Rows.{IsRow};
 ghost use Rattle.pm_pages.specs.PageLists.{ReadsAt};
 ghost use Rattle.pm_pages.specs.Paged.{HasRoomFor, AllReadable, IsLent, IsWhole, WritesPage};
-ghost use Rattle.pm_pages.specs.Edits.{EditsPages, HasMeta, HasDiskCause, IsNumberIn};
+ghost use Rattle.pm_pages.specs.Edits.{EditsPages, LooksAtPages, HasMeta, HasDiskCause, IsNumberIn};
 ghost use Rattle.pm_part.specs.Entries.{IsEntryIn, HasEntry};
 ghost use Rattle.pm_part.specs.Spots.{HasRowIn};
 ghost use Rattle.pm_part.specs.Changes.{ChangesPages};
@@ -60,6 +60,8 @@ pub fn put<P: Pages>(
     ensures readable { AllReadable (P.seen pages.new) }
     ensures changes { OnOk result (EditsPages P.tells (P.seen pages.old) (P.seen pages.new)
         (λ j. IsTrue ((P.seen pages.new).asked j)) 32) }
+    ensures refused { IfOk result (λ done. done ≡ false
+        → LooksAtPages P.tells (P.seen pages.old) (P.seen pages.new) 32) }
     ensures cause { HasPartCause P.tells (P.seen pages.old) (P.seen pages.new)
         (IsFaultOfPut P.tells (P.seen pages.new) cache key.now) result }
     ensures puts { IfOk result (λ done. P.tells → (shape : Shape)
@@ -92,6 +94,8 @@ fn put_row<P: Pages>(
     ensures readable { AllReadable (P.seen pages.new) }
     ensures changes { OnOk result (EditsPages P.tells (P.seen pages.old) (P.seen pages.new)
         (λ j. IsTrue ((P.seen pages.new).asked j)) 32) }
+    ensures refused { IfOk result (λ done. done ≡ false
+        → LooksAtPages P.tells (P.seen pages.old) (P.seen pages.new) 32) }
     ensures cause { HasPartCause P.tells (P.seen pages.old) (P.seen pages.new)
         (IsFaultOfPut P.tells (P.seen pages.new) cache key.now) result }
     ensures puts { IfOk result (λ done. P.tells → (shape : Shape)
@@ -125,6 +129,7 @@ fn put_held<P: Pages>(
     ensures kept { P.kept pages.old pages.new }
     ensures readable { AllReadable (P.seen pages.new) }
     ensures changes { OnOk result (ChangesPages P.tells (P.seen pages.old) (P.seen pages.new) 16) }
+    ensures done { IfOk result (λ done. done ≡ true) }
     ensures cause { HasPartCause P.tells (P.seen pages.old) (P.seen pages.new)
         (IsFaultOfPut P.tells (P.seen pages.new) cache key.now) result }
     ensures puts { IfOk result (λ done. P.tells → (shape : Shape) → IsPartitionOf shape (P.seen pages.old)
@@ -197,6 +202,8 @@ fn put_new<P: Pages>(
     ensures readable { AllReadable (P.seen pages.new) }
     ensures changes { OnOk result (EditsPages P.tells (P.seen pages.old) (P.seen pages.new)
         (λ j. IsTrue ((P.seen pages.new).asked j)) 23) }
+    ensures refused { IfOk result (λ done. done ≡ false
+        → LooksAtPages P.tells (P.seen pages.old) (P.seen pages.new) 23) }
     ensures cause { HasPartCause P.tells (P.seen pages.old) (P.seen pages.new)
         (IsFaultOfPut P.tells (P.seen pages.new) cache key.now) result }
     ensures puts { IfOk result (λ done. P.tells → (shape : Shape)
@@ -263,6 +270,8 @@ fn put_next<P: Pages>(
     ensures kept { P.kept pages.old pages.new }
     ensures readable { AllReadable (P.seen pages.new) }
     ensures changes { OnOk result (ChangesPages P.tells (P.seen pages.old) (P.seen pages.new) 21) }
+    ensures refused { IfOk result (λ done. done ≡ false
+        → LooksAtPages P.tells (P.seen pages.old) (P.seen pages.new) 21) }
     ensures cause { HasPartCause P.tells (P.seen pages.old) (P.seen pages.new)
         (IsFaultOfPut P.tells (P.seen pages.new) cache key.now) result }
     ensures puts { IfOk result (λ done. P.tells → (shape : Shape)

@@ -1,10 +1,10 @@
 //! Removals.
 
-ghost use Rattle.std.specs.Prelude.{◌≡◌, ℕ, ◌<◌, ◌≤◌, IfOk, OnOk, IsTrue};
+ghost use Rattle.std.specs.Prelude.{◌≡◌, ℕ, ◌<◌, ◌≤◌, true, false, IfOk, OnOk, IsTrue};
 ghost use Rattle.pm_types.specs.declared.shape.Shape.{Shape};
 ghost use Rattle.pm_types.specs.declared.limits.TheConstants.{CACHES};
 ghost use Rattle.pm_pages.specs.Paged.{AllReadable};
-ghost use Rattle.pm_pages.specs.Edits.{EditsPages, HasMeta};
+ghost use Rattle.pm_pages.specs.Edits.{EditsPages, LooksAtPages, HasMeta};
 ghost use Rattle.pm_part.specs.Entries.{IsEntryIn};
 ghost use Rattle.pm_part.specs.Spots.{HasRowIn};
 ghost use Rattle.pm_part.specs.Changes.{ChangesPages};
@@ -37,6 +37,8 @@ pub fn remove<P: Pages>(pages: &mut P, cache: u8, key: &[u8]) -> Result<bool, Pa
     ensures readable { AllReadable (P.seen pages.new) }
     ensures changes { OnOk result (EditsPages P.tells (P.seen pages.old) (P.seen pages.new)
         (λ j. IsTrue ((P.seen pages.new).asked j)) 29) }
+    ensures refused { IfOk result (λ was. was ≡ false
+        → LooksAtPages P.tells (P.seen pages.old) (P.seen pages.new) 29) }
     ensures cause { HasPartCause P.tells (P.seen pages.old) (P.seen pages.new)
         (IsFaultOfRemove P.tells (P.seen pages.new) cache key.now) result }
     ensures removes { IfOk result (λ was. P.tells → (shape : Shape) → IsPartitionOf shape (P.seen pages.old)
@@ -66,6 +68,7 @@ fn remove_held<P: Pages>(
     ensures kept { P.kept pages.old pages.new }
     ensures readable { AllReadable (P.seen pages.new) }
     ensures changes { OnOk result (ChangesPages P.tells (P.seen pages.old) (P.seen pages.new) 20) }
+    ensures done { IfOk result (λ was. was ≡ true) }
     ensures cause { HasPartCause P.tells (P.seen pages.old) (P.seen pages.new)
         (IsFaultOfRemove P.tells (P.seen pages.new) cache key.now) result }
     ensures removes { IfOk result (λ was. P.tells → (shape : Shape) → IsPartitionOf shape (P.seen pages.old)

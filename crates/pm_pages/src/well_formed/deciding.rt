@@ -20,7 +20,8 @@ use std::alloc::{AllocError, Global};
 
 /// Whether these pages are a well-formed partition of this number, in a store of this shape.
 ///
-/// Each row is compared with each other one, so the time grows with the square of the number of rows.
+/// Its time grows as that of sorting the rows does: each row is searched in its tree, and each item of a tree is
+/// looked up on its page.
 pub fn is_well_formed(
     alloc: Global,
     shape: &Shape,
@@ -35,10 +36,10 @@ pub fn is_well_formed(
         return Ok(false);
     }
     let rows = rows_of(alloc, part, pages)?;
-    if !has_keys_once(shape, part, pages, &rows) {
+    if !has_forest(alloc, pages, part, &rows)? {
         return Ok(false);
     }
-    if !has_forest(alloc, pages, &rows)? {
+    if !has_keys_once(shape, part, pages, &rows) {
         return Ok(false);
     }
     if !has_chains(alloc, pages)? {

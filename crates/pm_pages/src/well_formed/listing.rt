@@ -1,19 +1,22 @@
 //! Whether a tree lists the rows of a cache.
 
 ghost use Rattle.std.specs.Prelude.{◌≡◌, ℕ, ◌<◌, ◌↔◌, ◌++◌, List, IsTrue, IfOk, OnOk, All, Any, length};
-ghost use Rattle.std.specs.Prelude.{slice_index, ◌+◌};
+ghost use Rattle.std.specs.Prelude.{slice_index, ◌+◌, ◌^◌};
+ghost use Rattle.std.specs.Ordering.{nat_cmp};
+ghost use Rattle.std.specs.Cmp.Lexicographic.{slice_cmp};
 ghost use Rattle.pm_btpage.specs.declared.layout.TheConstants.{LEAF_KIND};
 ghost use Rattle.pm_btpage.specs.IndexPages.{items_of, index_of, IsBelow, IsIndexPage, IsRising};
 ghost use Rattle.pm_pages.specs.declared.row.Row.{Row};
-ghost use Rattle.pm_pages.specs.PageLists.{pages_in, AreReadable};
-ghost use Rattle.pm_pages.specs.Rows.{page_at, kind_of};
-ghost use Rattle.pm_pages.specs.TreeItems.{as_item, as_items};
+ghost use Rattle.pm_pages.specs.PageLists.{pages_in, MayRead, AreReadable};
+ghost use Rattle.pm_pages.specs.Rows.{page_at, page_count, kind_of, rows_of};
+ghost use Rattle.pm_pages.specs.TreeItems.{as_item, as_items, HasKey};
 ghost use Rattle.pm_pages.specs.Trees.{items_in, IsItemOf, ListsRows, AreLinked};
 
 use crate::row::Row;
-use crate::well_formed::listed::page;
+use crate::well_formed::listed::{is_of, page};
 use pm_btpage::{count, is_below, key_at, next, word_at};
-use pm_types::{Key, Page};
+use pm_data::{DATA_KIND, cache_in, key_in};
+use pm_types::{Key, Link, Page, PageId};
 use std::alloc::{AllocError, Global};
 
 /// An item of a tree that was read.
@@ -52,10 +55,17 @@ fn add_items(alloc: Global, leaf: &[u8], items: &mut Vec<TreeItem>) -> Result<()
 }
 
 /// Whether the items rise, and are those of the rows of a cache, and no others.
-pub fn lists_rows(rows: &[Row], cache: u8, items: &[TreeItem]) -> bool
+///
+/// Each row is searched among the items, and each item is looked up on the page that it names.
+pub fn lists_rows(pages: &[Page], part: u16, rows: &[Row], cache: u8, items: &[TreeItem]) -> bool
+    requires readable { AreReadable (pages_in pages.now) }
+    requires few { page_count (pages_in pages.now) < 2 ^ 32 }
+    requires rows { rows.now ≡ rows_of part (pages_in pages.now) }
     ensures { IsTrue result ↔ ListsRows rows.now cache (as_items items.now) }
 {
-    rise(items) && rows_are_listed(rows, cache, items) && items_are_of_rows(rows, cache, items)
+    rise(items)
+        && rows_are_listed(rows, cache, items)
+        && items_are_of_rows(pages, part, cache, items)
 }
 
 // Whether the keys of the items rise.
@@ -79,6 +89,7 @@ fn precedes(a: &TreeItem, b: &TreeItem) -> bool
 
 // Whether each row of a cache has its item.
 fn rows_are_listed(rows: &[Row], cache: u8, items: &[TreeItem]) -> bool
+    requires rising { IsRising (as_items items.now) }
     ensures { IsTrue result ↔ All (λ row. row.cache ≡ cache
         → Any (λ item. IsItemOf cache (as_item item) row) items.now) rows.now }
 {
@@ -92,19 +103,28 @@ fn rows_are_listed(rows: &[Row], cache: u8, items: &[TreeItem]) -> bool
 
 // Whether one of the items is that of a row.
 fn has_item(items: &[TreeItem], row: &Row) -> bool
+    requires rising { IsRising (as_items items.now) }
     ensures { IsTrue result
         ↔ Any (λ item. IsItemOf row.now.cache (as_item item) row.now) items.now }
 {
-    items.iter().any(|item| is_item_of(item, row))
+    let by_key = |item: &TreeItem|
+        ensures { result ≡ slice_cmp nat_cmp item.now.key row.entry.now.key }
+    { item.key.cmp(&row.key) };
+    match items.binary_search_by(by_key) {
+        Ok(at) => items[at].word == row.link.0,
+        Err(_) => false,
+    }
 }
 
 // Whether each item is that of a row of a cache.
-fn items_are_of_rows(rows: &[Row], cache: u8, items: &[TreeItem]) -> bool
-    ensures { IsTrue result
-        ↔ All (λ item. Any (IsItemOf cache (as_item item)) rows.now) items.now }
+fn items_are_of_rows(pages: &[Page], part: u16, cache: u8, items: &[TreeItem]) -> bool
+    requires readable { AreReadable (pages_in pages.now) }
+    requires few { page_count (pages_in pages.now) < 2 ^ 32 }
+    ensures { IsTrue result ↔ All (λ item. Any (IsItemOf cache (as_item item))
+        (rows_of part (pages_in pages.now))) items.now }
 {
     'items: for item in items {
-        if !is_of_row(rows, cache, item) {
+        if !is_of_row(pages, part, cache, item) {
             return false;
         }
     }
@@ -112,18 +132,35 @@ fn items_are_of_rows(rows: &[Row], cache: u8, items: &[TreeItem]) -> bool
 }
 
 // Whether an item is that of one of the rows of a cache.
-fn is_of_row(rows: &[Row], cache: u8, item: &TreeItem) -> bool
-    ensures { IsTrue result ↔ Any (IsItemOf cache (as_item item.now)) rows.now }
+fn is_of_row(pages: &[Page], part: u16, cache: u8, item: &TreeItem) -> bool
+    requires readable { AreReadable (pages_in pages.now) }
+    requires few { page_count (pages_in pages.now) < 2 ^ 32 }
+    ensures { IsTrue result ↔ Any (IsItemOf cache (as_item item.now))
+        (rows_of part (pages_in pages.now)) }
 {
-    rows.iter()
-        .any(|row| row.cache == cache && is_item_of(item, row))
+    let link = Link(item.word);
+    let id = link.page();
+    id == PageId::new(part, id.index())
+        && has_key(
+            page(pages, id.index()),
+            link.item(),
+            cache,
+            item.key.bytes(),
+        )
 }
 
-// Whether an item has the key and the name of a row.
-fn is_item_of(item: &TreeItem, row: &Row) -> bool
-    ensures { IsTrue result ↔ IsItemOf row.now.cache (as_item item.now) row.now }
+// Whether an item of a data page is a row of this key of a cache.
+fn has_key(page: &[u8], item: u8, cache: u8, key: &[u8]) -> bool
+    requires { MayRead page.now }
+    ensures { IsTrue result ↔ HasKey page.now item cache key.now }
 {
-    item.key == row.key && item.word == row.link.0
+    if !is_of(page, DATA_KIND) {
+        return false;
+    }
+    match pm_data::row(page, item) {
+        Some(row) => cache_in(row) == cache && key_in(row) == key,
+        None => false,
+    }
 }
 
 /// Whether each leaf names the next one, and the last one none.

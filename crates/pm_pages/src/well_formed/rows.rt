@@ -1,6 +1,6 @@
 //! The rows of a partition, read off its pages.
 
-ghost use Rattle.std.specs.Prelude.{◌≡◌, ℕ, ◌+◌, ◌<◌, ◌≤◌, ◌++◌, Some, IsSome, IfOk, OnOk, length, IsTrue, ◌↔◌};
+ghost use Rattle.std.specs.Prelude.{◌≡◌, ℕ, ◌+◌, ◌<◌, ◌≤◌, ◌^◌, ◌++◌, Some, IsSome, IfOk, OnOk, length, IsTrue, ◌↔◌};
 ghost use Rattle.pm_types.specs.declared.page.Page.{Page};
 ghost use Rattle.pm_types.specs.Ids.{page_id};
 ghost use Rattle.pm_data.specs.Rows.{IsRow};
@@ -17,7 +17,8 @@ use std::alloc::{AllocError, Global};
 /// The rows of a partition, by page and item.
 pub fn rows_of(alloc: Global, part: u16, pages: &[Page]) -> Result<Vec<Row>, AllocError>
     requires { AreReadable (pages_in pages.now) }
-    ensures { IfOk result (λ rows. rows.items ≡ rows_of part (pages_in pages.now)) }
+    ensures rows { IfOk result (λ rows. rows.items ≡ rows_of part (pages_in pages.now)) }
+    ensures few { page_count (pages_in pages.now) < 2 ^ 32 }
 {
     let mut rows = Vec::new(alloc);
     'pages: for i in 0..page_count(pages) {

@@ -1,3 +1,5 @@
+use Rattle.pm_pages.proofs.EditedPages.{looks_then, looks_more}
+use Rattle.std.proofs.lemmas.Bool.{false≢true}
 use Rattle.pm_pages.proofs.PassingLooks.{bad_passed, meta_not_bad}
 use Rattle.pm_part.proofs.DroppedRows.{partition_looked}
 use Rattle.pm_part.proofs.SoundGets.{passes_all}
@@ -122,3 +124,14 @@ returns-in-Some-clause-sound g c = λ t shape is.
     let a = g.P.Pages.seen c.args.pages.now in
     let b = g.P.Pages.seen c.find_number.new.pages in
     c.put_next.ensures.sound t shape (partition_looked T a b 1 shape t c.find_number.ensures.looks is)
+
+pub returns-in-None-clause-refused : goal.returns-in-None-clause-refused
+returns-in-None-clause-refused g c = IfOk-weaker c.put_first.result _ _ (λ done adds no. absurd (false≢true (sym no ∙ adds.0))) c.put_first.ensures.adds
+
+pub returns-in-Some-clause-refused : goal.returns-in-Some-clause-refused
+returns-in-Some-clause-refused g c =
+    let T = g.P.Pages.tells in
+    let a = g.P.Pages.seen c.args.pages.now in
+    let b = g.P.Pages.seen c.find_number.new.pages in
+    let d = g.P.Pages.seen c.put_next.new.pages in
+    IfOk-weaker c.put_next.result _ _ (λ done looks no. looks_more T a d 22 23 (omega arith) (looks_then T a b d 1 21 c.find_number.ensures.looks (looks no))) c.put_next.ensures.refused

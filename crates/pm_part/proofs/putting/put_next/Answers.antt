@@ -10,7 +10,7 @@ use Rattle.pm_meta.specs.declared.slots.MetaSlot.TheVariants.{Rows}
 use Rattle.std.proofs.Common.{◌+◌}
 use Rattle.std.proofs.Common.{arith}
 use Rattle.pm_part.proofs.Swaps.{pages_looked, pages_more}
-use Rattle.pm_pages.proofs.EditedPages.{looks_at_none}
+use Rattle.pm_pages.proofs.EditedPages.{looks_at_none, looks_more}
 use Rattle.pm_part.proofs.putting.put_next.Goals as goal
 
 pub returns-then-rows-max_rows-clause-changes : goal.returns-then-rows-max_rows-clause-changes
@@ -49,3 +49,9 @@ returns-in_err-add_row-clause-sound g c = λ t shape is.
 
 pub returns-clause-sound : goal.returns-clause-sound
 returns-clause-sound g c = λ t shape is id h. absurd (cc h)
+
+pub returns-then-rows-max_rows-clause-refused : goal.returns-then-rows-max_rows-clause-refused
+returns-then-rows-max_rows-clause-refused g c = λ no.
+    let T = g.P.Pages.tells in
+    let a = g.P.Pages.seen c.args.pages.now in
+    looks_more T a a 0 21 (omega arith) (looks_at_none T a)

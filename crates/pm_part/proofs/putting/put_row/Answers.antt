@@ -1,3 +1,6 @@
+use Rattle.std.proofs.Common.{◌∙◌}
+use Rattle.pm_pages.proofs.EditedPages.{looks_then}
+use Rattle.std.proofs.lemmas.Bool.{false≢true}
 use Rattle.pm_pages.proofs.SoundPages.{no_bad_passed}
 use Rattle.pm_tree.specs.Indexes.{as_link}
 use Rattle.pm_part.proofs.CacheIndexes.{index_of}
@@ -111,3 +114,14 @@ returns-in-Some-clause-sound g c = λ t shape is.
     let ix = index_of shape a c.args.cache is.page_size is.max_rows is.well_formed c.requires.cache in
     let word : Some c.in-Some.entry.word ≡ get_in ix.items key = subst (λ (e : Option Entry). word_of e ≡ get_in ix.items key) {y = Some c.in-Some.entry} c.in-Some.is (c.in_ok-find_entry.ensures.gets t ix.height ix.nodes ix.items ix.index) in
     c.put_held.ensures.sound t shape (partition_looked T a b 9 shape t looks is) (names_looked T a b 9 (as_link c.in-Some.entry.word) c.args.cache key t looks (names_row a c.args.cache key c.in-Some.entry.word ix (sym word)))
+
+pub returns-in-None-clause-refused : goal.returns-in-None-clause-refused
+returns-in-None-clause-refused g c =
+    let T = g.P.Pages.tells in
+    let a = g.P.Pages.seen c.args.pages.now in
+    let b = g.P.Pages.seen c.find_entry.new.pages in
+    let d = g.P.Pages.seen c.put_new.new.pages in
+    IfOk-weaker c.put_new.result _ _ (λ done looks no. looks_then T a b d 9 23 c.find_entry.ensures.looks (looks no)) c.put_new.ensures.refused
+
+pub returns-in-Some-clause-refused : goal.returns-in-Some-clause-refused
+returns-in-Some-clause-refused g c = IfOk-weaker c.put_held.result _ _ (λ done yes no. absurd (false≢true (sym no ∙ yes))) c.put_held.ensures.done

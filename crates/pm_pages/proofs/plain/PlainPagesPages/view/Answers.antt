@@ -28,6 +28,9 @@ returns-then-index-len c =
             part = refl;
             ready = λ is. ready_kept p.shape.page_size p.pages.items p.rooms.items p.asked.items c.ask.new.asked.items (vec_capacity p.pages) (vec_capacity p.asked) (vec_capacity c.ask.new.asked) i is registers lt
                 (keeps.0.patches p.shape.page_size is.ordered.patches) keeps.0.lent c.requires.room c.ask.ensures.capacity;
+            stay = omega arith;
+            come = λ j past below. absurd (omega (arith, past, below));
+            made = keeps.0.made p.shape.page_size;
           },
           asks_page (shown p) c.ask.new.asked.items i registers keeps.0.lent keeps.2,
           (λ j lent. sym (keeps.1 j) ∙ lent),

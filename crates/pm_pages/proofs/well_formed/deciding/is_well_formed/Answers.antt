@@ -32,12 +32,12 @@ some_tree pages rows cache has some = elim (any_or_none rows cache) [
 
 pub each_once-requires-clause-trees : goal.each_once-requires-clause-trees
 each_once-requires-clause-trees c cache lt some =
-    some_tree (pages_in c.args.pages.now) c.deref-2.result.now cache (c.in_ok-has_forest.ensures.0 c.if-not-branch.false cache lt) some
+    some_tree (pages_in c.args.pages.now) c.deref.result.now cache (c.in_ok-has_forest.ensures.0 c.if-not-branch.false cache lt) some
 
 pub returns : goal.returns
 returns c =
     let pages = pages_in c.args.pages.now in
-    let rows : c.deref-2.result.now ≡ rows_of c.args.part pages = c.deref-2.ensures.value ∙ c.in_ok-rows.ensures in
+    let rows : c.deref.result.now ≡ rows_of c.args.part pages = c.deref.ensures.value ∙ c.in_ok-rows.ensures.rows in
     IfOk-weaker c.each_once.result _ _ (λ is once. (
       λ h. record {
         all_pass = c.all_pass.ensures.pass.0 c.if-not-all_pass.false;

@@ -59,3 +59,8 @@ each_left P (x ∷ xs) ys each = (each.0, each_left P xs ys each.1)
 pub each_middle : {A : Type 0} (P : A → Type 0) (xs : List A) (y : A) (ys : List A) → Each P (xs ++ y ∷ ys) → P y
 each_middle P [] y ys each = each.0
 each_middle P (x ∷ xs) y ys each = each_middle P xs y ys each.1
+
+-- where something holds of some element, and something else of each, both hold of one
+pub meets : {A : Type 0} (P Q : A → Type 0) (C : Type 0) (xs : List A) → Each P xs → Holds Q xs → ((x : A) → P x → Q x → C) → C
+meets P Q C [] each any then = absurd any
+meets P Q C (x ∷ xs) each any then = elim any [ inl here ↦ then x each.0 here | inr later ↦ meets P Q C xs each.1 later then ]
