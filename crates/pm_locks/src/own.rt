@@ -32,6 +32,7 @@ impl Locks {
     /// `Got`: the lease with the bytes that this seat last put there, and the word's flag. `Gone`:
     /// at the last step the tag was another, or the owner no number of this seat. `Busy`: the frame
     /// is out, or its word changed meanwhile. But for `Got` nothing changes.
+    #[inline(always)]
     pub fn own_take(&self, seat: &mut PageSeat, f: FrameNo, tag: Tag) -> Take
         requires seat { IsSeatOf self.now seat.old }
         requires frame { IsFrameOf self.now f }
@@ -66,6 +67,7 @@ impl Locks {
     /// Dirty stays Dirty. A frame that was Due or Done and whose bytes changed becomes Dirty. Due
     /// may be put where it was so, and Done where it was so, each with the same bytes; what was Due
     /// becomes nothing but Due or Dirty. Whether Clean is true of the bytes is for the caller to know.
+    #[inline(always)]
     pub fn own_put(&self, seat: &mut PageSeat, f: FrameNo, lease: Lease, flag: Flag)
         requires seat { IsSeatOf self.now seat.old }
         requires frame { IsFrameOf self.now f }

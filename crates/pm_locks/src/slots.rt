@@ -22,6 +22,7 @@ use pm_region::Lease;
 impl Locks {
     // Takes the frame out for a number of the seat, where its word is still `seen`. Else it answers
     // the word that it met.
+    #[inline(always)]
     pub(crate) fn take_out(
         &self,
         seat: &mut PageSeat,
@@ -54,6 +55,7 @@ impl Locks {
     }
 
     // Takes the lease out of the slot that the seat carries, and gives the slot back.
+    #[inline(always)]
     pub(crate) fn empty_slot(&self, seat: &mut Seat<Option<Lease>, View>, f: usize) -> Lease
         requires table { seat.old.table_id ≡ self.now.table }
         requires frame { IsFrameOf self.now f }
@@ -74,6 +76,7 @@ impl Locks {
     }
 
     // Carries the slot again, with the lease in it, and answers the frame's word.
+    #[inline(always)]
     pub(crate) fn fill_slot(
         &self,
         seat: &mut Seat<Option<Lease>, View>,

@@ -16,6 +16,7 @@ use pm_types::{PageFault, PageId};
 use std::sync::Wait;
 
 /// Where a page in hand stands, or how many there are.
+#[inline(always)]
 pub(crate) fn place(held: &[Held], page: PageId) -> usize
     ensures { result ≡ place_at held.now page.0 }
 {
@@ -30,6 +31,7 @@ pub(crate) fn place(held: &[Held], page: PageId) -> usize
 impl Stripe {
     // Takes the page from the frame that keeps it, if one does. A frame that was given to another page is
     // forgotten.
+    #[inline(always)]
     pub(crate) fn take_home<Q: Wait>(
         &mut self,
         rt: &Q,
@@ -53,6 +55,7 @@ impl Stripe {
     //
     // `Failed` comes only where a call on the disk failed, and `BadPage`, which names the page, only where it
     // fails its check. Nothing more is in hand then.
+    #[inline(always)]
     pub(crate) fn fetch<Q: Wait, R: PageReader>(
         &mut self,
         rt: &Q,
@@ -76,6 +79,32 @@ impl Stripe {
         if place(&self.held, page) < self.held.len() {
             return Ok(true);
         }
+        self.bring(rt, locks, seat, reader, page)
+    }
+
+    // Brings a page that isn't in hand into hand, as `fetch` does.
+    #[inline(never)]
+    pub(crate) fn bring<Q: Wait, R: PageReader>(
+        &mut self,
+        rt: &Q,
+        locks: &Locks,
+        seat: &mut PageSeat,
+        reader: &mut R,
+        page: PageId,
+    ) -> Result<bool, PageFault>
+        requires holds { Holds locks.now (kept self.old seat.old) }
+        requires frames { HasFrames (kept self.old seat.old) }
+        requires own { IsPageOf locks.now.workers self.old.shape.partitions self.old.number page }
+        requires room { IsSome (held_at self.old.held.items page.0) ⊎ (length self.old.held.items < OP_PAGES) }
+        requires not_in_hand { length self.old.held.items ≤ place_at self.old.held.items page.0 }
+        requires reads { MayReadOthers locks.now.workers (R.state reader.old) (kept self.old seat.old) }
+        ensures fetches { Fetches locks.now (kept self.old seat.old) (kept self.new seat.new) page R.tells
+            (file_of self.old (R.history reader.old) page) result }
+        ensures world { R.tells → (R.history reader.new).world ≡ (R.history reader.old).world }
+        ensures later { IsLaterState (R.state reader.old) (R.state reader.new) }
+        ensures failed { IsErrOf result Failed → Rose (R.state reader.old) (R.state reader.new) }
+        ensures same { SameButPages self.old self.new }
+    {
         if self.take_home(rt, locks, seat, page) {
             return Ok(true);
         }

@@ -33,7 +33,11 @@ impl<'a, Q: Wait, R: PageReader> Pages for Bound<'a, Q, R> {
 
     fn view(&mut self, index: u32) -> Result<Option<&[u8]>, PageFault> {
         let page = PageId::new(self.part, index);
-        match self.stripe.fetch(self.rt, self.locks, &mut self.seat, &mut self.reader, page) {
+        let known = place(&self.stripe.held, page);
+        if known < self.stripe.held.len() {
+            return Ok(Some(self.stripe.held[known].lease.bytes()));
+        }
+        match self.stripe.bring(self.rt, self.locks, &mut self.seat, &mut self.reader, page) {
             Err(fault) => Err(fault),
             Ok(true) => {
                 let at = place(&self.stripe.held, page);

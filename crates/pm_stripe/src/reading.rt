@@ -20,6 +20,7 @@ impl Stripe {
     // Reads a page, which no frame keeps, into an empty frame in hand. `false`: its file doesn't have it.
     //
     // Where it isn't had the frame is among the empty ones with other bytes.
+    #[inline(never)]
     pub(crate) fn read_page<R: PageReader>(
         &mut self,
         reader: &mut R,

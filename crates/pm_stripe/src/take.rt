@@ -12,6 +12,7 @@ use std::thread;
 /// Takes the frame in which a worker's number last put a page under this tag. While it is out, waits.
 ///
 /// `None`: the frame was given to another page. What was last put there was Empty or Clean.
+#[inline(always)]
 pub(crate) fn take_frame<Q: Wait>(
     rt: &Q,
     locks: &Locks,

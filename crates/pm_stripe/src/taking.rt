@@ -14,6 +14,7 @@ use std::sync::Wait;
 
 impl Stripe {
     // Takes the page from the frame that keeps it. `false`: that was given to another page, and is forgotten.
+    #[inline(always)]
     pub(crate) fn take_kept<Q: Wait>(
         &mut self,
         rt: &Q,
