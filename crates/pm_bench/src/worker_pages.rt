@@ -4,6 +4,7 @@ mod beginning;
 mod beside;
 mod commands;
 mod failing;
+mod host_files;
 mod operations;
 mod plain;
 mod reader;

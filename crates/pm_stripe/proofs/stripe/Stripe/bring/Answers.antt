@@ -1,4 +1,4 @@
-use Rattle.std.proofs.Common.{◌≡◌, Bool, None, sym, refl, ap, ◌∙◌}
+use Rattle.std.proofs.Common.{Bool, None, sym, refl, ap, ◌∙◌}
 use Rattle.std.specs.Prelude.{if◌then◌else◌}
 use Rattle.pm_types.specs.declared.shape.Shape.{Shape}
 use Rattle.pm_stripe.specs.Reads.{stored}
