@@ -12,7 +12,8 @@ use Rattle.pm_pages.specs.Asked.{is_changed}
 use Rattle.pm_pages.specs.Edits.{EditsPages}
 use Rattle.pm_pages.specs.Paged.{Paged, CoversByte, IsWhole}
 use Rattle.pm_pages.specs.Rows.{bytes_of}
-use Rattle.pm_engine.specs.TrackedPages.{IsPageOf, ChangesWithin, KeepsPages}
+use Rattle.pm_pages.specs.KeptPages.{IsPageOf, KeepsPages}
+use Rattle.pm_engine.specs.TrackedPages.{ChangesWithin}
 
 -- a page that wasn't changed has no byte covered
 covers_nothing : (patch : Option Coverage) (k : ℕ) → is_changed patch ≡ false → CoversByte patch k → ⊥
@@ -82,8 +83,8 @@ module _ (size : ℕ) (old new : Paged) (touched : ℕ → Type 0) (most : ℕ) 
     unchanged = unchanged;
     there = there_now;
     patched = λ index patch is. record {
-      fits = (keeps.patches index patch is).0;
-      size_is = (keeps.patches index patch is).1;
+      fits = (keeps.patches index patch is).fits;
+      size_is = (keeps.patches index patch is).size_is;
       within = within_patch index patch is;
     };
   }

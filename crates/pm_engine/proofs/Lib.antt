@@ -1,4 +1,5 @@
 pub mod Above
+pub mod AcceptedLines
 pub mod AppendChains
 pub mod Applying
 pub mod Batching
@@ -19,6 +20,7 @@ pub mod Opening
 pub mod OpeningMoments
 pub mod OpenedStores
 pub mod OperationFrames
+pub mod OperationSteps
 pub mod PagedLines
 pub mod PageMarks
 pub mod PageNames

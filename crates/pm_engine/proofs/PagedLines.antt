@@ -1,5 +1,5 @@
 -- How a paged map answers a line: by the partition of the line's key.
-use Rattle.std.proofs.Common.{◌≡◌, ℕ, ◌-◌, ◌<◌, ◌≤◌, List, [], ◌∷◌, ◌++◌, length, Bool, true, false, not, cond, Some, refl, ap, sym, ◌∙◌, subst, map, arith, IsPermutation, length-append, take, drop}
+use Rattle.std.proofs.Common.{◌≡◌, ℕ, ◌-◌, ◌<◌, ◌≤◌, get_or, List, [], ◌∷◌, ◌++◌, length, Bool, true, false, not, cond, Some, refl, ap, sym, ◌∙◌, subst, map, arith, IsPermutation, length-append, take, drop}
 use Rattle.std.specs.Prelude.{slice_get, All, Vec}
 use Rattle.std.specs.Global.{Global}
 use Rattle.std.specs.List.{flat_map, range_with_len, slice_index_or}
@@ -17,13 +17,16 @@ use Rattle.pm_model.specs.Batches.{HasCache}
 use Rattle.pm_model.specs.Orders.{part_of_line, is_barrier}
 use Rattle.pm_model.specs.Partitions.{part_of, ArePartitions}
 use Rattle.pm_model.specs.Eval.{Pairs, cache_key, is_full, is_accepted, reply_to, after, pairs_of}
-use Rattle.pm_part.specs.Commands.{IsPartCmd}
+use Rattle.pm_part.specs.Commands.{IsPartCmd, IsRefused, accepts}
 use Rattle.pm_core.specs.BasePages.{Partitions}
 use Rattle.pm_core.specs.Held.{AllWellFormed, pairs_in}
 use Rattle.pm_engine.specs.Merges.{HasRisingKeys, JoinsByKey}
 use Rattle.pm_pages.specs.declared.plain.PlainPages.{PlainPages}
+use Rattle.std.proofs.lemmas.Option.{slice_get-get_or}
+use Rattle.pm_pages.specs.Plain.{ArePlain}
+use Rattle.pm_engine.specs.PageLogs.{HaveNames}
 use Rattle.pm_engine.specs.PagedStores.{part_map, RunsOnPart}
-use Rattle.pm_engine.specs.PagedMaps.{PagedStore, ArePlainPartitions, pages_of_lists, accepts, IsKeyOf}
+use Rattle.pm_engine.specs.PagedMaps.{PagedStore, ArePlainPartitions, pages_of_lists, IsKeyOf, IsPagedStore, KeepsStore, ChangesLists, AcceptsLine}
 use Rattle.pm_engine.proofs.JoinedPairs.{pairs_by_part, rises_of}
 use Rattle.pm_engine.proofs.RisingPairs.{rising_of}
 use Rattle.pm_engine.proofs.StoreMaps.{reply_by_part, after_by_part}
@@ -101,7 +104,7 @@ rising_each found all = λ k d lt.
 -- ---- what a line of a partition's key does to the store
 
 abbrev pub view_of : Shape → List PlainPages → PagedStore
-view_of shape lists = record { shape = shape; pairs = pairs_in shape.partitions (pages_of_lists lists) }
+view_of shape lists = record { shape = shape; lists = lists; pairs = pairs_in shape.partitions (pages_of_lists lists) }
 
 module _ (shape : Shape) (lists : List PlainPages) (store : PagedStore) (view : view_of shape lists ≡ store) (are : ArePlainPartitions shape lists) (part : ℕ) (cmd : Cmd) (below : part < shape.partitions) (is : IsCmdOf shape part cmd) where
   pub reply_is : reply_to shape (Good cmd) (part_map (pages_of_lists lists) part) ≡ reply_to store.shape (Good cmd) store.pairs
@@ -117,6 +120,58 @@ module _ (shape : Shape) (lists : List PlainPages) (store : PagedStore) (view : 
       after_by_part shape part (Good cmd) (pages_of_lists lists) (pages_of_lists new) below is.line_is (all_well shape lists are) runs
       ∙ ap (λ (s : PagedStore). after s.shape (Good cmd) s.pairs) view
 
+  -- where the command was accepted
+  pub accepts_line : IsShape shape → (new : List PlainPages) → ArePlainPartitions shape new → RunsOnPart shape part (Good cmd) (pages_of_lists lists) (pages_of_lists new) → ChangesLists shape part lists new → is_accepted store.shape (Good cmd) store.pairs ≡ true → AcceptsLine (Good cmd) store (view_of shape new)
+  accepts_line sound new are_new runs changes accepted =
+      let before : IsPagedStore store = subst IsPagedStore view (record { is_shape = sound; partitions = are; pairs = refl }) in
+      let after_it : IsPagedStore (view_of shape new) = record { is_shape = sound; partitions = are_new; pairs = refl } in
+      let in_range : part_of_line shape (Good cmd) < shape.partitions = subst (λ p. p < shape.partitions) (sym is.line_is) below in
+      let change : ChangesLists shape (part_of_line shape (Good cmd)) lists new = subst (λ p. ChangesLists shape p lists new) (sym is.line_is) changes in
+      let same_shape : shape ≡ store.shape = ap (λ (s : PagedStore). s.shape) view in
+      let map_is = after_is new runs in
+      record {
+        was = before;
+        is = after_it;
+        shape = same_shape;
+        accepted = accepted;
+        map = map_is;
+        inside = subst (λ (s : PagedStore). part_of_line s.shape (Good cmd) < s.shape.partitions) view in_range;
+        lists = subst (λ (s : PagedStore). ChangesLists s.shape (part_of_line s.shape (Good cmd)) s.lists new) view change;
+      }
+
 -- a list that was written back whole
 pub written_back : (new old : List PlainPages) (len : ℕ) → len ≡ length new → take len (new ++ drop (length new) old) ≡ new
 written_back new old len long = ap (λ n. take n (new ++ drop (length new) old)) long ∙ take-append_seam new (drop (length new) old)
+
+-- ---- what the map is seen as
+
+-- the map is in order
+pub in_order : (shape : Shape) (lists : List PlainPages) (store : PagedStore) → view_of shape lists ≡ store → IsShape shape → ArePlainPartitions shape lists → IsPagedStore store
+in_order shape lists store view sound are = subst IsPagedStore view (record { is_shape = sound; partitions = are; pairs = refl })
+
+-- a list of pages that was read is that of its partition
+pub record IsListed (store : PagedStore) (part : ℕ) (list : PlainPages) : Type 0 where
+  pub there : slice_get store.lists part ≡ Some list
+  pub plain : ArePlain list
+  pub names : HaveNames part list
+
+pub listed : (shape : Shape) (lists : List PlainPages) (store : PagedStore) → view_of shape lists ≡ store → IsShape shape → ArePlainPartitions shape lists → (part : ℕ) (list : PlainPages) → part < store.shape.partitions → list ≡ get_or lists part list → IsListed store part list
+listed shape lists store view sound are part list below is =
+    let in_range : part < shape.partitions = omega (arith, below, ap (λ (s : PagedStore). s.shape.partitions) view) in
+    let found : slice_get lists part ≡ Some list = slice_get-get_or lists part list (omega (arith, in_range, are.count)) ∙ ap Some (sym is) in
+    let partition = are.each part list found in
+    record {
+      there = subst (λ (s : PagedStore). slice_get s.lists part ≡ Some list) view found;
+      plain = partition.plain;
+      names = record { number = partition.number; small = omega (arith, in_range, sound.partitions_to); few = partition.plain.indexed };
+    }
+
+-- lists with the same pages are seen as the same map
+pub keeps_store : (shape : Shape) (lists new items : List PlainPages) (store : PagedStore) → view_of shape lists ≡ store → items ≡ new → pages_of_lists new ≡ pages_of_lists lists → KeepsStore store (view_of shape items)
+keeps_store shape lists new items store view back same =
+    let pages_are : pages_of_lists items ≡ pages_of_lists lists = ap (λ (ls : List PlainPages). pages_of_lists ls) back ∙ same in
+    record {
+      shape = ap (λ (s : PagedStore). s.shape) view;
+      pages = pages_are ∙ ap (λ (s : PagedStore). pages_of_lists s.lists) view;
+      pairs = ap (λ (pages : Partitions). pairs_in shape.partitions pages) pages_are ∙ ap (λ (s : PagedStore). s.pairs) view;
+    }

@@ -24,7 +24,8 @@ use Rattle.pm_core.specs.BasePages.{counted, no_pages}
 use Rattle.pm_core.specs.Held.{AllWellFormed}
 use Rattle.pm_core.proofs.WithoutStart.{none_well_formed}
 use Rattle.pm_engine.specs.PagedStores.{part_map, RunsOnPart}
-use Rattle.pm_engine.specs.PagedMaps.{pages_of_list, pages_of_lists, IsPlainPartition, ArePlainPartitions, SamePages}
+use Rattle.pm_engine.specs.PagedMaps.{pages_of_list, pages_of_lists, IsPlainPartition, ArePlainPartitions, SamePages, ChangesLists}
+use Rattle.pm_engine.specs.TrackedPages.{ChangesWithin}
 
 -- ---- pages of one partition
 
@@ -152,6 +153,19 @@ module _ (shape : Shape) (lists : List PlainPages) (part : ℕ) (old new : Plain
             ∙ (λ i index. same index i) ∙ sym (ap pages_of_list is) ∙ ap (λ q. pages_of_list (slice_get lists q)) (sym here)
         | inr ne ↦ ap pages_of_list (other_set lists part new within_lists p ne)
       ]
+
+  pub changes_on : ChangesWithin shape.page_size (plain_seen old).pages (plain_seen new) → ChangesLists shape part lists (set lists part new)
+  changes_on within_old =
+      let pages_are : (plain_seen old).pages ≡ pages_of_lists lists part = sym (ap pages_of_list is) in
+      record {
+        list = new;
+        is = there_set lists part new within_lists;
+        within = subst (λ (pages : Partition). ChangesWithin shape.page_size pages (plain_seen new)) pages_are within_old;
+        changes = record {
+          here = λ index. ap (λ o. pages_of_list o index) (there_set lists part new within_lists);
+          elsewhere = λ other index ne. ap (λ o. pages_of_list o index) (other_set lists part new within_lists other ne);
+        };
+      }
 
   module _ (cmd : Cmd) (was now : ReplyList) (run : RunsCmd shape part cmd (plain_seen old).pages (plain_seen new).pages was now) where
     pub runs_on : IsPlainPartition shape part new → RunsOnPart shape part (Good cmd) (pages_of_lists lists) (pages_of_lists (set lists part new))

@@ -26,7 +26,8 @@ use Rattle.pm_ckpt.specs.Writes.{named_of}
 use Rattle.pm_records.proofs.Runs.{bool_cases, option_cases}
 use Rattle.pm_redo.proofs.MoreFrames.{nothing_rebuilt, then_restarted}
 use Rattle.pm_engine.specs.PageLogs.{page_record, frames_at, frames_below, names_at, names_below}
-use Rattle.pm_engine.specs.TrackedPages.{IsPageOf, TracksPages, SaysNoPage, ChangesWithin, ChangesPart}
+use Rattle.pm_pages.specs.KeptPages.{IsPageOf}
+use Rattle.pm_engine.specs.TrackedPages.{TracksPages, SaysNoPage, ChangesWithin, ChangesPart}
 use Rattle.pm_engine.proofs.ChangedFrames.{frames_none, frames_one, names_none, names_one, below_zero, names_zero, below_next, names_next, logged_still}
 use Rattle.pm_engine.proofs.PageNames.{is_at, part_named, index_named, is_named, has_index-push}
 use Rattle.pm_engine.proofs.RebuiltFrames.{rebuilt_next, no_restart, rebuilt_same, snapshot_rebuilds, snapshot_read, delta_rebuilds, some_range, delta_read}

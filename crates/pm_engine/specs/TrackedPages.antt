@@ -1,6 +1,5 @@
 -- What the log's frames since the last CP_BEGIN or RESTART say of the pages of a store.
-use Rattle.std.specs.Prelude.{◌≡◌, ◌≢◌, ◌<◌, ◌⊎◌, ℕ, true, false, List, length, Option, Some, None}
-use Rattle.std.specs.Prelude.{IsSome, IsSomeAnd}
+use Rattle.std.specs.Prelude.{◌≡◌, ◌≢◌, ◌<◌, ℕ, true, false, List, Option, Some, IsSome}
 use Rattle.pm_types.specs.declared.page_id.PageId.{PageId}
 use Rattle.pm_types.specs.declared.shape.Shape.{Shape}
 use Rattle.pm_types.specs.Pages.{SameOutside}
@@ -8,17 +7,12 @@ use Rattle.pm_types.specs.Spans.{Coverage, Covers, IsPatch}
 use Rattle.pm_frame.specs.Frames.{Frame}
 use Rattle.pm_records.specs.Records.{Record, Logical, Snapshot, Delta, CpBegin, Restart, Seal}
 use Rattle.pm_pages.specs.Asked.{is_changed}
-use Rattle.pm_pages.specs.Paged.{Paged, IsWhole}
+use Rattle.pm_pages.specs.KeptPages.{IsPageOf}
+use Rattle.pm_pages.specs.Paged.{Paged}
 use Rattle.pm_pages.specs.Rows.{Partition}
 use Rattle.pm_core.specs.BasePages.{Partitions, rebuilt_of}
 use Rattle.pm_core.specs.PageSets.{has_index}
 use Rattle.pm_ckpt.specs.Writes.{named_of}
-
--- a page that is there, and has this size
-pub record IsPageOf (size : ℕ) (page : Option (List ℕ)) : Type 0 where
-  pub bytes : List ℕ
-  pub is : page ≡ Some bytes
-  pub sized : length bytes ≡ size
 
 -- These frames rebuild the logged pages, and no others, and each logged page is there. Every other page of the
 -- store is as the partitions' files have it.
@@ -70,15 +64,3 @@ AreAsFiles shape files pages = (part index : ℕ) → part < shape.partitions �
 abbrev pub HaveFirstPages : Shape → Partitions → Type 0
 HaveFirstPages shape pages = (part index : ℕ) → part < shape.partitions → IsSome (pages part index)
     → IsSome (pages part 0)
-
--- what an operation leaves of a partition's pages besides its edits: a page that was there still is; one that
--- comes was made, so that its patch is the whole page; and each patch is one of a page of this size
-pub record KeepsPages (size : ℕ) (old new : Paged) : Type 0 where
-  pub size_is : old.page_size ≡ size
-  pub sized : (index : ℕ) (was : List ℕ) → old.pages index ≡ Some was → length was ≡ size
-  pub stays : (index : ℕ) (was : List ℕ) → old.pages index ≡ Some was → IsPageOf size (new.pages index)
-  pub comes : (index : ℕ) → old.pages index ≡ None
-      → ((new.pages index ≡ None) × (new.patch index ≡ None))
-      ⊎ (IsPageOf size (new.pages index) × IsSomeAnd (new.patch index) (IsWhole size))
-  pub patches : (index : ℕ) (patch : Coverage) → new.patch index ≡ Some patch
-      → IsPatch patch × (patch.page_size ≡ size)

@@ -1,6 +1,7 @@
 //! The engine: a store over a map in memory and a log, opened from what a crash left and run a batch at a time.
 #![tactic(auto)]
 
+mod accepting;
 mod apply;
 mod engine;
 mod laws;
@@ -8,6 +9,7 @@ mod loading;
 mod logged_pages;
 mod merging;
 mod open;
+mod operation_log;
 mod page_log;
 mod page_marks;
 mod paged_map;
@@ -19,9 +21,11 @@ mod running_lines;
 mod stored_shape;
 mod tracking;
 
+pub use accepting::an_accepted_line_makes_pages;
 pub use engine::Engine;
 pub use laws::{a_store_is_its_partitions, no_well_formed_page_is_bad};
 pub use logged_pages::LoggedPages;
+pub use operation_log::log_operation;
 pub use page_log::log_changes;
 pub use paged_map::PagedMap;
 pub use running::{

@@ -1,6 +1,6 @@
 //! The base pages of a store, loaded into memory.
 
-ghost use Rattle.std.specs.Prelude.{◌≡◌, ◌<◌, ◌≤◌, ℕ, IfOk, IfSome, IsErrOf, Some, length};
+ghost use Rattle.std.specs.Prelude.{◌≡◌, ◌<◌, ◌≤◌, ◌^◌, ℕ, IfOk, IfSome, IsErrOf, Some, length};
 ghost use Rattle.std.specs.Option.{option_map};
 ghost use Rattle.pm_types.specs.declared.page.Page.{Page};
 ghost use Rattle.pm_types.specs.declared.page_id.PageId.{PageId};
@@ -99,6 +99,7 @@ fn load_pages<H: Host>(
     requires shaped { HaveShape shape.now pictures.now }
     requires inside { part < shape.now.partitions }
     ensures passes { IfOk result (λ pages. EachPasses shape.now part (pages_in pages.items)) }
+    ensures indexed { IfOk result (λ pages. length pages.items ≤ 2 ^ 32) }
     ensures pages { H.Device.tells → (base : Partitions)
         → BaseIs pictures.now (H.Device.history host.old).world base
         → IfOk result (λ pages. AreCounted (base part) (pages_in pages.items)) }

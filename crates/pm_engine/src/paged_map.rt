@@ -1,6 +1,6 @@
 //! The pairs of all caches in pages, and how they answer lines.
 
-ghost use Rattle.std.specs.Prelude.{◌≡◌, ◌<◌, List, ◌∷◌, [], ◌++◌, IfOk, length};
+ghost use Rattle.std.specs.Prelude.{◌≡◌, ◌<◌, List, ◌∷◌, [], ◌++◌, Some, IfOk, length, slice_get};
 ghost use Rattle.std.specs.FinMap as map;
 ghost use Rattle.pm_types.specs.declared.limits.TheConstants.{CACHES};
 ghost use Rattle.pm_types.specs.Shapes.{IsShape};
@@ -8,7 +8,12 @@ ghost use Rattle.pm_model.specs.declared.line.Line.TheVariants.{Good};
 ghost use Rattle.pm_model.specs.declared.reply.Reply.{Reply};
 ghost use Rattle.pm_model.specs.Batches.{HasCache};
 ghost use Rattle.pm_model.specs.Eval.{pairs_of};
-ghost use Rattle.pm_engine.specs.PagedMaps.{AnswersLine, accepts, IsKeyOf};
+ghost use Rattle.pm_pages.specs.Plain.{ArePlain};
+ghost use Rattle.pm_part.specs.Commands.{accepts};
+ghost use Rattle.pm_core.specs.BasePages.{no_pages};
+ghost use Rattle.pm_engine.specs.PageLogs.{HaveNames};
+ghost use Rattle.pm_engine.specs.PagedMaps.{AnswersLine, IsKeyOf, IsPagedStore, KeepsStore};
+ghost use Rattle.pm_engine.specs.PagedMaps.{pages_of_lists};
 
 use crate::merging::join_by_key;
 use crate::partitions::{empty_partitions, pairs_by_partition, run_on};
@@ -39,6 +44,7 @@ impl Model for PagedMap {
 
     ghost view = { λ m. record {
       shape = m.shape;
+      lists = m.lists.items;
       pairs = pairs_in m.shape.partitions (pages_of_lists m.lists.items);
     } };
 
@@ -49,7 +55,9 @@ impl PagedMap {
     /// A map with no pair in it, and no page.
     pub fn new(alloc: Global, shape: Shape) -> Result<PagedMap, AllocError>
         requires { IsShape shape }
-        ensures { IfOk result (λ made. made ≡ record { shape = shape; pairs = map.empty }) }
+        ensures shape { IfOk result (λ made. made.shape ≡ shape) }
+        ensures pages { IfOk result (λ made. pages_of_lists made.lists ≡ no_pages) }
+        ensures pairs { IfOk result (λ made. made.pairs ≡ map.empty) }
     {
         let lists = empty_partitions(alloc, shape)?;
         Ok(PagedMap { shape, lists })
@@ -62,9 +70,28 @@ impl PagedMap {
         self.shape
     }
 
-    /// Answers a line: appends its reply, and says whether the line was accepted.
+    /// The pages of the partitions, each with what the last line that was run on it noted of its pages.
+    pub fn lists(&self) -> &[PlainPages]
+        ensures lists { result.now ≡ self.now.lists }
+        ensures ordered { IsPagedStore self.now }
+    {
+        &self.lists
+    }
+
+    /// The pages of a partition, as `log_changes` takes them.
+    pub fn list(&self, part: u16) -> &PlainPages
+        requires { part < self.now.shape.partitions }
+        ensures list { slice_get self.now.lists part ≡ Some result.now }
+        ensures plain { ArePlain result.now }
+        ensures names { HaveNames part result.now }
+    {
+        &self.lists[part as usize]
+    }
+
+    /// Answers a line: appends its reply, and says whether the line was accepted. An accepted one changes pages of
+    /// the partition of its key alone, and the partition's list notes each change; any other changes no page.
     ///
-    /// Where memory ran out the map is as before, and no reply was appended.
+    /// Where memory ran out the map and its pages are as before, and no reply was appended.
     pub fn answer(
         &mut self,
         alloc: Global,
@@ -132,7 +159,7 @@ impl PagedMap {
     fn pairs_of(&mut self, alloc: Global, cache: u8) -> Result<PairList, AllocError>
         requires { cache < CACHES }
         ensures pairs { IfOk result (λ list. list ≡ pairs_of cache self.old.pairs) }
-        ensures unchanged { self.new ≡ self.old }
+        ensures unchanged { KeepsStore self.old self.new }
     {
         let lists = pairs_by_partition(alloc, self.shape, cache, &mut self.lists)?;
         let pairs = join_by_key(alloc, lists)?;

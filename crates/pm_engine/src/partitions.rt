@@ -11,12 +11,13 @@ ghost use Rattle.pm_pages.specs.Paged.{NoneLent};
 ghost use Rattle.pm_pages.specs.Plain.{plain_seen, ArePlainReady};
 ghost use Rattle.pm_pages.specs.Rows.{rows_of};
 ghost use Rattle.pm_pages.specs.RowMaps.{map_of};
-ghost use Rattle.pm_part.specs.Commands.{IsPartCmd};
+ghost use Rattle.pm_part.specs.Commands.{IsPartCmd, IsRefused};
 ghost use Rattle.pm_part.specs.Runs.{RunsCmd};
 ghost use Rattle.pm_core.specs.BasePages.{no_pages};
 ghost use Rattle.pm_engine.specs.PagedStores.{part_map, RunsOnPart};
 ghost use Rattle.pm_engine.specs.PagedMaps.{ArePlainPartitions, IsPlainPartition, SamePages};
-ghost use Rattle.pm_engine.specs.PagedMaps.{pages_of_lists};
+ghost use Rattle.pm_engine.specs.PagedMaps.{pages_of_lists, ChangesLists};
+ghost use Rattle.pm_engine.specs.TrackedPages.{ChangesWithin};
 
 use pm_model::{Cmd, PairList, Replies};
 use pm_pages::PlainPages;
@@ -37,7 +38,8 @@ pub(crate) fn empty_partitions(alloc: Global, shape: Shape) -> Result<Vec<PlainP
     Ok(lists)
 }
 
-/// Does a put, get or removal of a partition's key, and appends its reply.
+/// Does a put, get or removal of a partition's key, and appends its reply. The partition's list notes what
+/// changes of its pages; a command that isn't accepted changes none.
 ///
 /// The memory is taken first: where it runs out nothing was done.
 pub(crate) fn run_on(
@@ -56,6 +58,9 @@ pub(crate) fn run_on(
     ensures partitions { ArePlainPartitions shape lists.new }
     ensures runs { OnOk result (RunsOnPart shape part (Good cmd.now) (pages_of_lists lists.old)
         (pages_of_lists lists.new)) }
+    ensures changes { OnOk result (ChangesLists shape part lists.old lists.new) }
+    ensures refused { OnOk result (IsRefused cmd.now replies.old replies.new
+        → pages_of_lists lists.new ≡ pages_of_lists lists.old) }
     ensures replied { OnOk result (replies.new ≡ with_replies
         (reply_to shape (Good cmd.now) (part_map (pages_of_lists lists.old) part) ∷ []) replies.old) }
     ensures unchanged { OnErr result (pages_of_lists lists.new ≡ pages_of_lists lists.old) }
@@ -81,6 +86,10 @@ fn run_alone(
     ensures partition { IsPlainPartition shape part pages.new }
     ensures runs { OnOk result (RunsCmd shape part cmd.now (plain_seen pages.old).pages
         (plain_seen pages.new).pages replies.old replies.new) }
+    ensures within { OnOk result (ChangesWithin shape.page_size (plain_seen pages.old).pages
+        (plain_seen pages.new)) }
+    ensures refused { OnOk result (IsRefused cmd.now replies.old replies.new
+        → SamePages pages.old pages.new) }
     ensures unchanged { OnErr result (SamePages pages.old pages.new) }
     ensures no_reply { OnErr result (replies.new ≡ replies.old) }
 {
@@ -99,6 +108,9 @@ fn run_ready(part: &Part, cmd: &Cmd, pages: &mut PlainPages, replies: &mut Repli
     ensures partition { IsPlainPartition part.now.shape part.now.part pages.new }
     ensures runs { RunsCmd part.now.shape part.now.part cmd.now (plain_seen pages.old).pages
         (plain_seen pages.new).pages replies.old replies.new }
+    ensures within { ChangesWithin (plain_seen pages.old).page_size (plain_seen pages.old).pages
+        (plain_seen pages.new) }
+    ensures refused { IsRefused cmd.now replies.old replies.new → SamePages pages.old pages.new }
 {
     match part.run(cmd, pages, replies) {
         Ok(()) => {}

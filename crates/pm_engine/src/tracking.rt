@@ -9,6 +9,7 @@ ghost use Rattle.pm_records.specs.Logs.{record_in, without_seals};
 ghost use Rattle.pm_records.specs.Records.{Record, Restart};
 ghost use Rattle.pm_pages.specs.declared.plain.PlainPages.{PlainPages};
 ghost use Rattle.pm_pages.specs.Edits.{EditsPages};
+ghost use Rattle.pm_pages.specs.KeptPages.{KeepsPages};
 ghost use Rattle.pm_pages.specs.Paged.{Paged};
 ghost use Rattle.pm_pages.specs.Plain.{plain_seen, ArePlain};
 ghost use Rattle.pm_core.specs.BasePages.{Partitions, laid_over};
@@ -18,7 +19,7 @@ ghost use Rattle.pm_ckpt.specs.Writes.{IsHeld, held_in, named_of};
 ghost use Rattle.pm_engine.specs.PagedMaps.{pages_of_lists};
 ghost use Rattle.pm_engine.specs.PageLogs.{change_frames, change_names, HaveNames};
 ghost use Rattle.pm_engine.specs.TrackedPages.{TracksPages, SaysNoPage, ChangesWithin, ChangesPart};
-ghost use Rattle.pm_engine.specs.TrackedPages.{AreAsFiles, HaveFirstPages, KeepsPages};
+ghost use Rattle.pm_engine.specs.TrackedPages.{AreAsFiles, HaveFirstPages};
 
 /// Where the pages are as the partitions' files have them, no page is logged: since a checkpoint whose pages
 /// are in the files there is no frame, and a RESTART voids the frames before it.

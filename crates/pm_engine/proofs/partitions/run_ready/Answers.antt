@@ -1,5 +1,8 @@
-use Rattle.std.proofs.Common.{◌∙◌, ap}
-use Rattle.std.specs.Prelude.{Err}
+use Rattle.std.proofs.Common.{ℕ, ◌∙◌, inl, ap}
+use Rattle.std.specs.Prelude.{Err, IsTrue}
+use Rattle.pm_pages.specs.Plain.{plain_seen}
+use Rattle.pm_pages.proofs.KeptPages.{keeps_pages}
+use Rattle.pm_engine.proofs.EditedPages.{edited_within}
 use Rattle.pm_types.specs.declared.fault.PageFault.{PageFault}
 use Rattle.pm_engine.proofs.partitions.run_ready.Goals as goal
 
@@ -14,3 +17,14 @@ returns-clause-partition c = record {
   number = c.in-Ok.ensures.kept.part ∙ c.requires.partition.number;
   partition = (c.in-Ok.ensures.runs tt c.requires.partition.partition c.requires.partition.number).0;
 }
+
+pub returns-clause-within : goal.returns-clause-within
+returns-clause-within c =
+    let p = c.args.pages.now in
+    let q = c.run.new.pages in
+    let kept = c.in-Ok.ensures.kept in
+    edited_within (plain_seen p).page_size (plain_seen p) (plain_seen q) (λ j. IsTrue ((plain_seen q).asked j)) 32 c.in-Ok.ensures.changes
+    (keeps_pages p q c.requires.ready.ordered (kept.ready c.requires.ready).ordered kept)
+
+pub returns-clause-refused : goal.returns-clause-refused
+returns-clause-refused c = λ refused index. (c.in-Ok.ensures.refused refused).pages index (inl tt)
