@@ -107,29 +107,11 @@ fn all_slots(page: &[u8], count: u16) -> [Slot; SLOTS_MAX as usize]
     slots
 }
 
-// Newer rows lie lower, so that the slots of a page from which none was removed are in order once they are
-// reversed, and need no sort.
 fn sort_by_start(slots: &mut [Slot])
     ensures same { IsPermutation slots.old slots.new }
     ensures rising { IsNonDecreasingBy (λ slot. slot.start) slots.new }
 {
-    slots.reverse();
-    if rises(slots) {
-        return;
-    }
     slots.sort_unstable_by_key(|slot| slot.start);
-}
-
-// Whether the slots stand by rising start.
-fn rises(slots: &[Slot]) -> bool
-    ensures { IsTrue result ↔ IsNonDecreasingBy (λ slot. slot.start) slots.now }
-{
-    'pairs: for i in 1..slots.len() {
-        if slots[i].start < slots[i - 1].start {
-            return false;
-        }
-    }
-    true
 }
 
 // Whether the rows of these slots follow one another from `low` to `end`.
