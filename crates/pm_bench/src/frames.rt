@@ -30,7 +30,7 @@ fn frames_for(count: u32) -> u32
     ensures some { 128 ≤ result }
     ensures few { result ≤ 65536 }
 {
-    (count / 75).saturating_add(128).min(65_536)
+    (count / 50).saturating_add(128).min(65_536)
 }
 
 /// The operations, made alone, beside frames for them.

@@ -4,7 +4,6 @@ mod beginning;
 mod beside;
 mod commands;
 mod failing;
-mod host_files;
 mod operations;
 mod plain;
 mod reader;

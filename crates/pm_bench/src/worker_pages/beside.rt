@@ -1,8 +1,6 @@
-//! A partition of 4,000 pages over 64 frames, read from a list and from the files of a host in memory, beside the
-//! same one in a list of pages.
+//! A partition of 4,000 pages over 64 frames beside the same one in a list of pages.
 
 ghost use Rattle.std.specs.Prelude.{◌≡◌, IfOk, OnOk};
-ghost use Rattle.pm_disk.specs.States.{IsUsable, MayUseAllPages};
 ghost use Rattle.pm_pages.specs.Paged.{AllReadable};
 ghost use Rattle.pm_pages.specs.Plain.{plain_seen, ArePlain};
 ghost use Rattle.pm_part.specs.Commands.{IsPartCmd};
@@ -11,7 +9,6 @@ ghost use Rattle.pm_stripe.specs.Idle.{IsIdle};
 
 use crate::worker_pages::beginning::begin;
 use crate::worker_pages::commands::{SHAPE, Step, are_same, command};
-use crate::worker_pages::host_files::host_with;
 use crate::worker_pages::operations::{answer, bind, look};
 use crate::worker_pages::plain::{answer_plain, copied, filled};
 use crate::worker_pages::reader::ListReader;
@@ -154,38 +151,6 @@ fn sides_agree<'a, Q: Wait, R: PageReader>(
     changes_agree(alloc, pages, plain, done)
 }
 
-// What came of the changes: how they ended, how many were done, and the reader.
-#[derive(Drop)]
-struct Outcome<R> {
-    ended: Result<(), Stop>,
-    done: u32,
-    reader: R,
-}
-
-// Binds a stripe over 64 frames to what reads the partition's pages, and lets both sides do the same.
-fn over_few_frames<Q: Wait, R: PageReader + Drop>(
-    rt: &Q,
-    alloc: Global,
-    reader: R,
-    plain: &mut PlainPages,
-) -> Result<Outcome<R>, AllocError>
-    requires usable { IsUsable (R.state reader) }
-    requires pages { MayUseAllPages (R.state reader) }
-    requires plain { ArePlain plain.old }
-    requires readable { AllReadable (plain_seen plain.old) }
-{
-    let (locks, seat, stripe) = begin(alloc)?;
-    let mut done = 0;
-    let mut pages = bind(rt, &locks, stripe, seat, reader, 0);
-    let ended = sides_agree(alloc, &mut pages, plain, &mut done);
-    let (_, _, reader) = pages.end();
-    Ok(Outcome {
-        ended,
-        done,
-        reader,
-    })
-}
-
 #[test]
 fn a_partition_over_few_frames_is_as_one_in_memory(rt: HostRuntime) -> Result<(), Fail> {
     let alloc = rt.alloc();
@@ -194,28 +159,13 @@ fn a_partition_over_few_frames_is_as_one_in_memory(rt: HostRuntime) -> Result<()
     };
     assert!(rt; plain.len() > 4_000);
     let reader = ListReader::new(copied(alloc, &plain)?, u32::MAX);
-    let outcome = over_few_frames(&rt, alloc, reader, &mut plain)?;
-    assert_eq!(rt; outcome.ended, Err(Stop::Halted(Halt::NoFrame(64))));
-    assert!(rt; outcome.done > 10);
-    assert!(rt; outcome.reader.reads() > 50_000);
-    Ok(())
-}
-
-#[test]
-fn a_partition_in_the_files_of_a_host_is_as_one_in_memory(rt: HostRuntime) -> Result<(), Fail> {
-    let alloc = rt.alloc();
-    let Ok(mut plain) = filled(alloc, 0, ROWS, 900) else {
-        return Ok(assert!(rt; false));
-    };
-    let Ok(reader) = host_with(alloc, &plain) else {
-        return Ok(assert!(rt; false));
-    };
-    let stored = reader.calls();
-    assert!(rt; stored > 4_000);
-    let outcome = over_few_frames(&rt, alloc, reader, &mut plain)?;
-    assert_eq!(rt; outcome.ended, Err(Stop::Halted(Halt::NoFrame(64))));
-    assert!(rt; outcome.done > 10);
-    // its calls since then are reads
-    assert!(rt; outcome.reader.calls() > stored + 50_000);
+    let (locks, seat, stripe) = begin(alloc)?;
+    let mut done = 0;
+    let mut pages = bind(&rt, &locks, stripe, seat, reader, 0);
+    let ended = sides_agree(alloc, &mut pages, &mut plain, &mut done);
+    let (_, _, reader) = pages.end();
+    assert_eq!(rt; ended, Err(Stop::Halted(Halt::NoFrame(64))));
+    assert!(rt; done > 10, "{done} changes");
+    assert!(rt; reader.reads() > 50_000);
     Ok(())
 }

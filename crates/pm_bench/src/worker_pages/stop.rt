@@ -1,6 +1,5 @@
 //! Why a step wasn't done.
 
-use pm_disk::Failed;
 use pm_stripe::Halt;
 use std::alloc::AllocError;
 
@@ -9,7 +8,7 @@ use std::alloc::AllocError;
 pub enum Stop {
     /// Memory ran out.
     Memory,
-    /// The partition answered a fault, or a call on the host failed.
+    /// The partition answered a fault.
     Failed,
     /// The operation couldn't begin.
     Halted(Halt),
@@ -26,11 +25,5 @@ impl From<AllocError> for Stop {
 impl From<Halt> for Stop {
     fn from(halt: Halt) -> Stop {
         Stop::Halted(halt)
-    }
-}
-
-impl From<Failed> for Stop {
-    fn from(_e: Failed) -> Stop {
-        Stop::Failed
     }
 }
