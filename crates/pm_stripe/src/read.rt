@@ -16,6 +16,8 @@ use pm_types::{PageFault, PageId, Shape};
 ///
 /// `Failed` comes only where a call on the disk failed, and `BadPage`, which names the page, only where it
 /// fails its check.
+// A call of its own: inlined into a longer function, the check of a page takes longer.
+#[inline(never)]
 pub(crate) fn read_into<R: PageReader>(
     reader: &mut R,
     lease: &mut Lease,
