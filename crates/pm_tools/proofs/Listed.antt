@@ -9,7 +9,7 @@ use Rattle.pm_frame.specs.Frames.{Frame}
 use Rattle.pm_records.specs.LogFiles.{contents}
 use Rattle.pm_records.specs.Logs.{all_frames, record_in, after_frames, HasFrames, IsLogFrom}
 use Rattle.pm_records.specs.Records.{Record}
-use Rattle.pm_records.proofs.Runs.{run_join, after_frames-append}
+use Rattle.pm_records.proofs.Runs.{run_begins}
 use Rattle.pm_segments.specs.Read.{HasScanned}
 use Rattle.pm_segments.specs.Scans.{Scanned, frame_ahead, Advances, IsAhead, bytes_after}
 use Rattle.pm_segments.proofs.Reading.{scan_starts, scan_goes, scan_ends}
@@ -142,3 +142,16 @@ lists_end from old past = record { frames = []; is_log = none_past_end (contents
 -- where the line at the end is all that is to be said
 pub end_alone : (from : Place) (old now : World) → SEGMENT_END_MAX < from.off → SaysPrefix (end_line from) old now → SaysOfLog from old now
 end_alone from old now past part = record { text = end_line from; is_text = inl (lists_end from old past); prefix = part }
+
+-- ---- one text
+
+all_hold : (before : List Frame) (f : Frame) (rest : List Frame) → AreRecords (before ++ f ∷ rest) → record_in f ≡ None → ⊥
+all_hold [] f rest are bad = let both : None ≡ Some are.0.0 = sym bad ∙ are.0.1 in cc
+all_hold (b ∷ before) f rest are bad = all_hold before f rest are.1 bad
+
+-- a log either is listed up to its end or has a frame that holds no record
+pub never_both : (log : ℕ → List ℕ) (from at : Place) (text lines : List ℕ) → ListsAll log from text → ListsUpTo log from at lines → ⊥
+never_both log from at text lines all up =
+    let split = run_begins all_frames log from (up.before ++ up.frame ∷ []) all.frames up.run all.is_log in
+    all_hold up.before up.frame split.0
+    (subst AreRecords (split.1 ∙ append_assoc up.before (up.frame ∷ []) split.0) all.are_records) up.bad

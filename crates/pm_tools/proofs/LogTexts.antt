@@ -100,9 +100,9 @@ log_there : (log : ℕ → List ℕ) (at : Place) → (frames : List Frame) × I
 log_there log at = elim (bool_cases (nat_lt at.seg (2 ^ 64))) [
   | inr high ↦ ([], none_outside log at (λ numbered within. omega (arith, numbered, ltb-false at.seg (2 ^ 64) high)))
   | inl numbered ↦ elim (bool_cases (nat_lt SEGMENT_END_MAX at.off)) [
-      | inl past ↦ ([], none_past_end log at (ltb-true SEGMENT_END_MAX at.off past))
-      | inr within ↦ log_within log (left_from at) at (ltb-true at.seg (2 ^ 64) numbered) (ltb-false SEGMENT_END_MAX at.off within) (omega arith)
-    ]
+    | inl past ↦ ([], none_past_end log at (ltb-true SEGMENT_END_MAX at.off past))
+    | inr within ↦ log_within log (left_from at) at (ltb-true at.seg (2 ^ 64) numbered) (ltb-false SEGMENT_END_MAX at.off within) (omega arith)
+  ]
 ]
 
 -- ---- lines and records of frames

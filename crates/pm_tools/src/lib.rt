@@ -7,3 +7,6 @@ mod listing;
 
 pub use drawing::Gen;
 pub use listing::wal;
+
+#[cfg(test)]
+mod tests;

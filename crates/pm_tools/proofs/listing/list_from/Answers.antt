@@ -54,8 +54,8 @@ frames-preserved g c =
     let P = SaysOfLog from old.world in
     let same = λ (t : g.H.Device.tells). (c.in_ok-next.ensures.does t).ok in
     let reads = λ (t : g.H.Device.tells).
-        subst (λ x. ReadsFrame next.Record x scan later before.world) (sym c.deref.ensures.value)
-        (subst (λ n. ReadsNext n c.read_next.new.text.items scan later before.world) c.in-Record.is (c.in_ok-next.ensures.reads t)) in
+    subst (λ x. ReadsFrame next.Record x scan later before.world) (sym c.deref.ensures.value)
+    (subst (λ n. ReadsNext n c.read_next.new.text.items scan later before.world) c.in-Record.is (c.in_ok-next.ensures.reads t)) in
     let grows = λ (t : g.H.Device.tells). grows_by from old.world before.world scan later lines text c.place-at.result (v.listed t) (reads t) c.place-at.ensures in
     let was = λ (t : g.H.Device.tells). same t ∙ (v.listed t).now_is in
     let adds = λ (t : g.H.Device.tells). c.in_ok-add_line-in-Record.ensures.adds t in
@@ -91,8 +91,8 @@ returns-in_err-add_line-in-Record-clause-moments g c t =
     let line = line_of c.place-at.result text in
     let P = SaysOfLog from old.world in
     let reads =
-        subst (λ x. ReadsFrame next.Record x scan later before.world) (sym c.deref.ensures.value)
-        (subst (λ n. ReadsNext n c.read_next.new.text.items scan later before.world) c.in-Record.is (c.in_ok-next.ensures.reads t)) in
+    subst (λ x. ReadsFrame next.Record x scan later before.world) (sym c.deref.ensures.value)
+    (subst (λ n. ReadsNext n c.read_next.new.text.items scan later before.world) c.in-Record.is (c.in_ok-next.ensures.reads t)) in
     let grows = grows_by from old.world before.world scan later lines text c.place-at.result (v.listed t) reads c.place-at.ensures in
     let so_far = v.moments t in
     let here = at_last old before P (g.H.Device.sound c.frames.host t) so_far in
@@ -134,7 +134,7 @@ returns-in-Bad-clause-moments g c t =
     let first = does old before mid c.read_next.result before.world P so_far (c.read_next.ensures.does t) here here in
     joined old mid now P first (weaker mid now (SaysPrefix c.deref-in-Bad.result.now mid.world) P
     (λ w part. says_lines from old.world mid.world w listed.frames listed.said lines listed.scanned.run listed.are_records ((c.in_ok-next.ensures.does t).ok ∙ listed.now_is) listed.whole
-        (subst (λ l. SaysPrefix l mid.world w) c.deref-in-Bad.ensures.value part))
+    (subst (λ l. SaysPrefix l mid.world w) c.deref-in-Bad.ensures.value part))
     (c.refuse.ensures.moments t))
 
 pub returns-in-End-clause-listed : goal.returns-in-End-clause-listed
