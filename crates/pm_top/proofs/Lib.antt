@@ -9,7 +9,6 @@ pub mod Lasting
 pub mod LaterStates
 pub mod Leaving
 pub mod Limits
-pub mod LogListing
 pub mod Opened
 pub mod Orders
 pub mod PrintedLimit

@@ -3,7 +3,6 @@ pub mod Chains
 pub mod Configurations
 pub mod Crashes
 pub mod Limits
-pub mod LogListings
 pub mod Promises
 pub mod RunCauses
 pub mod Runs

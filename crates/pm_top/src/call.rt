@@ -1,6 +1,6 @@
 //! The top call.
 
-ghost use Rattle.std.specs.Prelude.{◌≡◌, ◌+◌, ◌^◌, [], map, false, Some, string_bytes};
+ghost use Rattle.std.specs.Prelude.{◌≡◌, ◌+◌, ◌^◌, [], map, false, IsTrue, string_bytes};
 ghost use Rattle.pm_types.specs.declared.shape.Shape.{Shape};
 ghost use Rattle.pm_types.specs.Shapes.{IsShape};
 ghost use Rattle.pm_disk.specs.Moments.{AllMoments};
@@ -16,9 +16,7 @@ ghost use Rattle.pm_top.specs.Runs.{CanRun, KeepsFiles, SameConsole, LeavesStore
 ghost use Rattle.pm_top.specs.Promises.{SameFiles};
 ghost use Rattle.pm_top.specs.ScriptOrder.{CrashHoldsAcknowledged};
 ghost use Rattle.pm_top.specs.Statuses.{status_of, code_of};
-ghost use Rattle.pm_top.specs.Words.{command_in, is_command};
-ghost use Rattle.pm_top.specs.declared.words.CommandName.TheVariants as command;
-ghost use Rattle.pm_top.specs.LogListings.{WalCompletes, WalHolds};
+ghost use Rattle.pm_top.specs.Words.{is_command};
 
 use crate::configuration::{ConfigError, read_config};
 use crate::fault_lines::{
@@ -27,49 +25,37 @@ use crate::fault_lines::{
 use crate::report::Report;
 use crate::run::{Run, Stop};
 use crate::status::Status;
-use crate::words::{CommandName, command_of};
+use crate::words::folder_of;
 use pm_config::Config;
 use pm_disk::Host;
 use pm_engine::Engine;
-use pm_tools::wal;
 use pm_types::{OpenFault, StoreFault};
 use std::alloc::Global;
 
 /// Does what the words of a command line ask for.
 ///
-/// The words are those after the program's name: `run` or `wal` and a folder, which isn't empty and
-/// doesn't begin with `-`. The folder is bound, and made where it isn't there.
-///
-/// `run` reads the folder's configuration: one that is refused, or that asks for another shape than
-/// the store has, is named by its field, and nothing is changed. Then the script on the host's input
-/// is answered, batch by batch, over the map that the folder's log holds. The records of a batch are
-/// in the log, and forced, before any of its replies is printed. A store whose log has a bad record
-/// is refused: the record is named, and nothing is changed.
-///
-/// `wal` prints a line for each record of the log, from the replay place of the checkpoint in force
-/// on, or from the log's begin, and then the place at which the log ends. The first record that is
-/// bad ends it: the record is named. It changes nothing, and reads no configuration.
-///
-/// After the statuses 3 and 4 nothing more is printed.
+/// The words are those after the program's name: `run` and a folder, which isn't empty and doesn't
+/// begin with `-`. The folder is bound, and made where it isn't there. Its configuration is read:
+/// one that is refused, or that asks for another shape than the store has, is named by its field,
+/// and nothing is changed. Then the script on the host's input is answered, batch by batch, over
+/// the map that the folder's log holds. The records of a batch are in the log, and forced, before
+/// any of its replies is printed. A store whose log has a bad record is refused: the record is
+/// named, and nothing is changed. After the statuses 3 and 4 nothing more is printed.
 pub fn top<Q: AllocGlobal, H: Host>(rt: &Q, words: &[String], host: &mut H) -> Report
     requires whole { (H.state host.old).access.is_lent ≡ false }
     ensures known { result.status ≡ code_of (status_of result.status) }
 
-    // Which lines are answered, with what, and what is left; what of the log is said; or that the
-    // words were refused.
-    ensures run { H.tells → command_in (map string_bytes words.now) ≡ Some command.Run →
+    // Which lines are answered, with what, and what is left; or that the words were refused.
+    ensures run { H.tells → IsTrue (is_command (map string_bytes words.now)) →
         RunHolds (H.history host.old) (H.history host.new)
-        (status_of result.status) result.lines result.order.items }
-    ensures wal { H.tells → command_in (map string_bytes words.now) ≡ Some command.Wal →
-        WalHolds (H.history host.old) (H.history host.new)
         (status_of result.status) result.lines result.order.items }
     ensures refusal { H.tells → is_command (map string_bytes words.now) ≡ false →
         RefusalIs (status_of result.status) (H.history host.old).world
         (H.history host.new).world result.lines result.order.items }
 
     // Whatever a crash at any moment leaves is sound, and holds each line that was acknowledged,
-    // and no line that the order lacks. (`wal` changes nothing at any moment.)
-    ensures crash { H.tells → (command_in (map string_bytes words.now) ≡ Some command.Wal → ⊥) →
+    // and no line that the order lacks.
+    ensures crash { H.tells →
         HoldsAtEachMoment (H.history host.old) (H.history host.new) result.order.items }
 
     // At no moment is another file than the log changed.
@@ -83,11 +69,8 @@ pub fn top<Q: AllocGlobal, H: Host>(rt: &Q, words: &[String], host: &mut H) -> R
     // When each status comes.
     ensures cause { HasStatusCause (map string_bytes words.now) (status_of result.status)
         (H.state host.old) (H.state host.new) }
-    ensures complete { H.tells → command_in (map string_bytes words.now) ≡ Some command.Run →
+    ensures complete { H.tells → IsTrue (is_command (map string_bytes words.now)) →
         Completes (status_of result.status) (H.history host.old).world
-        (H.state host.old) (H.state host.new) }
-    ensures complete_wal { H.tells → command_in (map string_bytes words.now) ≡ Some command.Wal →
-        WalCompletes (status_of result.status) (H.history host.old).world
         (H.state host.old) (H.state host.new) }
 {
     let outcome = command(rt.alloc(), words, host);
@@ -124,14 +107,12 @@ impl Outcome {
 // Does what the words ask for, or says that they aren't a command.
 fn command<H: Host>(alloc: Global, words: &[String], host: &mut H) -> Outcome
     requires whole { (H.state host.old).access.is_lent ≡ false }
-    ensures run { H.tells → command_in (map string_bytes words.now) ≡ Some command.Run →
+    ensures run { H.tells → IsTrue (is_command (map string_bytes words.now)) →
         RunHolds (H.history host.old) (H.history host.new) result.status result.lines result.order.items }
-    ensures wal { H.tells → command_in (map string_bytes words.now) ≡ Some command.Wal →
-        WalHolds (H.history host.old) (H.history host.new) result.status result.lines result.order.items }
     ensures refusal { H.tells → is_command (map string_bytes words.now) ≡ false →
         RefusalIs result.status (H.history host.old).world
         (H.history host.new).world result.lines result.order.items }
-    ensures crash { H.tells → (command_in (map string_bytes words.now) ≡ Some command.Wal → ⊥) →
+    ensures crash { H.tells →
         HoldsAtEachMoment (H.history host.old) (H.history host.new) result.order.items }
     ensures files { H.tells → AllMoments (H.history host.old) (H.history host.new) (SameFiles
         (H.history host.old).world) }
@@ -140,49 +121,12 @@ fn command<H: Host>(alloc: Global, words: &[String], host: &mut H) -> Outcome
     ensures cause { HasStatusCause (map string_bytes words.now) result.status
         (H.state host.old) (H.state host.new) }
 {
-    let Some(asked) = command_of(words) else {
+    let Some(folder) = folder_of(words) else {
         return Outcome::without(alloc, print_usage_fault(host));
     };
-    match host.bind(asked.folder) {
-        Ok(()) => do_command(alloc, host, asked.name),
+    match host.bind(folder) {
+        Ok(()) => run_configured(alloc, host),
         Err(_) => Outcome::without(alloc, Status::Failed),
-    }
-}
-
-// Does what a command asks for, over the folder that is bound.
-fn do_command<H: Host>(alloc: Global, host: &mut H, name: CommandName) -> Outcome
-    requires usable { IsUsable (H.state host.old) }
-    ensures run { H.tells → name ≡ command.Run →
-        RunHolds (H.history host.old) (H.history host.new) result.status result.lines result.order.items }
-    ensures wal { H.tells → name ≡ command.Wal →
-        WalHolds (H.history host.old) (H.history host.new) result.status result.lines result.order.items }
-    ensures crash { H.tells → (name ≡ command.Wal → ⊥) →
-        HoldsAtEachMoment (H.history host.old) (H.history host.new) result.order.items }
-    ensures files { H.tells → AllMoments (H.history host.old) (H.history host.new) (SameFiles
-        (H.history host.old).world) }
-    ensures cause { HasRunCause result.status (H.state host.old) (H.state host.new) }
-{
-    match name {
-        CommandName::Run => run_configured(alloc, host),
-        CommandName::Wal => list_log(alloc, host),
-    }
-}
-
-// Lists the log, and names the first record that is bad.
-fn list_log<H: Host>(alloc: Global, host: &mut H) -> Outcome
-    requires usable { IsUsable (H.state host.old) }
-    ensures wal { H.tells →
-        WalHolds (H.history host.old) (H.history host.new) result.status result.lines result.order.items }
-    ensures cause { HasRunCause result.status (H.state host.old) (H.state host.new) }
-{
-    match wal(alloc, host) {
-        Ok(()) => Outcome::without(alloc, Status::Done),
-        Err(StoreFault::Failed) => Outcome::without(alloc, Status::Failed),
-        Err(StoreFault::Memory) => Outcome::without(alloc, Status::Memory),
-        Err(StoreFault::BadRecord(at)) => {
-            Outcome::without(alloc, print_record_fault(alloc, host, at))
-        }
-        Err(StoreFault::BadPage(_)) => unreachable!(),
     }
 }
 

@@ -1,13 +1,9 @@
-use Rattle.std.proofs.Common.{◌≡◌, ◌∙◌, inl, ap, subst, sym, Some}
-use Rattle.std.proofs.lemmas.Option.{same_Some}
+use Rattle.std.proofs.Common.{◌≡◌, inl, ap, subst, sym}
 use Rattle.std.specs.Prelude.{codes}
 use Rattle.pm_disk.specs.Worlds.{World}
 use Rattle.pm_disk.proofs.Chain.{at_last}
 use Rattle.pm_engine.specs.Openings.{IsSame}
 use Rattle.pm_top.specs.Promises.{RefusalIs, SaysPart}
-use Rattle.pm_top.specs.declared.words.CommandName.{CommandName}
-use Rattle.pm_top.specs.declared.words.CommandName.TheVariants.{Run, Wal}
-use Rattle.pm_top.proofs.LogListing.{wal_from, wal_unbound}
 use Rattle.pm_top.proofs.KeptFiles.{bind_call, say_calls, then_calls}
 use Rattle.pm_top.proofs.Opened.{crash_from, kept_moments, refused_moments, refusal, same_moments}
 use Rattle.pm_top.proofs.Orders.{none_with_u}
@@ -15,33 +11,24 @@ use Rattle.pm_top.proofs.Refusing.{idle_run, run_from, same_log}
 use Rattle.pm_top.proofs.call.command.Goals as goal
 
 pub returns-in_default-clause-crash : goal.returns-in_default-clause-crash
-returns-in_default-clause-crash g c t other =
+returns-in_default-clause-crash g c t =
     refused_moments (g.H.Device.history c.args.host.now) (g.H.Device.history c.print_usage_fault.new.host) c.without.result.order.items 117 (codes "sage\n") none_with_u (c.print_usage_fault.ensures.moments t)
 
 pub returns-in-Ok-clause-run : goal.returns-in-Ok-clause-run
 returns-in-Ok-clause-run g c t is =
     let old = g.H.Device.history c.args.host.now in
     let mid = g.H.Device.history c.bind.new.self in
-    let new = g.H.Device.history c.do_command.new.host in
-    run_from old mid new c.do_command.result.status c.do_command.result.lines c.do_command.result.order.items
-    (same_moments old mid c.bind.result (g.H.Device.sound c.args.host.now t) (c.bind.ensures.does t)) (c.in-Ok.ensures.does t).ok (c.do_command.ensures.run t (same_Some c.in-Some.asked.name Run (c.in-Some.ensures.name ∙ is)))
-
-pub returns-in-Ok-clause-wal : goal.returns-in-Ok-clause-wal
-returns-in-Ok-clause-wal g c t is =
-    let old = g.H.Device.history c.args.host.now in
-    let mid = g.H.Device.history c.bind.new.self in
-    let new = g.H.Device.history c.do_command.new.host in
-    wal_from old mid new c.do_command.result.status c.do_command.result.lines c.do_command.result.order.items
-    (same_moments old mid c.bind.result (g.H.Device.sound c.args.host.now t) (c.bind.ensures.does t)) (c.in-Ok.ensures.does t).ok (c.do_command.ensures.wal t (same_Some c.in-Some.asked.name Wal (c.in-Some.ensures.name ∙ is)))
+    let new = g.H.Device.history c.run_configured.new.host in
+    run_from old mid new c.run_configured.result.status c.run_configured.result.lines c.run_configured.result.order.items
+    (same_moments old mid c.bind.result (g.H.Device.sound c.args.host.now t) (c.bind.ensures.does t)) (c.in-Ok.ensures.does t).ok (c.run_configured.ensures.run t)
 
 pub returns-in-Ok-clause-crash : goal.returns-in-Ok-clause-crash
-returns-in-Ok-clause-crash g c t other =
+returns-in-Ok-clause-crash g c t =
     let old = g.H.Device.history c.args.host.now in
     let mid = g.H.Device.history c.bind.new.self in
-    let new = g.H.Device.history c.do_command.new.host in
-    crash_from old mid new c.do_command.result.order.items
-    (same_moments old mid c.bind.result (g.H.Device.sound c.args.host.now t) (c.bind.ensures.does t)) (c.in-Ok.ensures.does t).ok
-    (c.do_command.ensures.crash t (λ wal. other (sym c.in-Some.ensures.name ∙ ap (λ (n : CommandName). Some n) wal)))
+    let new = g.H.Device.history c.run_configured.new.host in
+    crash_from old mid new c.run_configured.result.order.items
+    (same_moments old mid c.bind.result (g.H.Device.sound c.args.host.now t) (c.bind.ensures.does t)) (c.in-Ok.ensures.does t).ok (c.run_configured.ensures.crash t)
 
 pub returns-in-Err-clause-run : goal.returns-in-Err-clause-run
 returns-in-Err-clause-run g c t is =
@@ -52,16 +39,8 @@ returns-in-Err-clause-run g c t is =
     let same : mid.world ≡ old.world = at_last old mid (IsSame old.world) (g.H.Device.sound c.bind.new.self t) kept in
     idle_run old mid outcome.status outcome.lines outcome.order.items (inl c.without-in-Err.ensures.status) (ap (λ (w : World). w.said) same) c.without-in-Err.ensures.lines c.without-in-Err.ensures.order (λ _. same_log old mid kept)
 
-pub returns-in-Err-clause-wal : goal.returns-in-Err-clause-wal
-returns-in-Err-clause-wal g c t is =
-    let old = g.H.Device.history c.args.host.now in
-    let mid = g.H.Device.history c.bind.new.self in
-    let outcome = c.without-in-Err.result in
-    wal_unbound old mid outcome.status outcome.lines outcome.order.items
-    (same_moments old mid c.bind.result (g.H.Device.sound c.args.host.now t) (c.bind.ensures.does t)) c.without-in-Err.ensures.status c.without-in-Err.ensures.lines c.without-in-Err.ensures.order
-
 pub returns-in-Err-clause-crash : goal.returns-in-Err-clause-crash
-returns-in-Err-clause-crash g c t other =
+returns-in-Err-clause-crash g c t =
     let old = g.H.Device.history c.args.host.now in
     let mid = g.H.Device.history c.bind.new.self in
     kept_moments old mid c.without-in-Err.result.order.items (same_moments old mid c.bind.result (g.H.Device.sound c.args.host.now t) (c.bind.ensures.does t))
@@ -74,7 +53,7 @@ pub returns-in-Ok-clause-files : goal.returns-in-Ok-clause-files
 returns-in-Ok-clause-files g c t =
     let old = g.H.Device.history c.args.host.now in
     let mid = g.H.Device.history c.bind.new.self in
-    then_calls old mid (g.H.Device.history c.do_command.new.host) (g.H.Device.sound c.bind.new.self t) (bind_call old mid c.bind.result (g.H.Device.sound c.args.host.now t) (c.bind.ensures.does t)) (c.do_command.ensures.files t)
+    then_calls old mid (g.H.Device.history c.run_configured.new.host) (g.H.Device.sound c.bind.new.self t) (bind_call old mid c.bind.result (g.H.Device.sound c.args.host.now t) (c.bind.ensures.does t)) (c.run_configured.ensures.files t)
 
 pub returns-in-Err-clause-files : goal.returns-in-Err-clause-files
 returns-in-Err-clause-files g c t =
