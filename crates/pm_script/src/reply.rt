@@ -102,8 +102,9 @@ fn append_end(count: usize, into: &mut Vec<u8>) -> Result<(), AllocError>
     into.extend_from_slice(b"\n")
 }
 
-// Appends the text of a key or a value.
-fn append_field(bytes: &[u8], into: &mut Vec<u8>) -> Result<(), AllocError>
+/// Appends the text of a key or a value: itself where it is plain, and else `x:` and two hexadecimal digits for
+/// each byte. Where memory runs out, a part of it may have been appended.
+pub fn append_field(bytes: &[u8], into: &mut Vec<u8>) -> Result<(), AllocError>
     requires { length bytes.now ≤ VALUE_MAX }
     ensures appended { OnOk result (into.new.items ≡ into.old.items ++ field_text bytes.now) }
     ensures onto { OnErr result (IsOnto into.old.items into.new.items) }

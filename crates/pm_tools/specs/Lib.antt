@@ -1,0 +1,4 @@
+pub mod Causes
+pub mod DrawnLines
+pub mod Lines
+pub mod Listings
