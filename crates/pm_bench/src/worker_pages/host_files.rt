@@ -16,6 +16,7 @@ fn store<W: PageWriter>(writer: &mut W, plain: &PlainPages) -> Result<(), Failed
     requires usable { IsUsable (W.state writer.old) }
     requires pages { MayUseAllPages (W.state writer.old) }
     ensures usable { IsUsable (W.state writer.new) }
+    ensures pages { MayUseAllPages (W.state writer.new) }
 {
     'pages: for index in 0..u32::try_from(plain.len()).unwrap_or(0) {
         match plain.page(index) {
@@ -31,6 +32,7 @@ fn store<W: PageWriter>(writer: &mut W, plain: &PlainPages) -> Result<(), Failed
 /// A host whose files have the pages of this partition 0.
 pub fn host_with(alloc: Global, plain: &PlainPages) -> Result<MemHost, Stop>
     ensures usable { IfOk result (λ host. IsUsable (state_of host)) }
+    ensures pages { IfOk result (λ host. MayUseAllPages (state_of host)) }
 {
     let disk = MemDisk::empty(alloc);
     let mut host = MemHost::new(alloc, b"", b"", disk, &[], None)?;

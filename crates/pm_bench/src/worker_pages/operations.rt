@@ -9,9 +9,8 @@ ghost use Rattle.pm_stripe.specs.Begins.{IsOwnPart};
 ghost use Rattle.pm_stripe.specs.Bounds.{IsBound};
 ghost use Rattle.pm_stripe.specs.Covers.{NotesChanges};
 ghost use Rattle.pm_stripe.specs.Idle.{IsIdle};
-ghost use Rattle.pm_stripe.specs.Kept.{AreClean};
 ghost use Rattle.pm_stripe.specs.Shown.{shown};
-ghost use Rattle.pm_stripe.specs.Stripes.{kept, file_of, IsAtRest, MayReadOthers};
+ghost use Rattle.pm_stripe.specs.Stripes.{kept, IsAtRest, MayReadOthers};
 
 use crate::worker_pages::stop::Stop;
 use pm_disk::PageReader;
@@ -34,7 +33,6 @@ pub fn bind<'a, Q: Wait, R: PageReader>(
 ) -> Bound<'a, Q, R>
     requires rest { IsAtRest locks.now (kept stripe seat) }
     requires reads { MayReadOthers locks.now.workers (R.state reader) (kept stripe seat) }
-    requires clean { R.tells → AreClean (file_of stripe (R.history reader)) (kept stripe seat) }
     requires new { stripe.places.table.entries ≡ map.empty }
     requires there { part < stripe.shape.partitions }
     requires own { part % locks.now.workers ≡ stripe.number }
