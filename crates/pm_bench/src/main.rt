@@ -3,24 +3,16 @@
 #![tactic(auto)]
 
 mod block;
-#[cfg(test)]
-mod checkpoints;
 mod command;
 mod frames;
 mod hash_map;
-#[cfg(test)]
-mod kept_segments;
 mod keys;
 mod locks;
 mod log_rings;
 mod lookups;
 mod maps;
-#[cfg(test)]
-mod one_page;
 mod operations;
 mod page_list;
-#[cfg(test)]
-mod page_records;
 mod page_table;
 mod policies;
 mod region;
@@ -28,8 +20,6 @@ mod region;
 mod restores;
 mod ring_threads;
 mod trees;
-#[cfg(test)]
-mod untold;
 #[cfg(test)]
 mod worker_pages;
 
