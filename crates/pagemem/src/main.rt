@@ -65,12 +65,14 @@ fn explained(rt: &HostRuntime, status: u8) -> u8 {
 fn reason(status: u8) -> Option<&'static str> {
     match status {
         0 => None,
-        USAGE => Some("call it as `pagemem run DIR < SCRIPT`"),
+        USAGE => Some(
+            "call it as `pagemem run DIR < SCRIPT`, `pagemem wal DIR` or `pagemem verify DIR`",
+        ),
         2 => Some("the folder's configuration is refused: the field is named on standard output"),
         FAILED => Some("a call on the disk, the input or the output failed"),
         OUT_OF_MEMORY => Some("memory ran out"),
         5 => Some(
-            "the store's log has a bad record, named on standard output; nothing was changed",
+            "the store has a bad record or page, named on standard output; nothing was changed",
         ),
         _ => Some(
             "the script passes 4,000,000 lines or 17,179,869,184 bytes; the lines before that are answered",

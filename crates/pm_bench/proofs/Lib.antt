@@ -1,1 +1,2 @@
+pub mod NotedChanges
 pub mod SharedSeats

@@ -1,26 +1,24 @@
 //! Operations on a partition over a worker's page frames.
 
-ghost use Rattle.std.specs.Prelude.{◌≡◌, ◌%◌, ◌<◌, ◌≤◌, true, IfOk, OnOk};
+ghost use Rattle.std.specs.Prelude.{◌≡◌, ◌≤◌, IfOk, OnOk};
 ghost use Rattle.std.specs.FinMap as map;
-ghost use Rattle.pm_types.specs.declared.limits.TheConstants.{OP_PAGES};
 ghost use Rattle.pm_pages.specs.Paged.{AllReadable};
 ghost use Rattle.pm_pages.specs.Plain.{plain_seen, ArePlain};
 ghost use Rattle.pm_part.specs.Commands.{IsPartCmd};
 ghost use Rattle.pm_stripe.specs.Bounds.{IsBound};
-ghost use Rattle.pm_stripe.specs.Covers.{NotesChanges};
 ghost use Rattle.pm_stripe.specs.Idle.{IsIdle};
-ghost use Rattle.pm_stripe.specs.Kept.{AreClean};
-ghost use Rattle.pm_stripe.specs.Stripes.{kept, file_of, IsAtRest, MayReadOthers};
+ghost use Rattle.pm_stripe.specs.Stripes.{kept, IsAtRest};
 
+use crate::bound_pages::{bind, operate, run_over, send};
 use crate::operations::{SHAPE, command, get_of, put_of, told_by};
-use crate::page_list::PageList;
+use crate::page_list::{PageList, copied};
 use pm_disk::PageReader;
 use pm_locks::{Locks, PageSeat};
 use pm_model::{Cmd, Replies};
-use pm_pages::{Pages, PlainPages};
+use pm_pages::PlainPages;
 use pm_part::Part;
 use pm_region::Region;
-use pm_stripe::{Bound, Halt, Stripe};
+use pm_stripe::{Bound, Stripe};
 use pm_types::Page;
 use std::alloc::{AllocError, Global};
 use std::sync::Wait;
@@ -42,7 +40,7 @@ pub fn commands(alloc: Global, count: u32) -> Result<u64, AllocError> {
 /// The operations, over frames that hold all pages.
 pub fn mixed<Q: Wait>(rt: &Q, alloc: Global, count: u32) -> Result<u64, AllocError> {
     let (locks, seat, stripe) = begin(alloc, frames_for(count))?;
-    let mut pages = bind(rt, &locks, stripe, seat, PageList::new(Vec::new(alloc)));
+    let mut pages = bind(rt, &locks, stripe, seat, PageList::new(Vec::new(alloc)), 0);
     let sum = mix(alloc, &mut pages, count);
     pages.end();
     sum
@@ -54,7 +52,7 @@ pub fn gets<Q: Wait>(rt: &Q, alloc: Global, count: u32, few: bool) -> Result<u64
     let list = filled(alloc, count)?;
     let pages = u32::try_from(list.len()).unwrap_or(0);
     let (locks, seat, stripe) = begin(alloc, frames_of(pages, few))?;
-    let mut pages = bind(rt, &locks, stripe, seat, PageList::new(list));
+    let mut pages = bind(rt, &locks, stripe, seat, PageList::new(list), 0);
     let done = look_up(alloc, &mut pages, count);
     let (_, _, reader) = pages.end();
     done?;
@@ -87,75 +85,6 @@ fn begin(alloc: Global, frames: u32) -> Result<(Locks, PageSeat, Stripe), AllocE
     Ok((locks, seat, stripe))
 }
 
-// Binds a stripe that keeps no page yet, for operations on its partition.
-fn bind<'a, Q: Wait, R: PageReader>(
-    rt: &'a Q,
-    locks: &'a Locks,
-    stripe: Stripe,
-    seat: PageSeat,
-    reader: R,
-) -> Bound<'a, Q, R>
-    requires rest { IsAtRest locks.now (kept stripe seat) }
-    requires reads { MayReadOthers locks.now.workers (R.state reader) (kept stripe seat) }
-    requires clean { R.tells → AreClean (file_of stripe (R.history reader)) (kept stripe seat) }
-    requires new { stripe.places.table.entries ≡ map.empty }
-    requires there { 0 < stripe.shape.partitions }
-    requires own { 0 % locks.now.workers ≡ stripe.number }
-    ensures { IsIdle R.tells R.history R.state result }
-{
-    let mut pages = Bound::new(rt, locks, stripe, seat, reader);
-    pages.at(0);
-    pages
-}
-
-// Does a command, and says whether it succeeded.
-fn run_over<P: Pages>(pages: &mut P, part: &Part, cmd: &Cmd, replies: &mut Replies) -> bool
-    requires ready { P.ready pages.old }
-    requires room { OP_PAGES ≤ (P.seen pages.old).spare }
-    requires cmd { IsPartCmd part.now.shape part.now.part cmd.now }
-    requires readable { AllReadable (P.seen pages.old) }
-    requires spare { 0 < replies.old.spare }
-    ensures kept { P.kept pages.old pages.new }
-    ensures readable { AllReadable (P.seen pages.new) }
-    ensures notes { result ≡ true → NotesChanges P.tells (P.seen pages.old) (P.seen pages.new) }
-{
-    match part.run(cmd, pages, replies) {
-        Ok(()) => true,
-        Err(_) => false,
-    }
-}
-
-// Does a command as an operation, and says whether it succeeded.
-fn operate<'a, Q: Wait, R: PageReader>(
-    pages: &mut Bound<'a, Q, R>,
-    part: &Part,
-    cmd: &Cmd,
-    replies: &mut Replies,
-) -> Result<bool, Halt>
-    requires idle { IsIdle R.tells R.history R.state pages.old }
-    requires cmd { IsPartCmd part.now.shape part.now.part cmd.now }
-    requires spare { 0 < replies.old.spare }
-    ensures bound { IsBound R.tells R.history R.state pages.new }
-    ensures idle { IfOk result (λ done. done ≡ true → IsIdle R.tells R.history R.state pages.new) }
-{
-    pages.ready()?;
-    if run_over(pages, part, cmd, replies) {
-        pages.done(0, None);
-        Ok(true)
-    } else {
-        Ok(false)
-    }
-}
-
-// Takes all that the outbox has.
-fn send<'a, Q: Wait, R: PageReader>(pages: &mut Bound<'a, Q, R>)
-    requires { IsIdle R.tells R.history R.state pages.old }
-    ensures { IsIdle R.tells R.history R.state pages.new }
-{
-    let len = pages.outbox().len();
-    pages.sent(len);
-}
-
 // Does a command, and gives what its reply tells.
 fn answer<'a, Q: Wait, R: PageReader>(
     alloc: Global,
@@ -169,7 +98,7 @@ fn answer<'a, Q: Wait, R: PageReader>(
     ensures idle { OnOk result (IsIdle R.tells R.history R.state pages.new) }
 {
     let mut replies = Replies::with_room(alloc, 1)?;
-    match operate(pages, part, cmd, &mut replies) {
+    match operate(pages, part, cmd, &mut replies, 0) {
         Ok(true) => (),
         _ => return Err(AllocError),
     }
@@ -227,16 +156,4 @@ fn filled(alloc: Global, count: u32) -> Result<Vec<Page>, AllocError> {
         run_over(&mut pages, &part, &cmd, &mut replies);
     }
     copied(alloc, &pages)
-}
-
-// The pages, each copied.
-fn copied(alloc: Global, pages: &PlainPages) -> Result<Vec<Page>, AllocError> {
-    let mut all = Vec::new(alloc);
-    for index in 0..u32::try_from(pages.len()).unwrap_or(0) {
-        if let Some(bytes) = pages.page(index) {
-            let bytes = Vec::from_slice(alloc, bytes)?;
-            all.push(Page { bytes })?;
-        }
-    }
-    Ok(all)
 }

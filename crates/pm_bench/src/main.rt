@@ -3,6 +3,9 @@
 #![tactic(auto)]
 
 mod block;
+mod bound_pages;
+#[cfg(test)]
+mod checkpoint_tests;
 mod command;
 mod frames;
 mod hash_map;

@@ -1,7 +1,9 @@
 //! A reader of pages in memory.
 
 use pm_disk::{Device, Failed, PageReader};
+use pm_pages::PlainPages;
 use pm_types::{Page, PageId};
+use std::alloc::{AllocError, Global};
 
 /// Reads a partition's pages from a list, and counts its reads.
 #[derive(Drop)]
@@ -55,4 +57,16 @@ fn copy_page(pages: &[Page], index: u32, into: &mut [u8]) -> bool {
     }
     into.fill(0);
     false
+}
+
+/// The pages of a partition, each copied.
+pub fn copied(alloc: Global, pages: &PlainPages) -> Result<Vec<Page>, AllocError> {
+    let mut all = Vec::new(alloc);
+    for index in 0..u32::try_from(pages.len()).unwrap_or(0) {
+        if let Some(bytes) = pages.page(index) {
+            let bytes = Vec::from_slice(alloc, bytes)?;
+            all.push(Page { bytes })?;
+        }
+    }
+    Ok(all)
 }

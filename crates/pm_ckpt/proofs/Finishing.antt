@@ -12,7 +12,7 @@ use Rattle.pm_disk.specs.declared.mark.MarkFile.TheVariants as mark_file
 use Rattle.pm_disk.specs.Worlds.{World}
 use Rattle.pm_marks.specs.MarkWrites.{first_written}
 use Rattle.pm_core.specs.BasePages.{Partitions, page_in_file}
-use Rattle.pm_core.specs.Calls.{AreRebuilt, CanFinish, MayFinish, end_steps, force_steps, finish_steps}
+use Rattle.pm_core.specs.Calls.{AreRebuilt, CanFinish, end_steps, force_steps, finish_steps}
 use Rattle.pm_core.specs.Machine.{DiskStep, ForcePages, CanAll, CanEnd, next_state, next_world, states, worlds}
 use Rattle.pm_core.specs.PageSets.{AreAmong, AreOnce, has_index, has_page, has_part, left_after, without_page}
 use Rattle.pm_core.specs.States.{State}
@@ -89,15 +89,6 @@ module _ (wanted : Shape) (told : List ℕ → ℕ) (s : State) (mark : Mark) (h
           let named = named_some held order part index page (sym (can.rebuilds part index) ∙ is) in
           all_home s.shape.page_size held xs w (subst (λ ps. All (IsHeld s.shape.page_size held) ps) (sym pages_are) held_here) gaps part index page named.1
           (inr (subst (λ ps. has_index part index ps ≡ true) (sym pages_are) named.0));
-    }
-
-    pub may_finish : (mid : World) → mid ≡ after_writes held xs w → MayFinish mark order mid
-    may_finish mid is = record {
-      wanted = wanted;
-      told = told;
-      state = s;
-      stands = subst (λ (v : World). Stands wanted told s v) (sym is) after_stands;
-      guard = subst (λ (v : World). CanFinish mark order s v) (sym is) can_finish;
     }
 
     pub finish_all : CanAll told (finish_steps mark order) s (after_writes held xs w)

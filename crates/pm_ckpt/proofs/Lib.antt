@@ -2,6 +2,7 @@ pub mod Finishing
 pub mod GoingOn
 pub mod Home
 pub mod Once
+pub mod OnlyDisk
 pub mod Opening
 pub mod Orders
 pub mod Stages

@@ -1,29 +1,31 @@
 -- The begin of a checkpoint as steps of the machine.
-use Rattle.std.proofs.Common.{◌≡◌, Bool, true, false, List, [], ◌∷◌, ◌++◌, length, sym, ◌∙◌, ap, subst, Result}
+use Rattle.std.proofs.Common.{◌≡◌, Bool, true, false, List, [], ◌∷◌, ◌++◌, None, length, sym, ◌∙◌, ap, subst, Result}
+use Rattle.std.specs.FinMap.{empty}
 use Rattle.std.proofs.lemmas.Result.{on_ok_weaker}
 use Rattle.pm_types.specs.declared.page_id.PageId.{PageId}
 use Rattle.pm_types.specs.declared.place.Place.{Place}
 use Rattle.pm_types.specs.declared.shape.Mark.{Mark}
+use Rattle.pm_types.specs.declared.shape.Shape.{Shape}
 use Rattle.pm_frame.specs.Frames.{Frame}
 use Rattle.pm_disk.specs.Moments.{History, AllMoments}
 use Rattle.pm_disk.specs.Worlds.{World}
 use Rattle.pm_disk.proofs.Chain.{weaker}
 use Rattle.pm_records.specs.LogSteps.{Step, Append, end_after, world_after, DoesPrefix}
-use Rattle.pm_records.specs.Logs.{place_after}
+use Rattle.pm_records.specs.LogFiles.{Uncut}
+use Rattle.pm_records.specs.Logs.{place, place_after}
 use Rattle.pm_records.proofs.Tracing.{moments_first, end_after-append}
+use Rattle.pm_marks.specs.InForce.{NoStart}
 use Rattle.pm_segments.specs.Appends.{room_steps, append_steps, steps_of, grown}
 use Rattle.pm_segments.specs.Ends.{LogEnd, EndsThere}
 use Rattle.pm_segments.proofs.Sealing.{roomy_end}
-use Rattle.pm_core.specs.Calls.{MakesPrefix, MakesSteps, MayBegin}
-use Rattle.pm_core.specs.Machine.{DiskStep, CanStart, states, worlds}
+use Rattle.pm_core.specs.BasePages.{no_pages}
+use Rattle.pm_core.specs.Calls.{MakesPrefix, MakesSteps}
+use Rattle.pm_core.specs.Machine.{DiskStep, states, worlds}
 use Rattle.pm_core.specs.Rounds.{on_log}
 use Rattle.pm_core.specs.States.{State}
-use Rattle.pm_core.specs.Stands.{Stands}
-use Rattle.pm_core.proofs.CrashLaw.{run_stands}
 use Rattle.pm_core.proofs.LogCalls.{log_worlds, prefix}
 use Rattle.pm_core.proofs.Making as making
 use Rattle.pm_ckpt.specs.Marked.{begin_log}
-use Rattle.pm_ckpt.specs.Checkpoints.{MayOpen}
 
 -- where the log ends after an append
 pub grown_end : (log : LogEnd) (frame : Frame) → end_after (append_steps log frame) log.end ≡ (grown log frame).end
@@ -54,21 +56,22 @@ makes_joined old mid new result xs ys s first is second = record {
   moments = making.moments_joined old mid new xs ys s first is second.moments;
 }
 
--- once the CP_BEGIN is appended and forced the checkpoint may begin
-pub may_begin : (log : LogEnd) (mark : Mark) (pages : List PageId) (old mid : World) → MayOpen log mark pages old → mid ≡ world_after (begin_log log mark) log.end old → MayBegin mark pages mid
-may_begin log mark pages old mid may is =
-    let steps = on_log (begin_log log mark) in
-    let s = may.state in
-    let there : mid ≡ worlds steps s old = log_world old mid (begin_log log mark) s log.end may.ends is in
-    record {
-      wanted = may.wanted;
-      told = may.told;
-      state = states steps s old;
-      stands = subst (λ (w : World). Stands may.wanted may.told (states steps s old) w) (sym there) (run_stands may.wanted may.told steps s old may.stands may.appends);
-      rebuilt = may.rebuilt;
-      guard = subst (λ (w : World). CanStart mark may.rebuilt (states steps s old) w) (sym there) may.guard;
-      pages_are = may.pages_are;
-    }
+-- A state of the machine. What steps make of the files of segments and markers doesn't go by the state.
+pub some_state : Shape → State
+some_state shape = record {
+  shape = shape;
+  low = 0;
+  at = place 1 0;
+  pending = [];
+  end = place 1 0;
+  tail = Uncut;
+  now = record { checkpoint = NoStart; rebuilt = no_pages };
+  soon = None;
+  files = no_pages;
+  first = empty;
+  order = [];
+  map = empty;
+}
 
 -- where the segments stay, the log's end does
 pub ends_same : (log : LogEnd) (old new : World) → new.log ≡ old.log → EndsThere log old → EndsThere log new

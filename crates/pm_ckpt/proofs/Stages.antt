@@ -28,30 +28,16 @@ use Rattle.pm_core.specs.Stands.{MarksSay, soon_or}
 use Rattle.pm_core.proofs.CrashLaw.{run_stands}
 use Rattle.pm_core.proofs.Making as making
 use Rattle.pm_core.proofs.Saying.{say_in_force}
-use Rattle.pm_ckpt.specs.Checkpoints.{opening_steps, ending_steps, whole_steps, CanCheckpoint, MayCheckpoint, MayOpen, MayEnd, MakesInOrder, AreGone}
+use Rattle.pm_ckpt.specs.Checkpoints.{opening_steps, ending_steps, whole_steps, CanCheckpoint, MayCheckpoint, MayEnd, MakesInOrder, AreGone}
 use Rattle.pm_ckpt.specs.Marked.{begin_frame, begin_of, kept_segment}
 use Rattle.pm_frame.specs.Frames.{Frame}
 use Rattle.pm_ckpt.specs.Writes.{Writing, written_page, write_steps, IsHeld, HaveGaps, Finishes, AreHome}
-use Rattle.pm_ckpt.proofs.Finishing.{are_rebuilt}
-use Rattle.pm_ckpt.proofs.GoingOn.{begin_goes, payload_len}
+use Rattle.pm_ckpt.proofs.GoingOn.{payload_len}
 use Rattle.pm_ckpt.proofs.Opening.{log_moments, log_world, makes_joined}
 use Rattle.pm_ckpt.proofs.Whole.{can_end, whole_can, state_after, end_end}
 use Rattle.pm_ckpt.proofs.Written.{zero_writes, zero_pages, zero_gaps}
 
--- ---- what the first calls ask
-
-pub may_open : (log : LogEnd) (mark : Mark) (held : Partitions) (order : List PageId) (w : World) → MayCheckpoint log mark held order w → MayOpen log mark order w
-may_open log mark held order w may = record {
-  wanted = may.wanted;
-  told = may.told;
-  state = may.state;
-  stands = may.can.stands;
-  ends = may.can.ends;
-  appends = begin_goes mark may.can.guard.fits may.wanted may.told may.state log w may.can.stands may.can.ends may.can.is_open may.can.begun;
-  rebuilt = may.can.rebuilt;
-  guard = may.can.guard;
-  pages_are = are_rebuilt held order may.can.rebuilt may.can.rebuilds;
-}
+-- ---- what the end goes by
 
 pub may_end : (log : LogEnd) (mark : Mark) (held : Partitions) (order : List PageId) (w mid : World) → (may : MayCheckpoint log mark held order w) → All (IsHeld mark.shape.page_size held) order
     → mid ≡ worlds (opening_steps log mark may.can.rebuilt) may.state w → MayEnd mark held order mid

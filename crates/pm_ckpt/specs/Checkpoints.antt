@@ -19,7 +19,7 @@ use Rattle.pm_disk.specs.Worlds.{World, segment_in}
 use Rattle.pm_marks.specs.InForce.{Started, Ended}
 use Rattle.pm_marks.specs.Slots.{IsMark}
 use Rattle.pm_core.specs.BasePages.{Partitions}
-use Rattle.pm_core.specs.Calls.{MakesSteps, AreRebuilt, begin_steps, finish_steps}
+use Rattle.pm_core.specs.Calls.{MakesSteps, begin_steps, finish_steps}
 use Rattle.pm_core.specs.Held.{in_force}
 use Rattle.pm_core.specs.LogAlone.{image_of}
 use Rattle.pm_core.specs.Machine.{DiskStep, CanStart, CanAll, states, worlds}
@@ -70,20 +70,6 @@ pub record CanCheckpoint (wanted : Shape) (told : List ℕ → ℕ) (s : State) 
   pub guard : CanStart mark rebuilt (states (on_log (begin_log log mark)) s world)
       (worlds (on_log (begin_log log mark)) s world)
   pub rebuilds : (part index : ℕ) → rebuilt part index ≡ named_of held dirty part index
-
--- In some state of the disk the checkpoint with this mark may be begun, with these pages: once its CP_BEGIN
--- is appended and forced, its start marker may be written.
-pub record MayOpen (log : LogEnd) (mark : Mark) (pages : List PageId) (world : World) : Type 0 where
-  pub wanted : Shape
-  pub told : List ℕ → ℕ
-  pub state : State
-  pub stands : Stands wanted told state world
-  pub ends : state.end ≡ log.end
-  pub appends : CanAll told (on_log (begin_log log mark)) state world
-  pub rebuilt : Partitions
-  pub guard : CanStart mark rebuilt (states (on_log (begin_log log mark)) state world)
-      (worlds (on_log (begin_log log mark)) state world)
-  pub pages_are : AreRebuilt pages rebuilt
 
 -- In this state the checkpoint runs, and the log rebuilds these pages for it.
 pub record CanEndOnce (wanted : Shape) (told : List ℕ → ℕ) (s : State) (mark : Mark) (held : Partitions)

@@ -1,5 +1,6 @@
 -- The mark of a checkpoint, and its begin in the log.
-use Rattle.std.specs.Prelude.{◌≡◌, ◌≤◌, ℕ, ◌+◌, min, List, [], ◌∷◌, ◌++◌, Option, Some, None}
+use Rattle.std.specs.Prelude.{◌≡◌, ◌≤◌, ℕ, ◌+◌, ◌^◌, nat_lt, if◌then◌else◌, min, List, [], ◌∷◌, ◌++◌}
+use Rattle.std.specs.Prelude.{Option, Some, None}
 use Rattle.pm_core.specs.PageSets.{PageList}
 use Rattle.pm_types.specs.declared.place.Place.{Place}
 use Rattle.pm_types.specs.declared.shape.Mark.{Mark}
@@ -47,10 +48,14 @@ with_mark mark kept = record kept { mark = Some mark }
 abbrev pub spent : Kept → Kept
 spent kept = record kept { room = None }
 
--- the number of the checkpoint after this one
+-- the number of the checkpoint after this one, while there is one
 abbrev pub number_after : Option Mark → ℕ
 number_after None = 1
 number_after (Some mark) = mark.number + 1
+
+-- numbers have 64 bits: after the highest one they begin again
+abbrev pub next_number : Option Mark → ℕ
+next_number before = if nat_lt (number_after before) (2 ^ 64) then number_after before else 1
 
 -- from where a restart without the next end marker reads the physical records: the begin of the
 -- checkpoint before, or the log's begin
@@ -70,7 +75,7 @@ replay_or None begin = place begin.seg (begin.off + (CP_BEGIN_LEN + FRAME_EXTRA)
 -- the mark of the next checkpoint
 abbrev pub next_mark : Shape → Option Mark → LogEnd → Option Place → Mark
 next_mark shape before log replay = record {
-  number = number_after before;
+  number = next_number before;
   begin = begin_of log;
   replay = replay_or replay (begin_of log);
   from = from_after before;

@@ -10,7 +10,7 @@ ghost use Rattle.pm_core.specs.BasePages.{Partitions};
 ghost use Rattle.pm_core.specs.Calls.{MakesSteps};
 ghost use Rattle.pm_core.specs.States.{State};
 ghost use Rattle.pm_ckpt.specs.Marked.{begin_frame, begin_log};
-ghost use Rattle.pm_ckpt.specs.Checkpoints.{opening_steps, MayOpen};
+ghost use Rattle.pm_ckpt.specs.Checkpoints.{opening_steps};
 
 use crate::mark::CP_BEGIN_LEN;
 use pm_core::{Begun, Idle, PageSet};
@@ -32,7 +32,6 @@ pub(crate) fn begin_marked<H: Host>(
     requires usable { IsUsable (H.Device.state host.old) }
     requires mark { IsMark mark }
     requires end { H.Device.tells → EndsThere log.old (H.Device.history host.old).world }
-    requires guard { H.Device.tells → MayOpen log.old mark set.pages (H.Device.history host.old).world }
     ensures begun { IfOk result (λ begun. begun ≡ record { mark = mark; set = set; left = set.pages }) }
     ensures grown { OnOk result (log.new ≡ grown log.old (begin_frame mark)) }
     ensures ends { H.Device.tells → OnOk result (EndsThere log.new (H.Device.history host.new).world) }

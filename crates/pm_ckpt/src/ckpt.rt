@@ -2,9 +2,11 @@
 
 ghost use Rattle.std.specs.Prelude.{◌≡◌, ◌+◌, ℕ, List, Some, IfOk, OnOk, OnErr, All, length};
 ghost use Rattle.pm_types.specs.declared.shape.Shape.{Shape};
+ghost use Rattle.pm_disk.specs.Moments.{AllMoments};
 ghost use Rattle.pm_disk.specs.States.{HasCause, IsUsable};
 ghost use Rattle.pm_marks.specs.Slots.{IsMark};
 ghost use Rattle.pm_segments.specs.Ends.{EndsThere};
+ghost use Rattle.pm_core.specs.Calls.{ChangesDisk};
 ghost use Rattle.pm_core.specs.PageSets.{AreOnce, no_page};
 ghost use Rattle.pm_core.specs.States.{State};
 ghost use Rattle.pm_ckpt.specs.Marked.{mark_for, begin_of, log_after, HasRoomFor, with_mark, spent};
@@ -99,9 +101,6 @@ impl Ckpt {
         requires once { AreOnce dirty.now }
         requires held { All (IsHeld self.old.shape.page_size (held_in pages.now)) dirty.now }
         requires end { H.Device.tells → EndsThere log.old (H.Device.history host.old).world }
-        requires guard { H.Device.tells
-            → MayCheckpoint log.old (mark_for self.old log.old replay) (held_in pages.now) dirty.now
-            (H.Device.history host.old).world }
 
         ensures kept { OnOk result
             (self.new ≡ with_mark (mark_for self.old log.old replay) self.old) }
@@ -111,15 +110,19 @@ impl Ckpt {
         ensures ends { H.Device.tells → OnOk result (EndsThere log.new (H.Device.history host.new).world) }
 
         // From each state of the disk machine in which this checkpoint may be made: its steps were, each of
-        // which meets its guard.
+        // which meets its guard. A store that wasn't sound when it was opened may be in no such state.
         ensures steps { H.Device.tells → (wanted : Shape) (told : List ℕ → ℕ) (s : State)
             → (can : CanCheckpoint wanted told s log.old (mark_for self.old log.old replay)
             (held_in pages.now) dirty.now (H.Device.history host.old).world)
             → MakesWhole told (H.Device.history host.old) (H.Device.history host.new) result log.old
             (mark_for self.old log.old replay) can.rebuilt (held_in pages.now) dirty.now s }
-        ensures ended { H.Device.tells → OnOk result
-            (IsEnded self.old.shape.page_size log.old (mark_for self.old log.old replay)
+        ensures ended { H.Device.tells
+            → MayCheckpoint log.old (mark_for self.old log.old replay) (held_in pages.now) dirty.now
+            (H.Device.history host.old).world
+            → OnOk result (IsEnded self.old.shape.page_size log.old (mark_for self.old log.old replay)
             (held_in pages.now) dirty.now (H.Device.history host.new).world) }
+        ensures disk { H.Device.tells → AllMoments (H.Device.history host.old) (H.Device.history host.new)
+            (ChangesDisk (H.Device.history host.old).world) }
         ensures cause { HasCause (H.Device.state host.old) (H.Device.state host.new) result }
     {
         let mark = next_mark(self.shape, self.mark, log, replay);
@@ -151,8 +154,6 @@ fn checkpoint<H: Host>(
     requires once { AreOnce order.now }
     requires held { All (IsHeld mark.shape.page_size (held_in pages.now)) order.now }
     requires end { H.Device.tells → EndsThere log.old (H.Device.history host.old).world }
-    requires guard { H.Device.tells
-        → MayCheckpoint log.old mark (held_in pages.now) order.now (H.Device.history host.old).world }
     ensures idle { IfOk result (λ idle. idle ≡ Some (no_page (length set.pages + set.spare))) }
     ensures log { OnOk result (log.new ≡ log_after log.old mark) }
     ensures ends { H.Device.tells → OnOk result (EndsThere log.new (H.Device.history host.new).world) }
@@ -161,8 +162,12 @@ fn checkpoint<H: Host>(
         (H.Device.history host.old).world)
         → MakesInOrder told (H.Device.history host.old) (H.Device.history host.new) result log.old mark
         can.rebuilt (held_in pages.now) order.now s }
-    ensures ended { H.Device.tells → OnOk result (IsEnded mark.shape.page_size log.old mark (held_in pages.now)
+    ensures ended { H.Device.tells
+        → MayCheckpoint log.old mark (held_in pages.now) order.now (H.Device.history host.old).world
+        → OnOk result (IsEnded mark.shape.page_size log.old mark (held_in pages.now)
         order.now (H.Device.history host.new).world) }
+    ensures disk { H.Device.tells → AllMoments (H.Device.history host.old) (H.Device.history host.new)
+        (ChangesDisk (H.Device.history host.old).world) }
     ensures cause { HasCause (H.Device.state host.old) (H.Device.state host.new) result }
 {
     let begun = begin_marked(host, log, idle, mark, set)?;

@@ -29,14 +29,13 @@ pub(crate) fn finish_written<H: Host>(
     requires left { begun.left ≡ order.now }
     requires once { AreOnce order.now }
     requires held { All (IsHeld size (held_in pages.now)) order.now }
-    requires guard { H.Device.tells
-        → MayEnd begun.mark (held_in pages.now) order.now (H.Device.history host.old).world }
     ensures ended { IfOk result
         (λ ended. ended ≡ record { mark = begun.mark; room = length begun.set.pages + begun.set.spare }) }
     ensures steps { H.Device.tells → Finishes (H.Device.history host.old) (H.Device.history host.new) result
         (held_in pages.now) order.now begun.mark }
-    ensures home { H.Device.tells → OnOk result
-        (AreHome size (held_in pages.now) order.now (H.Device.history host.new).world) }
+    ensures home { H.Device.tells
+        → MayEnd begun.mark (held_in pages.now) order.now (H.Device.history host.old).world
+        → OnOk result (AreHome size (held_in pages.now) order.now (H.Device.history host.new).world) }
     ensures log { H.Device.tells → OnOk result
         ((H.Device.history host.new).world.log ≡ (H.Device.history host.old).world.log) }
     ensures cause { HasCause (H.Device.state host.old) (H.Device.state host.new) result }

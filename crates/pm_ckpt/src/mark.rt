@@ -2,7 +2,7 @@
 
 ghost use Rattle.std.specs.Prelude.{◌≡◌, ◌+◌, ◌<◌, ◌^◌};
 ghost use Rattle.pm_frame.specs.declared.limits.TheConstants.{FRAME_EXTRA};
-ghost use Rattle.pm_ckpt.specs.Marked.{number_after, from_after, begin_of, replay_or, next_mark};
+ghost use Rattle.pm_ckpt.specs.Marked.{next_number, from_after, begin_of, replay_or, next_mark};
 
 use pm_frame::FRAME_EXTRA;
 use pm_segments::Log;
@@ -19,13 +19,12 @@ pub(crate) fn next_mark(
     log: &Log,
     replay: Option<Place>,
 ) -> Mark
-    requires number { number_after before < 2 ^ 64 }
     requires fits { (begin_of log.now).off + (CP_BEGIN_LEN + FRAME_EXTRA) < 2 ^ 32 }
     ensures { result ≡ next_mark shape before log.now replay }
 {
     let begin = log.next_place(CP_BEGIN_LEN);
     Mark {
-        number: number_after(&before),
+        number: next_number(&before),
         begin,
         replay: replay_or(replay, begin),
         from: from_after(&before),
@@ -33,12 +32,11 @@ pub(crate) fn next_mark(
     }
 }
 
-fn number_after(before: &Option<Mark>) -> u64
-    requires { number_after before.now < 2 ^ 64 }
-    ensures { result ≡ number_after before.now }
+fn next_number(before: &Option<Mark>) -> u64
+    ensures { result ≡ next_number before.now }
 {
     match before {
-        Some(mark) => mark.number + 1,
+        Some(mark) => mark.number.checked_add(1).unwrap_or(1),
         None => 1,
     }
 }

@@ -6,6 +6,7 @@ pub mod Images
 pub mod InForce
 pub mod Joins
 pub mod Junk
+pub mod LaterImages
 pub mod LeftPages
 pub mod LogCalls
 pub mod LogCrash
@@ -17,6 +18,7 @@ pub mod MarkSteps
 pub mod NoFiles
 pub mod Once
 pub mod One
+pub mod OnlyDisk
 pub mod OnePage
 pub mod PageSteps
 pub mod Ranges

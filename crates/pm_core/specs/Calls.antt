@@ -4,7 +4,6 @@ use Rattle.std.specs.Prelude.{if◌then◌else◌, Some, None, IsSome, Result, O
 use Rattle.pm_types.specs.declared.limits.TheConstants.{PARTITIONS_MAX}
 use Rattle.pm_types.specs.declared.page_id.PageId.{PageId}
 use Rattle.pm_types.specs.declared.shape.Mark.{Mark}
-use Rattle.pm_types.specs.declared.shape.Shape.{Shape}
 use Rattle.pm_disk.specs.declared.mark.MarkFile.TheVariants as mark_file
 use Rattle.pm_disk.specs.Worlds.{World}
 use Rattle.pm_disk.specs.Files.{content}
@@ -13,10 +12,15 @@ use Rattle.pm_marks.specs.Slots.{IsMark}
 use Rattle.pm_marks.specs.InForce.{Started}
 use Rattle.pm_core.specs.BasePages.{Partitions, page_in_file}
 use Rattle.pm_core.specs.Machine.{DiskStep, WriteFirst, WriteStart, ForceStart, ForcePages, WriteEnd}
-use Rattle.pm_core.specs.Machine.{ForceEnd, CanStart, worlds}
+use Rattle.pm_core.specs.Machine.{ForceEnd, worlds}
 use Rattle.pm_core.specs.PageSets.{has_index, has_part}
 use Rattle.pm_core.specs.States.{State}
-use Rattle.pm_core.specs.Stands.{Stands}
+
+-- nothing but files of the store was changed: nothing was said, no input was taken, and the configuration is as it was
+pub record ChangesDisk (old now : World) : Type 0 where
+  pub said : now.said ≡ old.said
+  pub input : now.input ≡ old.input
+  pub config : now.config ≡ old.config
 
 -- a prefix of these steps was made
 abbrev pub MakesPrefix : List DiskStep → State → World → World → Type 0
@@ -50,16 +54,6 @@ finish_steps mark pages = force_steps 0 PARTITIONS_MAX pages ++ end_steps mark
 abbrev pub AreRebuilt : List PageId → Partitions → Type 0
 AreRebuilt pages rebuilt = (part index : ℕ) → IsSome (rebuilt part index) → has_index part index pages ≡ true
 
--- In this state the next checkpoint may begin, with these pages.
-pub record MayBegin (mark : Mark) (pages : List PageId) (world : World) : Type 0 where
-  pub wanted : Shape
-  pub told : List ℕ → ℕ
-  pub state : State
-  pub stands : Stands wanted told state world
-  pub rebuilt : Partitions
-  pub guard : CanStart mark rebuilt state world
-  pub pages_are : AreRebuilt pages rebuilt
-
 -- In this state the checkpoint may end once the files of these pages are forced: each page that the
 -- log rebuilds is in its file.
 pub record CanFinish (mark : Mark) (pages : List PageId) (s : State) (world : World) : Type 0 where
@@ -69,10 +63,3 @@ pub record CanFinish (mark : Mark) (pages : List PageId) (s : State) (world : Wo
   pub pages_are : AreRebuilt pages s.now.rebuilt
   pub written : (part index : ℕ) (bytes : List ℕ) → s.now.rebuilt part index ≡ Some bytes
       → page_in_file s.shape.page_size (content (world.pages part)) index ≡ Some bytes
-
-pub record MayFinish (mark : Mark) (pages : List PageId) (world : World) : Type 0 where
-  pub wanted : Shape
-  pub told : List ℕ → ℕ
-  pub state : State
-  pub stands : Stands wanted told state world
-  pub guard : CanFinish mark pages state world

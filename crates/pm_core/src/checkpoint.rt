@@ -11,7 +11,7 @@ ghost use Rattle.pm_disk.specs.States.{HasCause, IsUsable};
 ghost use Rattle.pm_marks.specs.Slots.{IsMark};
 ghost use Rattle.pm_core.specs.BasePages.{Partitions};
 ghost use Rattle.pm_core.specs.States.{State};
-ghost use Rattle.pm_core.specs.Calls.{MakesSteps, begin_steps, force_steps, finish_steps, MayBegin, MayFinish};
+ghost use Rattle.pm_core.specs.Calls.{MakesSteps, begin_steps, force_steps, finish_steps};
 ghost use Rattle.pm_core.specs.PageSets.{no_page, has_part, without_page, left_after, AreAmong, AreOnce};
 
 use crate::page_set::PageSet;
@@ -57,7 +57,6 @@ impl Idle {
     pub fn begin<H: Host>(self, host: &mut H, mark: Mark, set: PageSet) -> Result<Begun, Failed>
         requires usable { IsUsable (H.Device.state host.old) }
         requires mark { IsMark mark }
-        requires guard { H.Device.tells → MayBegin mark set.pages (H.Device.history host.old).world }
         ensures begun { IfOk result (λ begun. begun ≡ record { mark = mark; set = set; left = set.pages }) }
         ensures steps { H.Device.tells → (s : State) (rebuilt : Partitions)
             → MakesSteps (H.Device.history host.old) (H.Device.history host.new) result
@@ -117,7 +116,6 @@ impl Begun {
         requires usable { IsUsable (H.Device.state host.old) }
         requires mark { IsMark self.mark }
         requires written { self.left ≡ [] }
-        requires guard { H.Device.tells → MayFinish self.mark self.set.pages (H.Device.history host.old).world }
         ensures ended { IfOk result
             (λ ended. ended ≡ record { mark = self.mark; room = length self.set.pages + self.set.spare }) }
         ensures steps { H.Device.tells → (s : State)

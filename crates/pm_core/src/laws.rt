@@ -27,7 +27,7 @@ ghost use Rattle.pm_types.specs.declared.page_id.PageId.{PageId};
 ghost use Rattle.pm_types.specs.declared.shape.Mark.{Mark};
 ghost use Rattle.pm_core.specs.Rounds.{PageStep, on_log, on_pages, joined};
 ghost use Rattle.pm_core.specs.Starts.{CanBegin, start_state, appended};
-ghost use Rattle.pm_core.specs.Prefixes.{KeepsPrefix};
+ghost use Rattle.pm_core.specs.Prefixes.{IsUpTo, KeepsPrefix, last_number};
 ghost use Rattle.pm_records.specs.LogSteps.{Step, world_after, DoesPrefix};
 
 /// A folder without files is sound, and holds the empty map and the wanted shape.
@@ -154,6 +154,19 @@ pub fn a_call_leaves_a_prefix()
         → Stands wanted told s world → CanAll told steps s world → (now : World) → MakesPrefix steps s world now
         → (image : Image) → LeavesAll now image → IsTrueImage now image
         → KeepsPrefix wanted s.shape s.first (appended (states steps s world)) (length s.order) image }
+{}
+
+/// What a crash leaves of one call goes no further than the call, where no marker was pending before it: its log
+/// ends at most one segment after the one in which the log ends after the call, and the checkpoint in force has
+/// at most the number of the last one whose start marker the call writes, or wrote before.
+pub fn a_crash_leaves_nothing_later()
+    ensures { (wanted : Shape) (told : List ℕ → ℕ) (s : State) (world : World) (steps : List DiskStep)
+        → Stands wanted told s world → s.soon ≡ None → CanAll told steps s world
+        → (now : World) → MakesPrefix steps s world now
+        → (image : Image) → LeavesAll now image → IsTrueImage now image
+        → (shape : Shape) (pairs : Pairs) (sound : SoundImage wanted image shape pairs)
+        → IsUpTo ((states steps s world).end.seg + 1) (last_number (states steps s world))
+        wanted image shape pairs sound }
 {}
 
 /// The steps of a checkpoint's calls meet their guards: those of `Idle::begin` where its start

@@ -1,12 +1,11 @@
 -- What an accepted line makes of the pages of a store that runs.
-use Rattle.std.proofs.Common.{◌≡◌, ℕ, ◌<◌, ◌≤◌, List, [], true, refl, sym, ap, ◌∙◌, subst, arith}
+use Rattle.std.proofs.Common.{◌≡◌, ℕ, ◌<◌, List, [], true, sym, ap, ◌∙◌, subst, arith}
 use Rattle.std.specs.Prelude.{Option, Some, None, IsSome, slice_get}
 use Rattle.pm_types.specs.declared.shape.Shape.{Shape}
 use Rattle.pm_frame.specs.declared.kinds.TheConstants.{LOGICAL}
 use Rattle.pm_records.specs.declared.limits.TheConstants.{PUT, REMOVE}
-use Rattle.pm_records.specs.LogFiles.{IsRecordFrame}
 use Rattle.pm_records.specs.Logs.{record_in}
-use Rattle.pm_records.specs.Records.{Record, IsRecord, Logical, payload_of, record_of}
+use Rattle.pm_records.specs.Records.{Record, Logical, record_of}
 use Rattle.pm_records.proofs.RecordOf.{record_of-payload}
 use Rattle.pm_model.specs.declared.line.Cmd.TheVariants.{Put, Get, Remove, Scan, Checkpoint}
 use Rattle.pm_model.specs.declared.line.Line.{Line}
@@ -82,7 +81,7 @@ module _ (before now : PagedStore) (line : Line) (store : StoreState) (accepts :
     partition_is : IsPlainPartition now.shape (part_of_line before.shape line) list
     partition_is = accepts.is.partitions.each (part_of_line before.shape line) list is
 
-    changes_store : ChangesStore store (part_of_line before.shape line) list (pages_of_lists now.lists)
+    pub changes_store : ChangesStore store (part_of_line before.shape line) list (pages_of_lists now.lists)
     changes_store = record {
       inside = subst (λ (s : Shape). part_of_line before.shape line < s.partitions) (sym shape_is) accepts.inside;
       plain = partition_is.plain;

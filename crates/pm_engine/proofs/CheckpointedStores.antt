@@ -2,20 +2,21 @@
 use Rattle.std.proofs.Common.{◌≡◌, ◌⊎◌, inl, inr, ℕ, zero, suc, ◌+◌, ◌-◌, ◌^◌, ◌<◌, ◌≤◌, max, Bool, true, false, List, [], ◌∷◌, ◌++◌, length, map, Option, Some, None, refl, sym, ap, ◌∙◌, subst, arith, append_assoc}
 use Rattle.std.specs.Prelude.{◌||◌, if◌then◌else◌, IsSome, is_some}
 use Rattle.std.specs.Option.{option_or}
+use Rattle.std.proofs.lemmas.Bool.{cases_eq}
 use Rattle.pm_types.specs.declared.limits.TheConstants.{PARTITIONS_MAX}
 use Rattle.pm_types.specs.declared.page_id.PageId.{PageId}
 use Rattle.pm_types.specs.declared.place.Place.{Place}
 use Rattle.pm_types.specs.declared.shape.Mark.{Mark}
 use Rattle.pm_types.specs.declared.shape.Shape.{Shape}
 use Rattle.pm_frame.specs.Frames.{Frame}
-use Rattle.pm_disk.specs.Files.{File, Change, after, at_change, bytes_of}
+use Rattle.pm_disk.specs.Files.{File, Change, after, at_change, bytes_of, content}
 use Rattle.pm_disk.specs.declared.mark.MarkFile.TheVariants as mark_file
 use Rattle.pm_marks.specs.MarkWrites.{first_written}
 use Rattle.pm_disk.specs.Worlds.{World}
 use Rattle.pm_model.specs.Eval.{Pairs}
-use Rattle.pm_records.specs.LogFiles.{HasLasting, forced_contents}
+use Rattle.pm_records.specs.LogFiles.{HasLasting, IsQuietBut, forced_contents}
 use Rattle.pm_records.specs.LogSteps.{Step, DropSegment, ForceSegment, frames_in, step_world}
-use Rattle.pm_records.specs.Logs.{all_frames, after_frames, is_over, HasNoSeal}
+use Rattle.pm_records.specs.Logs.{place, all_frames, after_frames, is_over, HasNoSeal}
 use Rattle.pm_records.specs.Records.{CpBegin}
 use Rattle.pm_records.proofs.Runs.{option_cases, after_frames-append, over-append, run_last}
 use Rattle.pm_segments.specs.Appends.{grown}
@@ -30,9 +31,9 @@ use Rattle.pm_core.specs.PageLaws.{Grows}
 use Rattle.pm_core.specs.PageSets.{has_index}
 use Rattle.pm_core.specs.Replays.{all_replayed}
 use Rattle.pm_core.specs.Rounds.{on_log}
-use Rattle.pm_core.specs.Stands.{Stands, IsGood, IsViewOf, BeginIsLasting, page_high}
+use Rattle.pm_core.specs.Stands.{Stands, IsGood, IsViewOf, BeginIsLasting, MarksSay, QuietMarks, page_high, soon_checkpoint, soon_or}
 use Rattle.pm_core.specs.Starts.{appended}
-use Rattle.pm_core.specs.States.{State}
+use Rattle.pm_core.specs.States.{State, View}
 use Rattle.pm_core.proofs.CrashLaw.{run_stands}
 use Rattle.pm_core.proofs.Making.{worlds_join}
 use Rattle.pm_core.proofs.Ranges.{page_within}
@@ -44,12 +45,14 @@ use Rattle.pm_ckpt.proofs.GoingOn.{begin_is}
 use Rattle.pm_ckpt.proofs.Stages.{grown_seg}
 use Rattle.pm_ckpt.proofs.Whole.{states_join}
 use Rattle.pm_ckpt.proofs.Written.{writes_keep}
+use Rattle.pm_redo.proofs.ForcedMarks.{ended_forced}
 use Rattle.pm_engine.specs.RunningStores.{StoreState, LogRuns, IsRunning, HasSegmentsFor, map_of, mark_after, checkpointed}
 use Rattle.pm_engine.proofs.Batching.{take_none}
 use Rattle.pm_engine.proofs.CheckpointPages.{base_is}
 use Rattle.pm_engine.proofs.RunningCheckpoints.{before as before_begin, pages_grow, is_mark, begun_runs, none_pending, leads_there, reaches_begin, map_there}
 use Rattle.pm_engine.proofs.RunningLines.{appended_on}
 use Rattle.pm_engine.proofs.RunningLogs.{state_follows}
+use Rattle.pm_engine.proofs.RunningQuiet.{drops_quiet, forced_all, steps_quiet}
 use Rattle.pm_engine.proofs.TrackedFrames.{tracks_none, tracks_no_page}
 
 -- ---- steps
@@ -307,6 +310,33 @@ module _ (wanted : Shape) (told : List ℕ → ℕ) (store : StoreState) (s : St
         goes_on = on;
       }
 
+  segments_quiet : IsQuietBut v last.end.seg
+  segments_quiet =
+      subst (λ (u : World). IsQuietBut u last.end.seg) (sym v_is)
+      (drops_quiet last.end.seg last.first (max last.first (kept_segment mark) - last.first) ended s7 w7
+      (subst (λ (log : ℕ → File). IsQuietBut (record w7 { log = log }) last.end.seg) (sym front_log) begun.quiet.segments))
+
+  -- the begin was forced, so nothing is pending of the log's last segment either
+  begin_quiet : (n : ℕ) → (w2.log n).since ≡ []
+  begin_quiet n =
+      (steps_quiet (begin_log store.log mark) store.log (record last { end = place (n + 1) 0 }) s w runs.log.ends runs.log.quiet
+      (forced_all store.log frame w runs.log.quiet.segments (n + 1))).segments n (omega arith)
+
+  pub all_segments_quiet : (n : ℕ) → (v.log n).since ≡ []
+  all_segments_quiet n = elim (cases_eq n last.end.seg) [
+    | inl is ↦
+        subst (λ (m : ℕ). (v.log m).since ≡ []) (begin_seg ∙ sym is)
+        (ap (λ (f : File). f.since) same_segment ∙ begin_quiet mark.begin.seg)
+    | inr apart ↦ segments_quiet n apart
+  ]
+
+  marks_quiet : (v.starts.since ≡ []) × (v.ends.since ≡ [])
+  marks_quiet =
+      let says = subst (λ (o : Option View). MarksSay (soon_or o t.now).checkpoint (bytes_of (content v.starts)) (bytes_of (content v.ends))) leaves.alone stands_after.reads in
+      ended_forced mark v
+      (subst (λ (o : Option View). QuietMarks (soon_checkpoint o) v.starts v.ends) leaves.alone stands_after.quiet)
+      (subst (λ (c : Checkpoint). MarksSay c (bytes_of (content v.starts)) (bytes_of (content v.ends))) leaves.checkpoint says)
+
   log_runs : LogRuns wanted told (checkpointed store) (frame ∷ []) (map_of store) t v
   log_runs = record {
     stands = stands_after;
@@ -331,6 +361,7 @@ module _ (wanted : Shape) (told : List ℕ → ℕ) (store : StoreState) (s : St
     leads = begin_leads;
     all = ap (λ fs. frame ∷ fs) t_pending;
     newest = ap (λ fs. all_replayed t.shape fs (Some t.map)) t_pending ∙ ap (λ (p : Pairs). Some p) t_map;
+    quiet = record { segments = segments_quiet; starts = marks_quiet.0; ends = marks_quiet.1 };
   }
 
   -- ---- its pages

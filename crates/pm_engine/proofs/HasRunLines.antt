@@ -1,5 +1,5 @@
 -- The lines that a store has done while it ran.
-use Rattle.std.proofs.Common.{◌≡◌, ℕ, List, [], ◌∷◌, ◌++◌, length, take, Some, refl, sym, ap, ◌∙◌, subst, arith, append-nil}
+use Rattle.std.proofs.Common.{◌≡◌, ℕ, ◌+◌, List, [], ◌∷◌, ◌++◌, length, take, Some, refl, sym, ap, ◌∙◌, subst, arith, append-nil}
 use Rattle.std.proofs.lemmas.List.{take_all}
 use Rattle.pm_types.specs.declared.shape.Shape.{Shape}
 use Rattle.pm_frame.specs.Frames.{Frame}
@@ -13,6 +13,7 @@ use Rattle.pm_core.specs.BasePages.{Partitions}
 use Rattle.pm_core.specs.Calls.{MakesPrefix}
 use Rattle.pm_core.specs.Held.{pairs_in}
 use Rattle.pm_core.specs.Machine.{DiskStep, CanAll, states, worlds}
+use Rattle.pm_core.specs.Prefixes.{last_number}
 use Rattle.pm_core.specs.Replays.{all_replayed}
 use Rattle.pm_core.specs.Rounds.{on_log}
 use Rattle.pm_core.specs.Starts.{appended}
@@ -105,7 +106,7 @@ module _ (wanted : Shape) (told : List ℕ → ℕ) (from : ℕ) (start : Pairs)
 
   -- a crash
   pub run_crash : (others : List Line) (steps : List DiskStep) → CanAll told steps s w → KeepsLines store.shape from start others s.first (appended (states steps s w)) → (now : World) → MakesPrefix steps s w now
-      → CrashHoldsLines wanted store.shape start others now
+      → CrashHoldsLines ((states steps s w).end.seg + 1) (last_number (states steps s w)) wanted store.shape start others now
   run_crash others steps can keeps now some =
-      subst (λ (shape : Shape). KeepsLines shape from start others s.first (appended (states steps s w)) → CrashHoldsLines wanted shape start others now) has.runs.log.shape
-      (λ k. crash_holds wanted told from start others s w steps has.runs.log.stands can has.lasting k now some) keeps
+      subst (λ (shape : Shape). KeepsLines shape from start others s.first (appended (states steps s w)) → CrashHoldsLines ((states steps s w).end.seg + 1) (last_number (states steps s w)) wanted shape start others now) has.runs.log.shape
+      (λ k. crash_holds wanted told from start others s w steps has.runs.log.stands has.runs.log.alone can has.lasting k now some) keeps

@@ -9,6 +9,7 @@ use Rattle.pm_types.specs.Shapes.{IsShape}
 use Rattle.pm_frame.specs.declared.limits.TheConstants.{FRAME_END_MAX}
 use Rattle.pm_frame.specs.Frames.{Frame}
 use Rattle.pm_disk.specs.Files.{bytes_of, content}
+use Rattle.pm_disk.specs.Images.{NothingPending}
 use Rattle.pm_disk.specs.Worlds.{World}
 use Rattle.pm_model.specs.Eval.{Pairs}
 use Rattle.pm_records.specs.FirstRecords.{restart_frame}
@@ -20,7 +21,7 @@ use Rattle.pm_records.specs.Shapes.{shape_bytes}
 use Rattle.pm_records.proofs.RecordOf.{record_of-payload}
 use Rattle.pm_records.proofs.Runs.{bool_cases, rises_from}
 use Rattle.pm_records.proofs.Writing.{CanAll as CanWriteAll, frames_after, frames_in-append}
-use Rattle.pm_segments.specs.Appends.{can_seal, enter_steps, roll_steps, room_steps, append_steps}
+use Rattle.pm_segments.specs.Appends.{can_seal, enter_steps, roll_steps, room_steps, append_steps, grown}
 use Rattle.pm_segments.specs.Ends.{LogEnd, LogIsOpen, IsLogEnd, has_room}
 use Rattle.pm_segments.proofs.AppendLaw.{append_can}
 use Rattle.pm_segments.proofs.OpenLog.{append_open}
@@ -48,9 +49,10 @@ use Rattle.pm_ckpt.proofs.GoingOn.{begun_append, steps_go, front_replays}
 use Rattle.pm_ckpt.proofs.Opening.{grown_end}
 use Rattle.pm_ckpt.proofs.Whole.{logs_end}
 use Rattle.pm_engine.specs.OpenedStores.{BeginWithFirst, IsRestoredStore, opened_store}
-use Rattle.pm_engine.specs.RunningStores.{LogRuns, RunsOver, IsMarkIn, HasSegmentsFor, ended_with}
+use Rattle.pm_engine.specs.RunningStores.{LogRuns, OnlyLastPending, RunsOver, IsMarkIn, HasSegmentsFor, ended_with}
 use Rattle.pm_engine.proofs.RunningCheckpoints.{end_ready}
 use Rattle.pm_engine.proofs.RunningLogs.{state_follows, leads_on, newest_on, begun_on, append_replays, open_as, seal_is}
+use Rattle.pm_engine.proofs.RunningQuiet.{steps_quiet, append_leaves}
 use Rattle.pm_engine.proofs.TrackedFrames.{tracks_restart}
 
 -- ---- pages that count
@@ -67,7 +69,7 @@ twice : (b : Bool) (o : Option (List ℕ)) → (if b then (if b then o else None
 twice true o = refl
 twice false o = refl
 
-counted_twice : (pages : Partition) → counted (counted pages) ≡ counted pages
+pub counted_twice : (pages : Partition) → counted (counted pages) ≡ counted pages
 counted_twice pages = λ i index. twice (index == 0 || nat_lt index (page_count pages)) (pages index) i
 
 counted_grows : (pages : Partition) → ((index : ℕ) → IsSome (pages index) → IsSome (pages 0)) → Grows (counted pages) pages
@@ -92,15 +94,16 @@ file_begins size files part index some = by (page_in_file size (files part) inde
 
 -- ---- a restart
 
-ended_mark : (checkpoint : Checkpoint) → with_end checkpoint ≡ ended_with (mark_of checkpoint)
+pub ended_mark : (checkpoint : Checkpoint) → with_end checkpoint ≡ ended_with (mark_of checkpoint)
 ended_mark NoStart = refl
 ended_mark (Started mark) = refl
 ended_mark (Ended mark) = refl
 
 -- the state that a restart leaves is one of a restored store
 pub restored_store : (wanted : Shape) (told : List ℕ → ℕ) (checkpoint : Checkpoint) (s t : State) (w : World) (log : LogEnd) → IsRestored checkpoint s t → Stands wanted told t w → IsShape t.shape → IsLogEnd log → log.end ≡ s.at
-    → log.end.off ≤ FRAME_END_MAX → HasSegmentsFor log 1 → IsRestoredStore wanted told t.shape log (mark_of checkpoint) t w
-restored_store wanted told checkpoint s t w log is stands sound limits end early segments = record {
+    → log.end.off ≤ FRAME_END_MAX → HasSegmentsFor log 1 → NothingPending w → IsRestoredStore wanted told t.shape log (mark_of checkpoint) t w
+restored_store wanted told checkpoint s t w log is stands sound limits end early segments quiet = record {
+  quiet = quiet;
   stands = stands;
   shaped = refl;
   is_shape = sound;
@@ -139,7 +142,7 @@ room_grammar log n = by (has_room log n) (can_seal log.end)
     by false false = tt
 
 module _ (shape : Shape) (is_shape : IsShape shape) where
-  restart_is : record_in (restart_frame shape) ≡ Some (Restart shape)
+  pub restart_is : record_in (restart_frame shape) ≡ Some (Restart shape)
   restart_is = record_of-payload (Restart shape) is_shape
 
   restart_short : length (restart_frame shape).payload ≤ 100
@@ -167,7 +170,7 @@ module _ (wanted : Shape) (told : List ℕ → ℕ) (shape : Shape) (log : LogEn
   abbrev v : World
   v = worlds (on_log steps) s w
 
-  good : IsGood wanted s w.log w.pages s.now
+  pub good : IsGood wanted s w.log w.pages s.now
   good = restored.stands.good s.now (subst (λ o. IsViewOf s.now o s.now) (sym restored.alone) refl)
 
   is_mark : IsMarkIn mark
@@ -265,6 +268,12 @@ module _ (wanted : Shape) (told : List ℕ → ℕ) (shape : Shape) (log : LogEn
   abbrev older : List Frame
   older = lasting ++ frames_in (room_steps log len)
 
+  quiet_before : OnlyLastPending log w
+  quiet_before = record { segments = λ n apart. restored.quiet.log n; starts = restored.quiet.starts; ends = restored.quiet.ends }
+
+  quiet_after : OnlyLastPending (grown log f) v
+  quiet_after = steps_quiet steps log (grown log f) s w restored.ends quiet_before (append_leaves log f w quiet_before.segments)
+
   log_runs : LogRuns wanted told (opened_store shape log mark s) (older ++ f ∷ []) s.map t v
   log_runs =
       let follows = state_follows steps lasting s w in
@@ -290,16 +299,17 @@ module _ (wanted : Shape) (told : List ℕ → ℕ) (shape : Shape) (log : LogEn
             ∙ ap (λ l. (lasting ++ l) ++ frames_in steps) restored.nothing_pending ∙ ap (λ l. l ++ frames_in steps) (append-nil lasting)
             ∙ ap (λ l. lasting ++ l) frames ∙ sym (append_assoc lasting (frames_in (room_steps log len)) (f ∷ []));
         newest = ap (λ (k : Shape). all_replayed k t.pending (Some t.map)) follows.shape ∙ newest_on steps s w s.map replays;
+        quiet = quiet_after;
       }
 
-  not_rebuilt : s.now.rebuilt ≡ no_pages
+  pub not_rebuilt : s.now.rebuilt ≡ no_pages
   not_rebuilt = by mark restored.checkpoint
     where
       by : (m : Option Mark) → s.now.checkpoint ≡ ended_with m → s.now.rebuilt ≡ no_pages
       by None is = subst (λ c. RebuiltIsLasting c w.log s.low s.at s.now.rebuilt) is good.rebuilt_lasts
       by (Some m) is = subst (λ c. RebuiltIsLasting c w.log s.low s.at s.now.rebuilt) is good.rebuilt_lasts
 
-  well : AllWellFormed shape s.files
+  pub well : AllWellFormed shape s.files
   well =
       subst (λ (k : Shape). AllWellFormed k s.files) restored.shaped
       (subst (λ (rebuilt : Partitions). AllWellFormed s.shape (laid_over rebuilt s.files)) not_rebuilt good.based_is.well_formed)

@@ -52,7 +52,7 @@ zero_or n = grind arith
 -- ---- where a log ends
 
 -- where frames don't end the log there is room for a SEAL after them
-run_room : (c : ℕ → List ℕ) (p : Place) (fs : List Frame) → p.off ≤ FRAME_END_MAX → HasFrames all_frames c p fs → is_over p fs ≡ false → (after_frames p fs).off ≤ FRAME_END_MAX
+pub run_room : (c : ℕ → List ℕ) (p : Place) (fs : List Frame) → p.off ≤ FRAME_END_MAX → HasFrames all_frames c p fs → is_over p fs ≡ false → (after_frames p fs).off ≤ FRAME_END_MAX
 run_room c p [] le run goes_on = le
 run_room c p (f ∷ fs) le run goes_on =
     let parts = neither (ends_log p f) (is_over (next_place p f) fs) goes_on in

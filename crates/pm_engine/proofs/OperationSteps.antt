@@ -1,11 +1,10 @@
 -- Appends of an operation's records as steps of the disk machine.
-use Rattle.std.proofs.Common.{◌≡◌, List, ◌∷◌, Result, refl, sym, ◌∙◌, subst}
+use Rattle.std.proofs.Common.{◌≡◌, List, ◌∷◌, Result, sym, ◌∙◌, subst}
 use Rattle.std.proofs.lemmas.Result.{on_ok_weaker}
 use Rattle.pm_types.specs.declared.page_id.PageId.{PageId}
 use Rattle.pm_types.specs.declared.place.Place.{Place}
 use Rattle.pm_frame.specs.Frames.{Frame}
 use Rattle.pm_disk.specs.Moments.{History}
-use Rattle.pm_disk.specs.Worlds.{World}
 use Rattle.pm_disk.proofs.Chain.{weaker}
 use Rattle.pm_records.specs.LogSteps.{Step, DoesPrefix, DoesSteps}
 use Rattle.pm_segments.specs.Ends.{LogEnd}
@@ -20,7 +19,7 @@ use Rattle.pm_engine.specs.RunningSteps.{operation_frames}
 use Rattle.pm_engine.specs.RunningStores.{StoreState}
 
 -- steps of the log, made from where the machine's log ends
-machine_steps : {T E : Type 0} (old new : History) (result : Result T E) (steps : List Step) (s : State) → DoesSteps {T = T} {E = E} old new result steps s.end → MakesSteps {T = T} {E = E} old new result (on_log steps) s
+pub machine_steps : {T E : Type 0} (old new : History) (result : Result T E) (steps : List Step) (s : State) → DoesSteps {T = T} {E = E} old new result steps s.end → MakesSteps {T = T} {E = E} old new result (on_log steps) s
 machine_steps old new result steps s does = record {
   all = on_ok_weaker result (λ is. is ∙ sym (log_worlds steps s old.world)) does.all;
   moments = weaker old new (DoesPrefix steps s.end old.world) (MakesPrefix (on_log steps) s old.world) (λ w some. prefix steps s old.world w some) does.moments;

@@ -17,7 +17,7 @@ use Rattle.pm_model.specs.Batches.{HasCache}
 use Rattle.pm_model.specs.Orders.{part_of_line, is_barrier}
 use Rattle.pm_model.specs.Partitions.{part_of, ArePartitions}
 use Rattle.pm_model.specs.Eval.{Pairs, cache_key, is_full, is_accepted, reply_to, after, pairs_of}
-use Rattle.pm_part.specs.Commands.{IsPartCmd, IsRefused, accepts}
+use Rattle.pm_part.specs.Commands.{IsPartCmd, accepts}
 use Rattle.pm_core.specs.BasePages.{Partitions}
 use Rattle.pm_core.specs.Held.{AllWellFormed, pairs_in}
 use Rattle.pm_engine.specs.Merges.{HasRisingKeys, JoinsByKey}

@@ -5,8 +5,8 @@ use Rattle.pm_types.specs.declared.shape.Shape.{Shape}
 use Rattle.pm_frame.specs.Frames.{Frame}
 use Rattle.pm_disk.specs.Worlds.{World}
 use Rattle.pm_model.specs.Eval.{Pairs}
-use Rattle.pm_records.specs.LogFiles.{IsRecordFrame}
-use Rattle.pm_records.specs.LogSteps.{Step, Force, end_after, frames_in, written_after}
+use Rattle.pm_records.specs.LogFiles.{IsQuietBut, IsRecordFrame}
+use Rattle.pm_records.specs.LogSteps.{Step, Force, end_after, frames_in, world_after, written_after}
 use Rattle.pm_records.specs.Logs.{HasNoSeal}
 use Rattle.pm_records.proofs.Writing.{CanAll as CanWriteAll, frames_after, frames_in-append}
 use Rattle.pm_segments.specs.Appends.{append_steps, grown}
@@ -28,6 +28,7 @@ use Rattle.pm_ckpt.proofs.Whole.{states_join, logs_end}
 use Rattle.pm_engine.specs.AppendRuns.{grown_all, append_all_steps}
 use Rattle.pm_engine.specs.RunningStores.{StoreState, LogRuns, HasSegmentsFor, AreRecordFrames}
 use Rattle.pm_engine.proofs.RunningLogs.{state_follows, leads_on, newest_on, begun_on, append_replays, open_as}
+use Rattle.pm_engine.proofs.RunningQuiet.{steps_quiet, append_leaves, force_leaves}
 
 -- ---- steps of the log
 
@@ -52,8 +53,8 @@ module _ (wanted : Shape) (told : List ℕ → ℕ) (store : StoreState) (frames
   pub steps_can : CanAll told (on_log steps) s w
   steps_can = steps_go told now steps runs.lasting s w can_here runs.begun whole
 
-  pub steps_run : LogRuns wanted told (record store { log = log }) (frames ++ frames_in steps) now t there
-  steps_run =
+  pub steps_run : IsQuietBut (world_after steps store.log.end w) log.end.seg → LogRuns wanted told (record store { log = log }) (frames ++ frames_in steps) now t there
+  steps_run segments =
       let follows = state_follows steps runs.lasting s w in
       record {
         stands = run_stands wanted told (on_log steps) s w runs.stands steps_can;
@@ -73,6 +74,7 @@ module _ (wanted : Shape) (told : List ℕ → ℕ) (store : StoreState) (frames
         leads = leads_on wanted told s w runs.stands steps _ runs.lasting runs.leads can_here;
         all = ap (λ fs. (written_after steps (written_by s runs.lasting)).lasting ++ fs) follows.pending ∙ frames_after steps (written_by s runs.lasting) ∙ ap (λ fs. fs ++ frames_in steps) runs.all;
         newest = ap (λ (shape : Shape). all_replayed shape t.pending (Some t.map)) follows.shape ∙ newest_on steps s w now whole;
+        quiet = steps_quiet steps store.log log s w runs.ends runs.quiet segments;
       }
 
 -- ---- one frame
@@ -96,6 +98,7 @@ module _ (wanted : Shape) (told : List ℕ → ℕ) (store : StoreState) (frames
 
   pub append_runs : LogRuns wanted told (record store { log = grown store.log f }) (frames ++ frames_in steps) now (states (on_log steps) s w) (worlds (on_log steps) s w)
   append_runs = steps_run wanted told store frames pairs s w runs steps (grown store.log f) now (append_can store.log f is (written_by s runs.lasting) open_here 0) replays (grown_end store.log f) open_after
+      (append_leaves store.log f w runs.quiet.segments)
 
   pub append_seg : (grown store.log f).end.seg ≤ store.log.end.seg + 1
   append_seg = grown_seg store.log f is (written_by s runs.lasting) open_here
@@ -151,4 +154,4 @@ module _ (wanted : Shape) (told : List ℕ → ℕ) (store : StoreState) (frames
   pub force_runs : LogRuns wanted told store frames pairs (states (on_log (Force ∷ [])) s w) (worlds (on_log (Force ∷ [])) s w)
   force_runs =
       subst (λ (l : List Frame). LogRuns wanted told store l pairs (states (on_log (Force ∷ [])) s w) (worlds (on_log (Force ∷ [])) s w)) (append-nil frames)
-      (steps_run wanted told store frames pairs s w runs (Force ∷ []) store.log pairs can_force refl refl open_forced)
+      (steps_run wanted told store frames pairs s w runs (Force ∷ []) store.log pairs can_force refl refl open_forced (force_leaves store.log.end.seg store.log.end w runs.quiet.segments))

@@ -1,5 +1,5 @@
 -- A store that runs may be checkpointed.
-use Rattle.std.proofs.Common.{◌≡◌, ◌⊎◌, inl, inr, ℕ, ◌+◌, ◌^◌, ◌<◌, ◌≤◌, Bool, List, [], ◌∷◌, ◌++◌, length, Option, Some, None, refl, sym, ap, ◌∙◌, subst, arith, append_assoc, append-nil}
+use Rattle.std.proofs.Common.{◌≡◌, ◌⊎◌, inl, inr, ℕ, ◌+◌, ◌^◌, ◌<◌, ◌≤◌, Bool, List, [], ◌∷◌, ◌++◌, length, Option, Some, None, refl, sym, ap, ◌∙◌, subst, arith, append_assoc, append-nil, nat_lt, true}
 use Rattle.std.specs.Prelude.{if◌then◌else◌, IsSome, is_some}
 use Rattle.std.specs.Option.{option_or}
 use Rattle.std.proofs.lemmas.Bool.{leb-true}
@@ -9,7 +9,6 @@ use Rattle.pm_types.specs.declared.shape.Mark.{Mark}
 use Rattle.pm_types.specs.declared.shape.Shape.{Shape}
 use Rattle.pm_frame.specs.declared.limits.TheConstants.{FRAME_EXTRA, FRAME_END_MAX}
 use Rattle.pm_frame.specs.Frames.{Frame, frame_len}
-use Rattle.pm_disk.specs.Files.{File}
 use Rattle.pm_disk.specs.Worlds.{World}
 use Rattle.pm_model.specs.Eval.{Pairs}
 use Rattle.pm_records.specs.LogFiles.{Tail, Ready, Written, EndIs, HasLasting, IsRecordFrame}
@@ -40,13 +39,14 @@ use Rattle.pm_core.proofs.LogSteps.{written_by, is_written, from_end}
 use Rattle.pm_pages.specs.Rows.{Partition}
 use Rattle.pm_pages.specs.WellFormed.{IsWellFormed}
 use Rattle.pm_ckpt.specs.Checkpoints.{CanCheckpoint}
-use Rattle.pm_ckpt.specs.Marked.{number_after, from_after, begin_of, begin_frame, begin_log}
+use Rattle.pm_ckpt.specs.Marked.{number_after, next_number, from_after, begin_of, begin_frame, begin_log}
 use Rattle.pm_ckpt.proofs.GoingOn.{can_join, payload_len, begin_is, begin_fits, begin_stays}
 use Rattle.pm_ckpt.proofs.Opening.{grown_end}
 use Rattle.pm_engine.specs.RunningStores.{StoreState, LogRuns, IsRunning, IsMarkIn, HasSegmentsFor, map_of, mark_after, ended_with}
 use Rattle.pm_engine.specs.TrackedPages.{TracksPages}
 use Rattle.pm_engine.proofs.CheckpointPages.{base_is, has_first}
 use Rattle.pm_engine.proofs.RunningAppends.{steps_run}
+use Rattle.pm_engine.proofs.RunningQuiet.{forced_leaves}
 use Rattle.pm_engine.proofs.RunningLogs.{state_follows, append_replays, open_as, seal_is, can_low}
 use Rattle.pm_engine.proofs.TrackedFrames.{tracks_no_page}
 
@@ -108,6 +108,12 @@ number_from (Some mark) = omega arith
 number_next : (mark : Option Mark) → number_after mark ≡ number_in (ended_with mark) + 1
 number_next None = refl
 number_next (Some mark) = refl
+
+-- there is a number for the next checkpoint
+next_is : (mark : Option Mark) → number_after mark < 2 ^ 64 → next_number mark ≡ number_after mark
+next_is mark numbered =
+    let fits : nat_lt (number_after mark) (2 ^ 64) ≡ true = grind (arith, nat_tests) in
+    ap (λ (b : Bool). if b then number_after mark else 1) fits
 
 not_started : (mark : Option Mark) (other : Mark) → ended_with mark ≡ Started other → ⊥
 not_started None other is = absurd cc
@@ -182,8 +188,8 @@ module _ (wanted : Shape) (told : List ℕ → ℕ) (store : StoreState) (s : St
 
   pub is_mark : IsMark mark
   is_mark = record {
-    numbered = number_from store.mark;
-    number_fits = numbered;
+    numbered = subst (λ n. 1 ≤ n) (sym (next_is store.mark numbered)) (number_from store.mark);
+    number_fits = subst (λ n. n < 2 ^ 64) (sym (next_is store.mark numbered)) numbered;
     begin = record { numbered = room.from_one; seg_fits = room.seg_fits; within = omega (arith, room.within) };
     replay = record { numbered = room.from_one; seg_fits = room.seg_fits; within = room.within };
     from = from_fits store.mark runs.is_mark;
@@ -252,6 +258,7 @@ module _ (wanted : Shape) (told : List ℕ → ℕ) (store : StoreState) (s : St
     -- once the begin is appended and forced, the log runs
     pub begun_runs : LogRuns wanted told (record store { log = grown log frame }) (runs.frames ++ frames_in steps) (map_of store) s2 w2
     begun_runs = steps_run wanted told store runs.frames (map_of store) s w runs.log steps (grown log frame) (map_of store) can_steps replays ends_there open_after
+        (forced_leaves log frame w runs.log.quiet.segments)
 
     pub none_pending : s2.pending ≡ []
     none_pending = (state_follows steps runs.log.lasting s w).pending ∙ ap (λ (t : Written). t.pending) written_is
@@ -317,7 +324,7 @@ module _ (wanted : Shape) (told : List ℕ → ℕ) (store : StoreState) (s : St
     may_start = record {
       alone = begun_runs.alone;
       idle = λ other is. not_started store.mark other (sym begun_runs.checkpoint ∙ is);
-      next = number_next store.mark ∙ ap (λ c. number_in c + 1) (sym begun_runs.checkpoint);
+      next = next_is store.mark numbered ∙ number_next store.mark ∙ ap (λ c. number_in c + 1) (sym begun_runs.checkpoint);
       fits = is_mark;
       shaped = sym begun_runs.shape;
       before = before;

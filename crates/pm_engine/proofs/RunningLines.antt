@@ -1,13 +1,17 @@
 -- A store that runs does lines, and what a crash leaves of them.
-use Rattle.std.proofs.Common.{◌≡◌, ◌⊎◌, inl, inr, ℕ, zero, suc, ◌+◌, ◌-◌, ◌<◌, ◌≤◌, Bool, true, false, List, [], ◌∷◌, ◌++◌, length, take, Some, refl, sym, ap, ◌∙◌, subst, arith, append_assoc, append-nil, length-append}
+use Rattle.std.proofs.Common.{◌≡◌, ◌⊎◌, inl, inr, ℕ, zero, suc, ◌+◌, ◌-◌, ◌<◌, ◌≤◌, Bool, true, false, List, [], ◌∷◌, ◌++◌, length, take, Option, Some, None, refl, sym, ap, ◌∙◌, subst, arith, append_assoc, append-nil, length-append}
 use Rattle.std.specs.Prelude.{if◌then◌else◌, nat_le}
 use Rattle.std.proofs.lemmas.Bool.{leb-true}
 use Rattle.std.proofs.lemmas.Bool.Decides.{nat_tests}
 use Rattle.std.proofs.lemmas.List.{take-append-le}
 use Rattle.std.proofs.Math.Seq.{take-length, take-append-add}
+use Rattle.pm_types.specs.declared.shape.Mark.{Mark}
 use Rattle.pm_types.specs.declared.shape.Shape.{Shape}
 use Rattle.pm_frame.specs.Frames.{Frame}
+use Rattle.pm_disk.specs.Images.{Image}
+use Rattle.pm_disk.specs.Moments.{History, AllMoments}
 use Rattle.pm_disk.specs.Worlds.{World}
+use Rattle.pm_disk.proofs.Chain.{weaker}
 use Rattle.pm_model.specs.declared.line.Line.{Line}
 use Rattle.pm_model.specs.Eval.{Pairs, after_all}
 use Rattle.pm_records.specs.LogSteps.{Step, CutTail, Append, Force, NextSegment, DropSegment, ForceSegment, step_world, frames_in}
@@ -18,16 +22,22 @@ use Rattle.pm_segments.specs.Appends.{can_seal, enter_steps, room_steps, append_
 use Rattle.pm_segments.specs.Ends.{LogEnd, has_room}
 use Rattle.pm_core.specs.Calls.{MakesPrefix}
 use Rattle.pm_core.specs.Machine.{DiskStep, CanAll, log_state, states}
+use Rattle.pm_core.specs.Prefixes.{last_number}
 use Rattle.pm_core.specs.Replays.{replayed, all_replayed}
 use Rattle.pm_core.specs.Rounds.{on_log}
 use Rattle.pm_core.specs.Sound.{SoundImage}
 use Rattle.pm_core.specs.Starts.{appended}
-use Rattle.pm_core.specs.States.{State}
-use Rattle.pm_core.specs.Stands.{Stands}
+use Rattle.pm_core.specs.States.{State, View}
+use Rattle.pm_core.specs.Stands.{Stands, soon_or}
 use Rattle.pm_core.proofs.CrashLaw.{law_of_call}
+use Rattle.pm_core.proofs.LaterImages.{call_up_to}
 use Rattle.pm_core.proofs.Replaying.{replayed-append}
+use Rattle.pm_marks.specs.InForce.{number_in}
 use Rattle.pm_engine.specs.AppendRuns.{append_all_steps}
-use Rattle.pm_engine.specs.RunningLines.{IsAfterPrefix, KeepsLines, CrashHoldsLines}
+use Rattle.pm_engine.specs.PagedEngines.{number_of}
+use Rattle.pm_engine.specs.PagedReplays.{CrashHoldsMap}
+use Rattle.pm_engine.specs.RunningLines.{IsAfterPrefix, KeepsLines, GoesUpTo, CrashHoldsLines}
+use Rattle.pm_engine.specs.RunningStores.{ended_with}
 use Rattle.pm_engine.proofs.RunningLogs.{seal_is}
 
 -- ---- what was appended
@@ -170,9 +180,71 @@ keeps_still shape from start lines base now frames gs keeps whole now_is none =
 
 -- ---- a crash
 
-pub crash_holds : (wanted : Shape) (told : List ℕ → ℕ) (from : ℕ) (start : Pairs) (lines : List Line) (s : State) (w : World) (steps : List DiskStep) → Stands wanted told s w → CanAll told steps s w → from ≤ length s.order
-    → KeepsLines s.shape from start lines s.first (appended (states steps s w)) → (now : World) → MakesPrefix steps s w now → CrashHoldsLines wanted s.shape start lines now
-crash_holds wanted told from start lines s w steps stands can lasting keeps now some image leaves honest =
+-- how far it goes at most: where the steps leave the log's end, and the marker that was written last
+pub crash_holds : (wanted : Shape) (told : List ℕ → ℕ) (from : ℕ) (start : Pairs) (lines : List Line) (s : State) (w : World) (steps : List DiskStep) → Stands wanted told s w → s.soon ≡ None → CanAll told steps s w → from ≤ length s.order
+    → KeepsLines s.shape from start lines s.first (appended (states steps s w)) → (now : World) → MakesPrefix steps s w now
+    → CrashHoldsLines ((states steps s w).end.seg + 1) (last_number (states steps s w)) wanted s.shape start lines now
+crash_holds wanted told from start lines s w steps stands alone can lasting keeps now some image leaves honest =
     let left = law_of_call wanted told s w steps stands can now some image leaves honest in
     let prefix = keeps left.count (omega (arith, lasting, left.has)) left.map left.is in
-    (prefix.count, prefix.within, subst (λ (p : Pairs). SoundImage wanted image s.shape p) prefix.is left.sound)
+    record {
+      count = prefix.count;
+      within = prefix.within;
+      sound = subst (λ (p : Pairs). SoundImage wanted image s.shape p) prefix.is left.sound;
+      up_to = λ shape pairs sound. call_up_to wanted told s w steps stands alone can now some image leaves honest shape pairs sound;
+    }
+
+-- it goes no further than to a later segment, and to a higher number
+pub up_to_further : (a b c d : ℕ) (wanted : Shape) (image : Image) → a ≤ c → b ≤ d → GoesUpTo a b wanted image → GoesUpTo c d wanted image
+up_to_further a b c d wanted image later higher goes shape pairs sound =
+    let up_to = goes shape pairs sound in
+    record { segment = omega (arith, up_to.segment, later); checkpoint = omega (arith, up_to.checkpoint, higher) }
+
+pub crash_further : (a b c d : ℕ) (wanted shape : Shape) (start : Pairs) (lines : List Line) (w : World) → a ≤ c → b ≤ d → CrashHoldsLines a b wanted shape start lines w → CrashHoldsLines c d wanted shape start lines w
+crash_further a b c d wanted shape start lines w later higher holds image leaves honest =
+    let held = holds image leaves honest in
+    record { count = held.count; within = held.within; sound = held.sound; up_to = up_to_further a b c d wanted image later higher held.up_to }
+
+pub moments_further : (a b c d : ℕ) (wanted shape : Shape) (start : Pairs) (lines : List Line) (old new : History) → a ≤ c → b ≤ d → AllMoments old new (CrashHoldsLines a b wanted shape start lines) → AllMoments old new (CrashHoldsLines c d wanted shape start lines)
+moments_further a b c d wanted shape start lines old new later higher moments =
+    weaker old new (CrashHoldsLines a b wanted shape start lines) (CrashHoldsLines c d wanted shape start lines) (λ w holds. crash_further a b c d wanted shape start lines w later higher holds) moments
+
+-- it holds the map after a prefix of more lines, too
+pub crash_wider : (last number : ℕ) (wanted shape : Shape) (start : Pairs) (lines more : List Line) (w : World) → CrashHoldsLines last number wanted shape start lines w → CrashHoldsLines last number wanted shape start (lines ++ more) w
+crash_wider last number wanted shape start lines more w holds image leaves honest =
+    let held = holds image leaves honest in
+    record {
+      count = held.count;
+      within = omega (arith, held.within, length-append lines more);
+      sound = subst (λ (ls : List Line). SoundImage wanted image shape (after_all shape ls start)) (sym (take-append-le held.count lines more held.within)) held.sound;
+      up_to = held.up_to;
+    }
+
+-- the number of the checkpoint whose marker was written last, where none runs
+pub number_ended : (mark : Option Mark) → number_in (ended_with mark) ≡ number_of mark
+number_ended None = refl
+number_ended (Some _) = refl
+
+pub number_at_rest : (s : State) (mark : Option Mark) → s.soon ≡ None → s.now.checkpoint ≡ ended_with mark → last_number s ≡ number_of mark
+number_at_rest s mark alone checkpoint = ap (λ (o : Option View). number_in (soon_or o s.now).checkpoint) alone ∙ ap number_in checkpoint ∙ number_ended mark
+
+-- without a line there is one map
+no_first : (count : ℕ) → take {A = Line} count [] ≡ []
+no_first zero = refl
+no_first (suc count) = refl
+
+pub crash_one : (last number : ℕ) (wanted shape : Shape) (pairs : Pairs) (world : World) → CrashHoldsLines last number wanted shape pairs [] world → CrashHoldsMap last number wanted shape pairs world
+crash_one last number wanted shape pairs world holds = record {
+  holds = λ image leaves honest.
+      let held = holds image leaves honest in
+      subst (λ (ls : List Line). SoundImage wanted image shape (after_all shape ls pairs)) (no_first held.count) held.sound;
+  up_to = λ image leaves honest. (holds image leaves honest).up_to;
+}
+
+pub map_further : (a b c d : ℕ) (wanted shape : Shape) (pairs : Pairs) (w : World) → a ≤ c → b ≤ d → CrashHoldsMap a b wanted shape pairs w → CrashHoldsMap c d wanted shape pairs w
+map_further a b c d wanted shape pairs w later higher map =
+    record { holds = map.holds; up_to = λ image leaves honest. up_to_further a b c d wanted image later higher (map.up_to image leaves honest) }
+
+pub map_moments : (a b c d : ℕ) (wanted shape : Shape) (pairs : Pairs) (old new : History) → a ≤ c → b ≤ d → AllMoments old new (CrashHoldsMap a b wanted shape pairs) → AllMoments old new (CrashHoldsMap c d wanted shape pairs)
+map_moments a b c d wanted shape pairs old new later higher moments =
+    weaker old new (CrashHoldsMap a b wanted shape pairs) (CrashHoldsMap c d wanted shape pairs) (λ w map. map_further a b c d wanted shape pairs w later higher map) moments

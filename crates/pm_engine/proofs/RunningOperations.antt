@@ -101,6 +101,7 @@ module _ (wanted : Shape) (told : List ℕ → ℕ) (store : StoreState) (before
     leads = runs.log.leads;
     all = runs.log.all;
     newest = runs.log.newest;
+    quiet = runs.log.quiet;
   }
 
   both : CanAll told (on_log steps) s w × LogRuns wanted told (appended_to store fs pages logged) (runs.frames ++ frames_in steps) after (states (on_log steps) s w) (worlds (on_log steps) s w)

@@ -3,7 +3,6 @@ use Rattle.std.specs.Prelude.{◌≡◌, ◌≤◌, ◌+◌, ℕ, List, [], ◌�
 use Rattle.std.specs.Prelude.{Result, OnOk}
 use Rattle.pm_types.specs.declared.shape.Shape.{Shape}
 use Rattle.pm_disk.specs.Moments.{History, AllMoments}
-use Rattle.pm_records.specs.Logs.{place}
 use Rattle.pm_records.specs.LogFiles.{ChangesLog, LogGrowsBy}
 use Rattle.pm_segments.specs.Ends.{EndsThere}
 use Rattle.pm_model.specs.declared.line.Line.{Line}

@@ -2,12 +2,15 @@ pub mod AppendRuns
 pub mod Batches
 pub mod Crashes
 pub mod Engines
-pub mod Loading
 pub mod LoggedLists
 pub mod Merges
 pub mod OpenedStores
 pub mod Openings
+pub mod PagedBatches
+pub mod PagedEngines
 pub mod PagedMaps
+pub mod PagedOpenings
+pub mod PagedReplays
 pub mod PagedStores
 pub mod PageLogs
 pub mod Records

@@ -3,6 +3,7 @@ use Rattle.std.specs.Prelude.{◌≡◌, ℕ, List, [], Option, None, IsSome}
 use Rattle.pm_types.specs.declared.shape.Mark.{Mark}
 use Rattle.pm_types.specs.declared.shape.Shape.{Shape}
 use Rattle.pm_types.specs.Shapes.{IsShape}
+use Rattle.pm_disk.specs.Images.{NothingPending}
 use Rattle.pm_disk.specs.Worlds.{World}
 use Rattle.pm_records.specs.FirstRecords.{restart_frame}
 use Rattle.pm_segments.specs.Appends.{grown}
@@ -17,8 +18,8 @@ use Rattle.pm_engine.specs.RunningStores.{StoreState, ended_with}
 abbrev pub BeginWithFirst : Partitions → Type 0
 BeginWithFirst pages = (part index : ℕ) → IsSome (pages part index) → IsSome (pages part 0)
 
--- The disk is as the state says, after a restart's steps: no checkpoint runs, nothing of the log is pending,
--- and it ends there and can go on.
+-- The disk is as the state says, after a restart's steps: no checkpoint runs, nothing is pending, and the log
+-- ends there and can go on.
 pub record IsRestoredStore (wanted : Shape) (told : List ℕ → ℕ) (shape : Shape) (log : LogEnd)
     (mark : Option Mark) (s : State) (world : World) : Type 0 where
   pub stands : Stands wanted told s world
@@ -29,6 +30,7 @@ pub record IsRestoredStore (wanted : Shape) (told : List ℕ → ℕ) (shape : S
   pub ends : s.end ≡ log.end
   pub is_open : LogIsOpen log (written_so s)
   pub nothing_pending : s.pending ≡ []
+  pub quiet : NothingPending world
   -- the pages of the partitions' files are those of files, in which the first page stands before each other one
   pub first_pages : BeginWithFirst s.files
 

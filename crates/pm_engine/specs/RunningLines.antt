@@ -6,6 +6,7 @@ use Rattle.pm_disk.specs.Images.{Image, LeavesAll}
 use Rattle.pm_disk.specs.Worlds.{World}
 use Rattle.pm_model.specs.declared.line.Line.{Line}
 use Rattle.pm_model.specs.Eval.{Pairs, after_all}
+use Rattle.pm_core.specs.Prefixes.{IsUpTo}
 use Rattle.pm_core.specs.Replays.{all_replayed}
 use Rattle.pm_core.specs.Sound.{SoundImage, IsTrueImage}
 use Rattle.pm_core.specs.Starts.{appended}
@@ -32,10 +33,35 @@ pub record HasRun (wanted : Shape) (told : List ℕ → ℕ) (from : ℕ) (start
   pub map : map_of store ≡ after_all store.shape lines start
   pub keeps : KeepsLines store.shape from start lines s.first (appended s)
 
--- whatever a crash leaves, as long as no sum is right by chance, is sound and holds the map after a prefix of
--- these lines, over this map
-abbrev pub CrashHoldsLines : Shape → Shape → Pairs → List Line → World → Type 0
-CrashHoldsLines wanted shape start lines world =
+-- The log of what a crash left ends in a segment up to this one, and the number of the checkpoint in force is
+-- at most this one, whatever it holds.
+abbrev pub GoesUpTo : ℕ → ℕ → Shape → Image → Type 0
+GoesUpTo last number wanted image =
+    (shape : Shape) (pairs : Pairs) (sound : SoundImage wanted image shape pairs)
+    → IsUpTo last number wanted image shape pairs sound
+
+-- What a crash left is sound, and holds the map after a prefix of these lines, over this map. It goes no
+-- further than this segment and this checkpoint.
+pub record HoldsPrefix (last number : ℕ) (wanted shape : Shape) (start : Pairs) (lines : List Line)
+    (image : Image) : Type 0 where
+  pub count : ℕ
+  pub within : count ≤ length lines
+  pub sound : SoundImage wanted image shape (after_all shape (take count lines) start)
+  pub up_to : GoesUpTo last number wanted image
+
+-- so does whatever a crash leaves, as long as no sum is right by chance
+abbrev pub CrashHoldsLines : ℕ → ℕ → Shape → Shape → Pairs → List Line → World → Type 0
+CrashHoldsLines last number wanted shape start lines world =
     (image : Image) → LeavesAll world image → IsTrueImage world image
-    → (count : ℕ) × (count ≤ length lines)
-    × SoundImage wanted image shape (after_all shape (take count lines) start)
+    → HoldsPrefix last number wanted shape start lines image
+
+-- the same files, beside another console and another configuration
+pub record SameDisk (old now : World) : Type 0 where
+  pub log : now.log ≡ old.log
+  pub pages : now.pages ≡ old.pages
+  pub starts : now.starts ≡ old.starts
+  pub ends : now.ends ≡ old.ends
+
+-- replies that speak of no record
+abbrev pub says_nothing : List ℕ → ℕ
+says_nothing bytes = 0

@@ -11,7 +11,7 @@ use Rattle.pm_types.specs.Shapes.{IsShape}
 use Rattle.pm_frame.specs.Frames.{Frame}
 use Rattle.pm_disk.specs.Worlds.{World}
 use Rattle.pm_model.specs.Eval.{Pairs}
-use Rattle.pm_records.specs.LogFiles.{HasLasting, IsRecordFrame}
+use Rattle.pm_records.specs.LogFiles.{HasLasting, IsQuietBut, IsRecordFrame}
 use Rattle.pm_records.specs.Logs.{all_frames}
 use Rattle.pm_segments.specs.Ends.{LogEnd, LogIsOpen}
 use Rattle.pm_marks.specs.InForce.{Checkpoint, NoStart, Ended}
@@ -64,6 +64,12 @@ abbrev pub IsMarkIn : Option Mark → Type 0
 IsMarkIn None = Unit {0}
 IsMarkIn (Some mark) = IsMark mark
 
+-- nothing is pending of the markers, nor of the log but of the segment in which it ends
+pub record OnlyLastPending (log : LogEnd) (world : World) : Type 0 where
+  pub segments : IsQuietBut world log.end.seg
+  pub starts : world.starts.since ≡ []
+  pub ends : world.ends.since ≡ []
+
 -- The disk is as the state says, no checkpoint runs, and the store's log can go on. From the begin of the last
 -- checkpoint, or the log's begin, these are all its frames, and the newest map is this one.
 pub record LogRuns (wanted : Shape) (told : List ℕ → ℕ) (store : StoreState) (frames : List Frame)
@@ -80,6 +86,7 @@ pub record LogRuns (wanted : Shape) (told : List ℕ → ℕ) (store : StoreStat
   pub leads : HasLasting all_frames world.log s.low s.at (from_after store.mark) lasting
   pub all : lasting ++ s.pending ≡ frames
   pub newest : all_replayed s.shape s.pending (Some s.map) ≡ Some pairs
+  pub quiet : OnlyLastPending store.log world
 
 -- The pages are those of a store of this shape: each partition is well formed, one that has a page has its
 -- first one, and each logged page is named once.

@@ -285,7 +285,7 @@ fn append<H: Host>(
 }
 
 // Puts the number of a line into the order, where its record was handed to the log.
-fn note(order: &mut Vec<u32>, tried: bool, number: u64)
+pub(crate) fn note(order: &mut Vec<u32>, tried: bool, number: u64)
     requires numbered { number < 2 ^ 32 }
     requires room { length order.old.items < vec_capacity order.old }
     ensures { order.new.items ≡ order.old.items ++ noted tried number }

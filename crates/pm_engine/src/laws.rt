@@ -3,7 +3,6 @@
 ghost use Rattle.std.specs.Prelude.{ℕ, ◌≡◌, ◌≤◌, ◌<◌, List, false, IsPermutation};
 ghost use Rattle.std.specs.FinMap as map;
 ghost use Rattle.std.specs.List.{flat_map, range_with_len};
-ghost use Rattle.pm_types.specs.declared.page_id.PageId.{PageId};
 ghost use Rattle.pm_types.specs.declared.shape.Shape.{Shape};
 ghost use Rattle.pm_model.specs.declared.cache_key.CacheKey.{CacheKey};
 ghost use Rattle.pm_model.specs.declared.line.Line.{Line};
@@ -12,7 +11,6 @@ ghost use Rattle.pm_model.specs.Orders.{part_of_line, is_barrier};
 ghost use Rattle.pm_model.specs.Eval.{reply_to, after, is_accepted, pairs_of};
 ghost use Rattle.pm_core.specs.BasePages.{Partitions};
 ghost use Rattle.pm_core.specs.Held.{AllWellFormed, pairs_in};
-ghost use Rattle.pm_engine.specs.Loading.{IsBadPage};
 ghost use Rattle.pm_engine.specs.Merges.{HasRisingKeys};
 ghost use Rattle.pm_engine.specs.PagedStores.{part_map, RunsOnPart};
 
@@ -38,11 +36,4 @@ pub fn a_store_is_its_partitions()
         → IsPermutation (flat_map (λ part. pairs_of cache (part_map pages part))
         (range_with_len 0 shape.partitions)) pairs
         → HasRisingKeys pairs → pairs ≡ pairs_of cache (pairs_in shape.partitions pages) }
-{}
-
-/// Where each partition's base pages are well formed none of them is bad, so that all of them are loaded unless a
-/// call fails or memory runs out.
-pub fn no_well_formed_page_is_bad()
-    ensures { (shape : Shape) (base : Partitions) (id : PageId) → AllWellFormed shape base
-        → IsBadPage shape base id → ⊥ }
 {}

@@ -12,10 +12,18 @@ mod open;
 mod operation_log;
 mod page_log;
 mod page_marks;
+mod paged_batch;
+mod paged_checkpoint;
+mod paged_engine;
+mod paged_forcing;
+mod paged_lines;
 mod paged_map;
+mod paged_opening;
+mod paged_replay;
 mod partitions;
 mod record;
 mod replay;
+mod replay_log;
 mod running;
 mod running_lines;
 mod stored_shape;
@@ -23,10 +31,11 @@ mod tracking;
 
 pub use accepting::an_accepted_line_makes_pages;
 pub use engine::Engine;
-pub use laws::{a_store_is_its_partitions, no_well_formed_page_is_bad};
+pub use laws::a_store_is_its_partitions;
 pub use logged_pages::LoggedPages;
 pub use operation_log::log_operation;
 pub use page_log::log_changes;
+pub use paged_engine::PagedEngine;
 pub use paged_map::PagedMap;
 pub use running::{
     a_checkpoint_leaves_a_running_store, a_restored_store_may_be_opened,

@@ -172,8 +172,8 @@ fn replay_next<H: Host>(
     }
 }
 
-// The segment of a place: a number below 2^64, so that a log ends.
-fn segment_of(at: Place) -> u64
+/// The segment of a place: a number below 2^64, so that a log ends.
+pub(crate) fn segment_of(at: Place) -> u64
     ensures { result ≡ at.seg }
 {
     at.seg

@@ -25,7 +25,7 @@ use pm_segments::Log;
 use pm_types::{PageId, Patch};
 
 /// The bytes of a page's name.
-const PAGE_NAME_LEN: usize = 8;
+pub(crate) const PAGE_NAME_LEN: usize = 8;
 
 /// Appends a record of each page of a partition that was changed since `ready`, by rising index: the page as a
 /// whole, where the log hasn't had it since the last checkpoint began or its patch is the whole page, else the

@@ -13,7 +13,7 @@ ghost use Rattle.pm_part.specs.Commands.{accepts};
 ghost use Rattle.pm_core.specs.BasePages.{no_pages};
 ghost use Rattle.pm_engine.specs.PageLogs.{HaveNames};
 ghost use Rattle.pm_engine.specs.PagedMaps.{AnswersLine, IsKeyOf, IsPagedStore, KeepsStore};
-ghost use Rattle.pm_engine.specs.PagedMaps.{pages_of_lists};
+ghost use Rattle.pm_engine.specs.PagedMaps.{pages_of_lists, ArePlainPartitions};
 
 use crate::merging::join_by_key;
 use crate::partitions::{empty_partitions, pairs_by_partition, run_on};
@@ -61,6 +61,17 @@ impl PagedMap {
     {
         let lists = empty_partitions(alloc, shape)?;
         Ok(PagedMap { shape, lists })
+    }
+
+    /// The map of the rows of these lists, one of each partition of a store of this shape.
+    pub(crate) fn of(shape: Shape, lists: Vec<PlainPages>) -> PagedMap
+        requires shape { IsShape shape }
+        requires partitions { ArePlainPartitions shape lists.items }
+        ensures shape { result.shape ≡ shape }
+        ensures lists { result.lists ≡ lists.items }
+        ensures paged { IsPagedStore result }
+    {
+        PagedMap { shape, lists }
     }
 
     /// The shape of its store.

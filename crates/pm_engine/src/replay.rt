@@ -119,8 +119,8 @@ impl Replay {
     }
 }
 
-// Makes room for one reply. Only a list that memory ran out for has none after it was cleared.
-fn make_room(alloc: Global, replies: &mut Replies) -> Result<(), AllocError>
+/// Makes room for one reply. Only a list that memory ran out for has none after it was cleared.
+pub(crate) fn make_room(alloc: Global, replies: &mut Replies) -> Result<(), AllocError>
     ensures { OnOk result (0 < replies.new.spare) }
 {
     replies.clear(alloc)?;

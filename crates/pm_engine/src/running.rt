@@ -7,6 +7,7 @@ ghost use Rattle.pm_types.specs.declared.shape.Mark.{Mark};
 ghost use Rattle.pm_types.specs.Shapes.{IsShape};
 ghost use Rattle.pm_frame.specs.declared.limits.TheConstants.{FRAME_END_MAX};
 ghost use Rattle.pm_frame.specs.Frames.{Frame};
+ghost use Rattle.pm_disk.specs.Images.{NothingPending};
 ghost use Rattle.pm_disk.specs.Worlds.{World};
 ghost use Rattle.pm_pages.specs.declared.plain.PlainPages.{PlainPages};
 ghost use Rattle.pm_core.specs.BasePages.{Partitions, pages_of};
@@ -43,7 +44,7 @@ pub fn a_restored_store_may_be_opened()
     ensures restored { (wanted : Shape) (told : List ℕ → ℕ) (checkpoint : Checkpoint) (s t : State)
         (world : World) (log : LogEnd)
         → IsRestored checkpoint s t → Stands wanted told t world → IsShape t.shape → IsLogEnd log
-        → log.end ≡ s.at → log.end.off ≤ FRAME_END_MAX → HasSegmentsFor log 1
+        → log.end ≡ s.at → log.end.off ≤ FRAME_END_MAX → HasSegmentsFor log 1 → NothingPending world
         → IsRestoredStore wanted told t.shape log (mark_of checkpoint) t world }
     ensures can { (wanted : Shape) (told : List ℕ → ℕ) (shape : Shape) (log : LogEnd) (mark : Option Mark)
         (s : State) (world : World)

@@ -17,7 +17,7 @@ ghost use Rattle.pm_part.specs.Reads.{ReadsPages};
 ghost use Rattle.pm_part.specs.Commands.{IsPartCmd, IsRefused, RepliesOnce};
 ghost use Rattle.pm_part.specs.Faults.{HasPartCause, IsFaultOf, IsFaultOfPut, IsFaultOfGet, IsFaultOfRemove};
 ghost use Rattle.pm_part.specs.PairFaults.{HasPairsCause, NamesNoBadPage};
-ghost use Rattle.pm_part.specs.Runs.{IsPartitionOf, RunsCmd, IsGet};
+ghost use Rattle.pm_part.specs.Runs.{IsPartitionOf, RunsCmd, KeepsPages};
 ghost use Rattle.pm_part.specs.Puts.{IsPartFor};
 ghost use Rattle.pm_types.specs.declared.shape.Shape.{Shape};
 ghost use Rattle.pm_model.specs.declared.line.Cmd.TheVariants.{Put, Get, Remove};
@@ -90,12 +90,11 @@ impl Part {
         ensures readable { AllReadable (P.seen pages.new) }
         ensures changes { OnOk result (EditsPages P.tells (P.seen pages.old) (P.seen pages.new)
             (λ j. IsTrue ((P.seen pages.new).asked j)) OP_PAGES) }
-        ensures refused { OnOk result (IsRefused cmd.now replies.old replies.new
-            → LooksAtPages P.tells (P.seen pages.old) (P.seen pages.new) OP_PAGES) }
+        ensures keeps { KeepsPages P.tells cmd.now (P.seen pages.old) (P.seen pages.new) replies.old
+            replies.new result }
         ensures replied { RepliesOnce replies.old replies.new result }
         ensures cause { HasPartCause P.tells (P.seen pages.old) (P.seen pages.new)
             (IsFaultOf P.tells (P.seen pages.new) cmd.now) result }
-        ensures gets { IsGet cmd.now → LooksAtPages P.tells (P.seen pages.old) (P.seen pages.new) 10 }
         ensures runs { P.tells → IsPartitionOf self.now.shape (P.seen pages.old)
             → (P.seen pages.old).part ≡ self.now.part
             → OnOk result (IsPartitionOf self.now.shape (P.seen pages.new)

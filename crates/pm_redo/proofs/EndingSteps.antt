@@ -191,14 +191,14 @@ forces_content from (suc n) pages s w part = by (λ v. forces_content (from + 1)
     by rest false = rest w
 
 -- a page that is lasting is there now
-lasting_page : (size index : ℕ) (file : File) (page : List ℕ) → Lasting file (page_low size index) (page_high size index) → page_in_file size file.forced index ≡ Some page → page_in_file size (content file) index ≡ Some page
+pub lasting_page : (size index : ℕ) (file : File) (page : List ℕ) → Lasting file (page_low size index) (page_high size index) → page_in_file size file.forced index ≡ Some page → page_in_file size (content file) index ≡ Some page
 lasting_page size index file page lasts is =
     let last : at_change file (length file.since) ≡ content file = at_change-last file (length file.since) (omega arith) in
     subst (λ o. page_in_file size o index ≡ Some page) last
     (page_own size index file.forced (at_change file (length file.since)) page is (lasts.long (length file.since) (omega arith)) (λ i le lt. lasts.same (length file.since) (omega arith) i le lt))
 
 -- one that no moment reaches isn't
-short_page : (size index : ℕ) (file : File) → ((k : ℕ) → k ≤ length file.since → length (bytes_of (at_change file k)) < page_high size index) → page_in_file size (content file) index ≡ None
+pub short_page : (size index : ℕ) (file : File) → ((k : ℕ) → k ≤ length file.since → length (bytes_of (at_change file k)) < page_high size index) → page_in_file size (content file) index ≡ None
 short_page size index file short =
     let last : at_change file (length file.since) ≡ content file = at_change-last file (length file.since) (omega arith) in
     elim (option_cases (page_in_file size (content file) index)) [

@@ -1,6 +1,9 @@
 pub mod EndingSteps
+pub mod FitMarks
 pub mod Entries
+pub mod ForcedMarks
 pub mod Listed
+pub mod LoadedPages
 pub mod MoreFrames
 pub mod RangeReads
 pub mod Restored

@@ -1,6 +1,6 @@
 -- What a restart makes of a sound store.
-use Rattle.std.proofs.Common.{◌≡◌, inl, ℕ, zero, suc, List, [], take, Option, Some, None, true, false, refl, sym, ◌∙◌, ap, subst, arith, Result}
-use Rattle.std.specs.Prelude.{IfErr, IsErrOf, Err}
+use Rattle.std.proofs.Common.{◌≡◌, inl, inr, ℕ, zero, suc, List, [], take, Option, Some, None, true, false, refl, sym, ◌∙◌, ap, subst, arith, Result}
+use Rattle.std.specs.Prelude.{IfErr, IsErrOf, Err, IsSome}
 use Rattle.std.proofs.lemmas.Option.{same_Some}
 use Rattle.pm_types.specs.declared.fault.OpenFault.{OpenFault}
 use Rattle.pm_types.specs.declared.fault.OpenFault.TheVariants as opening
@@ -11,15 +11,16 @@ use Rattle.pm_types.specs.declared.place.Place.{Place}
 use Rattle.pm_types.specs.declared.shape.Mark.{Mark}
 use Rattle.pm_types.specs.declared.shape.Shape.{Shape}
 use Rattle.pm_frame.specs.Frames.{Frame}
-use Rattle.pm_disk.specs.Files.{bytes_of, content}
+use Rattle.pm_disk.specs.Files.{File, bytes_of, content}
 use Rattle.pm_disk.proofs.Files.{quiet_content}
-use Rattle.pm_disk.specs.Images.{Image}
+use Rattle.pm_disk.specs.Images.{Image, NothingPending}
 use Rattle.pm_disk.specs.Moments.{History, AllMoments}
 use Rattle.pm_disk.specs.Worlds.{World}
 use Rattle.pm_disk.proofs.Chain.{joined, weaker}
 use Rattle.pm_model.specs.Eval.{Pairs}
 use Rattle.pm_records.specs.FirstRecords.{is_restart}
 use Rattle.pm_records.specs.LogFiles.{contents}
+use Rattle.pm_records.specs.LogSteps.{cut_steps, world_after}
 use Rattle.pm_records.specs.Records.{Record, Logical, Snapshot, Delta, CpBegin, Restart, Seal}
 use Rattle.pm_marks.specs.declared.marks.Marks.{Marks}
 use Rattle.pm_marks.specs.InForce.{Checkpoint, NoStart, Started, Ended, marks_of, replay_of}
@@ -32,7 +33,7 @@ use Rattle.pm_core.specs.Machine.{DiskStep, CanAll, states, worlds}
 use Rattle.pm_core.specs.Prefixes.{KeepsPrefix}
 use Rattle.pm_core.specs.Replays.{all_replayed}
 use Rattle.pm_core.specs.Sound.{SoundImage}
-use Rattle.pm_core.specs.Stands.{HasShape, MarksSay, soon_or, Stands}
+use Rattle.pm_core.specs.Stands.{HasShape, MarksSay, QuietMarks, IsViewOf, soon_checkpoint, soon_or, Stands}
 use Rattle.pm_core.specs.Starts.{CanBegin, appended}
 use Rattle.pm_core.specs.States.{State, View}
 use Rattle.pm_core.proofs.CrashLaw.{run_stands, law_of_call}
@@ -42,8 +43,9 @@ use Rattle.pm_redo.specs.Ending.{BeginsSteps}
 use Rattle.pm_redo.specs.FoundMarks.{replay_from}
 use Rattle.pm_redo.specs.Pictures.{files_in}
 use Rattle.pm_redo.specs.Rebuilding.{IsSame}
+use Rattle.pm_redo.proofs.ForcedMarks.{cut_forced, marks_forced}
 use Rattle.pm_redo.proofs.RestoringSteps.{rebuilds_once}
-use Rattle.pm_redo.specs.Restoring.{shape_of, mark_of, LeavesStore, IsLeft, with_end, IsRestored, Restores, left_state, CrashHolds, RestoresWithin, RestoresAll}
+use Rattle.pm_redo.specs.Restoring.{shape_of, mark_of, LeavesStore, IsLeft, with_end, IsRestored, KeepsMarks, Restores, left_state, CrashHolds, RestoresWithin, RestoresAll}
 
 -- ---- the state of a store that was left
 
@@ -112,6 +114,26 @@ module _ (wanted : Shape) (told : List ℕ → ℕ) (shape : Shape) (pairs : Pai
   pub restores_within : BeginsSteps told s old new → RestoresWithin wanted told shape pairs s old new
   restores_within begun = record { begun = begun; crash = crash_holds begun }
 
+  -- the log, the pages and the markers are all forced
+  all_quiet : (made : Restores told (in_force (image_of old.world)) s old new) → Stands wanted told (states made.steps s old.world) new.world → NothingPending new.world
+  all_quiet made stands =
+      let t = states made.steps s old.world in
+      let view : soon_or t.soon t.now ≡ record { checkpoint = with_end (in_force (image_of old.world)); rebuilt = no_pages } =
+      ap (λ o. soon_or o t.now) made.restored.alone ∙ made.restored.now in
+      let marks = marks_forced (in_force (image_of old.world)) old.world new.world can.quiet.starts can.quiet.ends made.marks
+      (subst (λ (o : Option View). QuietMarks (soon_checkpoint o) new.world.starts new.world.ends) made.restored.alone stands.quiet)
+      (subst (λ (v : View). MarksSay v.checkpoint (bytes_of (content new.world.starts)) (bytes_of (content new.world.ends))) view stands.reads) in
+      let good = stands.good t.now (subst (λ o. IsViewOf t.now o t.now) (sym made.restored.alone) refl) in
+      record {
+        log = λ seg. ap (λ (log : ℕ → File). (log seg).since) made.log ∙ cut_forced s.at old.world can.quiet.log seg;
+        pages = λ part. elim (good.calm part) [
+          | inl none ↦ none
+          | inr there ↦ let some : IsSome (no_pages part there.0) = subst (λ (v : View). IsSome (v.rebuilt part there.0)) made.restored.now there.1 in absurd cc
+        ];
+        starts = marks.0;
+        ends = marks.1;
+      }
+
   pub restores_all : Restores told (in_force (image_of old.world)) s old new → RestoresAll wanted told (in_force (image_of old.world)) shape pairs s old new
   restores_all made =
       let t = states made.steps s old.world in
@@ -124,6 +146,7 @@ module _ (wanted : Shape) (told : List ℕ → ℕ) (shape : Shape) (pairs : Pai
       record {
         made = made;
         stands = stands;
+        quiet = all_quiet made stands;
         ended = say_in_force (with_end (in_force (image_of old.world))) starts ends (subst (λ (v : View). MarksSay v.checkpoint starts ends) view stands.reads);
         pages = λ rebuilt is part.
             let left = left_of wanted told old.world shape pairs can in
@@ -149,11 +172,13 @@ module _ (told : List ℕ → ℕ) (s : State) (old mid new : History) (same : m
 
   pub restores_after : (checkpoint : Checkpoint) → Restores told checkpoint s mid new → Restores told checkpoint s old new
   restores_after checkpoint made = record {
+    log = made.log ∙ ap (λ (w : World). (world_after cut_steps s.at w).log) same;
     steps = made.steps;
     can = subst (λ (w : World). CanAll told made.steps s w) same made.can;
     moments = moments_after made.steps made.moments;
     is = made.is ∙ ap (worlds made.steps s) same;
     restored = subst (λ (w : World). IsRestored checkpoint s (states made.steps s w)) same made.restored;
+    marks = subst (λ (w : World). KeepsMarks checkpoint w new.world) same made.marks;
     pages = made.pages;
   }
 

@@ -15,7 +15,7 @@ use Rattle.pm_records.specs.LogSteps.{cut_steps, DoesPrefix, DoesSteps, world_af
 use Rattle.pm_records.specs.Logs.{all_frames, after_frames}
 use Rattle.pm_records.proofs.OpeningLaw.{run_within}
 use Rattle.pm_records.proofs.Runs.{one_log}
-use Rattle.pm_marks.specs.InForce.{Checkpoint, Started}
+use Rattle.pm_marks.specs.InForce.{Checkpoint, NoStart, Started, Ended}
 use Rattle.pm_core.specs.BasePages.{Partitions, no_pages, pages_of, laid_over, Rebuilds, rebuilt_of}
 use Rattle.pm_core.specs.Calls.{MakesPrefix, AreRebuilt}
 use Rattle.pm_core.specs.Machine.{DiskStep, CanAll, map_or, states, worlds}
@@ -33,7 +33,7 @@ use Rattle.pm_redo.specs.LogEnds.{LogEndsAt}
 use Rattle.pm_redo.specs.PageMaps.{PageMap, kept_pages}
 use Rattle.pm_redo.specs.Pictures.{files_in, AreOfFiles}
 use Rattle.pm_redo.specs.Rebuilding.{IsSame}
-use Rattle.pm_redo.specs.Restoring.{IsLeft, Restores, with_end}
+use Rattle.pm_redo.specs.Restoring.{IsLeft, KeepsMarks, Restores, with_end}
 use Rattle.pm_redo.proofs.EndingSteps.{states_join}
 use Rattle.pm_redo.proofs.RangeReads.{same_range}
 
@@ -74,6 +74,11 @@ read_and_cut old mid new result end same first cuts =
     joined old mid new P (cut_soon old mid end first) (subst (λ w. AllMoments mid new (DoesPrefix cut_steps end w)) same cuts.moments)
 
 -- ---- as steps of the machine
+
+keeps_marks : (checkpoint : Checkpoint) (old now : World) → now.starts ≡ old.starts → now.ends ≡ old.ends → KeepsMarks checkpoint old now
+keeps_marks NoStart old now starts ends = (starts, ends)
+keeps_marks (Started mark) old now starts ends = tt
+keeps_marks (Ended mark) old now starts ends = tt
 
 module _ (wanted : Shape) (told : List ℕ → ℕ) (checkpoint : Checkpoint) (s : State) (old : History) (left : IsLeft wanted told checkpoint s old.world) where
   abbrev pub cuts : List DiskStep
@@ -125,6 +130,9 @@ module _ (wanted : Shape) (told : List ℕ → ℕ) (checkpoint : Checkpoint) (s
         (λ done. done ∙ ap (world_after cut_steps s.at) same ∙ ap (λ p. world_after cut_steps p old.world) (sym left.at_end) ∙ sym (log_worlds cut_steps s old.world))
         cut.all
 
+    cut_log : new.world ≡ worlds cuts s old.world → new.world.log ≡ (world_after cut_steps s.at old.world).log
+    cut_log is = ap (λ (w : World). w.log) (is ∙ log_worlds cut_steps s old.world) ∙ ap (λ p. (world_after cut_steps p old.world).log) left.at_end
+
     -- where no checkpoint is to be ended, that is all
     pub cut_restores : with_end checkpoint ≡ checkpoint → s.now.rebuilt ≡ no_pages → new.world ≡ worlds cuts s old.world → Restores told checkpoint s old new
     cut_restores ended none is = record {
@@ -144,6 +152,8 @@ module _ (wanted : Shape) (told : List ℕ → ℕ) (checkpoint : Checkpoint) (s
         map = cut_map;
         order = cut_order;
       };
+      marks = keeps_marks checkpoint old.world new.world (ap (λ (w : World). w.starts) is) (ap (λ (w : World). w.ends) is);
+      log = cut_log is;
       pages = λ part. record {
         stays = λ index bytes was. ap (λ (w : World). pages_of s.shape.page_size (files_in w) part index) is ∙ sym (base_is none part index) ∙ was;
         comes = λ index absent. inl (ap (λ (w : World). pages_of s.shape.page_size (files_in w) part index) is ∙ sym (base_is none part index) ∙ absent);
@@ -160,8 +170,8 @@ module _ (wanted : Shape) (told : List ℕ → ℕ) (checkpoint : Checkpoint) (s
         added = ap appended (states_join cuts begun.steps s old.world ∙ ap (λ (w : World). states begun.steps cut_state w) (sym is)) ∙ begun.added ∙ cut_appended;
       }
 
-      pub restores_then : (last : History) (mark : Mark) → checkpoint ≡ Started mark → EndsCheckpoint told mark cut_state new last → Restores told checkpoint s old last
-      restores_then last mark started ends =
+      pub restores_then : (last : History) (mark : Mark) → checkpoint ≡ Started mark → EndsCheckpoint told mark cut_state new last → last.world.log ≡ new.world.log → Restores told checkpoint s old last
+      restores_then last mark started ends log =
           let state : states (cuts ++ ends.steps) s old.world ≡ ended_state mark ends.files cut_state =
           states_join cuts ends.steps s old.world ∙ ap (λ (w : World). states ends.steps cut_state w) (sym is) ∙ ends.state in
           record {
@@ -181,6 +191,8 @@ module _ (wanted : Shape) (told : List ℕ → ℕ) (checkpoint : Checkpoint) (s
               map = ap (λ (t : State). t.map) state ∙ cut_map;
               order = ap (λ (t : State). t.order) state ∙ cut_order;
             };
+            marks = subst (λ (c : Checkpoint). KeepsMarks c old.world last.world) (sym started) tt;
+            log = log ∙ cut_log is;
             pages = ends.pages;
           }
 

@@ -2,6 +2,7 @@ pub mod Differences
 pub mod Ending
 pub mod Faults
 pub mod FoundMarks
+pub mod Loading
 pub mod LogEnds
 pub mod PageMaps
 pub mod Pictures

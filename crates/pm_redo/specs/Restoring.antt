@@ -4,28 +4,31 @@
 --   the pages of a checkpoint without its end marker are rebuilt from the log
 --   the log is read from the replay place to its end, and is cut there
 --   the rebuilt pages are written and forced, and the end marker is written and forced
-use Rattle.std.specs.Prelude.{◌≡◌, ◌⊎◌, ◌<◌, ℕ, min, List, [], length, Option, Some, None, false}
+use Rattle.std.specs.Prelude.{◌≡◌, ◌⊎◌, ◌<◌, ◌≤◌, ℕ, min, List, [], length, Option, Some, None, IfSome, IfErr, Result, false}
 use Rattle.std.specs.Option.{option_and_then}
 use Rattle.pm_types.specs.declared.fault.Field.{Field}
 use Rattle.pm_types.specs.declared.fault.OpenFault.{OpenFault}
 use Rattle.pm_types.specs.declared.fault.OpenFault.TheVariants as opening
 use Rattle.pm_types.specs.declared.fault.StoreFault.TheVariants.{Failed, Memory, BadPage, BadRecord}
+use Rattle.pm_types.specs.declared.limits.TheConstants.{SEGMENT_BYTES_MAX}
 use Rattle.pm_types.specs.declared.place.Place.{Place}
 use Rattle.pm_types.specs.declared.shape.Mark.{Mark}
 use Rattle.pm_types.specs.declared.shape.Shape.{Shape}
 use Rattle.pm_frame.specs.Frames.{Frame}
-use Rattle.pm_disk.specs.Images.{Image, LeavesAll}
+use Rattle.pm_disk.specs.Images.{Image, LeavesAll, NothingPending}
 use Rattle.pm_disk.specs.Moments.{History, AllMoments}
 use Rattle.pm_disk.specs.Worlds.{World}
 use Rattle.pm_model.specs.Eval.{Pairs}
 use Rattle.pm_records.specs.FirstRecords.{is_restart}
 use Rattle.pm_records.specs.LogFiles.{Uncut, Ready, contents}
+use Rattle.pm_records.specs.LogSteps.{cut_steps, world_after}
 use Rattle.pm_records.specs.Logs.{place, all_frames, record_in}
 use Rattle.pm_records.specs.Records.{Record, Logical, Snapshot, Delta, CpBegin, Restart, Seal}
 use Rattle.pm_segments.specs.Ends.{LogEnd, fresh_log, EndsThere}
 use Rattle.pm_marks.specs.InForce.{Checkpoint, NoStart, Started, Ended, replay_of}
+use Rattle.pm_marks.specs.Slots.{IsMark}
 use Rattle.pm_core.specs.BasePages.{Partitions, no_pages, pages_of, laid_over, base_of, RebuiltAre}
-use Rattle.pm_core.specs.Calls.{MakesPrefix}
+use Rattle.pm_core.specs.Calls.{ChangesDisk, MakesPrefix}
 use Rattle.pm_core.specs.Held.{in_force}
 use Rattle.pm_core.specs.LogAlone.{image_of}
 use Rattle.pm_core.specs.Machine.{DiskStep, CanAll, states, worlds}
@@ -36,6 +39,7 @@ use Rattle.pm_core.specs.Starts.{CanBegin, start_state}
 use Rattle.pm_core.specs.States.{State}
 use Rattle.pm_redo.specs.declared.opening.Base.{Base}
 use Rattle.pm_redo.specs.Ending.{BeginsSteps}
+use Rattle.pm_redo.specs.FoundMarks.{replay_at}
 use Rattle.pm_redo.specs.LogEnds.{LogEndsAt}
 use Rattle.pm_redo.specs.Pictures.{files_in, AreOfFiles}
 use Rattle.pm_redo.specs.Rebuilding.{CanNotRebuildFor}
@@ -111,6 +115,11 @@ LeavesStore old now (opening.Store Memory) = Unit {0}
 LeavesStore old now (opening.Store (BadPage page)) = now ≡ old
 LeavesStore old now (opening.Store (BadRecord at)) = now ≡ old
 
+-- Nothing but the store's files is changed, and after a fault that names something nothing at all.
+pub record OnlyRestores {T : Type 0} (old new : History) (result : Result T OpenFault) : Type 0 where
+  pub disk : AllMoments old new (ChangesDisk old.world)
+  pub untouched : IfErr result (LeavesStore old.world new.world)
+
 -- what a fault says of the shape: it names the field that differs, and a record is bad only where none does
 abbrev pub ComparesShape : Option Field → OpenFault → Type 0
 ComparesShape differs (opening.Shape field) = differs ≡ Some field
@@ -135,6 +144,12 @@ IsBadLog checkpoint log at = CanNotRebuildFor checkpoint log at ⊎ IsPastEnd lo
 pub record CutsLog (log : ℕ → List ℕ) (replay : Place) (first segment_bytes : ℕ) (cut : LogEnd) : Type 0 where
   pub ends : LogEndsAt log replay cut.end
   pub is : cut ≡ fresh_log first cut.end segment_bytes
+
+-- Whatever its files hold: the log ends in a segment of a number that a segment has, and a segment may have as many
+-- bytes as one of a store.
+pub record IsCutLog (log : LogEnd) : Type 0 where
+  pub from_one : 1 ≤ log.end.seg
+  pub size_to : log.segment_bytes ≤ SEGMENT_BYTES_MAX
 
 -- ---- steps of the machine
 
@@ -174,6 +189,12 @@ pub record IsRestored (checkpoint : Checkpoint) (s t : State) : Type 0 where
   pub map : t.map ≡ s.map
   pub order : t.order ≡ s.order
 
+-- without a start marker the files of the markers are as they were
+abbrev pub KeepsMarks : Checkpoint → World → World → Type 0
+KeepsMarks NoStart old now = (now.starts ≡ old.starts) × (now.ends ≡ old.ends)
+KeepsMarks (Started mark) old now = Unit {0}
+KeepsMarks (Ended mark) old now = Unit {0}
+
 -- All steps of a restart were made, each of which meets its guard.
 pub record Restores (told : List ℕ → ℕ) (checkpoint : Checkpoint) (s : State) (old new : History)
     : Type 0 where
@@ -182,6 +203,9 @@ pub record Restores (told : List ℕ → ℕ) (checkpoint : Checkpoint) (s : Sta
   pub moments : AllMoments old new (MakesPrefix steps s old.world)
   pub is : new.world ≡ worlds steps s old.world
   pub restored : IsRestored checkpoint s (states steps s old.world)
+  pub marks : KeepsMarks checkpoint old.world new.world
+  -- of the log nothing but the cut was done
+  pub log : new.world.log ≡ (world_after cut_steps s.at old.world).log
   -- the partitions' files hold the base pages, and others only where those have a meta page
   pub pages : (part : ℕ) → Grows (laid_over s.now.rebuilt s.files part)
       (pages_of s.shape.page_size (files_in new.world) part)
@@ -210,6 +234,14 @@ pub record IsBase (checkpoint : Checkpoint) (wanted : Shape) (log : ℕ → List
       ≡ fresh_log (first_of checkpoint) base.log_end (segment_bytes_of checkpoint wanted.segment_bytes)
   pub there : EndsThere base.log now
 
+-- Whatever the host tells: the start marker says what a marker may, with the wanted shape, and the log ends where
+-- it was cut.
+pub record IsFit (wanted : Shape) (base : Base) : Type 0 where
+  pub marked : IfSome base.mark (λ mark. IsMark mark × (mark.shape ≡ wanted))
+  pub replay : base.replay ≡ replay_at base.mark
+  pub ends : base.log_end ≡ base.log.end
+  pub cut : IsCutLog base.log
+
 -- At each moment a prefix of steps that meet their guards was made, and whatever a crash leaves holds what
 -- the store held.
 pub record RestoresWithin (wanted : Shape) (told : List ℕ → ℕ) (shape : Shape) (pairs : Pairs) (s : State)
@@ -217,12 +249,13 @@ pub record RestoresWithin (wanted : Shape) (told : List ℕ → ℕ) (shape : Sh
   pub begun : BeginsSteps told s old new
   pub crash : AllMoments old new (CrashHolds wanted shape pairs)
 
--- All steps were made, the checkpoint has its end marker, and the store holds what it held.
+-- All steps were made, the checkpoint has its end marker, nothing is pending, and the store holds what it held.
 pub record RestoresAll (wanted : Shape) (told : List ℕ → ℕ) (checkpoint : Checkpoint) (shape : Shape)
     (pairs : Pairs) (s : State) (old new : History) : Type 0 where
   pub made : Restores told checkpoint s old new
   pub stands : Stands wanted told (states made.steps s old.world) new.world
   pub ended : in_force (image_of new.world) ≡ with_end checkpoint
+  pub quiet : NothingPending new.world
   -- the base pages are what they were, but for pages that don't count
   pub pages : (rebuilt : Partitions) → RebuiltAre checkpoint (contents old.world.log) rebuilt → (part : ℕ)
       → Grows (base_of checkpoint rebuilt (files_in old.world) part)

@@ -1,13 +1,16 @@
 //! The base pages of a store.
 
 ghost use Rattle.std.specs.Prelude.{◌≡◌, length, IfOk, IsErrOf, IfSome};
+ghost use Rattle.std.specs.Option.{option_map};
 ghost use Rattle.pm_types.specs.declared.place.Place.{Place};
 ghost use Rattle.pm_types.specs.Ids.{part_of_id, index_of_id};
+ghost use Rattle.pm_types.specs.Shapes.{IsShape};
 ghost use Rattle.pm_disk.specs.Moments.{Does, AllMoments};
 ghost use Rattle.pm_disk.specs.States.{HasCause, IsUsable};
 ghost use Rattle.pm_records.specs.LogFiles.{contents};
 ghost use Rattle.pm_marks.specs.InForce.{Checkpoint};
-ghost use Rattle.pm_core.specs.BasePages.{base_of};
+ghost use Rattle.pm_marks.specs.Slots.{IsMark};
+ghost use Rattle.pm_core.specs.BasePages.{base_of, no_pages};
 ghost use Rattle.pm_core.specs.Held.{in_force};
 ghost use Rattle.pm_core.specs.LogAlone.{image_of};
 ghost use Rattle.pm_redo.specs.Faults.{HasStoreFault};
@@ -19,7 +22,7 @@ use crate::markers::is_mark;
 use crate::rebuilt_pages::RebuiltPages;
 use pm_disk::{Failed, Host};
 use pm_marks::read_marks;
-use pm_types::{PageId, StoreFault};
+use pm_types::{Mark, PageId, Shape, StoreFault};
 use std::alloc::Global;
 use std::marker::Model;
 
@@ -41,6 +44,31 @@ impl Model for Pictures {
 }
 
 impl Pictures {
+    /// The shape of the pages: none where there is no start marker.
+    pub fn shape(&self) -> Option<Shape>
+        ensures { result ≡ shape_in self.now }
+    {
+        match &self.rebuilt {
+            Some(rebuilt) => Some(rebuilt.shape()),
+            None => None,
+        }
+    }
+
+    /// The pages of the partitions' files alone, for a store whose checkpoint has its end marker; none where it has
+    /// no start marker. It takes no memory.
+    pub fn of_files(alloc: Global, mark: &Option<Mark>) -> Pictures
+        requires fits { IfSome mark.now IsMark }
+        ensures shaped { shape_in result ≡ option_map (λ mark. mark.shape) mark.now }
+        ensures none_rebuilt { rebuilt_in result ≡ no_pages }
+    {
+        match mark {
+            Some(mark) => Pictures {
+                rebuilt: Some(RebuiltPages::new(alloc, mark.shape)),
+            },
+            None => Pictures { rebuilt: None },
+        }
+    }
+
     /// Fills `into`, which is as long as a page, with a base page, and answers true. It answers false
     /// exactly where there is no such page. After `Failed` nothing is known of `into`.
     pub fn read<H: Host>(&self, host: &mut H, page: PageId, into: &mut [u8]) -> Result<bool, Failed>
@@ -67,6 +95,7 @@ impl Pictures {
 /// out: it names the place that is bad.
 pub fn base_pages<H: Host>(alloc: Global, host: &mut H) -> Result<Pictures, StoreFault>
     requires usable { IsUsable (H.Device.state host.old) }
+    ensures limits { IfOk result (λ pictures. IfSome (shape_in pictures) IsShape) }
     ensures pictures { H.Device.tells → IfOk result (λ pictures. ArePictures pictures
         (in_force (image_of (H.Device.history host.old).world))
         (contents (H.Device.history host.old).world.log)) }

@@ -4,6 +4,7 @@ ghost use Rattle.std.specs.Prelude.{◌≡◌, ◌⊎◌, ◌≤◌, ℕ, List, 
 ghost use Rattle.pm_types.specs.declared.limits.TheConstants.{SEGMENT_BYTES_MIN, SEGMENT_BYTES_MAX};
 ghost use Rattle.pm_types.specs.declared.place.Place.{Place};
 ghost use Rattle.pm_types.specs.declared.shape.Shape.{Shape};
+ghost use Rattle.pm_disk.specs.Moments.{AllMoments};
 ghost use Rattle.pm_disk.specs.States.{IsUsable};
 ghost use Rattle.pm_frame.specs.declared.limits.TheConstants.{SEGMENT_END_MAX as last_end};
 ghost use Rattle.pm_records.specs.LogFiles.{contents};
@@ -11,6 +12,7 @@ ghost use Rattle.pm_records.specs.LogSteps.{DoesSteps, cut_steps};
 ghost use Rattle.pm_segments.specs.Ends.{EndsThere};
 ghost use Rattle.pm_marks.specs.InForce.{Started, marks_of, replay_of};
 ghost use Rattle.pm_marks.specs.Slots.{IsMark};
+ghost use Rattle.pm_core.specs.Calls.{ChangesDisk};
 ghost use Rattle.pm_core.specs.Held.{in_force};
 ghost use Rattle.pm_core.specs.LogAlone.{image_of};
 ghost use Rattle.pm_core.specs.States.{State};
@@ -19,7 +21,7 @@ ghost use Rattle.pm_redo.specs.Faults.{HasStoreFault};
 ghost use Rattle.pm_redo.specs.LogEnds.{LogEndsAt};
 ghost use Rattle.pm_redo.specs.Rebuilding.{CanNotRebuild};
 ghost use Rattle.pm_redo.specs.Restoring.{first_of, first_kept, segment_bytes_of, IsBadLog};
-ghost use Rattle.pm_redo.specs.Restoring.{IsPastEnd, CutsLog, IsLeft, Restores};
+ghost use Rattle.pm_redo.specs.Restoring.{IsCutLog, IsPastEnd, CutsLog, IsLeft, Restores};
 
 use crate::ending::end_checkpoint;
 use crate::found::FIRST;
@@ -48,12 +50,12 @@ pub(crate) fn restore_log<H: Host>(
         (replay_of (in_force (image_of (H.Device.history host.old).world)))
         (first_of (in_force (image_of (H.Device.history host.old).world)))
         (segment_bytes_of (in_force (image_of (H.Device.history host.old).world)) segment_bytes)) }
+    ensures cut { IfOk result IsCutLog }
     ensures there { H.Device.tells → IfOk result (λ log. EndsThere log (H.Device.history host.new).world) }
     ensures bad { H.Device.tells → (at : Place) → IsErrOf result (StoreFault.BadRecord at)
         → IsBadLog (in_force (image_of (H.Device.history host.old).world))
-        (contents (H.Device.history host.old).world.log) at }
-    ensures untouched { H.Device.tells → (at : Place) → IsErrOf result (StoreFault.BadRecord at)
-        → (H.Device.history host.new).world ≡ (H.Device.history host.old).world }
+        (contents (H.Device.history host.old).world.log) at
+        × ((H.Device.history host.new).world ≡ (H.Device.history host.old).world) }
     ensures begun { H.Device.tells → (wanted : Shape) (told : List ℕ → ℕ) (s : State)
         → IsLeft wanted told (in_force (image_of (H.Device.history host.old).world)) s
         (H.Device.history host.old).world
@@ -63,6 +65,8 @@ pub(crate) fn restore_log<H: Host>(
         (H.Device.history host.old).world → OnOk result (Restores told
         (in_force (image_of (H.Device.history host.old).world)) s
         (H.Device.history host.old) (H.Device.history host.new)) }
+    ensures disk { H.Device.tells → AllMoments (H.Device.history host.old) (H.Device.history host.new)
+        (ChangesDisk (H.Device.history host.old).world) }
     ensures cause { HasStoreFault (H.Device.state host.old) (H.Device.state host.new) result }
 {
     match marks.start {
@@ -89,10 +93,12 @@ fn cut_log<H: Host>(
     requires usable { IsUsable (H.Device.state host.old) }
     requires within { replay.off ≤ last_end }
     requires kept { first ≤ replay.seg }
+    requires from_one { 1 ≤ replay.seg }
     requires size_from { SEGMENT_BYTES_MIN ≤ segment_bytes }
     requires size_to { segment_bytes ≤ SEGMENT_BYTES_MAX }
     ensures log { H.Device.tells → IfOk result (CutsLog
         (contents (H.Device.history host.old).world.log) replay first segment_bytes) }
+    ensures cut { IfOk result IsCutLog }
     ensures there { H.Device.tells → IfOk result (λ log. EndsThere log (H.Device.history host.new).world) }
     ensures bad { H.Device.tells → (at : Place) → IsErrOf result (StoreFault.BadRecord at)
         → IsPastEnd (contents (H.Device.history host.old).world.log) replay at }
@@ -101,6 +107,8 @@ fn cut_log<H: Host>(
     ensures steps { H.Device.tells → (end : Place)
         → LogEndsAt (contents (H.Device.history host.old).world.log) replay end
         → DoesSteps (H.Device.history host.old) (H.Device.history host.new) result cut_steps end }
+    ensures disk { H.Device.tells → AllMoments (H.Device.history host.old) (H.Device.history host.new)
+        (ChangesDisk (H.Device.history host.old).world) }
     ensures cause { HasStoreFault (H.Device.state host.old) (H.Device.state host.new) result }
 {
     if !reaches(host, replay)? {
@@ -117,18 +125,20 @@ fn restore_started<H: Host>(alloc: Global, host: &mut H, mark: &Mark) -> Result<
     ensures log { H.Device.tells → IfOk result (CutsLog
         (contents (H.Device.history host.old).world.log) mark.now.replay (first_kept mark.now)
         mark.now.shape.segment_bytes) }
+    ensures cut { IfOk result IsCutLog }
     ensures there { H.Device.tells → IfOk result (λ log. EndsThere log (H.Device.history host.new).world) }
     ensures bad { H.Device.tells → (at : Place) → IsErrOf result (StoreFault.BadRecord at)
-        → CanNotRebuild mark.now (contents (H.Device.history host.old).world.log) at
-        ⊎ IsPastEnd (contents (H.Device.history host.old).world.log) mark.now.replay at }
-    ensures untouched { H.Device.tells → (at : Place) → IsErrOf result (StoreFault.BadRecord at)
-        → (H.Device.history host.new).world ≡ (H.Device.history host.old).world }
+        → (CanNotRebuild mark.now (contents (H.Device.history host.old).world.log) at
+        ⊎ IsPastEnd (contents (H.Device.history host.old).world.log) mark.now.replay at)
+        × ((H.Device.history host.new).world ≡ (H.Device.history host.old).world) }
     ensures begun { H.Device.tells → (wanted : Shape) (told : List ℕ → ℕ) (s : State)
         → IsLeft wanted told (Started mark.now) s (H.Device.history host.old).world
         → BeginsSteps told s (H.Device.history host.old) (H.Device.history host.new) }
     ensures restored { H.Device.tells → (wanted : Shape) (told : List ℕ → ℕ) (s : State)
         → IsLeft wanted told (Started mark.now) s (H.Device.history host.old).world → OnOk result (Restores
         told (Started mark.now) s (H.Device.history host.old) (H.Device.history host.new)) }
+    ensures disk { H.Device.tells → AllMoments (H.Device.history host.old) (H.Device.history host.new)
+        (ChangesDisk (H.Device.history host.old).world) }
     ensures cause { HasStoreFault (H.Device.state host.old) (H.Device.state host.new) result }
 {
     let rebuilt = rebuild(alloc, host, mark)?;

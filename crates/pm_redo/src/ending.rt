@@ -4,9 +4,10 @@ ghost use Rattle.std.specs.Prelude.{◌≡◌, ℕ, List, [], OnOk};
 ghost use Rattle.pm_types.specs.declared.limits.TheConstants.{PARTITIONS_MAX};
 ghost use Rattle.pm_types.specs.declared.shape.Shape.{Shape};
 ghost use Rattle.pm_types.specs.declared.shape.Mark.{Mark};
+ghost use Rattle.pm_disk.specs.Moments.{AllMoments};
 ghost use Rattle.pm_disk.specs.States.{HasCause, IsUsable};
 ghost use Rattle.pm_marks.specs.Slots.{IsMark};
-ghost use Rattle.pm_core.specs.Calls.{MakesSteps, force_steps, finish_steps};
+ghost use Rattle.pm_core.specs.Calls.{ChangesDisk, MakesSteps, force_steps, finish_steps};
 ghost use Rattle.pm_core.specs.PageSets.{has_part};
 ghost use Rattle.pm_core.specs.States.{State};
 ghost use Rattle.pm_redo.specs.Ending.{IsUnended, BeginsSteps, WritesOne, WritesPages, MayEnd, EndsCheckpoint};
@@ -34,6 +35,8 @@ pub(crate) fn end_checkpoint<H: Host>(
         → OnOk result (EndsCheckpoint told mark.now s (H.Device.history host.old) (H.Device.history host.new)) }
     ensures log { H.Device.tells → OnOk result
         ((H.Device.history host.new).world.log ≡ (H.Device.history host.old).world.log) }
+    ensures disk { H.Device.tells → AllMoments (H.Device.history host.old) (H.Device.history host.new)
+        (ChangesDisk (H.Device.history host.old).world) }
     ensures cause { HasCause (H.Device.state host.old) (H.Device.state host.new) result }
 {
     write_pages(host, rebuilt, pages)?;
@@ -55,6 +58,8 @@ fn write_pages<H: Host>(
         (H.Device.history host.old) (H.Device.history host.new)) }
     ensures log { H.Device.tells → OnOk result
         ((H.Device.history host.new).world.log ≡ (H.Device.history host.old).world.log) }
+    ensures disk { H.Device.tells → AllMoments (H.Device.history host.old) (H.Device.history host.new)
+        (ChangesDisk (H.Device.history host.old).world) }
     ensures cause { HasCause (H.Device.state host.old) (H.Device.state host.new) result }
 {
     'each: for page in pages {
@@ -74,6 +79,8 @@ fn write_one<H: Host>(host: &mut H, rebuilt: &RebuiltPages, page: PageId) -> Res
         (H.Device.history host.old) (H.Device.history host.new)) }
     ensures log { H.Device.tells → OnOk result
         ((H.Device.history host.new).world.log ≡ (H.Device.history host.old).world.log) }
+    ensures disk { H.Device.tells → AllMoments (H.Device.history host.old) (H.Device.history host.new)
+        (ChangesDisk (H.Device.history host.old).world) }
     ensures cause { HasCause (H.Device.state host.old) (H.Device.state host.new) result }
 {
     match rebuilt.page(page) {

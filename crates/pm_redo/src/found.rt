@@ -1,6 +1,6 @@
 //! What the markers of a store and its log's first record say.
 
-ghost use Rattle.std.specs.Prelude.{◌≡◌, None, IfOk, IsErrOf, IfSome};
+ghost use Rattle.std.specs.Prelude.{◌≡◌, None, Some, IfOk, IsErrOf, IfSome};
 ghost use Rattle.std.specs.Option.{option_and_then};
 ghost use Rattle.pm_types.specs.declared.place.Place.{Place};
 ghost use Rattle.pm_types.specs.declared.shape.Shape.{Shape};
@@ -42,6 +42,7 @@ pub(crate) fn find<H: Host>(alloc: Global, host: &mut H) -> Result<Found, StoreF
     ensures marks { H.Device.tells → IfOk result (λ found. found.marks
         ≡ marks_of (in_force (image_of (H.Device.history host.old).world))) }
     ensures fits { IfOk result (λ found. IfSome found.marks.start IsMark) }
+    ensures marked { IfOk result (λ found. IfSome found.marks.start (λ mark. found.shape ≡ Some mark.shape)) }
     ensures shape { H.Device.tells → IfOk result (λ found. found.shape ≡ found_shape
         (in_force (image_of (H.Device.history host.old).world))
         (contents (H.Device.history host.old).world.log)) }

@@ -7,6 +7,7 @@ mod difference;
 mod ending;
 mod found;
 pub mod laws;
+mod loading;
 mod log_end;
 mod log_pages;
 mod markers;
@@ -14,6 +15,7 @@ mod opening;
 mod rebuilt_pages;
 
 pub use base::{Pictures, base_pages};
+pub use loading::load_pages;
 pub use log_pages::rebuild;
 pub use opening::{Base, restore};
 pub use rebuilt_pages::{PageNumber, RebuiltPages};

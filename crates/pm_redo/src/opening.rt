@@ -13,8 +13,8 @@ ghost use Rattle.pm_core.specs.Starts.{CanBegin};
 ghost use Rattle.pm_redo.specs.Differences.{difference_from};
 ghost use Rattle.pm_redo.specs.Faults.{HasOpenFault};
 ghost use Rattle.pm_redo.specs.FoundMarks.{replay_from};
-ghost use Rattle.pm_redo.specs.Restoring.{found_shape, ComparesShape, IsBadRestore, LeavesStore};
-ghost use Rattle.pm_redo.specs.Restoring.{left_state, IsBase, RestoresWithin, RestoresAll};
+ghost use Rattle.pm_redo.specs.Restoring.{found_shape, ComparesShape, IsBadRestore, OnlyRestores};
+ghost use Rattle.pm_redo.specs.Restoring.{left_state, IsBase, IsFit, RestoresWithin, RestoresAll};
 
 use crate::cutting::restore_log;
 use crate::difference::difference_from;
@@ -52,9 +52,9 @@ pub struct Base {
 pub fn restore<H: Host>(alloc: Global, host: &mut H, wanted: &Shape) -> Result<Base, OpenFault>
     requires usable { IsUsable (H.Device.state host.old) }
     requires wanted { IsShape wanted.now }
-    ensures base { H.Device.tells → IfOk result (IsBase
+    ensures base { IfOk result (λ base. IsFit wanted.now base × (H.Device.tells → IsBase
         (in_force (image_of (H.Device.history host.old).world)) wanted.now
-        (contents (H.Device.history host.old).world.log) (H.Device.history host.new).world) }
+        (contents (H.Device.history host.old).world.log) (H.Device.history host.new).world base)) }
 
     // Which field differs, and which record is bad.
     ensures compared { H.Device.tells → IfErr result (ComparesShape (difference_from (found_shape
@@ -67,8 +67,7 @@ pub fn restore<H: Host>(alloc: Global, host: &mut H, wanted: &Shape) -> Result<B
         → IsErrOf result (OpenFault.Store (StoreFault.BadRecord at)) → IsBadRestore
         (in_force (image_of (H.Device.history host.old).world))
         (contents (H.Device.history host.old).world.log) at }
-    ensures untouched { H.Device.tells → IfErr result
-        (LeavesStore (H.Device.history host.old).world (H.Device.history host.new).world) }
+    ensures only { H.Device.tells → OnlyRestores (H.Device.history host.old) (H.Device.history host.new) result }
 
     // What it makes of a sound store with nothing pending, and what a crash leaves meanwhile.
     ensures within { H.Device.tells → (told : List ℕ → ℕ) (shape : Shape) (pairs : Pairs)

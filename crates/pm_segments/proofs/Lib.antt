@@ -2,6 +2,7 @@ pub mod Ahead
 pub mod Appending
 pub mod AppendLaw
 pub mod Emptied
+pub mod GrownLog
 pub mod OpenLog
 pub mod PastSeal
 pub mod Quiet

@@ -99,6 +99,14 @@ Advances old new None =
 Advances old new (Some frame) =
     (new.place ≡ old.next) × (new.next ≡ next_place old.next frame) × (new.is_over ≡ ends_log old.next frame)
 
+-- a scan that asks again whether its segment goes on after what it has read
+abbrev pub looking_again : Scanned → Scanned
+looking_again scan = record scan { is_whole = false }
+
+-- a scan that has read nothing ahead
+abbrev pub forgotten : Scanned → Scanned
+forgotten scan = record scan { ahead = []; is_whole = false }
+
 -- The next frame was given, none at the log's end, and the scan goes on after it.
 pub record GivesNext (tells : Type 0) (old left : Scanned) (before now : World)
     (found : Option Frame) : Type 0 where

@@ -14,6 +14,7 @@ ghost use Rattle.pm_disk.specs.Files.{ReadsFrom};
 ghost use Rattle.pm_disk.specs.Worlds.{segment_in};
 ghost use Rattle.pm_segments.specs.Scans.{IsAhead, SeesFrame, StaysAt, StepsTo, StepsOver, bytes_after};
 ghost use Rattle.pm_segments.specs.Scans.{frame_ahead, past_seal, Advances, GivesNext};
+ghost use Rattle.pm_segments.specs.Scans.{looking_again, forgotten};
 
 use pm_disk::{Failed, LogReader};
 use pm_frame::{FRAME_EXTRA, FRAME_MAX, FrameView, HEAD_LEN, SEAL, read_frame};
@@ -101,6 +102,31 @@ impl Scan {
         ensures { result ≡ self.now.place }
     {
         self.place
+    }
+
+    /// The place from which the scan goes on.
+    pub fn next_place(&self) -> Place
+        ensures { result ≡ self.now.next }
+    {
+        self.next
+    }
+
+    /// Takes note that the log may have grown since its segment was read: whether the segment goes on after what
+    /// was read is asked again. What was read stays, where the segment's bytes that were there are as they were.
+    pub fn look_again(&mut self)
+        ensures { self.new ≡ looking_again self.old }
+    {
+        let _ = &self.next;
+        self.is_whole = false;
+    }
+
+    /// Forgets what was read ahead, which is read again.
+    pub fn forget(&mut self)
+        ensures { self.new ≡ forgotten self.old }
+    {
+        let _ = &self.next;
+        self.end = self.at;
+        self.is_whole = false;
     }
 
     /// The next frame of the log, whatever its kind; none exactly at the log's end, where no frame stands, or

@@ -55,6 +55,8 @@ mod stores;
 #[cfg(test)]
 mod threads;
 #[cfg(test)]
+mod tools;
+#[cfg(test)]
 mod torn;
 #[cfg(test)]
 mod traces;

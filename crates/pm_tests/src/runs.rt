@@ -139,6 +139,13 @@ pub fn run_over(rt: &impl AllocGlobal, script: &[u8], disk: MemDisk) -> Result<R
     run_failing(rt, script, disk, &[], None)
 }
 
+/// Makes the call with these words over a disk, beside no input.
+pub fn call_over(rt: &impl AllocGlobal, words: &[&str], disk: MemDisk) -> Result<Run, Fail> {
+    let mut host = MemHost::new(rt.alloc(), b"", b"", disk, &[], None)?;
+    let report = call_with(rt, words, &mut host)?;
+    Ok(Run { report, host })
+}
+
 /// Runs a script over an empty disk, where the call of this number is refused.
 pub fn run_refusing(rt: &impl AllocGlobal, script: &[u8], refused: u64) -> Result<Run, Fail> {
     run_failing(rt, script, MemDisk::empty(rt.alloc()), &[refused], None)

@@ -27,3 +27,10 @@ pub record HasPlainFault {T : Type 0} (before now : DeviceState) (result : Resul
   pub access : now.access ≡ before.access
   pub usable : IsUsable before → IsUsable now
   pub plain : IfErr result IsPlainFault
+
+-- The count of faults doesn't fall, and `Failed` comes only where it rose.
+pub record HasFault {T : Type 0} (before now : DeviceState) (result : Result T StoreFault) : Type 0 where
+  pub later : before.faults ≤ now.faults
+  pub failed : IsErrOf result Failed → Rose before now
+  pub access : now.access ≡ before.access
+  pub usable : IsUsable before → IsUsable now

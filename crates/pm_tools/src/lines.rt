@@ -132,7 +132,8 @@ fn append_begin(number: u64, into: &mut Vec<u8>) -> Result<(), AllocError>
     into.extend_from_slice(Buffer::new().format(number).as_bytes())
 }
 
-fn append_page(page: PageId, into: &mut Vec<u8>) -> Result<(), AllocError>
+/// Appends the name of a page, in 16 lower-case hexadecimal digits.
+pub fn append_page(page: PageId, into: &mut Vec<u8>) -> Result<(), AllocError>
     ensures { OnOk result (into.new.items ≡ into.old.items ++ page_text page) }
 {
     let mut digits = [0; PAGE_DIGITS];

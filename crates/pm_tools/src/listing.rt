@@ -58,8 +58,8 @@ pub fn wal<H: Host>(alloc: Global, host: &mut H) -> Result<(), StoreFault>
     list_from(alloc, host, from)
 }
 
-// The place from which the log is listed.
-fn list_place<H: Host>(host: &mut H) -> Result<Place, Failed>
+/// The place from which the log is listed.
+pub(crate) fn list_place<H: Host>(host: &mut H) -> Result<Place, Failed>
     requires usable { IsUsable (H.Device.state host.old) }
     ensures place { H.Device.tells → IfOk result (λ from.
         from ≡ list_place (H.Device.history host.old).world) }
@@ -184,8 +184,8 @@ fn finish<H: Host>(host: &mut H, at: Place, lines: &mut Vec<u8>) -> Result<(), S
     Ok(())
 }
 
-// The segment of a place: a number below 2^64, so that a log ends.
-fn segment_of(at: Place) -> u64
+/// The segment of a place: a number below 2^64, so that a log ends.
+pub(crate) fn segment_of(at: Place) -> u64
     ensures { result ≡ at.seg }
 {
     at.seg

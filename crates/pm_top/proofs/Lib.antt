@@ -9,6 +9,7 @@ pub mod Lasting
 pub mod LaterStates
 pub mod Leaving
 pub mod Limits
+pub mod LogListing
 pub mod Opened
 pub mod Orders
 pub mod PrintedLimit
@@ -22,3 +23,5 @@ pub mod ServedLines
 pub mod Serving
 pub mod TakenLines
 pub mod WrittenTexts
+pub mod Commanded
+pub mod StoreChecking

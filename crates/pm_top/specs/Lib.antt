@@ -3,6 +3,7 @@ pub mod Chains
 pub mod Configurations
 pub mod Crashes
 pub mod Limits
+pub mod LogListings
 pub mod Promises
 pub mod RunCauses
 pub mod Runs
@@ -11,3 +12,5 @@ pub mod Scripts
 pub mod Served
 pub mod Statuses
 pub mod Words
+pub mod Commands
+pub mod StoreChecks

@@ -1,6 +1,6 @@
 //! The top call.
 
-ghost use Rattle.std.specs.Prelude.{◌≡◌, ◌+◌, ◌^◌, [], map, false, IsTrue, string_bytes};
+ghost use Rattle.std.specs.Prelude.{◌≡◌, ◌+◌, ◌^◌, [], map, false, Some, string_bytes};
 ghost use Rattle.pm_types.specs.declared.shape.Shape.{Shape};
 ghost use Rattle.pm_types.specs.Shapes.{IsShape};
 ghost use Rattle.pm_disk.specs.Moments.{AllMoments};
@@ -8,55 +8,66 @@ ghost use Rattle.pm_disk.specs.States.{IsUsable};
 ghost use Rattle.pm_disk.specs.Worlds.{World};
 ghost use Rattle.pm_segments.specs.Ends.{EndsThere};
 ghost use Rattle.pm_top.specs.Causes.{BindsFolder, HasStatusCause};
+ghost use Rattle.pm_top.specs.Commands.{CommandCompletes, CommandHolds, CommandIsSafe};
 ghost use Rattle.pm_top.specs.RunCauses.{HasRunCause, HasScriptCause};
 ghost use Rattle.pm_top.specs.Configurations.{AsksFor};
-ghost use Rattle.pm_top.specs.Promises.{Completes, HoldsAtEachMoment, RefusalIs, RunHolds};
+ghost use Rattle.pm_top.specs.LogListings.{WalHolds};
+ghost use Rattle.pm_top.specs.Promises.{HoldsAtEachMoment, RunHolds, SameFiles};
 ghost use Rattle.pm_top.specs.ScriptOrder.{OutcomeIs};
 ghost use Rattle.pm_top.specs.Runs.{CanRun, KeepsFiles, SameConsole, LeavesStore};
-ghost use Rattle.pm_top.specs.Promises.{SameFiles};
 ghost use Rattle.pm_top.specs.ScriptOrder.{CrashHoldsAcknowledged};
 ghost use Rattle.pm_top.specs.Statuses.{status_of, code_of};
-ghost use Rattle.pm_top.specs.Words.{is_command};
+ghost use Rattle.pm_top.specs.StoreChecks.{VerifyHolds};
+ghost use Rattle.pm_top.specs.Words.{command_in};
 
 use crate::configuration::{ConfigError, read_config};
+use crate::counts_line::print_counts;
 use crate::fault_lines::{
-    print_config_fault, print_limit_fault, print_record_fault, print_usage_fault,
+    print_config_fault, print_limit_fault, print_page_fault, print_record_fault, print_usage_fault,
 };
 use crate::report::Report;
 use crate::run::{Run, Stop};
 use crate::status::Status;
-use crate::words::folder_of;
+use crate::words::{CommandName, command_of};
 use pm_config::Config;
 use pm_disk::Host;
 use pm_engine::Engine;
+use pm_tools::{verify, wal};
 use pm_types::{OpenFault, StoreFault};
 use std::alloc::Global;
 
 /// Does what the words of a command line ask for.
 ///
-/// The words are those after the program's name: `run` and a folder, which isn't empty and doesn't
-/// begin with `-`. The folder is bound, and made where it isn't there. Its configuration is read:
-/// one that is refused, or that asks for another shape than the store has, is named by its field,
-/// and nothing is changed. Then the script on the host's input is answered, batch by batch, over
-/// the map that the folder's log holds. The records of a batch are in the log, and forced, before
-/// any of its replies is printed. A store whose log has a bad record is refused: the record is
-/// named, and nothing is changed. After the statuses 3 and 4 nothing more is printed.
+/// The words are those after the program's name: `run`, `wal` or `verify`, and a folder, which isn't
+/// empty and doesn't begin with `-`. The folder is bound, and made where it isn't there.
+///
+/// `run` reads the folder's configuration: one that is refused, or that asks for another shape than
+/// the store has, is named by its field, and nothing is changed. Then the script on the host's input
+/// is answered, batch by batch, over the map that the folder's log holds. The records of a batch are
+/// in the log, and forced, before any of its replies is printed. A store whose log has a bad record
+/// is refused: the record is named, and nothing is changed.
+///
+/// `wal` prints a line for each record of the log, from the replay place of the checkpoint in force
+/// on, or from the log's begin, and then the place at which the log ends. The first record that is
+/// bad ends it: the record is named.
+///
+/// `verify` checks that the base pages of each partition are well formed, and that each frame of the log
+/// from that place on holds a record, and prints how many pages, rows and changes of the map there are. A page
+/// or a record that is bad is named.
+///
+/// `wal` and `verify` change nothing, and read no configuration. After the statuses 3 and 4 nothing more is
+/// printed.
 pub fn top<Q: AllocGlobal, H: Host>(rt: &Q, words: &[String], host: &mut H) -> Report
     requires whole { (H.state host.old).access.is_lent ≡ false }
     ensures known { result.status ≡ code_of (status_of result.status) }
 
-    // Which lines are answered, with what, and what is left; or that the words were refused.
-    ensures run { H.tells → IsTrue (is_command (map string_bytes words.now)) →
-        RunHolds (H.history host.old) (H.history host.new)
-        (status_of result.status) result.lines result.order.items }
-    ensures refusal { H.tells → is_command (map string_bytes words.now) ≡ false →
-        RefusalIs (status_of result.status) (H.history host.old).world
-        (H.history host.new).world result.lines result.order.items }
+    // What the command promises, by its status.
+    ensures holds { H.tells → CommandHolds (command_in (map string_bytes words.now))
+        (H.history host.old) (H.history host.new) (status_of result.status) result.lines result.order.items }
 
-    // Whatever a crash at any moment leaves is sound, and holds each line that was acknowledged,
-    // and no line that the order lacks.
-    ensures crash { H.tells →
-        HoldsAtEachMoment (H.history host.old) (H.history host.new) result.order.items }
+    // What a crash at any moment leaves.
+    ensures crash { H.tells → CommandIsSafe (command_in (map string_bytes words.now))
+        (H.history host.old) (H.history host.new) result.order.items }
 
     // At no moment is another file than the log changed.
     ensures files { H.tells → AllMoments (H.history host.old) (H.history host.new) (SameFiles
@@ -69,9 +80,8 @@ pub fn top<Q: AllocGlobal, H: Host>(rt: &Q, words: &[String], host: &mut H) -> R
     // When each status comes.
     ensures cause { HasStatusCause (map string_bytes words.now) (status_of result.status)
         (H.state host.old) (H.state host.new) }
-    ensures complete { H.tells → IsTrue (is_command (map string_bytes words.now)) →
-        Completes (status_of result.status) (H.history host.old).world
-        (H.state host.old) (H.state host.new) }
+    ensures complete { H.tells → CommandCompletes (command_in (map string_bytes words.now))
+        (status_of result.status) (H.history host.old).world (H.state host.old) (H.state host.new) }
 {
     let outcome = command(rt.alloc(), words, host);
     Report {
@@ -107,13 +117,10 @@ impl Outcome {
 // Does what the words ask for, or says that they aren't a command.
 fn command<H: Host>(alloc: Global, words: &[String], host: &mut H) -> Outcome
     requires whole { (H.state host.old).access.is_lent ≡ false }
-    ensures run { H.tells → IsTrue (is_command (map string_bytes words.now)) →
-        RunHolds (H.history host.old) (H.history host.new) result.status result.lines result.order.items }
-    ensures refusal { H.tells → is_command (map string_bytes words.now) ≡ false →
-        RefusalIs result.status (H.history host.old).world
-        (H.history host.new).world result.lines result.order.items }
-    ensures crash { H.tells →
-        HoldsAtEachMoment (H.history host.old) (H.history host.new) result.order.items }
+    ensures holds { H.tells → CommandHolds (command_in (map string_bytes words.now))
+        (H.history host.old) (H.history host.new) result.status result.lines result.order.items }
+    ensures crash { H.tells → CommandIsSafe (command_in (map string_bytes words.now))
+        (H.history host.old) (H.history host.new) result.order.items }
     ensures files { H.tells → AllMoments (H.history host.old) (H.history host.new) (SameFiles
         (H.history host.old).world) }
     ensures folder { BindsFolder (map string_bytes words.now) result.status
@@ -121,12 +128,74 @@ fn command<H: Host>(alloc: Global, words: &[String], host: &mut H) -> Outcome
     ensures cause { HasStatusCause (map string_bytes words.now) result.status
         (H.state host.old) (H.state host.new) }
 {
-    let Some(folder) = folder_of(words) else {
+    let Some(asked) = command_of(words) else {
         return Outcome::without(alloc, print_usage_fault(host));
     };
-    match host.bind(folder) {
-        Ok(()) => run_configured(alloc, host),
+    match host.bind(asked.folder) {
+        Ok(()) => do_command(alloc, host, asked.name),
         Err(_) => Outcome::without(alloc, Status::Failed),
+    }
+}
+
+// Does what a command asks for, over the folder that is bound.
+fn do_command<H: Host>(alloc: Global, host: &mut H, name: CommandName) -> Outcome
+    requires usable { IsUsable (H.state host.old) }
+    ensures holds { H.tells → CommandHolds (Some name) (H.history host.old) (H.history host.new)
+        result.status result.lines result.order.items }
+    ensures crash { H.tells → CommandIsSafe (Some name) (H.history host.old) (H.history host.new)
+        result.order.items }
+    ensures files { H.tells → AllMoments (H.history host.old) (H.history host.new) (SameFiles
+        (H.history host.old).world) }
+    ensures cause { HasRunCause result.status (H.state host.old) (H.state host.new) }
+{
+    match name {
+        CommandName::Run => run_configured(alloc, host),
+        CommandName::Wal => list_log(alloc, host),
+        CommandName::Verify => check_store(alloc, host),
+    }
+}
+
+// Checks the store, and says what it has or names what is bad.
+fn check_store<H: Host>(alloc: Global, host: &mut H) -> Outcome
+    requires usable { IsUsable (H.state host.old) }
+    ensures holds { H.tells →
+        VerifyHolds (H.history host.old) (H.history host.new) result.status result.lines result.order.items }
+    ensures cause { HasRunCause result.status (H.state host.old) (H.state host.new) }
+{
+    match verify(alloc, host) {
+        Ok(counts) => {
+            let status = print_counts(alloc, host, counts);
+            Outcome::without(alloc, status)
+        }
+        Err(StoreFault::Failed) => Outcome::without(alloc, Status::Failed),
+        Err(StoreFault::Memory) => Outcome::without(alloc, Status::Memory),
+        Err(StoreFault::BadRecord(place)) => {
+            let status = print_record_fault(alloc, host, place);
+            Outcome::without(alloc, status)
+        }
+        Err(StoreFault::BadPage(page)) => {
+            let status = print_page_fault(alloc, host, page);
+            Outcome::without(alloc, status)
+        }
+    }
+}
+
+// Lists the log, and names the first record that is bad.
+fn list_log<H: Host>(alloc: Global, host: &mut H) -> Outcome
+    requires usable { IsUsable (H.state host.old) }
+    ensures wal { H.tells →
+        WalHolds (H.history host.old) (H.history host.new) result.status result.lines result.order.items }
+    ensures cause { HasRunCause result.status (H.state host.old) (H.state host.new) }
+{
+    match wal(alloc, host) {
+        Ok(()) => Outcome::without(alloc, Status::Done),
+        Err(StoreFault::Failed) => Outcome::without(alloc, Status::Failed),
+        Err(StoreFault::Memory) => Outcome::without(alloc, Status::Memory),
+        Err(StoreFault::BadRecord(at)) => {
+            let status = print_record_fault(alloc, host, at);
+            Outcome::without(alloc, status)
+        }
+        Err(StoreFault::BadPage(_)) => unreachable!(),
     }
 }
 

@@ -6,12 +6,14 @@ ghost use Rattle.pm_disk.specs.Moments.{AllMoments};
 ghost use Rattle.pm_disk.specs.Worlds.{with_said};
 ghost use Rattle.pm_top.specs.Configurations.{fault_config};
 ghost use Rattle.pm_top.specs.Promises.{SaysPart, fault_record};
+ghost use Rattle.pm_top.specs.StoreChecks.{fault_page};
 
 use crate::status::Status;
 use itoa::Buffer;
 use pm_config::field_name;
 use pm_disk::Host;
-use pm_types::{Field, Place};
+use pm_tools::append_page;
+use pm_types::{Field, PageId, Place};
 use std::alloc::{AllocError, Global};
 
 /// Prints the line that says that the words aren't a command. Gives `Usage`, or `Failed` where that fails.
@@ -53,6 +55,24 @@ pub fn print_record_fault<H: Host>(alloc: Global, host: &mut H, at: Place) -> St
 {
     let mut text = Vec::new(alloc);
     match write_record_fault(at, &mut text) {
+        Ok(()) => print_fault(host, &text, Status::Damaged),
+        Err(_) => Status::Memory,
+    }
+}
+
+/// Prints the line that names a page that is bad. Gives `Damaged`, or `Failed` where that fails.
+/// Where there is no memory for it nothing is printed, and it gives `Memory`.
+pub fn print_page_fault<H: Host>(alloc: Global, host: &mut H, page: PageId) -> Status
+    ensures damaged { H.tells → result ≡ Status.Damaged →
+        (H.history host.new).world ≡ with_said (fault_page page) (H.history host.old).world }
+    ensures moments { H.tells → AllMoments (H.history host.old) (H.history host.new)
+        (SaysPart (fault_page page) (H.history host.old).world) }
+    ensures cases { (result ≡ Status.Damaged) ⊎ (result ≡ Status.Failed) ⊎ (result ≡ Status.Memory) }
+    ensures failed { result ≡ Status.Failed → Rose (H.state host.old) (H.state host.new) }
+    ensures state { IsLaterState (H.state host.old) (H.state host.new) }
+{
+    let mut text = Vec::new(alloc);
+    match write_page_fault(page, &mut text) {
         Ok(()) => print_fault(host, &text, Status::Damaged),
         Err(_) => Status::Memory,
     }
@@ -113,5 +133,15 @@ fn write_record_fault(at: Place, into: &mut Vec<u8>) -> Result<(), AllocError>
     into.extend_from_slice(Buffer::new().format(at.seg).as_bytes())?;
     into.extend_from_slice(b":")?;
     into.extend_from_slice(Buffer::new().format(at.off).as_bytes())?;
+    into.extend_from_slice(b"\n")
+}
+
+// Writes the line that names a page.
+fn write_page_fault(page: PageId, into: &mut Vec<u8>) -> Result<(), AllocError>
+    requires { into.old.items ≡ [] }
+    ensures { OnOk result (into.new.items ≡ fault_page page) }
+{
+    into.extend_from_slice(b"fault page ")?;
+    append_page(page, into)?;
     into.extend_from_slice(b"\n")
 }

@@ -4,6 +4,7 @@
 mod batch;
 mod call;
 mod configuration;
+mod counts_line;
 mod fault_lines;
 mod laws;
 mod report;

@@ -9,11 +9,13 @@ ghost use Rattle.pm_part.specs.Commands.{IsPartCmd};
 ghost use Rattle.pm_stripe.specs.Bounds.{IsBound};
 ghost use Rattle.pm_stripe.specs.Idle.{IsIdle};
 
+use crate::bound_pages::bind;
+use crate::page_list::copied;
 use crate::worker_pages::beginning::begin;
 use crate::worker_pages::commands::{SHAPE, Step, are_same, command};
 use crate::worker_pages::host_files::host_with;
-use crate::worker_pages::operations::{answer, bind, look};
-use crate::worker_pages::plain::{answer_plain, copied, filled};
+use crate::worker_pages::operations::{answer, look};
+use crate::worker_pages::plain::{answer_plain, filled};
 use crate::worker_pages::reader::ListReader;
 use crate::worker_pages::records::Logged;
 use crate::worker_pages::stop::Stop;
@@ -78,8 +80,8 @@ fn gets_agree<'a, Q: Wait, R: PageReader>(
     Ok(())
 }
 
-// Looks at each page. It differs where one has other bytes than the plain one.
-fn pages_agree<'a, Q: Wait, R: PageReader>(
+/// Looks at each page. It differs where one has other bytes than the plain one.
+pub fn pages_agree<'a, Q: Wait, R: PageReader>(
     pages: &mut Bound<'a, Q, R>,
     plain: &PlainPages,
 ) -> Result<(), Stop>

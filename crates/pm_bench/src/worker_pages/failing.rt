@@ -9,10 +9,12 @@ ghost use Rattle.pm_stripe.specs.Bounds.{IsBound};
 ghost use Rattle.pm_stripe.specs.Idle.{IsIdle};
 ghost use Rattle.pm_stripe.specs.Shown.{shown};
 
+use crate::bound_pages::bind;
+use crate::page_list::copied;
 use crate::worker_pages::beginning::begin;
 use crate::worker_pages::commands::{SHAPE, Step, are_same, command};
-use crate::worker_pages::operations::{answer, bind};
-use crate::worker_pages::plain::{answer_plain, copied, filled};
+use crate::worker_pages::operations::answer;
+use crate::worker_pages::plain::{answer_plain, filled};
 use crate::worker_pages::reader::ListReader;
 use crate::worker_pages::stop::Stop;
 use pm_disk::PageReader;
@@ -52,8 +54,8 @@ enum Tried {
     Answered(bool),
     // It failed. Whether it had the wanted reply when it was done again.
     Failed(bool),
-    // It couldn't begin.
-    Halted,
+    // It couldn't begin, or it failed and handed over something nevertheless.
+    Wrong,
 }
 
 // Does a command over a reader that fails once, and then once more.
@@ -73,13 +75,14 @@ fn retry<'a, Q: Wait, R: PageReader + Drop>(
     let part = Part::new(SHAPE, 0);
     let mut pages = pages;
     let first = answer(alloc, &mut pages, &part, cmd, 1);
+    let hands_none = pages.outbox().is_empty();
     let mut pages = begin_again(rt, locks, pages);
     let second = answer(alloc, &mut pages, &part, cmd, 2);
     pages.end();
     match first {
         Ok(replies) => Tried::Answered(are_same(&replies, wanted)),
-        Err(Stop::Failed) => Tried::Failed(is_wanted(second, wanted)),
-        Err(_) => Tried::Halted,
+        Err(Stop::Failed) if hands_none => Tried::Failed(is_wanted(second, wanted)),
+        Err(_) => Tried::Wrong,
     }
 }
 
@@ -118,8 +121,8 @@ fn copies(alloc: Global, pages: &[Page]) -> Result<Vec<Page>, AllocError> {
 }
 
 // Does a command with a failure at each of its reads, and then on the plain pages. How many reads it has; none
-// where it was answered otherwise than on the plain pages, or didn't fail. A look-up is answered so too when it is
-// done again; a change may be half done where it failed.
+// where it was answered otherwise than on the plain pages, didn't fail, or failed and handed over something. A
+// look-up is answered so too when it is done again; a change may be half done where it failed.
 fn fail_everywhere<Q: Wait>(
     rt: &Q,
     alloc: Global,

@@ -5,14 +5,13 @@ ghost use Rattle.pm_pages.specs.Paged.{AllReadable};
 ghost use Rattle.pm_pages.specs.Plain.{plain_seen, ArePlain};
 ghost use Rattle.pm_part.specs.Commands.{IsPartCmd};
 
+use crate::bound_pages::run_over;
 use crate::worker_pages::commands::{SHAPE, Step, command};
-use crate::worker_pages::operations::run_over;
 use crate::worker_pages::stop::Stop;
 use pm_model::{Cmd, Replies};
 use pm_pages::PlainPages;
 use pm_part::Part;
-use pm_types::Page;
-use std::alloc::{AllocError, Global};
+use std::alloc::Global;
 
 /// Does a command, and gives its reply.
 pub fn answer_plain(
@@ -49,16 +48,4 @@ pub fn filled(alloc: Global, part: u16, rows: u32, len: usize) -> Result<PlainPa
         answer_plain(alloc, &mut plain, &of, &cmd)?;
     }
     Ok(plain)
-}
-
-/// The pages, each copied.
-pub fn copied(alloc: Global, plain: &PlainPages) -> Result<Vec<Page>, AllocError> {
-    let mut all = Vec::new(alloc);
-    for index in 0..u32::try_from(plain.len()).unwrap_or(0) {
-        if let Some(bytes) = plain.page(index) {
-            let bytes = Vec::from_slice(alloc, bytes)?;
-            all.push(Page { bytes })?;
-        }
-    }
-    Ok(all)
 }

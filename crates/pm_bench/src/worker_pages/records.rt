@@ -1,7 +1,7 @@
 //! What the operations of a worker are to hand to the log writer, made of the patches of a plain partition 0.
 
 use pm_pages::PlainPages;
-use pm_types::{PageId, Patch};
+use pm_types::{OP_PAGES, PageId, Patch};
 use std::alloc::{AllocError, Global};
 
 // The kinds of records.
@@ -29,8 +29,13 @@ impl Logged {
     /// record of each changed page, by rising index. One that changed no page has no bytes.
     pub fn add(&mut self, alloc: Global, line: u32, plain: &PlainPages) -> Result<(), AllocError> {
         let mut records = Vec::new(alloc);
-        for index in 0..u32::try_from(plain.len()).unwrap_or(0) {
+        let mut from = 0u32;
+        for _ in 0..OP_PAGES {
+            let Some(index) = plain.next_changed(from) else {
+                break;
+            };
             self.add_page(alloc, &mut records, plain, index)?;
+            from = index.saturating_add(1);
         }
         if records.is_empty() {
             return Ok(());
@@ -39,6 +44,16 @@ impl Logged {
         self.bytes.extend_from_slice(&line.to_le_bytes())?;
         self.bytes.extend_from_slice(&len.to_le_bytes())?;
         self.bytes.extend_from_slice(&records)
+    }
+
+    /// How many pages the log has had.
+    pub fn count(&self) -> u32 {
+        u32::try_from(self.whole.iter().filter(|whole| **whole).count()).unwrap_or(u32::MAX)
+    }
+
+    /// Whether the log has had this page.
+    pub fn has(&self, index: u32) -> bool {
+        self.whole.get(index as usize).copied().unwrap_or(false)
     }
 
     // Appends the record of a page, if it was changed: the page whole where the log hasn't had it yet.

@@ -5,10 +5,12 @@ ghost use Rattle.pm_locks.specs.Sight.{LockTable};
 ghost use Rattle.pm_stripe.specs.Bounds.{IsBound};
 ghost use Rattle.pm_stripe.specs.Idle.{IsIdle};
 
+use crate::bound_pages::{bind, send};
+use crate::page_list::copied;
 use crate::worker_pages::beginning::{SHARED, begin_two};
 use crate::worker_pages::commands::{SHAPE, Step, command, is_same};
-use crate::worker_pages::operations::{answer, bind};
-use crate::worker_pages::plain::{copied, filled};
+use crate::worker_pages::operations::answer;
+use crate::worker_pages::plain::filled;
 use crate::worker_pages::reader::ListReader;
 use crate::worker_pages::stop::Stop;
 use pm_disk::PageReader;
@@ -69,15 +71,6 @@ fn is_right<'a, Q: Wait, R: PageReader>(
     send(pages);
     let told = map.answer(alloc, SHAPE, Line::Good(cmd))?;
     Ok(replies.len() == 1 && is_same(replies.get(0), &told.reply))
-}
-
-// Takes all that the outbox has.
-fn send<'a, Q: Wait, R: PageReader>(pages: &mut Bound<'a, Q, R>)
-    requires { IsIdle R.tells R.history R.state pages.old }
-    ensures { IsIdle R.tells R.history R.state pages.new }
-{
-    let len = pages.outbox().len();
-    pages.sent(len);
 }
 
 // All operations of a worker. How many were answered otherwise than by the map, and more where one wasn't done.

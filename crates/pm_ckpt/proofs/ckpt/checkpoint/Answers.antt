@@ -1,32 +1,17 @@
-use Rattle.std.proofs.Common.{◌≡◌, List, min, Ok, sym, ◌∙◌, ap, subst, arith}
-use Rattle.pm_types.specs.declared.page_id.PageId.{PageId}
+use Rattle.std.proofs.Common.{◌≡◌, List, min, Ok, refl, sym, ◌∙◌, ap, subst, arith}
 use Rattle.pm_types.specs.declared.shape.Mark.{Mark}
 use Rattle.pm_disk.specs.declared.failed.Failed.{Failed}
 use Rattle.pm_core.specs.PageSets.{Running}
-use Rattle.pm_ckpt.specs.Checkpoints.{MayOpen, MayEnd}
+use Rattle.pm_core.proofs.OnlyDisk.{makes_disk, logs_disk, then_disk}
+use Rattle.pm_ckpt.specs.Checkpoints.{MayEnd}
 use Rattle.pm_segments.specs.Appends.{grown}
 use Rattle.pm_segments.specs.Drops.{drop_before_steps, kept_from}
 use Rattle.pm_segments.specs.Ends.{LogEnd}
 use Rattle.pm_ckpt.specs.Marked.{begin_frame}
 use Rattle.pm_ckpt.specs.Writes.{held_in, Finishes}
-use Rattle.pm_ckpt.proofs.Stages.{may_open, may_end, broke_open, broke_end, broke_drop, made, ending_makes, in_force_after, home_stays, drops_pages, grown_seg, are_gone}
+use Rattle.pm_ckpt.proofs.OnlyDisk.{open_state, silent_opening, silent_ending}
+use Rattle.pm_ckpt.proofs.Stages.{may_end, broke_open, broke_end, broke_drop, made, ending_makes, in_force_after, home_stays, drops_pages, grown_seg, are_gone}
 use Rattle.pm_ckpt.proofs.ckpt.checkpoint.Goals as goal
-
-pub begin_marked-requires-clause-guard : goal.begin_marked-requires-clause-guard
-begin_marked-requires-clause-guard g c κs within t =
-    let old = g.H.Device.history c.args.host.now in
-    subst (λ (ps : List PageId). MayOpen c.args.log.now c.args.mark ps old.world) (sym c.requires.set)
-    (may_open c.args.log.now c.args.mark (held_in c.args.pages.now) c.args.order.now old.world (c.requires.guard t))
-
-pub finish_written-requires-clause-guard : goal.finish_written-requires-clause-guard
-finish_written-requires-clause-guard g c κs within t =
-    let old = g.H.Device.history c.args.host.now in
-    let mid = g.H.Device.history c.begin_marked.new.host in
-    let held = held_in c.args.pages.now in
-    let may = c.requires.guard t in
-    let mark_is : c.args.mark ≡ c.in_ok-begun.begun.mark = sym (ap (λ (r : Running). r.mark) c.in_ok-begun.ensures.begun) in
-    subst (λ (m : Mark). MayEnd m held c.args.order.now mid.world) mark_is
-    (may_end c.args.log.now c.args.mark held c.args.order.now old.world mid.world may c.requires.held (c.in_ok-begun.ensures.steps t may.state may.can.rebuilt may.can.ends).all)
 
 pub returns-in_err-begun-clause-steps : goal.returns-in_err-begun-clause-steps
 returns-in_err-begun-clause-steps g c t wanted told s can =
@@ -89,7 +74,7 @@ returns-clause-steps g c t wanted told s can =
     last (Ok tt) c.begin_marked.new.log c.min.result c.in_ok-begun.ensures.grown c.min.ensures (c.in_ok-drop_before.ensures.steps t) (Ok c.idle.result) (λ p. p)
 
 pub returns-clause-ended : goal.returns-clause-ended
-returns-clause-ended g c t =
+returns-clause-ended g c t may =
     let old = g.H.Device.history c.args.host.now in
     let mid = g.H.Device.history c.begin_marked.new.host in
     let new = g.H.Device.history c.finish_written.new.host in
@@ -98,7 +83,6 @@ returns-clause-ended g c t =
     let order = c.args.order.now in
     let log = c.args.log.now in
     let mark = c.args.mark in
-    let may = c.requires.guard t in
     let s = may.state in
     let can = may.can in
     let opened = c.in_ok-begun.ensures.steps t s can.rebuilt can.ends in
@@ -107,11 +91,67 @@ returns-clause-ended g c t =
     let done = (ending_makes may.wanted may.told s log mark held order old can c.requires.held mid opened.moments opened.all new (Ok c.in_ok-ended.ended) ends).all in
     let dropped = c.in_ok-drop_before.ensures.steps t in
     let grew = c.begin_marked.new.log in
+    let begun_mark : mark ≡ c.in_ok-begun.begun.mark = sym mark_is in
+    let may_end_there = subst (λ (m : Mark). MayEnd m held order mid.world) begun_mark (may_end log mark held order old.world mid.world may c.requires.held opened.all) in
     record {
       checkpoint = in_force_after may.wanted may.told s log mark held order old can c.requires.held mid opened.moments opened.all new (Ok c.in_ok-ended.ended) ends done
           last (Ok tt) grew c.min.result c.in_ok-begun.ensures.grown c.min.ensures dropped (λ p. p);
       home = home_stays mark.shape.page_size held order new.world last.world (drops_pages new.world last.world (drop_before_steps grew c.min.result new.world) grew.end dropped.all)
-          (c.in_ok-ended.ensures.home t);
+          (c.in_ok-ended.ensures.home t may_end_there);
       gone = are_gone log grew c.drop_before.new.self mark new.world last.world c.in_ok-begun.ensures.grown
           (c.in_ok-drop_before.ensures.kept ∙ ap (λ n. kept_from n grew) c.min.ensures) (c.in_ok-drop_before.ensures.dropped t);
     }
+
+pub returns-in_err-begun-clause-disk : goal.returns-in_err-begun-clause-disk
+returns-in_err-begun-clause-disk g c t =
+    let old = g.H.Device.history c.args.host.now in
+    let mid = g.H.Device.history c.begin_marked.new.host in
+    let log = c.args.log.now in
+    let mark = c.args.mark in
+    let s = open_state mark.shape log.end in
+    makes_disk old mid _ s (silent_opening log mark) (c.begin_marked.ensures.steps t s _ refl).moments
+
+pub returns-in_err-ended-clause-disk : goal.returns-in_err-ended-clause-disk
+returns-in_err-ended-clause-disk g c t =
+    let old = g.H.Device.history c.args.host.now in
+    let mid = g.H.Device.history c.begin_marked.new.host in
+    let new = g.H.Device.history c.finish_written.new.host in
+    let log = c.args.log.now in
+    let mark = c.args.mark in
+    let s = open_state mark.shape log.end in
+    let ends = c.finish_written.ensures.steps t in
+    then_disk old mid new (g.H.Device.sound c.begin_marked.new.host t)
+    (makes_disk old mid _ s (silent_opening log mark) (c.begin_marked.ensures.steps t s _ refl).moments)
+    (makes_disk mid new _ s (silent_ending (held_in c.args.pages.now) ends.writings c.in_ok-begun.begun.mark c.args.order.now) (ends.makes s).moments)
+
+pub returns-in_err-drop_before-clause-disk : goal.returns-in_err-drop_before-clause-disk
+returns-in_err-drop_before-clause-disk g c t =
+    let old = g.H.Device.history c.args.host.now in
+    let mid = g.H.Device.history c.begin_marked.new.host in
+    let new = g.H.Device.history c.finish_written.new.host in
+    let last = g.H.Device.history c.drop_before.new.host in
+    let log = c.args.log.now in
+    let mark = c.args.mark in
+    let s = open_state mark.shape log.end in
+    let ends = c.finish_written.ensures.steps t in
+    then_disk old new last (g.H.Device.sound c.finish_written.new.host t)
+    (then_disk old mid new (g.H.Device.sound c.begin_marked.new.host t)
+    (makes_disk old mid _ s (silent_opening log mark) (c.begin_marked.ensures.steps t s _ refl).moments)
+    (makes_disk mid new _ s (silent_ending (held_in c.args.pages.now) ends.writings c.in_ok-begun.begun.mark c.args.order.now) (ends.makes s).moments))
+    (logs_disk new last _ _ (c.drop_before.ensures.steps t).moments)
+
+pub returns-clause-disk : goal.returns-clause-disk
+returns-clause-disk g c t =
+    let old = g.H.Device.history c.args.host.now in
+    let mid = g.H.Device.history c.begin_marked.new.host in
+    let new = g.H.Device.history c.finish_written.new.host in
+    let last = g.H.Device.history c.drop_before.new.host in
+    let log = c.args.log.now in
+    let mark = c.args.mark in
+    let s = open_state mark.shape log.end in
+    let ends = c.finish_written.ensures.steps t in
+    then_disk old new last (g.H.Device.sound c.finish_written.new.host t)
+    (then_disk old mid new (g.H.Device.sound c.begin_marked.new.host t)
+    (makes_disk old mid _ s (silent_opening log mark) (c.begin_marked.ensures.steps t s _ refl).moments)
+    (makes_disk mid new _ s (silent_ending (held_in c.args.pages.now) ends.writings c.in_ok-begun.begun.mark c.args.order.now) (ends.makes s).moments))
+    (logs_disk new last _ _ (c.drop_before.ensures.steps t).moments)

@@ -4,13 +4,13 @@ use Rattle.std.proofs.lemmas.Result.{on_ok_weaker}
 use Rattle.pm_types.specs.declared.page_id.PageId.{PageId}
 use Rattle.pm_types.specs.declared.shape.Mark.{Mark}
 use Rattle.pm_disk.specs.Worlds.{World}
-use Rattle.pm_core.specs.Calls.{MakesSteps, MayFinish, finish_steps}
+use Rattle.pm_core.specs.Calls.{MakesSteps, finish_steps}
 use Rattle.pm_core.specs.Machine.{states, worlds}
 use Rattle.pm_core.specs.PageSets.{AreAmong, Running, left_after}
 use Rattle.pm_core.proofs.Making.{moments_first, broke_off}
 use Rattle.pm_ckpt.specs.Writes.{held_in, IsHeld, write_steps, AreHome}
-use Rattle.pm_ckpt.proofs.Finishing.{among_own, none_left, may_finish, home, finish_log, writes_log}
-use Rattle.pm_ckpt.proofs.Opening.{makes_joined}
+use Rattle.pm_ckpt.proofs.Finishing.{among_own, none_left, home, finish_log, writes_log}
+use Rattle.pm_ckpt.proofs.Opening.{makes_joined, some_state}
 use Rattle.pm_ckpt.proofs.Written.{after_writes, writes_world}
 use Rattle.pm_ckpt.proofs.ending.finish_written.Goals as goal
 
@@ -38,22 +38,6 @@ pub finish-requires-clause-written : goal.finish-requires-clause-written
 finish-requires-clause-written g c κs within =
     ap (λ (r : Running). r.left) c.wrote.ensures ∙ ap (left_after c.args.order.now) c.requires.left ∙ none_left c.args.order.now c.requires.once
 
-pub finish-requires-clause-guard : goal.finish-requires-clause-guard
-finish-requires-clause-guard g c κs within t =
-    let old = g.H.Device.history c.args.host.now in
-    let mid = g.H.Device.history c.write_pages.new.host in
-    let held = held_in c.args.pages.now in
-    let order = c.args.order.now in
-    let mark = c.args.begun.mark in
-    let may = c.requires.guard t in
-    let wrote = c.in_ok-write_pages.ensures.writes t in
-    let held_all = subst (λ n. All (IsHeld n held) order) c.requires.size c.requires.held in
-    let is : mid.world ≡ after_writes held wrote.writings old.world = (wrote.makes may.state).all ∙ writes_world held wrote.writings may.state old.world in
-    let base = may_finish may.wanted may.told may.state mark held order old.world may.can held_all wrote.writings wrote.pages_are wrote.gaps mid.world is in
-    let mark_is : mark ≡ c.wrote.new.self.mark = sym (ap (λ (r : Running). r.mark) c.wrote.ensures) in
-    let pages_is : order ≡ c.wrote.new.self.set.pages = sym (ap (λ (r : Running). r.set.pages) c.wrote.ensures ∙ c.requires.set) in
-    subst (λ (ps : List PageId). MayFinish c.wrote.new.self.mark ps mid.world) pages_is (subst (λ (m : Mark). MayFinish m order mid.world) mark_is base)
-
 pub returns-clause-steps : goal.returns-clause-steps
 returns-clause-steps g c t =
     let old = g.H.Device.history c.args.host.now in
@@ -78,14 +62,13 @@ returns-clause-steps g c t =
     }
 
 pub returns-clause-home : goal.returns-clause-home
-returns-clause-home g c t =
+returns-clause-home g c t may =
     let old = g.H.Device.history c.args.host.now in
     let mid = g.H.Device.history c.write_pages.new.host in
     let new = g.H.Device.history c.finish.new.host in
     let held = held_in c.args.pages.now in
     let order = c.args.order.now in
     let mark = c.args.begun.mark in
-    let may = c.requires.guard t in
     let wrote = c.in_ok-write_pages.ensures.writes t in
     let held_all = subst (λ n. All (IsHeld n held) order) c.requires.size c.requires.held in
     let is : mid.world ≡ after_writes held wrote.writings old.world = (wrote.makes may.state).all ∙ writes_world held wrote.writings may.state old.world in
@@ -106,11 +89,11 @@ returns-clause-log g c t =
     let mid = g.H.Device.history c.write_pages.new.host in
     let new = g.H.Device.history c.finish.new.host in
     let held = held_in c.args.pages.now in
-    let may = c.requires.guard t in
+    let s = some_state c.args.begun.mark.shape in
     let wrote = c.in_ok-write_pages.ensures.writes t in
-    let is : mid.world ≡ after_writes held wrote.writings old.world = (wrote.makes may.state).all ∙ writes_world held wrote.writings may.state old.world in
+    let is : mid.world ≡ after_writes held wrote.writings old.world = (wrote.makes s).all ∙ writes_world held wrote.writings s old.world in
     on_ok_weaker c.finish.result
     (λ done.
-    ap (λ (w : World). w.log) done ∙ finish_log c.wrote.new.self.mark c.wrote.new.self.set.pages may.state mid.world
+    ap (λ (w : World). w.log) done ∙ finish_log c.wrote.new.self.mark c.wrote.new.self.set.pages s mid.world
     ∙ ap (λ (w : World). w.log) is ∙ writes_log held wrote.writings old.world)
-    (c.finish.ensures.steps t may.state).all
+    (c.finish.ensures.steps t s).all

@@ -5,7 +5,8 @@ use Rattle.pm_disk.proofs.Chain.{joined, at_last}
 use Rattle.pm_disk.specs.Moments.{AllMoments}
 use Rattle.pm_disk.specs.Worlds.{World}
 use Rattle.pm_pages.specs.Plain.{plain_seen}
-use Rattle.pm_engine.specs.Loading.{BaseIs, AreCounted, IsLoaded}
+use Rattle.pm_redo.specs.Loading.{BaseIs, AreCounted}
+use Rattle.pm_engine.specs.PagedMaps.{IsPlainPartition}
 use Rattle.pm_engine.specs.Openings.{IsSame}
 use Rattle.pm_engine.proofs.LoadedPages.{HoldFirst, more_loaded, more_hold}
 use Rattle.pm_engine.proofs.loading.load_partitions.Goals as goal
@@ -22,7 +23,7 @@ each-preserved g c =
     let items : c.push.new.self.items ≡ lists ++ list ∷ [] = c.in_ok-push.ensures.items in
     let same = λ (t : g.H.Device.tells). joined old before now (IsSame old.world) (v.same t)
     (subst (λ (w : World). AllMoments before now (IsSame w)) (v.world t) (c.load_partition.ensures.same t)) in
-    let loaded = subst (λ n. IsLoaded c.args.shape.now n list) (sym v.long) c.in_ok-load_partition.ensures.loaded in
+    let loaded = subst (λ n. IsPlainPartition c.args.shape.now n list) (sym v.long) c.in_ok-load_partition.ensures.loaded in
     record {
       state = record {
         later = omega (arith, v.state.later, cause.later);

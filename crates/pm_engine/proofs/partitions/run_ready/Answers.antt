@@ -1,4 +1,4 @@
-use Rattle.std.proofs.Common.{ℕ, ◌∙◌, inl, ap}
+use Rattle.std.proofs.Common.{◌∙◌, inl, ap}
 use Rattle.std.specs.Prelude.{Err, IsTrue}
 use Rattle.pm_pages.specs.Plain.{plain_seen}
 use Rattle.pm_pages.proofs.KeptPages.{keeps_pages}
@@ -27,4 +27,4 @@ returns-clause-within c =
     (keeps_pages p q c.requires.ready.ordered (kept.ready c.requires.ready).ordered kept)
 
 pub returns-clause-refused : goal.returns-clause-refused
-returns-clause-refused c = λ refused index. (c.in-Ok.ensures.refused refused).pages index (inl tt)
+returns-clause-refused c = λ refused index. (c.in-Ok.ensures.keeps.refused refused).pages index (inl tt)

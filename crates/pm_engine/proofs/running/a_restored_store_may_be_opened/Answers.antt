@@ -2,7 +2,7 @@ use Rattle.pm_engine.proofs.OpenedStores.{restored_store, opened_goes, opened_ru
 use Rattle.pm_engine.proofs.running.a_restored_store_may_be_opened.Goals as goal
 
 pub returns-clause-restored : goal.returns-clause-restored
-returns-clause-restored c = λ wanted told checkpoint s t world log is stands sound limits end early segments. restored_store wanted told checkpoint s t world log is stands sound limits end early segments
+returns-clause-restored c = λ wanted told checkpoint s t world log is stands sound limits end early segments quiet. restored_store wanted told checkpoint s t world log is stands sound limits end early segments quiet
 
 pub returns-clause-can : goal.returns-clause-can
 returns-clause-can c = λ wanted told shape log mark s world restored segments. opened_goes wanted told shape log mark s world restored segments

@@ -1,3 +1,4 @@
+use Rattle.pm_engine.proofs.ConsoleRuns.{has_beside}
 use Rattle.pm_engine.proofs.HasRunLines.{rest_has_run, line_unchanged, line_done, line_forced}
 use Rattle.pm_engine.proofs.running_lines.a_running_store_does_lines.Goals as goal
 
@@ -13,3 +14,6 @@ returns-clause-done c = λ wanted told from start lines store s world line part 
 
 pub returns-clause-forced : goal.returns-clause-forced
 returns-clause-forced c = λ wanted told from start lines store s world has. line_forced wanted told from start lines store s world has
+
+pub returns-clause-beside : goal.returns-clause-beside
+returns-clause-beside c = λ wanted from start lines store s world now has same. has_beside wanted store s world now from start lines has same

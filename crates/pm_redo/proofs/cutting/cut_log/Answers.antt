@@ -4,6 +4,7 @@ use Rattle.pm_disk.specs.Worlds.{World}
 use Rattle.pm_disk.proofs.Chain.{at_last}
 use Rattle.pm_records.specs.LogFiles.{contents}
 use Rattle.pm_records.specs.LogSteps.{DoesSteps, cut_steps, world_after}
+use Rattle.pm_core.proofs.OnlyDisk.{logs_disk, reads_disk, same_disk, then_disk}
 use Rattle.pm_redo.specs.LogEnds.{LogEndsAt}
 use Rattle.pm_redo.specs.Rebuilding.{IsSame}
 use Rattle.pm_redo.proofs.RestoringSteps.{one_end, end_within, read_then, read_and_cut, on_err}
@@ -51,3 +52,35 @@ returns-clause-steps g c t end ends =
       all = (c.in_ok-cut_tail.ensures.steps t).all ∙ ap (world_after cut_steps c.in_ok-end.end) (two ∙ one) ∙ ap (λ p. world_after cut_steps p old.world) is;
       moments = read_and_cut old mid new c.cut_tail.result end (two ∙ one) first (subst (λ (p : Place). DoesSteps mid new c.cut_tail.result cut_steps p) is (c.cut_tail.ensures.steps t));
     }
+
+pub returns-in_err-reaches-clause-disk : goal.returns-in_err-reaches-clause-disk
+returns-in_err-reaches-clause-disk g c t =
+    reads_disk (g.H.Device.history c.args.host.now) (g.H.Device.history c.reaches.new.host) c.reaches.result (g.H.Device.sound c.args.host.now t) (c.reaches.ensures.does t)
+
+pub returns-then-not-branch-clause-disk : goal.returns-then-not-branch-clause-disk
+returns-then-not-branch-clause-disk g c t =
+    reads_disk (g.H.Device.history c.args.host.now) (g.H.Device.history c.reaches.new.host) c.reaches.result (g.H.Device.sound c.args.host.now t) (c.reaches.ensures.does t)
+
+pub returns-in_err-end-clause-disk : goal.returns-in_err-end-clause-disk
+returns-in_err-end-clause-disk g c t =
+    let old = g.H.Device.history c.args.host.now in
+    let mid = g.H.Device.history c.log_end.new.host in
+    same_disk old mid (read_then old (g.H.Device.history c.reaches.new.host) mid c.reaches.result (g.H.Device.sound c.args.host.now t) (c.reaches.ensures.does t) (c.log_end.ensures.same t))
+
+pub returns-in_err-cut_tail-clause-disk : goal.returns-in_err-cut_tail-clause-disk
+returns-in_err-cut_tail-clause-disk g c t =
+    let old = g.H.Device.history c.args.host.now in
+    let mid = g.H.Device.history c.log_end.new.host in
+    let new = g.H.Device.history c.cut_tail.new.dev in
+    then_disk old mid new (g.H.Device.sound c.log_end.new.host t)
+    (same_disk old mid (read_then old (g.H.Device.history c.reaches.new.host) mid c.reaches.result (g.H.Device.sound c.args.host.now t) (c.reaches.ensures.does t) (c.log_end.ensures.same t)))
+    (logs_disk mid new cut_steps c.in_ok-end.end (c.cut_tail.ensures.steps t).moments)
+
+pub returns-clause-disk : goal.returns-clause-disk
+returns-clause-disk g c t =
+    let old = g.H.Device.history c.args.host.now in
+    let mid = g.H.Device.history c.log_end.new.host in
+    let new = g.H.Device.history c.cut_tail.new.dev in
+    then_disk old mid new (g.H.Device.sound c.log_end.new.host t)
+    (same_disk old mid (read_then old (g.H.Device.history c.reaches.new.host) mid c.reaches.result (g.H.Device.sound c.args.host.now t) (c.reaches.ensures.does t) (c.log_end.ensures.same t)))
+    (logs_disk mid new cut_steps c.in_ok-end.end (c.cut_tail.ensures.steps t).moments)

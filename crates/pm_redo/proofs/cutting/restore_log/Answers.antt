@@ -38,7 +38,8 @@ pub returns-else-marks-clause-bad : goal.returns-else-marks-clause-bad
 returns-else-marks-clause-bad g c t at is =
     let old = g.H.Device.history c.args.host.now in
     let begun = is_started (in_force (image_of old.world)) c.args.marks.now c.in-Some.mark (c.requires.marks t) c.in-Some.is c.if-marks.false in
-    subst (λ (checkpoint : Checkpoint). IsBadLog checkpoint (contents old.world.log) at) (sym begun) (c.restore_started.ensures.bad t at is)
+    let bad = c.restore_started.ensures.bad t at is in
+    (subst (λ (checkpoint : Checkpoint). IsBadLog checkpoint (contents old.world.log) at) (sym begun) bad.0, bad.1)
 
 pub returns-else-marks-clause-begun : goal.returns-else-marks-clause-begun
 returns-else-marks-clause-begun g c t wanted told s left =

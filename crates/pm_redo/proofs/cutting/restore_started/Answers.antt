@@ -1,4 +1,4 @@
-use Rattle.std.proofs.Common.{ℕ, length, rules, inr, refl, sym, ◌∙◌, ap, subst}
+use Rattle.std.proofs.Common.{ℕ, length, rules, inl, inr, refl, sym, ◌∙◌, ap, subst}
 use Rattle.std.specs.Prelude.{IsErrOf}
 use Rattle.pm_types.specs.declared.fault.StoreFault.TheVariants.{BadRecord}
 use Rattle.pm_disk.specs.Files.{File, bytes_of, content}
@@ -6,6 +6,7 @@ use Rattle.pm_disk.specs.Worlds.{World}
 use Rattle.pm_disk.proofs.Chain.{at_last}
 use Rattle.pm_records.specs.LogFiles.{contents}
 use Rattle.pm_marks.specs.InForce.{Started}
+use Rattle.pm_core.proofs.OnlyDisk.{same_disk, then_disk}
 use Rattle.pm_redo.specs.LogEnds.{LogEndsAt}
 use Rattle.pm_redo.specs.Rebuilding.{IsSame}
 use Rattle.pm_redo.specs.Restoring.{CutsLog, IsPastEnd}
@@ -26,15 +27,7 @@ returns-in_err-log-clause-bad g c t at is =
     let read = g.H.Device.history c.rebuild.new.host in
     let same = at_last old read (IsSame old.world) (g.H.Device.sound c.rebuild.new.host t) (c.rebuild.ensures.same t) in
     let its : IsErrOf c.cut_log.result (BadRecord at) = search rules in
-    inr (subst (λ (w : World). IsPastEnd (contents w.log) c.args.mark.now.replay at) same (c.cut_log.ensures.bad t at its))
-
-pub returns-in_err-log-clause-untouched : goal.returns-in_err-log-clause-untouched
-returns-in_err-log-clause-untouched g c t at is =
-    let old = g.H.Device.history c.args.host.now in
-    let read = g.H.Device.history c.rebuild.new.host in
-    let same = at_last old read (IsSame old.world) (g.H.Device.sound c.rebuild.new.host t) (c.rebuild.ensures.same t) in
-    let its : IsErrOf c.cut_log.result (BadRecord at) = search rules in
-    c.cut_log.ensures.untouched t at its ∙ same
+    (inr (subst (λ (w : World). IsPastEnd (contents w.log) c.args.mark.now.replay at) same (c.cut_log.ensures.bad t at its)), c.cut_log.ensures.untouched t at its ∙ same)
 
 pub returns-in_err-log-clause-begun : goal.returns-in_err-log-clause-begun
 returns-in_err-log-clause-begun g c t wanted told s left =
@@ -95,9 +88,45 @@ returns-clause-restored g c t wanted told s left =
     let is = cut_world wanted told (Started mark) s old left read cut _ same first cuts in
     let may = may_end wanted told mark c.in_ok-rebuilt.rebuilt c.in_ok-pages.pages.items s old cut left is (c.in_ok-rebuilt.ensures.rebuilds t) c.in_ok-rebuilt.ensures.shape c.in_ok-pages.ensures in
     restores_then wanted told (Started mark) s old left read cut _ same first cuts is (g.H.Device.history c.end_checkpoint.new.host) mark refl (c.in_ok-end_checkpoint.ensures.ended t wanted told (cut_state wanted told (Started mark) s old left) may)
+    (c.in_ok-end_checkpoint.ensures.log t)
 
 pub returns-clause-there : goal.returns-clause-there
 returns-clause-there g c t =
     let there = c.in_ok-log.ensures.there t in
     let same = c.in_ok-end_checkpoint.ensures.log t in
     record { kept = there.kept; ends = ap (λ (files : ℕ → File). length (bytes_of (content (files c.in_ok-log.log.end.seg)))) same ∙ there.ends }
+
+pub returns-in_err-rebuilt-clause-bad : goal.returns-in_err-rebuilt-clause-bad
+returns-in_err-rebuilt-clause-bad g c t at is =
+    let old = g.H.Device.history c.args.host.now in
+    let read = g.H.Device.history c.rebuild.new.host in
+    let its : IsErrOf c.rebuild.result (BadRecord at) = search rules in
+    (inl (c.rebuild.ensures.bad t at its), at_last old read (IsSame old.world) (g.H.Device.sound c.rebuild.new.host t) (c.rebuild.ensures.same t))
+
+pub returns-in_err-rebuilt-clause-disk : goal.returns-in_err-rebuilt-clause-disk
+returns-in_err-rebuilt-clause-disk g c t = same_disk (g.H.Device.history c.args.host.now) (g.H.Device.history c.rebuild.new.host) (c.rebuild.ensures.same t)
+
+pub returns-in_err-pages-clause-disk : goal.returns-in_err-pages-clause-disk
+returns-in_err-pages-clause-disk g c t = same_disk (g.H.Device.history c.args.host.now) (g.H.Device.history c.rebuild.new.host) (c.rebuild.ensures.same t)
+
+pub returns-in_err-log-clause-disk : goal.returns-in_err-log-clause-disk
+returns-in_err-log-clause-disk g c t =
+    let old = g.H.Device.history c.args.host.now in
+    let read = g.H.Device.history c.rebuild.new.host in
+    then_disk old read (g.H.Device.history c.cut_log.new.host) (g.H.Device.sound c.rebuild.new.host t) (same_disk old read (c.rebuild.ensures.same t)) (c.cut_log.ensures.disk t)
+
+pub returns-in_err-end_checkpoint-clause-disk : goal.returns-in_err-end_checkpoint-clause-disk
+returns-in_err-end_checkpoint-clause-disk g c t =
+    let old = g.H.Device.history c.args.host.now in
+    let read = g.H.Device.history c.rebuild.new.host in
+    let cut = g.H.Device.history c.cut_log.new.host in
+    then_disk old cut (g.H.Device.history c.end_checkpoint.new.host) (g.H.Device.sound c.cut_log.new.host t)
+    (then_disk old read cut (g.H.Device.sound c.rebuild.new.host t) (same_disk old read (c.rebuild.ensures.same t)) (c.cut_log.ensures.disk t)) (c.end_checkpoint.ensures.disk t)
+
+pub returns-clause-disk : goal.returns-clause-disk
+returns-clause-disk g c t =
+    let old = g.H.Device.history c.args.host.now in
+    let read = g.H.Device.history c.rebuild.new.host in
+    let cut = g.H.Device.history c.cut_log.new.host in
+    then_disk old cut (g.H.Device.history c.end_checkpoint.new.host) (g.H.Device.sound c.cut_log.new.host t)
+    (then_disk old read cut (g.H.Device.sound c.rebuild.new.host t) (same_disk old read (c.rebuild.ensures.same t)) (c.cut_log.ensures.disk t)) (c.end_checkpoint.ensures.disk t)

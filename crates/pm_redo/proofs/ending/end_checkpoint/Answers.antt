@@ -1,6 +1,7 @@
 use Rattle.std.proofs.Common.{◌∙◌, ap}
 use Rattle.pm_disk.specs.Worlds.{World}
 use Rattle.std.proofs.lemmas.Result.{on_ok_weaker}
+use Rattle.pm_core.proofs.OnlyDisk.{makes_disk, silent_finish, then_disk}
 use Rattle.pm_redo.proofs.EndingSteps.{end_begun, ends, any_state, finish_log}
 use Rattle.pm_redo.proofs.ending.end_checkpoint.Goals as goal
 
@@ -30,3 +31,14 @@ returns-clause-log g c t =
     let pages = c.args.pages.now.items in
     let s = any_state mark.shape in
     on_ok_weaker c.finish.result (λ is. ap (λ (w : World). w.log) is ∙ finish_log mark pages s mid.world ∙ c.in_ok-write_pages.ensures.log t) (c.finish.ensures.steps t s).all
+
+pub returns-clause-disk : goal.returns-clause-disk
+returns-clause-disk g c t =
+    let old = g.H.Device.history c.args.host.now in
+    let mid = g.H.Device.history c.write_pages.new.host in
+    let new = g.H.Device.history c.finish.new.host in
+    let mark = c.args.mark.now in
+    let pages = c.args.pages.now.items in
+    let s = any_state mark.shape in
+    then_disk old mid new (g.H.Device.sound c.write_pages.new.host t) (c.write_pages.ensures.disk t)
+    (makes_disk mid new _ s (silent_finish mark pages) (c.finish.ensures.steps t s).moments)

@@ -1,6 +1,7 @@
 use Rattle.std.proofs.Common.{sym, ap}
 use Rattle.pm_disk.specs.Worlds.{World}
 use Rattle.std.proofs.lemmas.Result.{on_ok_weaker}
+use Rattle.pm_core.proofs.OnlyDisk.{none_disk, page_disk}
 use Rattle.pm_redo.proofs.EndingSteps.{no_steps, nothing_written, page_begun, page_written}
 use Rattle.pm_redo.proofs.ending.write_one.Goals as goal
 
@@ -31,3 +32,10 @@ returns-in-None-clause-begun g c t told mark s unended =
 
 pub returns-in-Some-clause-log : goal.returns-in-Some-clause-log
 returns-in-Some-clause-log g c t = on_ok_weaker c.write_page.result (λ is. ap (λ (w : World). w.log) is) (c.write_page.ensures.writes t).does.ok
+
+pub returns-in-Some-clause-disk : goal.returns-in-Some-clause-disk
+returns-in-Some-clause-disk g c t =
+    page_disk (g.H.Device.history c.args.host.now) (g.H.Device.history c.write_page.new.self) c.write_page.result c.args.page c.in-Some.bytes.now (g.H.Device.sound c.args.host.now t) (c.write_page.ensures.writes t)
+
+pub returns-in-None-clause-disk : goal.returns-in-None-clause-disk
+returns-in-None-clause-disk g c t = none_disk (g.H.Device.history c.args.host.now) (g.H.Device.sound c.args.host.now t)

@@ -45,19 +45,6 @@ checkpoint-requires-clause-held g c κs within =
     (subst (λ shape. All (IsHeld shape.page_size held) order) shape
     (All-permutation (IsHeld c.args.self.now.shape.page_size held) c.args.dirty.now order c.arrange.ensures.order.same c.requires.held))
 
-pub checkpoint-requires-clause-guard : goal.checkpoint-requires-clause-guard
-checkpoint-requires-clause-guard g c κs within t =
-    let old = (g.H.Device.history c.args.host.now).world in
-    let log = c.args.log.now in
-    let order = c.arrange.new.order.items in
-    let held = held_in c.args.pages.now in
-    let is : order ≡ c.deref-2.result.now = sym c.deref-2.ensures.value in
-    let mark : next_mark c.args.self.now.shape c.args.self.now.mark log c.args.replay ≡ c.next_mark-mark.result =
-    sym (c.next_mark-mark.ensures ∙ ap (λ (k : Kept). next_mark k.shape k.mark log c.args.replay) c.self.view_is) in
-    subst (λ (ps : List PageId). MayCheckpoint log c.next_mark-mark.result held ps old) is
-    (subst (λ (m : Mark). MayCheckpoint log m held order old) mark
-    (may_order log (next_mark c.args.self.now.shape c.args.self.now.mark log c.args.replay) held c.args.dirty.now order c.arrange.ensures.order.same old (c.requires.guard t)))
-
 pub returns-in_err-checkpoint-clause-steps : goal.returns-in_err-checkpoint-clause-steps
 returns-in_err-checkpoint-clause-steps g c t wanted told s can =
     let old = g.H.Device.history c.args.host.now in
@@ -85,7 +72,8 @@ returns-clause-steps g c t wanted told s can =
     {E = Failed} _ tt (c.in_ok-checkpoint.ensures.steps t wanted told s)
 
 pub returns-clause-ended : goal.returns-clause-ended
-returns-clause-ended g c t =
+returns-clause-ended g c t may =
+    let old = (g.H.Device.history c.args.host.now).world in
     let new = (g.H.Device.history c.checkpoint.new.host).world in
     let log = c.args.log.now in
     let order = c.arrange.new.order.items in
@@ -93,6 +81,9 @@ returns-clause-ended g c t =
     let is : order ≡ c.deref-2.result.now = sym c.deref-2.ensures.value in
     let named = next_mark c.args.self.now.shape c.args.self.now.mark log c.args.replay in
     let mark : c.next_mark-mark.result ≡ named = c.next_mark-mark.ensures ∙ ap (λ (k : Kept). next_mark k.shape k.mark log c.args.replay) c.self.view_is in
+    let may_there = subst (λ (ps : List PageId). MayCheckpoint log c.next_mark-mark.result held ps old) is
+    (subst (λ (m : Mark). MayCheckpoint log m held order old) (sym mark)
+    (may_order log named held c.args.dirty.now order c.arrange.ensures.order.same old may)) in
     ended_order named.shape.page_size log named held c.args.dirty.now order new c.arrange.ensures.order.same
     (subst (λ (m : Mark). IsEnded m.shape.page_size log m held order new) mark
-    (subst (λ (ps : List PageId). IsEnded c.next_mark-mark.result.shape.page_size log c.next_mark-mark.result held ps new) (sym is) (c.in_ok-checkpoint.ensures.ended t)))
+    (subst (λ (ps : List PageId). IsEnded c.next_mark-mark.result.shape.page_size log c.next_mark-mark.result held ps new) (sym is) (c.in_ok-checkpoint.ensures.ended t may_there)))

@@ -1,10 +1,10 @@
-use Rattle.std.proofs.Common.{rules, ◌≡◌, ◌∙◌, ◌∷◌, [], true, false, refl, sym, ap, subst, arith, List}
+use Rattle.std.proofs.Common.{rules, ◌≡◌, ◌∙◌, ◌∷◌, [], sym, ap, subst, arith, List}
 use Rattle.pm_model.specs.declared.line.Line.TheVariants.{Good}
 use Rattle.pm_model.specs.declared.reply.Reply.{Reply}
 use Rattle.pm_model.specs.Eval.{reply_to, is_accepted}
 use Rattle.pm_model.specs.ReplyLists.{with_replies, ReplyList}
 use Rattle.pm_pages.specs.declared.plain.PlainPages.{PlainPages}
-use Rattle.pm_part.specs.Commands.{IsRefused, accepts}
+use Rattle.pm_part.specs.Commands.{accepts}
 use Rattle.pm_core.specs.Held.{pairs_in}
 use Rattle.pm_engine.specs.PagedStores.{part_map, RunsOnPart}
 use Rattle.pm_engine.specs.PagedMaps.{PagedStore, pages_of_lists, ChangesLists, AcceptsLine}

@@ -1,14 +1,11 @@
-use Rattle.pm_part.specs.Commands.{IsRefused}
 use Rattle.std.proofs.Common.{arith}
-use Rattle.std.specs.Prelude.{OnOk}
 use Rattle.pm_pages.proofs.EditedPages.{looks_more}
-use Rattle.pm_pages.specs.Edits.{LooksAtPages}
 use Rattle.std.proofs.Common.{◌≡◌, ℕ, rules, subst}
 use Rattle.std.proofs.lemmas.Result.{on_ok_weaker}
 use Rattle.pm_model.specs.declared.line.Cmd.{Cmd}
 use Rattle.pm_model.specs.declared.line.Cmd.TheVariants.{Put, Get, Remove}
 use Rattle.pm_part.specs.Puts.{IsPartFor}
-use Rattle.pm_part.specs.Runs.{RunsCmd}
+use Rattle.pm_part.specs.Runs.{RunsCmd, KeepsPages}
 use Rattle.pm_part.specs.Faults.{HasPartCause, IsFaultOf}
 use Rattle.pm_part.proofs.part.Part.run.Goals as goal
 
@@ -45,22 +42,26 @@ returns-in-Remove-clause-cause g c =
     let cmd : Remove c.in-Remove.cache c.bytes-in-Remove.result.now ≡ c.args.cmd.now = search rules in
     subst (λ (q : Cmd). HasPartCause T a b (IsFaultOf T b q) c.run_remove.result) cmd c.run_remove.ensures.cause
 
-pub returns-in-Put-clause-refused : goal.returns-in-Put-clause-refused
-returns-in-Put-clause-refused g c =
+pub returns-in-Put-clause-keeps : goal.returns-in-Put-clause-keeps
+returns-in-Put-clause-keeps g c =
     let T = g.P.Pages.tells in
     let a = g.P.Pages.seen c.args.pages.now in
     let b = g.P.Pages.seen c.run_put.new.pages in
     let cmd : Put c.in-Put.cache c.bytes.result.now c.bytes-in-Put.result.now ≡ c.args.cmd.now = search rules in
-    subst (λ (q : Cmd). OnOk c.run_put.result (IsRefused q c.args.replies.now c.run_put.new.replies → LooksAtPages T a b 32)) cmd c.run_put.ensures.refused
+    subst (λ (q : Cmd). KeepsPages T q a b c.args.replies.now c.run_put.new.replies c.run_put.result) cmd (record { gets = λ get. absurd get; refused = c.run_put.ensures.refused })
 
-pub returns-in-Get-clause-refused : goal.returns-in-Get-clause-refused
-returns-in-Get-clause-refused g c =
-    on_ok_weaker c.run_get.result (λ changes refused. looks_more g.P.Pages.tells (g.P.Pages.seen c.args.pages.now) (g.P.Pages.seen c.run_get.new.pages) 10 32 (omega arith) c.run_get.ensures.looks) c.run_get.ensures.changes
+pub returns-in-Get-clause-keeps : goal.returns-in-Get-clause-keeps
+returns-in-Get-clause-keeps g c =
+    let looks = c.run_get.ensures.looks in
+    record {
+      gets = λ get. looks;
+      refused = on_ok_weaker c.run_get.result (λ changes refused. looks_more g.P.Pages.tells (g.P.Pages.seen c.args.pages.now) (g.P.Pages.seen c.run_get.new.pages) 10 32 (omega arith) looks) c.run_get.ensures.changes;
+    }
 
-pub returns-in-Remove-clause-refused : goal.returns-in-Remove-clause-refused
-returns-in-Remove-clause-refused g c =
+pub returns-in-Remove-clause-keeps : goal.returns-in-Remove-clause-keeps
+returns-in-Remove-clause-keeps g c =
     let T = g.P.Pages.tells in
     let a = g.P.Pages.seen c.args.pages.now in
     let b = g.P.Pages.seen c.run_remove.new.pages in
     let cmd : Remove c.in-Remove.cache c.bytes-in-Remove.result.now ≡ c.args.cmd.now = search rules in
-    subst (λ (q : Cmd). OnOk c.run_remove.result (IsRefused q c.args.replies.now c.run_remove.new.replies → LooksAtPages T a b 32)) cmd c.run_remove.ensures.refused
+    subst (λ (q : Cmd). KeepsPages T q a b c.args.replies.now c.run_remove.new.replies c.run_remove.result) cmd (record { gets = λ get. absurd get; refused = c.run_remove.ensures.refused })

@@ -1,0 +1,7 @@
+//! Checkpoints over a host in memory: what a crash leaves of one, which segments are kept, and the records of puts.
+mod crashes;
+mod kept_segments;
+mod many_segments;
+mod one_page;
+mod paged_stores;
+mod put_records;

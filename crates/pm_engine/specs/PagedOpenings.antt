@@ -1,0 +1,183 @@
+-- How a store over pages is opened: it is restored, its base pages are loaded, a RESTART is appended, and the
+-- records that its log had before it are applied again.
+use Rattle.std.specs.Prelude.{◌≡◌, ◌⊎◌, ◌≤◌, ◌<◌, ◌+◌, ◌*◌, ◌^◌, ℕ, List, [], true, Option, Some, None, Result}
+use Rattle.std.specs.Prelude.{length, OnOk, IfOk, IfErr, IsErrOf}
+use Rattle.pm_types.specs.declared.fault.Field.{Field}
+use Rattle.pm_types.specs.declared.fault.OpenFault.{OpenFault}
+use Rattle.pm_types.specs.declared.fault.OpenFault.TheVariants as opening
+use Rattle.pm_types.specs.declared.fault.StoreFault.{StoreFault}
+use Rattle.pm_types.specs.declared.fault.StoreFault.TheVariants.{Failed, Memory, BadPage, BadRecord}
+use Rattle.pm_types.specs.declared.limits.TheConstants.{OP_PAGES}
+use Rattle.pm_types.specs.declared.page_id.PageId.{PageId}
+use Rattle.pm_types.specs.declared.place.Place.{Place}
+use Rattle.pm_types.specs.declared.shape.Mark.{Mark}
+use Rattle.pm_types.specs.declared.shape.Shape.{Shape}
+use Rattle.pm_frame.specs.Frames.{Frame}
+use Rattle.pm_disk.specs.Images.{Image, LeavesAll}
+use Rattle.pm_disk.specs.States.{DeviceState, IsUsable, Rose}
+use Rattle.pm_disk.specs.Worlds.{World}
+use Rattle.pm_model.specs.Eval.{Pairs}
+use Rattle.pm_records.specs.FirstRecords.{restart_frame}
+use Rattle.pm_records.specs.LogFiles.{contents}
+use Rattle.pm_records.specs.Logs.{all_frames, after_frames, HasFrames}
+use Rattle.pm_segments.specs.Appends.{grown}
+use Rattle.pm_segments.specs.Ends.{LogEnd}
+use Rattle.pm_marks.specs.InForce.{Checkpoint, replay_of}
+use Rattle.pm_core.specs.BasePages.{Partitions, no_pages, base_of, counted}
+use Rattle.pm_core.specs.Held.{AllWellFormed, in_force, pairs_in}
+use Rattle.pm_core.specs.Replays.{all_replayed}
+use Rattle.pm_core.specs.Sound.{SoundImage, IsTrueImage}
+use Rattle.pm_core.specs.Starts.{CanBegin, appended}
+use Rattle.pm_core.specs.States.{State}
+use Rattle.pm_redo.specs.Loading.{IsBadBase}
+use Rattle.pm_redo.specs.FoundMarks.{replay_at}
+use Rattle.pm_redo.specs.LogEnds.{LogEndsAt}
+use Rattle.pm_redo.specs.Pictures.{files_in}
+use Rattle.pm_redo.specs.Restoring.{IsBadRestore, ComparesShape, CrashHolds, left_state, with_end}
+use Rattle.pm_engine.specs.OpenedStores.{IsRestoredStore}
+use Rattle.pm_engine.specs.PagedEngines.{PagedRunning, HasRunLines, number_of}
+use Rattle.pm_engine.specs.PagedMaps.{IsPagedStore, pages_of_lists}
+use Rattle.pm_engine.specs.PagedReplays.{IsBadReplay}
+use Rattle.pm_engine.specs.RunningLines.{KeepsLines}
+use Rattle.pm_engine.specs.RunningStores.{ended_with}
+
+-- the base pages of a store that was restored
+abbrev pub loaded_base : Option Mark → World → Partitions
+loaded_base mark world = base_of (ended_with mark) no_pages (files_in world)
+
+-- the same, where this checkpoint was in force before
+abbrev pub restored_base : Checkpoint → World → Partitions
+restored_base checkpoint world = base_of (with_end checkpoint) no_pages (files_in world)
+
+-- An engine of this shape that is open and has run no line.
+pub record IsFresh (shape : Shape) (engine : PagedRunning) : Type 0 where
+  pub shape_is : engine.map.shape ≡ shape
+  pub order : engine.order ≡ []
+  pub is_open : engine.is_open ≡ true
+
+-- The base pages were loaded, and the RESTART appended to this log; no page is logged.
+pub record IsLoadedEngine (shape : Shape) (mark : Option Mark) (log : LogEnd) (engine : PagedRunning)
+    : Type 0 where
+  pub fresh : IsFresh shape engine
+  pub logged : engine.logged ≡ []
+  pub log_is : engine.log ≡ grown log (restart_frame shape)
+  pub mark_is : engine.mark ≡ mark
+  pub paged : IsPagedStore engine.map
+
+-- its pages are those of these base pages that count
+abbrev pub HasPages : Shape → Partitions → PagedRunning → Type 0
+HasPages shape base engine =
+    (part : ℕ) → part < shape.partitions → pages_of_lists engine.map.lists part ≡ counted (base part)
+
+-- why a base page is bad: the store was restored, and nothing has changed since
+pub record IsBadLoad (shape : Shape) (mark : Option Mark) (old new : World) (id : PageId) : Type 0 where
+  pub bad : IsBadBase shape (loaded_base mark old) id
+  pub same : new ≡ old
+
+-- the records from the replay place up to where the log ended, over the rows of the base pages
+abbrev pub IsBadOver : Shape → Partitions → Place → Place → World → Place → Type 0
+IsBadOver shape base from end world at = IsBadReplay shape (pairs_in shape.partitions base) from end world at
+
+-- Sound or not, a store that was restored holds this map. Its partitions' base pages are well formed. From the
+-- replay place on frames stand that lead to the log's end, and make the map of the base pages' rows. There are
+-- numbers for the segments that their pages may take, up to the last one.
+pub record HoldsMap (last : ℕ) (shape : Shape) (mark : Option Mark) (from end : Place) (pairs : Pairs)
+    (world : World) : Type 0 where
+  pub well_formed : AllWellFormed shape (loaded_base mark world)
+  pub frames : List Frame
+  pub run : HasFrames all_frames (contents world.log) from frames
+  pub to : after_frames from frames ≡ end
+  pub makes : all_replayed shape frames (Some (pairs_in shape.partitions (loaded_base mark world))) ≡ Some pairs
+  pub room : end.seg + (1 + OP_PAGES * length frames) ≤ last
+  pub numbered : last + 2 < 2 ^ 64
+
+-- A store was restored, holds this map, and to its log nothing was appended since that changes a map. There are
+-- numbers for the segments that the records from its replay place on may take, up to the last one.
+pub record IsRestoredHolding (last : ℕ) (wanted : Shape) (told : List ℕ → ℕ) (shape : Shape) (pairs : Pairs)
+    (log : LogEnd) (mark : Option Mark) (s : State) (world : World) : Type 0 where
+  pub store : IsRestoredStore wanted told shape log mark s world
+  pub map : s.map ≡ pairs
+  pub keeps : KeepsLines shape 0 pairs [] s.first (appended s)
+  pub below : log.end.seg + 1 ≤ last
+  pub room : (frames : List Frame) → HasFrames all_frames (contents world.log) (replay_at mark) frames
+      → after_frames (replay_at mark) frames ≡ log.end → log.end.seg + (1 + OP_PAGES * length frames) ≤ last
+  pub numbered : last + 2 < 2 ^ 64
+
+-- A sound store was opened: the engine has its shape and its map, and runs, with no line done. Its log ends in
+-- a segment up to the last one, and the checkpoint with its start marker in force has this number.
+pub record OpensRunning (last number : ℕ) (wanted : Shape) (told : List ℕ → ℕ) (shape : Shape) (pairs : Pairs)
+    (engine : PagedRunning) (world : World) : Type 0 where
+  pub shape_is : engine.map.shape ≡ shape
+  pub map : engine.map.pairs ≡ pairs
+  pub runs : HasRunLines wanted told 0 pairs [] engine world
+  pub segment : engine.log.end.seg ≤ last
+  pub number_is : number_of engine.mark ≡ number
+
+-- the segment in which the log of an opened store ends at most: one after the start's last segment, and one for
+-- each page that the records from the replay place on may change
+abbrev pub opened_last : {wanted : Shape} {told : List ℕ → ℕ} {world : World} {shape : Shape} {pairs : Pairs}
+    → CanBegin wanted told world shape pairs → ℕ
+opened_last {wanted} {told} {world} {shape} {pairs} can =
+    (left_state can).at.seg + (1 + OP_PAGES * length can.sound.holds.frames)
+
+-- there are numbers for these segments, and two more
+abbrev pub HasFewSegments : {wanted : Shape} {told : List ℕ → ℕ} {world : World} {shape : Shape} {pairs : Pairs}
+    → CanBegin wanted told world shape pairs → Type 0
+HasFewSegments {wanted} {told} {world} {shape} {pairs} can = opened_last can + 2 < 2 ^ 64
+
+-- Whatever a crash leaves, as long as no sum is right by chance, is sound and holds this map, and its log ends
+-- in a segment up to this one.
+pub record CrashHoldsWithin (last : ℕ) (wanted shape : Shape) (pairs : Pairs) (world : World) : Type 0 where
+  pub holds : CrashHolds wanted shape pairs world
+  pub segment : (image : Image) → LeavesAll world image → IsTrueImage world image
+      → (sound : SoundImage wanted image shape pairs)
+      → (after_frames (replay_of (in_force image)) sound.holds.frames).seg ≤ last
+
+-- a fault of a call on a host, or out of memory
+abbrev pub IsPlainOpen : OpenFault → Type 0
+IsPlainOpen (opening.Shape field) = ⊥
+IsPlainOpen (opening.Store Failed) = Unit {0}
+IsPlainOpen (opening.Store Memory) = Unit {0}
+IsPlainOpen (opening.Store (BadPage page)) = ⊥
+IsPlainOpen (opening.Store (BadRecord at)) = ⊥
+
+-- a record is bad where the store can't be restored, or can't be replayed from its replay place to the log's
+-- end
+abbrev pub IsBadOpening : Shape → Checkpoint → World → World → Place → Type 0
+IsBadOpening shape checkpoint old new at = IsBadRestore checkpoint (contents old.log) at
+    ⊎ ((end : Place) × LogEndsAt (contents old.log) (replay_of checkpoint) end
+    × IsBadOver shape (restored_base checkpoint new) (replay_of checkpoint) end new at)
+
+-- why a fault came; a shape that differs is found before anything is changed
+abbrev pub HasOpenCause : Shape → Checkpoint → World → World → OpenFault → Type 0
+HasOpenCause shape checkpoint old new (opening.Shape field) = new ≡ old
+HasOpenCause shape checkpoint old new (opening.Store Failed) = Unit {0}
+HasOpenCause shape checkpoint old new (opening.Store Memory) = Unit {0}
+HasOpenCause shape checkpoint old new (opening.Store (BadPage id)) =
+    IsBadBase shape (restored_base checkpoint new) id
+HasOpenCause shape checkpoint old new (opening.Store (BadRecord at)) = IsBadOpening shape checkpoint old new at
+
+-- the count of faults doesn't fall, and `Failed` comes only where it rose
+pub record CountsFaults {T : Type 0} (before now : DeviceState) (result : Result T StoreFault) : Type 0 where
+  pub later : before.faults ≤ now.faults
+  pub failed : IsErrOf result Failed → Rose before now
+  pub access : now.access ≡ before.access
+  pub usable : IsUsable before → IsUsable now
+
+-- the same of an opening
+pub record CountsOpenFaults {T : Type 0} (before now : DeviceState) (result : Result T OpenFault) : Type 0 where
+  pub later : before.faults ≤ now.faults
+  pub failed : IsErrOf result (opening.Store Failed) → Rose before now
+  pub access : now.access ≡ before.access
+  pub usable : IsUsable before → IsUsable now
+
+-- The store's shape was compared with the wanted one. A fault names the field that differs, and a record or a
+-- page is bad only where none does; at `Ok` none does.
+pub record ComparesOpening {T : Type 0} (differs : Option Field) (result : Result T OpenFault) : Type 0 where
+  pub fault : IfErr result (ComparesShape differs)
+  pub alike : OnOk result (differs ≡ None)
+
+-- A store that holds this map was opened: its engine has it, and there is no fault but of a call or of memory.
+pub record OpensHeld (pairs : Pairs) (result : Result PagedRunning StoreFault) : Type 0 where
+  pub map : IfOk result (λ engine. engine.map.pairs ≡ pairs)
+  pub plain : IfErr result (λ fault. IsPlainOpen (opening.Store fault))

@@ -1,0 +1,162 @@
+//! The records of the log from the replay place on, applied again one after the other.
+
+ghost use Rattle.std.specs.Prelude.{ℕ, ◌≡◌, ◌≤◌, ◌<◌, ◌+◌, ◌^◌, ◌++◌, List, true, false, IfOk, OnOk, IsErrOf};
+ghost use Rattle.pm_types.specs.declared.limits.TheConstants.{OP_PAGES};
+ghost use Rattle.pm_types.specs.declared.place.Place.{Place};
+ghost use Rattle.pm_types.specs.declared.shape.Shape.{Shape};
+ghost use Rattle.pm_frame.specs.declared.limits.TheConstants.{SEGMENT_END_MAX as last_end};
+ghost use Rattle.pm_disk.specs.Moments.{AllMoments};
+ghost use Rattle.pm_disk.specs.States.{IsUsable};
+ghost use Rattle.pm_disk.specs.Worlds.{World};
+ghost use Rattle.pm_model.specs.Eval.{Pairs};
+ghost use Rattle.pm_records.specs.LogFiles.{contents};
+ghost use Rattle.pm_segments.specs.Ends.{EndsThere};
+ghost use Rattle.pm_segments.specs.Scans.{IsAhead, StaysAt};
+ghost use Rattle.pm_core.specs.Calls.{ChangesDisk};
+ghost use Rattle.pm_core.specs.States.{State};
+ghost use Rattle.pm_engine.specs.Batches.{HasPlainFault, HasStoreFault};
+ghost use Rattle.pm_engine.specs.PagedReplays.{GoesOnReplaying, AppliesNext, IsBadNext, IsBadLog};
+ghost use Rattle.pm_engine.specs.PagedReplays.{KeepsReplaying, HasRecordsFor, MakesMap, CanReplay, ReplaysAll};
+
+use crate::open::segment_of;
+use crate::paged_engine::PagedEngine;
+use pm_disk::Host;
+use pm_model::Replies;
+use pm_segments::Scan;
+use pm_types::{Place, StoreFault};
+use std::alloc::Global;
+
+// While the log ends in a segment up to this one, an operation's records have numbers for their segments.
+const LAST_LOOK: u64 = u64::MAX - 64;
+
+/// Applies the records of the log from `from` on up to `end`, where the log ended before the RESTART. What is
+/// appended meanwhile comes after that, and isn't looked at.
+///
+/// `BadRecord` names a record that is in no grammar, or is a put that meets a full partition, or a place before
+/// `end` at which none stands. After an error the engine isn't to be used any more.
+pub(crate) fn replay_log<H: Host>(
+    alloc: Global,
+    host: &mut H,
+    engine: &mut PagedEngine,
+    from: Place,
+    end: Place,
+) -> Result<(), StoreFault>
+    requires usable { IsUsable (H.Device.state host.old) }
+    requires is_open { engine.old.is_open ≡ true }
+    requires within { from.off ≤ last_end }
+    requires there { H.Device.tells → EndsThere engine.old.log (H.Device.history host.old).world }
+    ensures keeps { KeepsReplaying engine.old engine.new }
+    ensures is_open { OnOk result (engine.new.is_open ≡ true) }
+    ensures ends { H.Device.tells → OnOk result (EndsThere engine.new.log (H.Device.history host.new).world) }
+    ensures disk { H.Device.tells → AllMoments (H.Device.history host.old) (H.Device.history host.new)
+        (ChangesDisk (H.Device.history host.old).world) }
+    ensures bad { H.Device.tells → (at : Place) → IsErrOf result (StoreFault.BadRecord at)
+        → IsBadLog engine.old.map from end (H.Device.history host.old).world
+        (H.Device.history host.new).world at }
+
+    // What it makes of a map, and what a crash leaves meanwhile of a sound store.
+    ensures makes { H.Device.tells → (last : ℕ) (pairs : Pairs)
+        → HasRecordsFor last pairs from end engine.old (H.Device.history host.old).world
+        → MakesMap last pairs engine.new result }
+    ensures sound { H.Device.tells → (last : ℕ) (wanted : Shape) (told : List ℕ → ℕ) (pairs : Pairs) (s : State)
+        → CanReplay last wanted told pairs from end engine.old s (H.Device.history host.old).world
+        → ReplaysAll last wanted told pairs engine.old engine.new
+        (H.Device.history host.old) (H.Device.history host.new) result }
+    ensures cause { HasStoreFault (H.Device.state host.old) (H.Device.state host.new) result }
+{
+    let mut scan = Scan::new(alloc, from)?;
+    let mut replies = Replies::with_room(alloc, 1)?;
+    'frames: loop {
+        let next = scan.next_place();
+        let _segment = segment_of(next);
+        if next == end {
+            return Ok(());
+        }
+        replay_next(alloc, host, engine, &mut scan, &mut replies)?;
+    }
+}
+
+// Applies the next record of the log.
+fn replay_next<H: Host>(
+    alloc: Global,
+    host: &mut H,
+    engine: &mut PagedEngine,
+    scan: &mut Scan,
+    replies: &mut Replies,
+) -> Result<(), StoreFault>
+    requires usable { IsUsable (H.Device.state host.old) }
+    requires is_open { engine.old.is_open ≡ true }
+    requires there { H.Device.tells → EndsThere engine.old.log (H.Device.history host.old).world }
+    requires ahead { H.Device.tells → IsAhead scan.old (H.Device.history host.old).world }
+    ensures goes_on { GoesOnReplaying H.Device.tells engine.old engine.new
+        (H.Device.history host.old) (H.Device.history host.new) result }
+    ensures next { OnOk result (AppliesNext H.Device.tells true scan.old scan.new engine.old.map engine.new.map
+        (H.Device.history host.old).world) }
+    ensures bad { H.Device.tells → (at : Place) → IsErrOf result (StoreFault.BadRecord at)
+        → IsBadNext scan.old engine.old.map (H.Device.history host.old).world
+        (H.Device.history host.new).world at }
+    ensures bound { OnOk result (scan.new.next.off ≤ last_end) }
+    ensures ahead { H.Device.tells → OnOk result (IsAhead scan.new (H.Device.history host.new).world) }
+    ensures cause { HasStoreFault (H.Device.state host.old) (H.Device.state host.new) result }
+{
+    let before = engine.log_end();
+    let can = apply_next(alloc, host, engine, scan, replies)?;
+    if !can {
+        return Err(StoreFault::BadRecord(scan.place()));
+    }
+    keep_ahead(scan, before);
+    Ok(())
+}
+
+// Applies the next record of the log, if there is one, and answers whether there is one that could be applied.
+fn apply_next<H: Host>(
+    alloc: Global,
+    host: &mut H,
+    engine: &mut PagedEngine,
+    scan: &mut Scan,
+    replies: &mut Replies,
+) -> Result<bool, StoreFault>
+    requires usable { IsUsable (H.Device.state host.old) }
+    requires is_open { engine.old.is_open ≡ true }
+    requires there { H.Device.tells → EndsThere engine.old.log (H.Device.history host.old).world }
+    requires ahead { H.Device.tells → IsAhead scan.old (H.Device.history host.old).world }
+    ensures goes_on { GoesOnReplaying H.Device.tells engine.old engine.new
+        (H.Device.history host.old) (H.Device.history host.new) result }
+    ensures next { IfOk result (λ can. AppliesNext H.Device.tells can scan.old scan.new engine.old.map
+        engine.new.map (H.Device.history host.old).world) }
+    ensures refused { H.Device.tells → IfOk result (λ can. can ≡ false
+        → (H.Device.history host.new).world ≡ (H.Device.history host.old).world) }
+    ensures bound { OnOk result (scan.new.next.off ≤ last_end) }
+    ensures ahead { H.Device.tells → OnOk result (IsAhead scan.new (H.Device.history host.old).world) }
+    ensures cause { HasPlainFault (H.Device.state host.old) (H.Device.state host.new) result }
+{
+    let found = scan.next(host)?;
+    match found {
+        Some(frame) => engine.apply_record(alloc, host, frame.kind, frame.payload, replies),
+        None => Ok(false),
+    }
+}
+
+// Makes a scan go on over the log, which ended there and may have grown since by an operation's records. What
+// was read ahead stays where the scan is no further than that segment.
+fn keep_ahead(scan: &mut Scan, before: Place)
+    ensures stays { StaysAt scan.old scan.new }
+    ensures ahead { (old new : World) → IsAhead scan.old old
+        → (before.seg + OP_PAGES + 1 < 2 ^ 64 → (seg : ℕ) → seg ≤ before.seg
+        → (more : List ℕ) × (contents new.log seg ≡ contents old.log seg ++ more))
+        → IsAhead scan.new new }
+{
+    if stays_ahead(before, scan.next_place()) {
+        scan.look_again();
+        return;
+    }
+    scan.forget();
+}
+
+// Whether a scan that goes on there is no further than the segment in which the log ended, while there are
+// numbers for the segments of an operation.
+fn stays_ahead(before: Place, next: Place) -> bool
+    ensures { result ≡ true → (before.seg + OP_PAGES + 1 < 2 ^ 64) × (next.seg ≤ before.seg) }
+{
+    before.seg < LAST_LOOK && next.seg <= before.seg
+}

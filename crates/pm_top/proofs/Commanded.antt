@@ -1,0 +1,53 @@
+-- What a command promises, by its name.
+use Rattle.std.proofs.Common.{◌≡◌, inl, ℕ, List, [], refl, sym, ap}
+use Rattle.std.specs.Prelude.{Option, Some, None, is_some, true, false}
+use Rattle.pm_disk.specs.Moments.{History, AllMoments}
+use Rattle.pm_disk.specs.States.{DeviceState, Rose}
+use Rattle.pm_disk.specs.Worlds.{World}
+use Rattle.pm_engine.specs.Openings.{IsSame}
+use Rattle.pm_top.specs.declared.status.Status.{Status}
+use Rattle.pm_top.specs.declared.status.Status.TheVariants.{Failed, Usage}
+use Rattle.pm_top.specs.declared.words.CommandName.{CommandName}
+use Rattle.pm_top.specs.declared.words.CommandName.TheVariants.{Run, Wal, Verify}
+use Rattle.pm_top.specs.Commands.{CommandCompletes, CommandHolds, CommandIsSafe}
+use Rattle.pm_top.proofs.Limits.{completes}
+use Rattle.pm_top.proofs.LogListing.{wal_completes, wal_from, wal_unbound}
+use Rattle.pm_top.proofs.Opened.{crash_from, kept_moments}
+use Rattle.pm_top.proofs.Refusing.{idle_run, run_from, same_log}
+use Rattle.pm_top.proofs.StoreChecking.{check_completes, check_ends, check_from}
+
+-- after the folder is bound, which changed nothing
+pub holds_from : (name : CommandName) (old mid new : History) (status : Status) (lines : ℕ) (order : List ℕ) → AllMoments old mid (IsSame old.world) → mid.world ≡ old.world → CommandHolds (Some name) mid new status lines order
+    → CommandHolds (Some name) old new status lines order
+holds_from Run old mid new status lines order first same holds = run_from old mid new status lines order first same holds
+holds_from Wal old mid new status lines order first same holds = wal_from old mid new status lines order first same holds
+holds_from Verify old mid new status lines order first same holds = check_from old mid new status lines order first same holds
+
+pub safe_from : (name : CommandName) (old mid new : History) (order : List ℕ) → AllMoments old mid (IsSame old.world) → mid.world ≡ old.world → CommandIsSafe (Some name) mid new order → CommandIsSafe (Some name) old new order
+safe_from Run old mid new order first same safe = crash_from old mid new order first same safe
+safe_from Wal old mid new order first same safe = tt
+safe_from Verify old mid new order first same safe = tt
+
+-- the folder wasn't bound
+pub holds_unbound : (name : CommandName) (old mid : History) (status : Status) (lines : ℕ) (order : List ℕ) → AllMoments old mid (IsSame old.world) → mid.world ≡ old.world → status ≡ Failed → lines ≡ 0 → order ≡ [] → CommandHolds (Some name) old mid status lines order
+holds_unbound Run old mid status lines order kept same is none no_order = idle_run old mid status lines order (inl is) (ap (λ (w : World). w.said) same) none no_order (λ _. same_log old mid kept)
+holds_unbound Wal old mid status lines order kept same is none no_order = wal_unbound old mid status lines order kept is none no_order
+holds_unbound Verify old mid status lines order kept same is none no_order = check_ends old mid status lines order kept (inl is) none no_order
+
+pub safe_unbound : (name : CommandName) (old mid : History) (order : List ℕ) → AllMoments old mid (IsSame old.world) → CommandIsSafe (Some name) old mid order
+safe_unbound Run old mid order kept = kept_moments old mid order kept
+safe_unbound Wal old mid order kept = tt
+safe_unbound Verify old mid order kept = tt
+
+-- words that aren't a command
+pub is_no_command : (name : Option CommandName) → is_some name ≡ false → name ≡ None
+is_no_command None is = refl
+is_no_command (Some name) is = absurd (let both : true ≡ false = is in cc)
+
+-- where no call fails
+pub command_completes : (name : Option CommandName) (old new : History) (status : Status) (lines : ℕ) (order : List ℕ) (before now : DeviceState) → CommandHolds name old new status lines order → (status ≡ Usage → name ≡ None) → (status ≡ Failed → Rose before now)
+    → CommandCompletes name status old.world before now
+command_completes None old new status lines order before now holds usage failed = tt
+command_completes (Some Run) old new status lines order before now holds usage failed = completes old new status lines order before now holds (λ is. (let both : Some Run ≡ None = usage is in cc)) failed
+command_completes (Some Wal) old new status lines order before now holds usage failed = wal_completes old new status lines order before now holds failed
+command_completes (Some Verify) old new status lines order before now holds usage failed = check_completes old new status lines order before now holds failed
