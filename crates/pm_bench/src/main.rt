@@ -17,6 +17,8 @@ mod maps;
 mod operations;
 mod page_list;
 mod page_table;
+#[cfg(test)]
+mod paged_maps;
 mod policies;
 mod region;
 #[cfg(test)]

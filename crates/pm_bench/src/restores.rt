@@ -9,7 +9,7 @@ ghost use Rattle.pm_types.specs.Shapes.{IsShape};
 
 use pm_disk::{Failed, Host, PageReader};
 use pm_disk_mem::{MemDisk, MemHost, Pick};
-use pm_frame::{CP_BEGIN, RESTART, SNAPSHOT};
+use pm_frame::{CP_BEGIN, DELTA, RESTART, SNAPSHOT};
 use pm_marks::{read_marks, write_start};
 use pm_redo::restore;
 use pm_segments::Log;
@@ -25,6 +25,39 @@ const BEGIN: [u8; 20] = [1, 0, 0, 0, 0, 0, 0, 0, 1, 0, 0, 0, 0, 0, 0, 0, 0, 0, 0
 
 /// The payload of a RESTART of `shape`.
 const SHAPE: [u8; 16] = [0, 4, 0, 0, 1, 0, 1, 0, 9, 0, 0, 0, 0, 0, 1, 0];
+
+/// A change of the page: its first byte is 9 from then on.
+const CHANGE: [u8; 14] = [0, 0, 0, 0, 0, 0, 1, 0, 1, 0, 0, 1, 0, 9];
+
+/// The same of a page in partition 1, which the shape hasn't.
+const OUTSIDE: [u8; 14] = [0, 0, 0, 0, 1, 0, 1, 0, 1, 0, 0, 1, 0, 9];
+
+/// What stands in the log between its first record, a RESTART, and the begin of the checkpoint.
+#[derive(Clone, Copy, Debug, PartialEq, Eq)]
+enum Logged {
+    /// The page.
+    Page,
+    /// The page, and changes of it and of one outside the shape.
+    Changes,
+    /// The page, and a RESTART more.
+    Restart,
+    /// A change alone.
+    NoPage,
+}
+
+impl Logged {
+    /// Where the begin of the checkpoint stands in the first segment.
+    fn begin(self) -> u32
+        ensures { result < 60000 }
+    {
+        match self {
+            Logged::Page => 1_090,
+            Logged::Changes => 1_160,
+            Logged::Restart => 1_127,
+            Logged::NoPage => 72,
+        }
+    }
+}
 
 /// A shape with this many rows at most.
 fn shape(max_rows: u32) -> Shape
@@ -67,18 +100,29 @@ fn page_record(rt: &impl AllocGlobal) -> Result<Vec<u8>, Fail>
     Ok(payload)
 }
 
-/// Logs a RESTART, the page, a RESTART more where it is asked for, and the begin of the checkpoint, and
-/// forces them.
-fn write_log<H: Host>(host: &mut H, page: &[u8], again: bool) -> Result<(), Failed>
+/// Logs a RESTART, these records, and the begin of the checkpoint, and forces them.
+fn write_log<H: Host>(host: &mut H, page: &[u8], logged: Logged) -> Result<(), Failed>
     requires usable { IsUsable (H.state host.old) }
     requires short { length page.now ≤ 1032 }
     ensures usable { IsUsable (H.state host.new) }
 {
     let mut log = Log::cut_tail(host, 1, Place { seg: 1, off: 0 }, 65_536)?;
     log.append(host, RESTART, &SHAPE)?;
-    log.append(host, SNAPSHOT, page)?;
-    if again {
-        log.append(host, RESTART, &SHAPE)?;
+    if logged != Logged::NoPage {
+        log.append(host, SNAPSHOT, page)?;
+    }
+    match logged {
+        Logged::Page => {}
+        Logged::Changes => {
+            log.append(host, DELTA, &OUTSIDE)?;
+            log.append(host, DELTA, &CHANGE)?;
+        }
+        Logged::Restart => {
+            log.append(host, RESTART, &SHAPE)?;
+        }
+        Logged::NoPage => {
+            log.append(host, DELTA, &CHANGE)?;
+        }
     }
     log.append(host, CP_BEGIN, &BEGIN)?;
     log.force(host)
@@ -94,11 +138,11 @@ fn host_over(rt: &impl AllocGlobal, disk: MemDisk) -> Result<MemHost, Fail>
 }
 
 /// A store with that log, and a start marker whose begin stands at this offset.
-fn store(rt: &impl AllocGlobal, again: bool, begin: u32) -> Result<MemDisk, Fail>
+fn store(rt: &impl AllocGlobal, logged: Logged, begin: u32) -> Result<MemDisk, Fail>
     requires { begin < 60000 }
 {
     let mut host = host_over(rt, MemDisk::empty(rt.alloc()))?;
-    write_log(&mut host, &page_record(rt)?, again)?;
+    write_log(&mut host, &page_record(rt)?, logged)?;
     write_start(&mut host, &mark(begin))?;
     Ok(host.image(rt.alloc(), Pick::Lost)?)
 }
@@ -151,29 +195,18 @@ fn first_byte(host: &mut MemHost) -> Result<Option<u8>, Failed>
 
 #[test]
 fn a_checkpoint_without_its_end_is_ended_with_its_page(rt: HostRuntime) -> Result<(), Fail> {
-    let expected = Outcome {
-        fault: None,
-        ended: true,
-        page: Some(7),
-    };
-    assert_eq!(rt;
-        restored(&rt, store(&rt, false, 1_090)?, &shape(9))?,
-        expected
-    );
-    Ok(())
-}
-
-#[test]
-fn a_restart_after_the_page_voids_it(rt: HostRuntime) -> Result<(), Fail> {
-    let expected = Outcome {
-        fault: None,
-        ended: true,
-        page: None,
-    };
-    assert_eq!(rt;
-        restored(&rt, store(&rt, true, 1_127)?, &shape(9))?,
-        expected
-    );
+    let no_page = OpenFault::Store(StoreFault::BadRecord(Place { seg: 1, off: 37 }));
+    let rows = [
+        (Logged::Page, None, Some(7), "the page"),
+        (Logged::Changes, None, Some(9), "a change of the page"),
+        (Logged::Restart, None, None, "a restart after the page"),
+        (Logged::NoPage, Some(no_page), None, "a change of no page"),
+    ];
+    for (logged, fault, page, what) in rows {
+        let ended = fault.is_none();
+        let found = restored(&rt, store(&rt, logged, logged.begin())?, &shape(9))?;
+        assert_eq!(rt; found, Outcome { fault, ended, page }, "{what}");
+    }
     Ok(())
 }
 
@@ -186,7 +219,7 @@ fn a_begin_that_does_not_stand_there_is_named(rt: HostRuntime) -> Result<(), Fai
         page: None,
     };
     assert_eq!(rt;
-        restored(&rt, store(&rt, false, 1_091)?, &shape(9))?,
+        restored(&rt, store(&rt, Logged::Page, 1_091)?, &shape(9))?,
         expected
     );
     Ok(())
@@ -200,7 +233,7 @@ fn another_shape_is_refused_and_changes_nothing(rt: HostRuntime) -> Result<(), F
         page: None,
     };
     assert_eq!(rt;
-        restored(&rt, store(&rt, false, 1_090)?, &shape(8))?,
+        restored(&rt, store(&rt, Logged::Page, 1_090)?, &shape(8))?,
         expected
     );
     Ok(())

@@ -1,6 +1,8 @@
-//! A partition beside a plain map, filled and emptied, and with a turned byte.
+//! A partition beside a plain map, filled and emptied, and with a turned byte; and the same of the trees below it.
 
 mod commands;
 mod damage;
 mod filling;
 mod maps;
+mod removals;
+mod trees;

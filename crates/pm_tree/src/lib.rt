@@ -14,8 +14,6 @@ mod put;
 mod roots;
 mod separator;
 mod steps;
-#[cfg(test)]
-mod tests;
 
 pub use fits::{is_above, is_before};
 pub use get::{link_of, tree_get};

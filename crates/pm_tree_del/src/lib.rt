@@ -11,8 +11,6 @@ mod pairs;
 mod remove;
 mod roots;
 mod sharing;
-#[cfg(test)]
-mod tests;
 mod tops;
 
 pub use maps::removes_are_a_maps;
