@@ -43,6 +43,8 @@ enum Logged {
     Restart,
     /// A change alone.
     NoPage,
+    /// A page of twice the size.
+    LargePage,
 }
 
 impl Logged {
@@ -55,6 +57,17 @@ impl Logged {
             Logged::Changes => 1_160,
             Logged::Restart => 1_127,
             Logged::NoPage => 72,
+            Logged::LargePage => 2_114,
+        }
+    }
+
+    /// How many bytes its page has.
+    fn page_bytes(self) -> usize
+        ensures { result ≤ 2048 }
+    {
+        match self {
+            Logged::LargePage => 2 * PAGE_BYTES,
+            _ => PAGE_BYTES,
         }
     }
 }
@@ -91,19 +104,20 @@ fn mark(begin: u32) -> Mark
     }
 }
 
-/// The payload of the page's record: its name and its bytes.
-fn page_record(rt: &impl AllocGlobal) -> Result<Vec<u8>, Fail>
-    ensures { IfOk result (λ bytes. length bytes.items ≤ 1032) }
+/// The payload of the page's record: its name and so many bytes.
+fn page_record(rt: &impl AllocGlobal, page_bytes: usize) -> Result<Vec<u8>, Fail>
+    requires { page_bytes ≤ 2048 }
+    ensures { IfOk result (λ bytes. length bytes.items ≤ 2056) }
 {
     let mut payload = Vec::from_slice(rt.alloc(), &[0, 0, 0, 0, 0, 0, 1, 0])?;
-    payload.extend_from_slice(&vec![in rt.alloc(); 7; PAGE_BYTES]?)?;
+    payload.extend_from_slice(&vec![in rt.alloc(); 7; page_bytes]?)?;
     Ok(payload)
 }
 
 /// Logs a RESTART, these records, and the begin of the checkpoint, and forces them.
 fn write_log<H: Host>(host: &mut H, page: &[u8], logged: Logged) -> Result<(), Failed>
     requires usable { IsUsable (H.state host.old) }
-    requires short { length page.now ≤ 1032 }
+    requires short { length page.now ≤ 2056 }
     ensures usable { IsUsable (H.state host.new) }
 {
     let mut log = Log::cut_tail(host, 1, Place { seg: 1, off: 0 }, 65_536)?;
@@ -112,7 +126,7 @@ fn write_log<H: Host>(host: &mut H, page: &[u8], logged: Logged) -> Result<(), F
         log.append(host, SNAPSHOT, page)?;
     }
     match logged {
-        Logged::Page => {}
+        Logged::Page | Logged::LargePage => {}
         Logged::Changes => {
             log.append(host, DELTA, &OUTSIDE)?;
             log.append(host, DELTA, &CHANGE)?;
@@ -142,7 +156,7 @@ fn store(rt: &impl AllocGlobal, logged: Logged, begin: u32) -> Result<MemDisk, F
     requires { begin < 60000 }
 {
     let mut host = host_over(rt, MemDisk::empty(rt.alloc()))?;
-    write_log(&mut host, &page_record(rt)?, logged)?;
+    write_log(&mut host, &page_record(rt, logged.page_bytes())?, logged)?;
     write_start(&mut host, &mark(begin))?;
     Ok(host.image(rt.alloc(), Pick::Lost)?)
 }
@@ -195,12 +209,23 @@ fn first_byte(host: &mut MemHost) -> Result<Option<u8>, Failed>
 
 #[test]
 fn a_checkpoint_without_its_end_is_ended_with_its_page(rt: HostRuntime) -> Result<(), Fail> {
-    let no_page = OpenFault::Store(StoreFault::BadRecord(Place { seg: 1, off: 37 }));
+    let first_bad = OpenFault::Store(StoreFault::BadRecord(Place { seg: 1, off: 37 }));
     let rows = [
         (Logged::Page, None, Some(7), "the page"),
         (Logged::Changes, None, Some(9), "a change of the page"),
         (Logged::Restart, None, None, "a restart after the page"),
-        (Logged::NoPage, Some(no_page), None, "a change of no page"),
+        (
+            Logged::NoPage,
+            Some(first_bad),
+            None,
+            "a change of no page",
+        ),
+        (
+            Logged::LargePage,
+            Some(first_bad),
+            None,
+            "a page of another size",
+        ),
     ];
     for (logged, fault, page, what) in rows {
         let ended = fault.is_none();

@@ -24,7 +24,7 @@ use Rattle.pm_engine.specs.Records.{record_of_line, IsPayloadOf, logical_frame}
 use Rattle.pm_engine.specs.RunningSteps.{ChangesStore, MakesPages}
 use Rattle.pm_engine.specs.RunningStores.{StoreState, map_of}
 use Rattle.pm_engine.specs.TrackedPages.{SaysNoPage, ChangesWithin, ChangesPart, HaveFirstPages}
-use Rattle.pm_engine.proofs.DoneLines.{logs_line}
+use Rattle.pm_engine.proofs.LoggedLines.{logs_line}
 use Rattle.pm_engine.proofs.PlainPartitions.{all_well}
 
 -- the record of a line that was accepted, which says nothing of a page

@@ -1,5 +1,5 @@
 -- The lines of a store that is checkpointed, and what a crash leaves between two moments of a run.
-use Rattle.std.proofs.Common.{◌≡◌, ℕ, ◌+◌, ◌^◌, ◌<◌, List, [], ◌∷◌, sym, ap, ◌∙◌, subst, arith, append-nil}
+use Rattle.std.proofs.Common.{◌≡◌, ℕ, ◌+◌, ◌^◌, ◌<◌, List, [], ◌∷◌, None, refl, sym, ap, ◌∙◌, subst, arith, append-nil}
 use Rattle.pm_types.specs.declared.shape.Shape.{Shape}
 use Rattle.pm_types.specs.declared.shape.Mark.{Mark}
 use Rattle.pm_types.specs.declared.place.Place.{Place}
@@ -9,6 +9,8 @@ use Rattle.pm_model.specs.Eval.{Pairs}
 use Rattle.pm_records.specs.LogSteps.{Force, frames_in}
 use Rattle.pm_records.proofs.Writing.{frames_in-append}
 use Rattle.pm_segments.specs.Appends.{append_steps}
+use Rattle.pm_segments.specs.Ends.{LogEnd}
+use Rattle.pm_marks.specs.Slots.{IsMark}
 use Rattle.pm_core.specs.Calls.{MakesPrefix}
 use Rattle.pm_core.specs.Machine.{DiskStep, CanAll, states, worlds}
 use Rattle.pm_core.specs.Prefixes.{last_number}
@@ -28,6 +30,13 @@ use Rattle.pm_engine.proofs.HasRunLines.{newest_since, run_crash}
 use Rattle.pm_engine.proofs.RunningCheckpoints.{is_mark}
 use Rattle.pm_engine.proofs.RunningLines.{ChangeNoMap, append_no_map, keeps_still, crash_further, number_at_rest}
 
+-- the begin of a checkpoint changes no map
+pub begin_no_map : (shape : Shape) (log : LogEnd) (mark : Mark) → IsMark mark → ChangeNoMap shape (frames_in (begin_log log mark))
+begin_no_map shape log mark fits =
+    let frame = begin_frame mark in
+    subst (ChangeNoMap shape) (sym (frames_in-append (append_steps log frame) (Force ∷ []) ∙ append-nil (frames_in (append_steps log frame))))
+    (append_no_map shape log frame [] (λ pairs. ap (λ o. replayed shape o pairs) (begin_is mark fits), tt))
+
 module _ (wanted : Shape) (told : List ℕ → ℕ) (from : ℕ) (start : Pairs) (lines : List Line) (store : StoreState) (s : State) (w : World) (has : HasRun wanted told from start lines store s w) (numbered : number_after store.mark < 2 ^ 64)
     (segments : HasSegmentsFor store.log 1) (can : CanCheckpoint wanted told s store.log (mark_after store) store.pages store.logged w) (xs : List Writing)
     (guards : CanAll told (whole_steps store.log (mark_after store) can.rebuilt store.pages xs s w) s w)
@@ -38,20 +47,14 @@ module _ (wanted : Shape) (told : List ℕ → ℕ) (from : ℕ) (start : Pairs)
   abbrev whole : List DiskStep
   whole = whole_steps store.log mark can.rebuilt store.pages xs s w
 
-  begin_no_map : ChangeNoMap store.shape (frames_in (begin_log store.log mark))
-  begin_no_map =
-      let frame = begin_frame mark in
-      subst (ChangeNoMap store.shape) (sym (frames_in-append (append_steps store.log frame) (Force ∷ []) ∙ append-nil (frames_in (append_steps store.log frame))))
-      (append_no_map store.shape store.log frame [] (λ pairs. ap (λ o. replayed store.shape o pairs) (begin_is mark (is_mark wanted told store s w has.runs numbered)), tt))
-
   pub checkpoint_has_run : HasRun wanted told from start lines (checkpointed store) (states whole s w) (worlds whole s w)
   checkpoint_has_run = record {
-    runs = store_checkpointed wanted told store s w has.runs numbered segments can xs guards leaves;
+    runs = store_checkpointed wanted told store (map_of store) None s w has.runs refl numbered segments can xs guards leaves;
     lasting = omega (arith, has.lasting, run_grows whole s w);
     map = has.map;
-    keeps = subst (λ (p : Pairs). KeepsLines store.shape from start lines p (appended (states whole s w))) (sym (t_first wanted told store s w has.runs numbered segments can xs guards leaves))
-        (subst (λ l. KeepsLines store.shape from start lines s.first l) (sym (t_appended wanted told store s w has.runs numbered segments can xs guards leaves))
-        (keeps_still store.shape from start lines s.first (map_of store) (appended s) (frames_in (begin_log store.log mark)) has.keeps (newest_since wanted told store s w has.runs) has.map begin_no_map));
+    keeps = subst (λ (p : Pairs). KeepsLines store.shape from start lines p (appended (states whole s w))) (sym (t_first wanted told store (map_of store) None s w has.runs refl numbered segments can xs guards leaves))
+        (subst (λ l. KeepsLines store.shape from start lines s.first l) (sym (t_appended wanted told store (map_of store) None s w has.runs refl numbered segments can xs guards leaves))
+        (keeps_still store.shape from start lines s.first (map_of store) (appended s) (frames_in (begin_log store.log mark)) has.keeps (newest_since wanted told store s w has.runs) has.map (begin_no_map store.shape store.log mark (is_mark wanted told store (map_of store) None s w has.runs refl numbered))));
   }
 
 -- steps that lead on from where the store has done some lines to where it has done others

@@ -2,7 +2,7 @@
 use Rattle.std.proofs.Common.{◌≡◌, ◌⊎◌, inl, inr, ℕ, zero, suc, ◌+◌, ◌-◌, ◌^◌, ◌<◌, ◌≤◌, max, Bool, true, false, List, [], ◌∷◌, ◌++◌, length, map, Option, Some, None, refl, sym, ap, ◌∙◌, subst, arith, append_assoc}
 use Rattle.std.specs.Prelude.{◌||◌, if◌then◌else◌, IsSome, is_some}
 use Rattle.std.specs.Option.{option_or}
-use Rattle.std.proofs.lemmas.Bool.{cases_eq}
+use Rattle.std.proofs.lemmas.Bool.{cases_eq, cases_lt}
 use Rattle.pm_types.specs.declared.limits.TheConstants.{PARTITIONS_MAX}
 use Rattle.pm_types.specs.declared.page_id.PageId.{PageId}
 use Rattle.pm_types.specs.declared.place.Place.{Place}
@@ -16,14 +16,14 @@ use Rattle.pm_disk.specs.Worlds.{World}
 use Rattle.pm_model.specs.Eval.{Pairs}
 use Rattle.pm_records.specs.LogFiles.{HasLasting, IsQuietBut, forced_contents}
 use Rattle.pm_records.specs.LogSteps.{Step, DropSegment, ForceSegment, frames_in, step_world}
-use Rattle.pm_records.specs.Logs.{place, all_frames, after_frames, is_over, HasNoSeal}
+use Rattle.pm_records.specs.Logs.{place, all_frames, after_frames, next_place, is_over, HasNoSeal, HasFrames}
 use Rattle.pm_records.specs.Records.{CpBegin}
-use Rattle.pm_records.proofs.Runs.{option_cases, after_frames-append, over-append, run_last}
+use Rattle.pm_records.proofs.Runs.{option_cases, after_frames-append, next_rises, over-append, run_last}
 use Rattle.pm_segments.specs.Appends.{grown}
 use Rattle.pm_segments.specs.Drops.{is_there, drop_steps, drop_before_steps}
 use Rattle.pm_segments.specs.Ends.{LogEnd}
 use Rattle.pm_segments.proofs.Removed.{dropped_one}
-use Rattle.pm_marks.specs.InForce.{Checkpoint, Ended}
+use Rattle.pm_marks.specs.InForce.{Checkpoint, Ended, replay_of}
 use Rattle.pm_core.specs.BasePages.{Partitions, page_in_file, laid_over}
 use Rattle.pm_core.specs.Calls.{begin_steps, end_steps, force_steps}
 use Rattle.pm_core.specs.Machine.{DiskStep, CanAll, CanEnd, next_state, next_world, states, worlds}
@@ -46,8 +46,8 @@ use Rattle.pm_ckpt.proofs.Stages.{grown_seg}
 use Rattle.pm_ckpt.proofs.Whole.{states_join}
 use Rattle.pm_ckpt.proofs.Written.{writes_keep}
 use Rattle.pm_redo.proofs.ForcedMarks.{ended_forced}
-use Rattle.pm_engine.specs.RunningStores.{StoreState, LogRuns, IsRunning, HasSegmentsFor, map_of, mark_after, checkpointed}
-use Rattle.pm_engine.proofs.Batching.{take_none}
+use Rattle.pm_engine.specs.RunningStores.{StoreState, LogRuns, RunsOver, HasSegmentsFor, MakesNewest, mark_at, checkpointed_at}
+use Rattle.pm_engine.proofs.TakenLines.{take_none}
 use Rattle.pm_engine.proofs.CheckpointPages.{base_is}
 use Rattle.pm_engine.proofs.RunningCheckpoints.{before as before_begin, pages_grow, is_mark, begun_runs, none_pending, leads_there, reaches_begin, map_there}
 use Rattle.pm_engine.proofs.RunningLines.{appended_on}
@@ -83,18 +83,29 @@ drops_keep from (suc n) seen s w =
       | false ↦ drops_keep (from + 1) n seen s w
     ]
 
--- segments above those that are dropped are as they were
-drops_above : (seg from n : ℕ) (seen : World) (s : State) (w : World) → from + n ≤ seg → (worlds (on_log (drop_steps from n seen)) s w).log seg ≡ w.log seg
+-- segments below and above those that are dropped are as they were
+drops_beside : (seg from n : ℕ) (seen : World) (s : State) (w : World) → (seg < from) ⊎ (from + n ≤ seg) → (worlds (on_log (drop_steps from n seen)) s w).log seg ≡ w.log seg
 unfolding drop_steps
-drops_above seg from zero seen s w le = refl
-drops_above seg from (suc n) seen s w le =
+drops_beside seg from zero seen s w side = refl
+drops_beside seg from (suc n) seen s w side =
+    let rest : (seg < from + 1) ⊎ (from + 1 + n ≤ seg) = elim side [ inl lt ↦ inl (omega (arith, lt)) | inr le ↦ inr (omega (arith, le)) ] in
+    let one : (seg < from) ⊎ (from + 1 ≤ seg) = elim side [ inl lt ↦ inl lt | inr le ↦ inr (omega (arith, le)) ] in
     elim (is_there from seen) as (λ b. (worlds (on_log ((if b then DropSegment from ∷ ForceSegment from ∷ [] else []) ++ drop_steps (from + 1) n seen)) s w).log seg ≡ w.log seg) [
       | true ↦
           let mid = step_world (DropSegment from) s.end w in
           let gone = step_world (ForceSegment from) s.end mid in
-          drops_above seg (from + 1) n seen (record s { low = max s.low (from + 1) }) gone (omega (arith, le)) ∙ (dropped_one from w mid gone refl refl).others seg (inr (omega (arith, le)))
-      | false ↦ drops_above seg (from + 1) n seen s w (omega (arith, le))
+          drops_beside seg (from + 1) n seen (record s { low = max s.low (from + 1) }) gone rest ∙ (dropped_one from w mid gone refl refl).others seg one
+      | false ↦ drops_beside seg (from + 1) n seen s w rest
     ]
+
+-- frames stand in other bytes that are the same from their first segment on
+run_from : (old new : ℕ → List ℕ) (p : Place) (fs : List Frame) → ((n : ℕ) → p.seg ≤ n → new n ≡ old n) → HasFrames all_frames old p fs → HasFrames all_frames new p fs
+run_from old new p [] same run = tt
+run_from old new p (f ∷ fs) same run = (
+  ap (λ (bytes : List ℕ). all_frames.frame_at p.seg p.off bytes) (same p.seg (omega arith)) ∙ run.0,
+  run.1,
+  run_from old new (next_place p f) fs (λ n le. same n (omega (arith, le, next_rises p f))) run.2,
+)
 
 writes_log : (held : Partitions) (xs : List Writing) (s : State) (w : World) → (worlds (write_steps held xs) s w).log ≡ w.log
 writes_log held [] s w = refl
@@ -134,12 +145,12 @@ ended_low checkpoint mark log low at is begins = (subst (λ c. BeginIsLasting c 
 
 -- ---- the whole
 
-module _ (wanted : Shape) (told : List ℕ → ℕ) (store : StoreState) (s : State) (w : World) (runs : IsRunning wanted told store s w) (numbered : number_after store.mark < 2 ^ 64) (segments : HasSegmentsFor store.log 1)
-    (can : CanCheckpoint wanted told s store.log (mark_after store) store.pages store.logged w) (xs : List Writing)
-    (guards : CanAll told (whole_steps store.log (mark_after store) can.rebuilt store.pages xs s w) s w)
-    (leaves : IsStateAfter store.log (mark_after store) (states (whole_steps store.log (mark_after store) can.rebuilt store.pages xs s w) s w)) where
+module _ (wanted : Shape) (told : List ℕ → ℕ) (store : StoreState) (pairs : Pairs) (replay : Option Place) (s : State) (w : World) (runs : RunsOver wanted told store pairs s w) (newest : MakesNewest replay store pairs s w)
+    (numbered : number_after store.mark < 2 ^ 64) (segments : HasSegmentsFor store.log 1) (can : CanCheckpoint wanted told s store.log (mark_at store replay) store.pages store.logged w) (xs : List Writing)
+    (guards : CanAll told (whole_steps store.log (mark_at store replay) can.rebuilt store.pages xs s w) s w)
+    (leaves : IsStateAfter store.log (mark_at store replay) (states (whole_steps store.log (mark_at store replay) can.rebuilt store.pages xs s w) s w)) where
   abbrev mark : Mark
-  mark = mark_after store
+  mark = mark_at store replay
 
   abbrev frame : Frame
   frame = begin_frame mark
@@ -244,11 +255,11 @@ module _ (wanted : Shape) (told : List ℕ → ℕ) (store : StoreState) (s : St
   keeps : KeepsState s7 (states (on_log drops) s7 w7)
   keeps = drops_keep last.first (max last.first (kept_segment mark) - last.first) ended s7 w7
 
-  begun : LogRuns wanted told (record store { log = last }) (runs.frames ++ frames_in (begin_log store.log mark)) (map_of store) s2 w2
-  begun = begun_runs wanted told store s w runs numbered segments
+  begun : LogRuns wanted told (record store { log = last }) (runs.frames ++ frames_in (begin_log store.log mark)) pairs s2 w2
+  begun = begun_runs wanted told store pairs replay s w runs newest numbered segments
 
   none : s2.pending ≡ []
-  none = none_pending wanted told store s w runs numbered segments
+  none = none_pending wanted told store pairs replay s w runs newest numbered segments
 
   t_shape : t.shape ≡ s2.shape
   t_shape = ap (λ (r : State). r.shape) t_is ∙ keeps.shape ∙ ap (λ (r : State). r.shape) front_state
@@ -256,14 +267,14 @@ module _ (wanted : Shape) (told : List ℕ → ℕ) (store : StoreState) (s : St
   t_at : t.at ≡ s2.at
   t_at = ap (λ (r : State). r.at) t_is ∙ keeps.at ∙ ap (λ (r : State). r.at) front_state
 
-  t_pending : t.pending ≡ []
+  pub t_pending : t.pending ≡ []
   t_pending = ap (λ (r : State). r.pending) t_is ∙ keeps.pending ∙ ap (λ (r : State). r.pending) front_state ∙ none
 
   t_tail : t.tail ≡ s2.tail
   t_tail = ap (λ (r : State). r.tail) t_is ∙ keeps.tail ∙ ap (λ (r : State). r.tail) front_state
 
-  t_map : t.map ≡ map_of store
-  t_map = ap (λ (r : State). r.map) t_is ∙ keeps.map ∙ ap (λ (r : State). r.map) front_state ∙ map_there wanted told store s w runs numbered segments
+  t_map : t.map ≡ pairs
+  t_map = ap (λ (r : State). r.map) t_is ∙ keeps.map ∙ ap (λ (r : State). r.map) front_state ∙ map_there wanted told store pairs replay s w runs newest numbered segments
 
   t_files : t.files ≡ s7.files
   t_files = ap (λ (r : State). r.files) t_is ∙ keeps.files
@@ -286,17 +297,31 @@ module _ (wanted : Shape) (told : List ℕ → ℕ) (store : StoreState) (s : St
   after_good : IsGood wanted t v.log v.pages t.now
   after_good = stands_after.good t.now (subst (λ o. IsViewOf t.now o t.now) (sym leaves.alone) refl)
 
+  -- the segments from the first one on that is kept are as they were once the begin was lasting
+  stays_from : (n : ℕ) → kept_segment mark ≤ n → v.log n ≡ w2.log n
+  stays_from n le =
+      let side : (n < last.first) ⊎ (last.first + (max last.first (kept_segment mark) - last.first) ≤ n) = elim (cases_lt n last.first) [ inl lt ↦ inl lt | inr from ↦ inr (omega (arith, le, from)) ] in
+      ap (λ (u : World). u.log n) v_is
+      ∙ drops_beside n last.first (max last.first (kept_segment mark) - last.first) ended s7 w7 side
+      ∙ ap (λ (log : ℕ → File). log n) front_log
+
   same_segment : v.log mark.begin.seg ≡ w2.log mark.begin.seg
-  same_segment =
-      ap (λ (u : World). u.log mark.begin.seg) v_is
-      ∙ drops_above mark.begin.seg last.first (max last.first (kept_segment mark) - last.first) ended s7 w7 (omega (arith, begin_seg, begun.is_open.limits.kept))
-      ∙ ap (λ (log : ℕ → File). log mark.begin.seg) front_log
+  same_segment = stays_from mark.begin.seg (omega arith)
+
+  -- frames that led from the replay place on to the end of the lasting log still do
+  pub leads_after : (fs : List Frame) → HasLasting all_frames w2.log s2.low s2.at mark.replay fs → HasLasting all_frames v.log t.low t.at mark.replay fs
+  leads_after fs leads = record {
+    kept = subst (λ (c : Checkpoint). t.low ≤ (replay_of c).seg) leaves.checkpoint after_good.replay.kept;
+    run = run_from (forced_contents w2.log) (forced_contents v.log) mark.replay fs (λ n le. ap (λ (f : File). bytes_of f.forced) (stays_from n (omega (arith, le)))) leads.run;
+    to = leads.to ∙ sym t_at;
+    goes_on = leads.goes_on;
+  }
 
   begin_leads : HasLasting all_frames v.log t.low t.at mark.begin (frame ∷ [])
   begin_leads =
-      let before = leads_there wanted told store s w runs numbered segments in
-      let reaches = reaches_begin wanted told store s w runs numbered segments in
-      let older = before_begin wanted told store s w runs numbered in
+      let before = leads_there wanted told store pairs replay s w runs newest numbered segments in
+      let reaches = reaches_begin wanted told store pairs replay s w runs newest numbered segments in
+      let older = before_begin wanted told store pairs replay s w runs newest numbered in
       let at_begin = run_last all_frames (forced_contents w2.log) mark.from older frame before.run in
       let stands_there : all_frames.frame_at mark.begin.seg mark.begin.off (forced_contents w2.log mark.begin.seg) ≡ Some frame =
       subst (λ (p : Place). all_frames.frame_at p.seg p.off (forced_contents w2.log p.seg) ≡ Some frame) reaches at_begin in
@@ -337,7 +362,7 @@ module _ (wanted : Shape) (told : List ℕ → ℕ) (store : StoreState) (s : St
       (subst (λ (o : Option View). QuietMarks (soon_checkpoint o) v.starts v.ends) leaves.alone stands_after.quiet)
       (subst (λ (c : Checkpoint). MarksSay c (bytes_of (content v.starts)) (bytes_of (content v.ends))) leaves.checkpoint says)
 
-  log_runs : LogRuns wanted told (checkpointed store) (frame ∷ []) (map_of store) t v
+  log_runs : LogRuns wanted told (checkpointed_at store replay) (frame ∷ []) pairs t v
   log_runs = record {
     stands = stands_after;
     shape = t_shape ∙ begun.shape;
@@ -413,14 +438,14 @@ module _ (wanted : Shape) (told : List ℕ → ℕ) (store : StoreState) (s : St
             inr (subst IsSome (base_is store.shape runs.frames runs.files store.pages store.logged runs.tracks part 0 inside) (or_some (runs.tracks.rebuilt part 0) (runs.files part 0) some))
       ]
 
-  pub store_checkpointed : IsRunning wanted told (checkpointed store) t v
+  pub store_checkpointed : RunsOver wanted told (checkpointed_at store replay) pairs t v
   store_checkpointed = record {
     is_shape = runs.is_shape;
-    is_mark = is_mark wanted told store s w runs numbered;
+    is_mark = is_mark wanted told store pairs replay s w runs newest numbered;
     frames = frame ∷ [];
     log = log_runs;
     files = store.pages;
-    tracks = tracks_no_page store.shape [] frame (CpBegin mark.number mark.replay) store.pages store.pages [] (begin_is mark (is_mark wanted told store s w runs numbered)) tt
+    tracks = tracks_no_page store.shape [] frame (CpBegin mark.number mark.replay) store.pages store.pages [] (begin_is mark (is_mark wanted told store pairs replay s w runs newest numbered)) tt
         (tracks_none store.shape store.pages store.pages (λ part index inside. refl));
     grows = λ part inside.
         subst (λ (p : Partitions). Grows (store.pages part) (p part)) (sym t_files)

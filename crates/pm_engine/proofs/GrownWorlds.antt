@@ -13,7 +13,7 @@ use Rattle.pm_ckpt.proofs.Opening.{grown_end}
 use Rattle.pm_engine.specs.AppendRuns.{grown_all, append_all_steps}
 use Rattle.pm_engine.specs.PagedReplays.{GrewAtEnd}
 use Rattle.pm_engine.specs.RunningStores.{HasSegmentsFor}
-use Rattle.pm_engine.proofs.Above.{grown_rises}
+use Rattle.pm_engine.proofs.RisenLogs.{grown_rises}
 
 pub grew_none : (log : LogEnd) (w : World) → GrewAtEnd log log w w
 grew_none log w = record { begins = λ seg le. extends_same (contents w.log seg) (contents w.log seg) refl; rises = omega arith }

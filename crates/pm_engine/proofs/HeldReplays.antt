@@ -1,64 +1,62 @@
 -- A store that was restored and holds a map has records that make it, once its pages are loaded and its RESTART is
 -- appended.
-use Rattle.std.proofs.Common.{◌≡◌, inl, inr, ℕ, ◌+◌, ◌*◌, ◌≤◌, Bool, true, false, List, [], ◌∷◌, length, Option, Some, None, sym, ap, ◌∙◌, subst, arith}
-use Rattle.std.specs.Prelude.{if◌then◌else◌, drop}
+use Rattle.std.proofs.Common.{◌≡◌, ℕ, ◌+◌, ◌*◌, ◌≤◌, ◌<◌, ◌^◌, false, List, length, Option, Some, None, sym, ap, ◌∙◌, subst, arith}
+use Rattle.pm_types.specs.declared.limits.TheConstants.{OP_PAGES}
 use Rattle.pm_types.specs.declared.page_id.PageId.{PageId}
 use Rattle.pm_types.specs.declared.place.Place.{Place}
 use Rattle.pm_types.specs.declared.shape.Mark.{Mark}
 use Rattle.pm_types.specs.declared.shape.Shape.{Shape}
-use Rattle.pm_frame.specs.declared.limits.TheConstants.{SEGMENT_END_MAX, FRAME_END_MAX}
-use Rattle.pm_frame.specs.Frames.{Frame, end_max}
-use Rattle.pm_frame.proofs.FrameAt.{frame_at-some}
+use Rattle.pm_frame.specs.declared.limits.TheConstants.{FRAME_END_MAX}
+use Rattle.pm_frame.specs.Frames.{Frame}
 use Rattle.pm_disk.specs.Worlds.{World}
 use Rattle.pm_model.specs.Eval.{Pairs}
 use Rattle.pm_records.specs.FirstRecords.{restart_frame}
 use Rattle.pm_records.specs.LogFiles.{contents}
 use Rattle.pm_records.specs.LogSteps.{Step, world_after}
-use Rattle.pm_records.specs.Logs.{all_frames, is_seal, enters_next, next_place, after_frames, is_over, HasFrames}
-use Rattle.pm_records.proofs.Runs.{bool_cases, few_go_on, next-enters, next-stays}
+use Rattle.pm_records.specs.Logs.{all_frames, after_frames, is_over, HasFrames}
+use Rattle.pm_records.proofs.Runs.{few_go_on}
 use Rattle.pm_segments.specs.Appends.{append_steps}
 use Rattle.pm_segments.specs.Ends.{LogEnd, EndsThere}
 use Rattle.pm_segments.proofs.GrownLog.{Appended, appended, run_stays}
 use Rattle.pm_core.specs.BasePages.{counted}
-use Rattle.pm_core.specs.Held.{pairs_in}
+use Rattle.pm_core.specs.Held.{AllWellFormed, pairs_in}
 use Rattle.pm_core.specs.Replays.{all_replayed}
 use Rattle.pm_core.proofs.Junk.{pairs_same}
 use Rattle.pm_redo.specs.FoundMarks.{replay_at}
-use Rattle.pm_engine.specs.PagedEngines.{PagedRunning}
+use Rattle.pm_engine.specs.PagedEngines.{PagedRunning, number_of}
 use Rattle.pm_engine.specs.PagedMaps.{pages_of_lists}
-use Rattle.pm_engine.specs.PagedOpenings.{loaded_base, IsLoadedEngine, HasPages, IsBadLoad, HoldsMap}
-use Rattle.pm_engine.specs.PagedReplays.{HasRecordsFor}
-use Rattle.pm_engine.proofs.Above.{grown_rises}
+use Rattle.pm_engine.specs.PagedOpenings.{loaded_base, IsLoadedEngine, HasPages, IsBadLoad}
+use Rattle.pm_engine.specs.PagedReplays.{HasRecords, HasNumbersUpTo}
+use Rattle.pm_engine.proofs.RisenLogs.{grown_rises}
 use Rattle.pm_engine.proofs.LoadedPages.{no_bad_base}
 use Rattle.pm_engine.proofs.LoadedStores.{HasMark}
 use Rattle.pm_engine.proofs.OpenedStores.{counted_twice}
 
--- ---- how many frames there may be
-
--- each frame has 21 bytes at least
-pub frames_few : (c : ℕ → List ℕ) (p : Place) (fs : List Frame) → HasFrames all_frames c p fs → p.seg * 134217728 + p.off + 21 * length fs ≤ (after_frames p fs).seg * 134217728 + (after_frames p fs).off
-frames_few c p [] run = omega arith
-frames_few c p (f ∷ fs) run =
-    let head = (frame_at-some p (drop p.off (c p.seg)) f run.0).0 in
-    let latest : end_max f.kind ≤ SEGMENT_END_MAX = by (is_seal f) in
-    let rest = frames_few c (next_place p f) fs run.2 in
-    elim (bool_cases (enters_next p f)) [
-      | inl enters ↦
-          let to = next-enters p f enters in
-          omega (arith, rest, head.ends, latest, ap (λ (q : Place). q.seg) to, ap (λ (q : Place). q.off) to)
-      | inr stays ↦
-          let to = next-stays p f stays in
-          omega (arith, rest, ap (λ (q : Place). q.seg) to, ap (λ (q : Place). q.off) to)
-    ]
-  where
-    by : (b : Bool) → (if b then SEGMENT_END_MAX else FRAME_END_MAX) ≤ SEGMENT_END_MAX
-    by true = omega arith
-    by false = omega arith
+-- Sound or not, a store that was restored holds this map. Its partitions' base pages are well formed. From the
+-- replay place on frames stand that lead to the log's end, and make the map of the base pages' rows. There are
+-- numbers for the segments that their pages and a checkpoint before each may take, up to the last one, and for
+-- these checkpoints, up to the highest.
+pub record HoldsMap (last highest : ℕ) (shape : Shape) (mark : Option Mark) (from end : Place) (pairs : Pairs)
+    (world : World) : Type 0 where
+  pub well_formed : AllWellFormed shape (loaded_base mark world)
+  pub frames : List Frame
+  pub run : HasFrames all_frames (contents world.log) from frames
+  pub to : after_frames from frames ≡ end
+  pub makes : all_replayed shape frames (Some (pairs_in shape.partitions (loaded_base mark world))) ≡ Some pairs
+  pub room : end.seg + (1 + (OP_PAGES + 1) * length frames) ≤ last
+  pub last_fits : last + 2 < 2 ^ 64
+  pub marks : number_of mark + length frames ≤ highest
+  pub highest_fits : highest < 2 ^ 64
 
 -- the replay place leaves room for a frame
 pub mark_early : (shape : Shape) (mark : Option Mark) → HasMark shape mark → (replay_at mark).off ≤ FRAME_END_MAX
 mark_early shape None has = omega arith
 mark_early shape (Some mark) has = has.0.replay.within
+
+-- and it is in a segment of a number that a segment has
+pub mark_from : (shape : Shape) (mark : Option Mark) → HasMark shape mark → 1 ≤ (replay_at mark).seg
+mark_from shape None has = omega arith
+mark_from shape (Some mark) has = has.0.replay.numbered
 
 -- ---- the base pages
 
@@ -68,7 +66,7 @@ loaded_map shape mark log old engine loaded pages =
     loaded.paged.pairs ∙ ap (λ (k : Shape). pairs_in k.partitions (pages_of_lists engine.map.lists)) loaded.fresh.shape_is
     ∙ pairs_same shape.partitions (loaded_base mark old) (pages_of_lists engine.map.lists) (λ part inside. ap counted (pages part inside) ∙ counted_twice (loaded_base mark old part))
 
-module _ (last : ℕ) (shape : Shape) (mark : Option Mark) (from end : Place) (pairs : Pairs) (w : World) (holds : HoldsMap last shape mark from end pairs w) where
+module _ (last highest : ℕ) (shape : Shape) (mark : Option Mark) (from end : Place) (pairs : Pairs) (w : World) (holds : HoldsMap last highest shape mark from end pairs w) where
   -- they are well formed
   pub no_bad_load : (new : World) (id : PageId) → IsBadLoad shape mark w new id → ⊥
   no_bad_load new id load = no_bad_base shape (loaded_base mark w) id holds.well_formed load.bad
@@ -92,7 +90,7 @@ module _ (last : ℕ) (shape : Shape) (mark : Option Mark) (from end : Place) (p
     to_seg = ap (λ (p : Place). p.seg) holds.to
 
     grew : Appended log f w
-    grew = appended log f w there (omega (arith, holds.room, holds.numbered, seg_is))
+    grew = appended log f w there (omega (arith, holds.room, holds.last_fits, seg_is))
 
     run_then : HasFrames all_frames (contents v.log) from holds.frames
     run_then = run_stays (contents w.log) (contents v.log) from holds.frames log.end.seg grew.grew (omega (arith, to_seg, seg_is)) holds.run
@@ -103,16 +101,22 @@ module _ (last : ℕ) (shape : Shape) (mark : Option Mark) (from end : Place) (p
         ∙ ap (λ (k : Shape). all_replayed k holds.frames (Some (pairs_in shape.partitions (loaded_base mark w)))) loaded.fresh.shape_is ∙ holds.makes
 
     goes_on : is_over from holds.frames ≡ false
-    goes_on = few_go_on from holds.frames (omega (arith, to_seg, holds.room, holds.numbered))
+    goes_on = few_go_on from holds.frames (omega (arith, to_seg, holds.room, holds.last_fits))
 
-    pub has_records : (world : World) → world ≡ v → HasRecordsFor last pairs from end engine world
-    has_records world is = subst (λ (u : World). HasRecordsFor last pairs from end engine u) (sym is) (record {
-      rest = holds.frames;
-      run = run_then;
-      to = holds.to;
-      goes_on = goes_on;
-      left = left;
-      behind = omega (arith, grew.rises, seg_is, ap (λ (l : LogEnd). l.end.seg) loaded.log_is);
-      room = omega (arith, seg_is, holds.room, grown_rises log f, ap (λ (l : LogEnd). l.end.seg) loaded.log_is);
-      numbered = holds.numbered;
-    })
+    pub has_records : (world : World) → world ≡ v → (ahead : HasRecords pairs from end engine world) × HasNumbersUpTo last highest (length ahead.rest) engine
+    has_records world is = subst (λ (u : World). (ahead : HasRecords pairs from end engine u) × HasNumbersUpTo last highest (length ahead.rest) engine) (sym is) (
+      record {
+        rest = holds.frames;
+        run = run_then;
+        to = holds.to;
+        goes_on = goes_on;
+        left = left;
+        behind = omega (arith, grew.rises, seg_is, ap (λ (l : LogEnd). l.end.seg) loaded.log_is);
+      },
+      record {
+        segments = omega (arith, seg_is, holds.room, grown_rises log f, ap (λ (l : LogEnd). l.end.seg) loaded.log_is);
+        last_fits = holds.last_fits;
+        marks = omega (arith, holds.marks, ap number_of loaded.mark_is);
+        highest_fits = holds.highest_fits;
+      },
+    )

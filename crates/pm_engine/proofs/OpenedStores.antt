@@ -149,7 +149,7 @@ module _ (shape : Shape) (is_shape : IsShape shape) where
   unfolding payload_of shape_bytes
   restart_short = omega arith
 
-  restart_fits : IsRecordFrame (restart_frame shape)
+  pub restart_fits : IsRecordFrame (restart_frame shape)
   restart_fits = record { known_from = omega arith; known_to = omega arith; short = omega (arith, restart_short) }
 
 -- ---- the store

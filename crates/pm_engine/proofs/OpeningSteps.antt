@@ -8,7 +8,7 @@ use Rattle.pm_disk.proofs.Chain.{joined, weaker}
 use Rattle.pm_records.specs.LogSteps.{Step, DoesPrefix, DoesSteps, world_after}
 use Rattle.pm_records.proofs.Tracing.{prefix_none}
 use Rattle.std.proofs.lemmas.Result.{on_ok_weaker}
-use Rattle.pm_engine.specs.Openings.{IsSame}
+use Rattle.pm_redo.specs.Rebuilding.{IsSame}
 use Rattle.pm_engine.proofs.Results.{on_err}
 
 -- none was made yet

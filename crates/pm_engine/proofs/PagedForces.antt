@@ -1,6 +1,6 @@
 -- What a force and a checkpoint of an engine that logs its pages leave.
 use Rattle.std.proofs.Common.{◌≡◌, ℕ, ◌+◌, ◌^◌, ◌<◌, ◌≤◌, Bool, true, false, inl, inr, List, [], ◌∷◌, length, get_or, Option, Some, None, Result, refl, sym, ap, ◌∙◌, subst, arith, nat_lt}
-use Rattle.std.specs.Prelude.{OnOk, All, if◌then◌else◌}
+use Rattle.std.specs.Prelude.{OnOk, IfSome, All, if◌then◌else◌}
 use Rattle.std.proofs.lemmas.Bool.{leb-true, ltb-true, false≢true}
 use Rattle.pm_records.proofs.Runs.{bool_cases}
 use Rattle.pm_types.specs.Shapes.{IsShape}
@@ -32,19 +32,19 @@ use Rattle.pm_core.specs.Rounds.{on_log}
 use Rattle.pm_core.specs.States.{State}
 use Rattle.pm_core.proofs.OnlyDisk.{disk_same, none_disk}
 use Rattle.pm_ckpt.specs.Checkpoints.{CanCheckpoint, MakesWhole, whole_steps}
-use Rattle.pm_ckpt.specs.Marked.{next_mark, number_after, next_number, from_after, begin_of, begin_frame}
+use Rattle.pm_ckpt.specs.Marked.{next_mark, number_after, next_number, from_after, begin_of, replay_or, begin_frame}
 use Rattle.pm_ckpt.specs.Writes.{IsHeld, held_in, page_of}
 use Rattle.pm_ckpt.proofs.Home.{index_of_own}
 use Rattle.pm_engine.specs.PagedEngines.{PagedRunning, store_of, AreThere, GoesOn, HasRunLines, HasLastingLines, AllLast, number_of}
 use Rattle.pm_engine.specs.PagedMaps.{pages_of_lists}
 use Rattle.pm_engine.specs.RunningLines.{HasRun, CrashHoldsLines}
-use Rattle.pm_engine.specs.RunningStores.{StoreState, IsRunning, IsMarkIn, HasSegmentsFor, mark_after, checkpointed, map_of}
+use Rattle.pm_engine.specs.RunningStores.{StoreState, IsRunning, IsMarkIn, HasSegmentsFor, mark_after, mark_at, checkpointed, checkpointed_at, map_of}
 use Rattle.pm_engine.proofs.CheckpointPages.{lists_held}
 use Rattle.pm_engine.proofs.CheckpointedLines.{checkpoint_has_run, between_crash}
 use Rattle.pm_engine.proofs.HasRunLines.{rest_has_run, line_forced}
 use Rattle.pm_engine.proofs.RunningCheckpoints.{may_checkpoint}
 use Rattle.pm_engine.proofs.CheckpointedStores.{all_segments_quiet}
-use Rattle.pm_engine.proofs.Above.{grown_rises}
+use Rattle.pm_engine.proofs.RisenLogs.{grown_rises}
 use Rattle.pm_engine.proofs.RunningLines.{crash_further}
 use Rattle.pm_engine.proofs.RunningForces.{pages_quiet, store_force_goes, store_force_quiet, store_force_runs}
 
@@ -154,14 +154,18 @@ begin_within log size = elim (bool_cases (has_room log 20)) [
   | inr full ↦ subst (λ (b : Bool). (if b then log else rolled log).end.off + (20 + FRAME_EXTRA) ≤ FRAME_END_MAX) (sym full) (omega arith)
 ]
 
+replay_fits : (replay : Option Place) (begin : Place) → IfSome replay IsMarkPlace → IsMarkPlace (replay_or None begin) → IsMarkPlace (replay_or replay begin)
+replay_fits None begin asked after = after
+replay_fits (Some place) begin asked after = asked
+
 -- it is one that a marker may say
-pub next_fits : (shape : Shape) (before : Option Mark) (log : LogEnd) → IsShape shape → IsMarkIn before → 1 ≤ log.end.seg → log.segment_bytes ≤ 67108864 → (begin_of log).seg < 2 ^ 64
-    → IsMark (next_mark shape before log None)
-next_fits shape before log sound is_mark from size seg = record {
+pub next_fits : (shape : Shape) (before : Option Mark) (log : LogEnd) (replay : Option Place) → IfSome replay IsMarkPlace → IsShape shape → IsMarkIn before → 1 ≤ log.end.seg → log.segment_bytes ≤ 67108864 → (begin_of log).seg < 2 ^ 64
+    → IsMark (next_mark shape before log replay)
+next_fits shape before log replay asked sound is_mark from size seg = record {
   numbered = next_number_from before;
   number_fits = next_number_to before;
   begin = record { numbered = begin_from log from; seg_fits = seg; within = omega (arith, begin_within log size) };
-  replay = record { numbered = begin_from log from; seg_fits = seg; within = begin_within log size };
+  replay = replay_fits replay (begin_of log) asked (record { numbered = begin_from log from; seg_fits = seg; within = begin_within log size });
   from = from_fits before is_mark;
   shape = sound;
 }
@@ -185,7 +189,7 @@ module _ (engine : PagedRunning) (old new : History) {T E : Type 0} (result : Re
   store = store_of engine
 
   can : CanCheckpoint wanted told s store.log (mark_after store) store.pages store.logged old.world
-  can = may_checkpoint wanted told store s old.world has.runs numbered segments
+  can = may_checkpoint wanted told store (map_of store) None s old.world has.runs refl numbered segments
 
   makes : MakesWhole {T = T} {E = E} told old new result store.log (mark_after store) can.rebuilt store.pages store.logged s
   makes =
@@ -204,7 +208,7 @@ module _ (engine : PagedRunning) (old new : History) {T E : Type 0} (result : Re
       let t = states whole s old.world in
       let v = worlds whole s old.world in
       record {
-        log = all_segments_quiet wanted told store s old.world has.runs numbered segments can makes.writings makes.guards makes.leaves;
+        log = all_segments_quiet wanted told store (map_of store) None s old.world has.runs refl numbered segments can makes.writings makes.guards makes.leaves;
         pages = pages_quiet wanted told (checkpointed store) t v then_runs.runs;
         starts = then_runs.runs.log.quiet.starts;
         ends = then_runs.runs.log.quiet.ends;
@@ -239,9 +243,9 @@ held_all engine size lists dirty size_is lists_are dirty_is there =
     (there_held engine.map.shape.page_size (pages_of_lists engine.map.lists) engine.logged there)
 
 -- it can go on after a checkpoint
-pub checkpoint_goes_on : (engine after : PagedRunning) → store_of after ≡ checkpointed (store_of engine) → GoesOn engine → IsMark (mark_after (store_of engine)) → GoesOn after
-checkpoint_goes_on engine after is goes fits =
-    let frame = begin_frame (mark_after (store_of engine)) in
+pub checkpoint_goes_on : (engine after : PagedRunning) (replay : Option Place) → store_of after ≡ checkpointed_at (store_of engine) replay → GoesOn engine → IsMark (mark_at (store_of engine) replay) → GoesOn after
+checkpoint_goes_on engine after replay is goes fits =
+    let frame = begin_frame (mark_at (store_of engine) replay) in
     record {
       from_one = subst (λ (s : StoreState). 1 ≤ s.log.end.seg) (sym is) (grown_from engine.log frame goes.from_one);
       size_to = omega (arith, ap (λ (s : StoreState). s.log.segment_bytes) is, grown_size engine.log frame, goes.size_to);

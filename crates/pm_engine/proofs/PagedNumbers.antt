@@ -21,7 +21,7 @@ use Rattle.pm_engine.specs.PagedBatches.{StaysOpen, TakesNumbers, MakesCheckpoin
 use Rattle.pm_engine.specs.PagedBatches.{is_checkpoint, checkpoints_in, asked_last, pages_kept, pages_after}
 use Rattle.pm_engine.specs.PagedEngines.{PagedRunning, store_of, DoesLine, HasNumbersFor, EndsAtReplay, number_of, after_checkpoint}
 use Rattle.pm_engine.specs.RunningStores.{mark_after}
-use Rattle.pm_engine.proofs.Above.{grown_rises}
+use Rattle.pm_engine.proofs.RisenLogs.{grown_rises}
 use Rattle.pm_engine.proofs.PagedForces.{number_rises, mark_rises}
 
 -- ---- the number of the next checkpoint

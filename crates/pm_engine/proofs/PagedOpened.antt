@@ -1,6 +1,6 @@
 -- A store that was opened over its pages.
 use Rattle.std.proofs.Common.{◌≡◌, ◌⊎◌, inl, inr, ℕ, zero, suc, ◌+◌, ◌*◌, ◌≤◌, List, [], ◌∷◌, ◌++◌, length, take, drop, Option, Some, None, Result, Ok, Err, refl, sym, ap, ◌∙◌, subst, arith, append-nil}
-use Rattle.std.specs.Prelude.{IsErr, IsErrOf, IfErr, IfOk}
+use Rattle.std.specs.Prelude.{IsErr, IsErrOf, IfErr}
 use Rattle.std.specs.Option.{option_and_then}
 use Rattle.std.proofs.lemmas.Bool.Decides.{eqb_tells}
 use Rattle.std.proofs.lemmas.List.{take-append-drop}
@@ -20,7 +20,6 @@ use Rattle.pm_frame.specs.Frames.{Frame}
 use Rattle.pm_disk.specs.Files.{File, Cut, bytes_of, content, with_change, all_forced}
 use Rattle.pm_disk.specs.Moments.{History, AllMoments}
 use Rattle.pm_disk.specs.Worlds.{World}
-use Rattle.pm_disk.proofs.Chain.{weaker}
 use Rattle.pm_disk.proofs.Families.{file_here, file_there}
 use Rattle.pm_disk.proofs.Files.{content_change}
 use Rattle.pm_model.specs.Eval.{Pairs}
@@ -29,32 +28,33 @@ use Rattle.pm_records.specs.LogFiles.{contents}
 use Rattle.pm_records.specs.LogSteps.{Step, DoesPrefix, cut_at, cut_steps, world_after}
 use Rattle.pm_records.specs.Logs.{all_frames, record_in, after_frames, HasFrames, IsLogFrom}
 use Rattle.pm_records.specs.Records.{Restart}
-use Rattle.pm_records.proofs.QuietLog.{steps_change}
 use Rattle.pm_records.proofs.RecordOf.{record_of-some}
 use Rattle.pm_records.proofs.Runs.{few_go_on}
 use Rattle.pm_segments.specs.Appends.{append_steps}
 use Rattle.pm_segments.specs.Ends.{LogEnd, EndsThere, IsLogEnd}
 use Rattle.pm_segments.proofs.Emptied.{forced_reads}
 use Rattle.pm_segments.proofs.GrownLog.{Extends, extends_same, run_stays}
+use Rattle.pm_pages.specs.Rows.{Partition}
+use Rattle.pm_pages.specs.WellFormed.{IsWellFormed}
 use Rattle.pm_marks.specs.InForce.{Checkpoint, NoStart, Started, Ended, number_in, replay_of}
-use Rattle.pm_core.specs.BasePages.{no_pages, base_of}
-use Rattle.pm_core.specs.Held.{BeginsWell, in_force, pairs_in, store_shape}
+use Rattle.pm_core.specs.BasePages.{Partitions, no_pages, base_of, counted}
+use Rattle.pm_core.specs.Held.{AllWellFormed, BeginsWell, in_force, pairs_in, store_shape}
 use Rattle.pm_core.specs.LogAlone.{image_of}
 use Rattle.pm_core.specs.Machine.{states}
 use Rattle.pm_core.specs.Replays.{all_replayed}
 use Rattle.pm_core.specs.Rounds.{on_log}
 use Rattle.pm_core.specs.Starts.{CanBegin, appended}
 use Rattle.pm_core.specs.States.{State}
-use Rattle.pm_core.specs.Calls.{MakesPrefix}
+use Rattle.pm_core.specs.Calls.{ChangesDisk, MakesPrefix}
 use Rattle.pm_core.proofs.CrashLaw.{run_start}
 use Rattle.pm_core.proofs.LaterImages.{call_up_to}
 use Rattle.pm_core.proofs.One.{one_run}
 use Rattle.pm_core.proofs.Starting.{restart_of}
 use Rattle.pm_redo.specs.Differences.{difference_from}
 use Rattle.pm_redo.specs.FoundMarks.{replay_at}
-use Rattle.pm_redo.specs.Loading.{IsBadBase}
 use Rattle.pm_redo.specs.LogEnds.{LogEndsAt}
-use Rattle.pm_redo.specs.Restoring.{shape_of, found_shape, mark_of, segment_bytes_of, left_state, CrashHolds, IsBadRestore, RestoresAll, RestoresWithin, IsBase, IsFit, ComparesShape, LeavesStore}
+use Rattle.pm_redo.specs.Rebuilding.{IsSame}
+use Rattle.pm_redo.specs.Restoring.{shape_of, found_shape, mark_of, segment_bytes_of, left_state, CrashHolds, IsBadRestore, RestoresAll, RestoresWithin, IsBase, IsFit, ComparesShape, KeepsBase, LeavesStore}
 use Rattle.pm_redo.specs.declared.opening.Base.{Base}
 use Rattle.pm_redo.proofs.FitMarks.{same_shape}
 use Rattle.pm_redo.proofs.Restored.{left_of}
@@ -63,15 +63,17 @@ use Rattle.pm_redo.proofs.SoundStores.{no_bad_record}
 use Rattle.pm_engine.specs.AppendRuns.{append_all_steps}
 use Rattle.pm_engine.specs.OpenedStores.{IsRestoredStore}
 use Rattle.pm_engine.specs.PagedEngines.{PagedRunning, store_of, number_of}
-use Rattle.pm_engine.specs.PagedMaps.{IsPagedStore}
-use Rattle.pm_engine.specs.PagedOpenings.{loaded_base, restored_base, IsLoadedEngine, HasPages, IsBadOver, IsRestoredHolding, HoldsMap, OpensRunning, HasFewSegments, opened_last, CrashHoldsWithin, IsPlainOpen, IsBadOpening, HasOpenCause, ComparesOpening}
-use Rattle.pm_engine.specs.PagedReplays.{CrashHoldsMap, ReplaysSomehow, HasRecordsFor, CanReplay, IsBadReplay, IsBadLog}
+use Rattle.pm_engine.specs.PagedMaps.{IsPagedStore, pages_of_lists}
+use Rattle.pm_engine.specs.PagedOpenings.{loaded_base, restored_base, IsLoadedEngine, HasPages, IsBadOver, IsRestoredHolding, OpensRunning, HasFewNumbers, opened_last, opened_number, IsPlainOpen, IsBadOpening, IsBadRestored, HasOpenCause, ComparesOpening, OpensMap, OpensOver}
+use Rattle.pm_engine.specs.PagedReplays.{CrashHoldsMap, ReplaysSomehow, AreLasting, HasRecords, CanReplay, IsBadReplay, AppliesAll}
 use Rattle.pm_engine.specs.RunningStores.{RunsOver, ended_with, map_of}
 use Rattle.pm_engine.proofs.HeldReplays.{has_records, loaded_map, mark_early}
 use Rattle.pm_engine.proofs.LoadedStores.{HasMark}
-use Rattle.pm_engine.proofs.OpenedStores.{restored_store, ended_mark}
-use Rattle.pm_engine.proofs.Opening.{run_room}
-use Rattle.pm_engine.proofs.ReplayStarts.{replaying, holds_map, restart_moments}
+use Rattle.pm_engine.proofs.OpenedStores.{restored_store, ended_mark, counted_twice}
+use Rattle.pm_engine.proofs.PlainPartitions.{all_well}
+use Rattle.pm_engine.proofs.LogRooms.{run_room}
+use Rattle.pm_engine.proofs.ReplayedLog.{lasts_stand}
+use Rattle.pm_engine.proofs.ReplayStarts.{replaying, holds_map, records, to_end, lasts_then, restart_moments}
 use Rattle.pm_engine.proofs.RunningLines.{after_whole}
 use Rattle.pm_engine.proofs.StillEnds.{ends_still}
 
@@ -94,7 +96,7 @@ plain_open (Err (opening.Store Memory)) no_shape no_page no_record = tt
 plain_open (Err (opening.Store (BadPage id))) no_shape no_page no_record = no_page id refl
 plain_open (Err (opening.Store (BadRecord at))) no_shape no_page no_record = no_record at refl
 
-pub open_cause : (shape : Shape) (checkpoint : Checkpoint) (old new : World) (fault : StoreFault) → ((id : PageId) → fault ≡ BadPage id → IsBadBase shape (restored_base checkpoint new) id) → ((at : Place) → fault ≡ BadRecord at → IsBadOpening shape checkpoint old new at)
+pub open_cause : (shape : Shape) (checkpoint : Checkpoint) (old new : World) (fault : StoreFault) → ((id : PageId) → fault ≡ BadPage id → IsBadRestored shape checkpoint old new id) → ((at : Place) → fault ≡ BadRecord at → IsBadOpening shape checkpoint old new at)
     → HasOpenCause shape checkpoint old new (opening.Store fault)
 open_cause shape checkpoint old new Failed page found = tt
 open_cause shape checkpoint old new Memory page found = tt
@@ -115,7 +117,7 @@ restore_cause shape checkpoint old new (Err (opening.Store (BadRecord at))) foun
 pub compared_store : (wanted : Shape) (found : Option Shape) (fault : StoreFault) → difference_from found wanted ≡ None → ComparesShape (difference_from found wanted) (opening.Store fault)
 compared_store wanted found Failed same = tt
 compared_store wanted found Memory same = tt
-compared_store wanted found (BadPage id) same = tt
+compared_store wanted found (BadPage id) same = same
 compared_store wanted found (BadRecord at) same = same
 
 -- the same answer, with the same fault
@@ -126,10 +128,16 @@ leaves_passed old new result (Err f) fault was err is leaves = subst (LeavesStor
 
 -- no fault compared what an `Ok` compares
 pub compares_failed : {S T : Type 0} (differs : Option Field) (result : Result S OpenFault) (answer : Result T OpenFault) (fault : OpenFault) → result ≡ Err fault → IsErr answer → IfErr answer (λ f. f ≡ fault) → IfErr result (ComparesShape differs)
-    → ComparesOpening {T = T} differs answer
-compares_failed differs result (Ok x) fault was err is compared = absurd (cc err)
-compares_failed differs result (Err f) fault was err is compared =
-    record { fault = subst (ComparesShape differs) (sym is) (subst (λ r. IfErr r (ComparesShape differs)) was compared); alike = tt }
+    → (old new : History) → ((field : Field) → differs ≡ Some field → AllMoments old new (IsSame old.world)) → ComparesOpening {T = T} differs old new answer
+compares_failed differs result (Ok x) fault was err is compared old new differing = absurd (cc err)
+compares_failed differs result (Err f) fault was err is compared old new differing =
+    record { fault = subst (ComparesShape differs) (sym is) (subst (λ r. IfErr r (ComparesShape differs)) was compared); alike = tt; differing = differing }
+
+-- nothing is asked of a shape that doesn't differ
+pub none_differs : (differs : Option Field) (old new : History) → differs ≡ None → (field : Field) → differs ≡ Some field → AllMoments old new (IsSame old.world)
+none_differs differs old new none field is =
+    let both : None ≡ Some field = sym none ∙ is in
+    absurd cc
 
 -- ---- the base pages
 
@@ -141,59 +149,91 @@ pub restored_is : (checkpoint : Checkpoint) (mark : Option Mark) (w : World) →
 restored_is checkpoint mark w is = ap (λ m. loaded_base m w) is ∙ ap (λ c. base_of c no_pages (λ part. content (w.pages part))) (sym (ended_mark checkpoint))
 
 -- a record that can't be applied to it
-pub bad_over : (shape : Shape) (mark : Option Mark) (log : LogEnd) (from end : Place) (old mid new : World) (engine : PagedRunning) (steps : List Step) (at : Place) → IsLoadedEngine shape mark log engine → HasPages shape (loaded_base mark old) engine
-    → mid ≡ world_after steps log.end old → IsBadLog engine.map from end mid new at → IsBadOver shape (loaded_base mark new) from end new at
-bad_over shape mark log from end old mid new engine steps at loaded pages is bad =
-    let files : new.pages ≡ old.pages = bad.pages ∙ ap (λ (w : World). w.pages) is ∙ (steps_change steps log.end old).pages in
-    let map : engine.map.pairs ≡ pairs_in shape.partitions (loaded_base mark new) = loaded_map shape mark log old engine loaded pages ∙ ap (pairs_in shape.partitions) (sym (base_same mark old new files)) in
-    subst (λ (q : Shape × Pairs). IsBadReplay q.0 q.1 from end new at) {x = (engine.map.shape, engine.map.pairs)} {y = (shape, pairs_in shape.partitions (loaded_base mark new))} (λ i. (loaded.fresh.shape_is i, map i)) bad.is
+pub bad_over : (shape : Shape) (mark : Option Mark) (log : LogEnd) (from end : Place) (old new : World) (engine : PagedRunning) (at : Place) → IsLoadedEngine shape mark log engine → HasPages shape (loaded_base mark old) engine
+    → IsBadReplay engine.map.shape engine.map.pairs from end new at → IsBadOver shape (loaded_base mark old) from end new at
+bad_over shape mark log from end old new engine at loaded pages bad =
+    subst (λ (q : Shape × Pairs). IsBadReplay q.0 q.1 from end new at) {x = (engine.map.shape, engine.map.pairs)} {y = (shape, pairs_in shape.partitions (loaded_base mark old))} (λ i. (loaded.fresh.shape_is i, loaded_map shape mark log old engine loaded pages i)) bad
+
+-- they are well formed
+loaded_well : (shape : Shape) (mark : Option Mark) (log : LogEnd) (old : World) (engine : PagedRunning) → IsLoadedEngine shape mark log engine → HasPages shape (loaded_base mark old) engine → AllWellFormed shape (loaded_base mark old)
+loaded_well shape mark log old engine loaded pages part inside =
+    let well : AllWellFormed shape (pages_of_lists engine.map.lists) = subst (λ (k : Shape). AllWellFormed k (pages_of_lists engine.map.lists)) loaded.fresh.shape_is (all_well engine.map.shape engine.map.lists loaded.paged.partitions) in
+    subst (λ (p : Partition). IsWellFormed shape part p) (ap counted (pages part inside) ∙ counted_twice (loaded_base mark old part)) (well part inside)
+
+-- the records make this map of theirs
+pub opens_over : (shape : Shape) (mark : Option Mark) (log : LogEnd) (from end : Place) (old new : World) (engine now : PagedRunning) → IsLoadedEngine shape mark log engine → HasPages shape (loaded_base mark old) engine → AppliesAll from end engine now new
+    → OpensOver shape (loaded_base mark old) from end now.map.pairs
+opens_over shape mark log from end old new engine now loaded pages applied = record {
+  well_formed = loaded_well shape mark log old engine loaded pages;
+  frames = applied.frames;
+  to = applied.to;
+  makes = subst (λ (q : Shape × Pairs). all_replayed q.0 applied.frames (Some q.1) ≡ Some now.map.pairs) {x = (engine.map.shape, engine.map.pairs)} {y = (shape, pairs_in shape.partitions (loaded_base mark old))}
+      (λ i. (loaded.fresh.shape_is i, loaded_map shape mark log old engine loaded pages i)) applied.makes;
+}
+
+-- as it was found by the store's checkpoint
+pub opens_map : (shape : Shape) (checkpoint : Checkpoint) (old mid : World) (base : Base) (pairs : Pairs) → IsBase checkpoint shape (contents old.log) mid base → ChangesDisk old mid → KeepsBase checkpoint old mid
+    → OpensOver shape (loaded_base base.mark mid) base.replay base.log_end pairs → OpensMap shape checkpoint old pairs
+opens_map shape checkpoint old mid base pairs is restored keeps opens = record {
+  end = base.log_end;
+  ends = subst (λ (p : Place). LogEndsAt (contents old.log) p base.log_end) is.replay is.ends;
+  mid = mid;
+  restored = restored;
+  keeps = keeps;
+  opens = subst (λ (q : Partitions × Place). OpensOver shape q.0 q.1 base.log_end pairs) {x = (loaded_base base.mark mid, base.replay)} {y = (restored_base checkpoint mid, replay_of checkpoint)} (λ i. (restored_is checkpoint base.mark mid is.mark i, is.replay i)) opens;
+}
 
 -- ---- a store that was restored, and holds a map
 
 after_one : (log : LogEnd) (shape : Shape) (old mid : World) → mid ≡ world_after (append_all_steps log (restart_frame shape ∷ [])) log.end old → mid ≡ world_after (append_steps log (restart_frame shape)) log.end old
 after_one log shape old mid is = is ∙ ap (λ (steps : List Step). world_after steps log.end old) (append-nil (append_steps log (restart_frame shape)))
 
--- its records make the map once it is loaded
-pub has_ahead : (last : ℕ) (shape : Shape) (mark : Option Mark) (from end : Place) (pairs : Pairs) (old : World) → HoldsMap last shape mark from end pairs old → HasMark shape mark → (log : LogEnd) → EndsThere log old → (mid : World) (engine : PagedRunning)
-    → IsLoadedEngine shape mark log engine → HasPages shape (loaded_base mark old) engine → mid ≡ world_after (append_all_steps log (restart_frame shape ∷ [])) log.end old → from ≡ replay_at mark → end ≡ log.end → HasRecordsFor last pairs from end engine mid
-has_ahead last shape mark from end pairs old holds has log there mid engine loaded pages is from_is end_is =
-    has_records last shape mark from end pairs old holds log there end_is (subst (λ (p : Place). p.off ≤ FRAME_END_MAX) (sym from_is) (mark_early shape mark has)) engine loaded pages mid (after_one log shape old mid is)
-
--- a call that failed
-pub no_engine : {T E : Type 0} (P : T → Type 0) (answer : Result T E) → IsErr answer → IfOk answer P
-no_engine P (Ok x) err = absurd (cc err)
-no_engine P (Err fault) err = tt
-
 -- ---- a store that was restored, and is sound
 
-module _ (last : ℕ) (wanted : Shape) (told : List ℕ → ℕ) (shape : Shape) (pairs : Pairs) (log : LogEnd) (mark : Option Mark) (s : State) (old : World) (holding : IsRestoredHolding last wanted told shape pairs log mark s old) (has : HasMark shape mark) where
+module _ (last highest : ℕ) (wanted : Shape) (told : List ℕ → ℕ) (shape : Shape) (pairs : Pairs) (log : LogEnd) (mark : Option Mark) (s : State) (old : World) (holding : IsRestoredHolding last highest wanted told shape pairs log mark s old) (has : HasMark shape mark) where
   -- it is replaying once it is loaded, and its records make its map
   pub can_replay : (there : EndsThere log old) (mid : World) (engine : PagedRunning) (from end : Place) → IsLoadedEngine shape mark log engine → HasPages shape (loaded_base mark old) engine
-      → mid ≡ world_after (append_all_steps log (restart_frame shape ∷ [])) log.end old → from ≡ replay_at mark → end ≡ log.end → (t : State) × CanReplay last wanted told pairs from end engine t mid
-  can_replay there mid engine from end loaded pages is from_is end_is = (
-    states (on_log (append_steps log (restart_frame shape))) s old,
-    record {
-      is = replaying last wanted told shape pairs log mark s old holding has engine loaded pages mid (after_one log shape old mid is);
-      ahead = has_ahead last shape mark from end pairs old (holds_map last wanted told shape pairs log mark s old holding has from end from_is end_is) has log there mid engine loaded pages is from_is end_is;
-    },
-  )
+      → mid ≡ world_after (append_all_steps log (restart_frame shape ∷ [])) log.end old → from ≡ replay_at mark → end ≡ log.end → (t : State) × CanReplay last highest wanted told pairs from end engine t mid
+  can_replay there mid engine from end loaded pages is from_is end_is =
+      let t : State = states (on_log (append_steps log (restart_frame shape))) s old in
+      let then_is = after_one log shape old mid is in
+      let holds = holds_map last highest wanted told shape pairs log mark s old holding has from end from_is end_is in
+      let early : from.off ≤ FRAME_END_MAX = subst (λ (p : Place). p.off ≤ FRAME_END_MAX) (sym from_is) (mark_early shape mark has) in
+      let found = has_records last highest shape mark from end pairs old holds log there end_is early engine loaded pages mid then_is in
+      let were : HasRecords pairs from end engine mid = found.0 in
+      let so = replaying last highest wanted told shape pairs log mark s old holding has engine loaded pages mid then_is in
+      let all : List Frame = records last highest wanted told shape pairs log mark s old holding in
+      let lasting : AreLasting from all engine.map.shape pairs t mid =
+      subst (λ (q : Place × Shape). AreLasting q.0 all q.1 pairs t mid) {x = (replay_at mark, shape)} {y = (from, engine.map.shape)} (λ i. (sym from_is i, sym loaded.fresh.shape_is i))
+      (lasts_then last highest wanted told shape pairs log mark s old holding mid then_is) in
+      let same : all ≡ were.rest =
+      one_run (contents mid.log) from all were.rest (lasts_stand wanted told pairs engine from all t mid so lasting) were.run
+      (ap (λ (p : Place). after_frames p all) from_is ∙ to_end last highest wanted told shape pairs log mark s old holding ∙ sym end_is ∙ sym were.to) in (
+        t,
+        record {
+          is = so;
+          ahead = were;
+          numbers = found.1;
+          lasts = subst (λ (fs : List Frame). AreLasting from fs engine.map.shape pairs t mid) same lasting;
+        },
+      )
 
-pub load_moments : (last : ℕ) (wanted : Shape) (told : List ℕ → ℕ) (shape : Shape) (pairs : Pairs) (log : LogEnd) (mark : Option Mark) (s : State) (old new : History) → IsRestoredHolding last wanted told shape pairs log mark s old.world
-    → AllMoments old new (DoesPrefix (append_all_steps log (restart_frame shape ∷ [])) log.end old.world) → AllMoments old new (CrashHoldsMap (last + 1) (number_of mark) wanted shape pairs)
-load_moments last wanted told shape pairs log mark s old new holding moments =
-    restart_moments last wanted told shape pairs log mark s old new holding
+pub load_moments : (last highest : ℕ) (wanted : Shape) (told : List ℕ → ℕ) (shape : Shape) (pairs : Pairs) (log : LogEnd) (mark : Option Mark) (s : State) (old new : History) → IsRestoredHolding last highest wanted told shape pairs log mark s old.world
+    → AllMoments old new (DoesPrefix (append_all_steps log (restart_frame shape ∷ [])) log.end old.world) → AllMoments old new (CrashHoldsMap (last + 1) highest wanted shape pairs)
+load_moments last highest wanted told shape pairs log mark s old new holding moments =
+    restart_moments last highest wanted told shape pairs log mark s old new holding
     (subst (λ (steps : List Step). AllMoments old new (DoesPrefix steps log.end old.world)) (append-nil (append_steps log (restart_frame shape))) moments)
 
 -- once it is replayed it runs
-pub opens_running : (last number : ℕ) (wanted : Shape) (told : List ℕ → ℕ) (shape : Shape) (pairs : Pairs) (engine : PagedRunning) (w : World) → engine.map.shape ≡ shape → IsPagedStore engine.map → engine.map.pairs ≡ pairs
-    → engine.log.end.seg ≤ last → number_of engine.mark ≡ number → ReplaysSomehow wanted told pairs engine w → OpensRunning last number wanted told shape pairs engine w
-opens_running last number wanted told shape pairs engine w shape_is paged map segment number_is replays =
+pub opens_running : (last highest : ℕ) (wanted : Shape) (told : List ℕ → ℕ) (shape : Shape) (pairs : Pairs) (engine : PagedRunning) (w : World) → engine.map.shape ≡ shape → IsPagedStore engine.map → engine.map.pairs ≡ pairs
+    → engine.log.end.seg ≤ last → number_of engine.mark ≤ highest → ReplaysSomehow wanted told pairs engine w → OpensRunning last highest wanted told shape pairs engine w
+opens_running last highest wanted told shape pairs engine w shape_is paged map segment number replays =
     let whole : map_of (store_of engine) ≡ pairs = sym paged.pairs ∙ map in
     record {
       shape_is = shape_is;
       map = map;
       segment = segment;
-      number_is = number_is;
+      number = number;
       runs = record {
         state = replays.state;
         has = record {
@@ -236,12 +276,6 @@ both old new P Q R join one two = record { later = one.later; each = λ w was. j
     by t w (inr p) (inl was) = inl was
     by t w (inr p) (inr q) = inr (join w p q)
 
--- and while its records are applied again
-pub within_moments : (last number : ℕ) (wanted shape : Shape) (pairs : Pairs) (old new : History) → AllMoments old new (CrashHoldsMap last number wanted shape pairs) → AllMoments old new (CrashHoldsWithin last wanted shape pairs)
-within_moments last number wanted shape pairs old new moments =
-    weaker old new (CrashHoldsMap last number wanted shape pairs) (CrashHoldsWithin last wanted shape pairs)
-    (λ w map. record { holds = map.holds; segment = λ image leaves honest sound. (map.up_to image leaves honest shape pairs sound).segment }) moments
-
 -- ---- a sound store that is restored
 
 pub some_shape : (checkpoint : Checkpoint) (wanted shape : Shape) (log : ℕ → List ℕ) (frames : List Frame) → IsShape wanted → HasMark wanted (mark_of checkpoint) → IsLogFrom all_frames log (replay_of checkpoint) frames → BeginsWell checkpoint frames
@@ -268,7 +302,7 @@ take_none : (n : ℕ) → take {A = Frame} n [] ≡ []
 take_none zero = refl
 take_none (suc n) = refl
 
-module _ (wanted : Shape) (told : List ℕ → ℕ) (shape : Shape) (pairs : Pairs) (old new : History) (can : CanBegin wanted told old.world shape pairs) (low : HasFewSegments can) (sound : IsShape wanted) where
+module _ (wanted : Shape) (told : List ℕ → ℕ) (shape : Shape) (pairs : Pairs) (old new : History) (can : CanBegin wanted told old.world shape pairs) (low : HasFewNumbers can) (sound : IsShape wanted) where
   abbrev checkpoint : Checkpoint
   checkpoint = in_force (image_of old.world)
 
@@ -276,17 +310,21 @@ module _ (wanted : Shape) (told : List ℕ → ℕ) (shape : Shape) (pairs : Pai
   s = left_state can
 
   -- what a crash leaves while it is restored
-  pub restore_moments : RestoresWithin wanted told shape pairs s old new → AllMoments old new (CrashHoldsWithin (opened_last can + 1) wanted shape pairs)
+  pub restore_moments : RestoresWithin wanted told shape pairs s old new → AllMoments old new (CrashHoldsMap (opened_last can + 1) (opened_number can) wanted shape pairs)
   restore_moments within =
       let begun = within.begun in
       let left = left_of wanted told old.world shape pairs can in
       let ends : (states begun.steps s old.world).end ≡ s.end =
       ends_still told begun.steps s old.world begun.can left.nothing_pending (λ sealed. absurd (cc (sym left.uncut ∙ sealed))) (omega (arith, ap length begun.added)) in
-      both old new (MakesPrefix begun.steps s old.world) (CrashHolds wanted shape pairs) (CrashHoldsWithin (opened_last can + 1) wanted shape pairs)
+      both old new (MakesPrefix begun.steps s old.world) (CrashHolds wanted shape pairs) (CrashHoldsMap (opened_last can + 1) (opened_number can) wanted shape pairs)
       (λ w some holds. record {
         holds = holds;
-        segment = λ image leaves honest sound.
-            omega (arith, (call_up_to wanted told s old.world begun.steps left.stands left.alone begun.can w some image leaves honest shape pairs sound).segment, ap (λ (p : Place). p.seg) ends, ap (λ (p : Place). p.seg) left.at_end);
+        up_to = λ image leaves honest held map sound.
+            let most = call_up_to wanted told s old.world begun.steps left.stands left.alone begun.can w some image leaves honest held map sound in
+            record {
+              segment = omega (arith, most.segment, ap (λ (p : Place). p.seg) ends, ap (λ (p : Place). p.seg) left.at_end);
+              checkpoint = omega (arith, most.checkpoint, begun.number);
+            };
       }) begun.moments within.crash
 
   pub never_bad_record : (at : Place) → IsBadRestore checkpoint (contents old.world.log) at → ⊥
@@ -307,7 +345,7 @@ module _ (wanted : Shape) (told : List ℕ → ℕ) (shape : Shape) (pairs : Pai
     early : base.log.end.off ≤ FRAME_END_MAX
     early =
         let frames = can.sound.holds.frames in
-        let goes_on = few_go_on (replay_of checkpoint) frames (omega (arith, low)) in
+        let goes_on = few_go_on (replay_of checkpoint) frames (omega (arith, low.in_log)) in
         omega (arith, run_room (contents old.world.log) (replay_of checkpoint) frames (replay_early checkpoint wanted fits) can.sound.holds.log.run goes_on, ap (λ (p : Place). p.off) at_end)
 
     limits : IsLogEnd base.log
@@ -315,9 +353,12 @@ module _ (wanted : Shape) (told : List ℕ → ℕ) (shape : Shape) (pairs : Pai
         let size : base.log.segment_bytes ≡ wanted.segment_bytes = ap (λ (l : LogEnd). l.segment_bytes) is.cut ∙ sized checkpoint wanted fits in
         record { kept = is.there.kept; within = omega (arith, early); size_from = omega (arith, size, sound.segment_bytes_from); size_to = omega (arith, size, sound.segment_bytes_to) }
 
+    number_is : number_of base.mark ≡ number_in checkpoint
+    number_is = ap number_of is.mark ∙ number_mark checkpoint
+
     -- the frames from the replay place on are as many as before the restart
     frames_room : RestoresAll wanted told checkpoint shape pairs s old new → (fs : List Frame) → HasFrames all_frames (contents new.world.log) (replay_at base.mark) fs → after_frames (replay_at base.mark) fs ≡ base.log.end
-        → base.log.end.seg + (1 + 32 * length fs) ≤ opened_last can
+        → (base.log.end.seg + (1 + 33 * length fs) ≤ opened_last can) × (number_of base.mark + length fs ≤ opened_number can)
     frames_room all fs run to =
         let start : replay_at base.mark ≡ replay_of checkpoint = sym fit.replay ∙ is.replay in
         let leads : after_frames (replay_of checkpoint) fs ≡ s.at = ap (λ (p : Place). after_frames p fs) (sym start) ∙ to ∙ at_end in
@@ -326,14 +367,14 @@ module _ (wanted : Shape) (told : List ℕ → ℕ) (shape : Shape) (pairs : Pai
         (λ seg le. subst (λ (l : ℕ → File). Extends (contents l seg) (contents old.world.log seg)) (sym all.made.log) (cut_extends s.at old.world seg))
         (omega (arith, ap (λ (p : Place). p.seg) leads)) (subst (λ (p : Place). HasFrames all_frames (contents new.world.log) p fs) start run) in
         let same : fs ≡ can.sound.holds.frames = one_run (contents old.world.log) (replay_of checkpoint) fs can.sound.holds.frames before can.sound.holds.log.run leads in
-        omega (arith, ap (λ (p : Place). p.seg) at_end, ap (λ (l : List Frame). length l) same)
+        (omega (arith, ap (λ (p : Place). p.seg) at_end, ap (λ (l : List Frame). length l) same), omega (arith, number_is, ap (λ (l : List Frame). length l) same))
 
-    pub holding : RestoresAll wanted told checkpoint shape pairs s old new → (t : State) × IsRestoredHolding (opened_last can) wanted told wanted pairs base.log base.mark t new.world
+    pub holding : RestoresAll wanted told checkpoint shape pairs s old new → (t : State) × IsRestoredHolding (opened_last can) (opened_number can) wanted told wanted pairs base.log base.mark t new.world
     holding all =
         let t = states all.made.steps s old.world in
         let restored = all.made.restored in
         let t_shape : t.shape ≡ wanted = restored.shape ∙ shape_is in
-        let restored_one = restored_store wanted told checkpoint s t new.world base.log restored all.stands (subst IsShape (sym t_shape) sound) limits at_end early (omega (arith, low, ap (λ (p : Place). p.seg) at_end)) all.quiet in
+        let restored_one = restored_store wanted told checkpoint s t new.world base.log restored all.stands (subst IsShape (sym t_shape) sound) limits at_end early (omega (arith, low.in_log, ap (λ (p : Place). p.seg) at_end)) all.quiet in
         let none : appended t ≡ [] = ap (λ (l : List Frame). l ++ t.pending) restored.order ∙ restored.nothing_pending in
         let first : t.first ≡ pairs = (run_start all.made.steps s old.world).first in (
           t,
@@ -345,7 +386,9 @@ module _ (wanted : Shape) (told : List ℕ → ℕ) (shape : Shape) (pairs : Pai
                 after_whole wanted pairs [] p (sym (same_Some pairs p whole));
             below = omega (arith, ap (λ (p : Place). p.seg) at_end);
             room = λ fs run to. frames_room all fs run to;
-            numbered = low;
+            last_fits = low.in_log;
+            number = omega (arith, number_is);
+            highest_fits = low.in_marks;
           },
         )
 

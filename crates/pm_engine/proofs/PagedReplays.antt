@@ -1,5 +1,5 @@
 -- What a record that is applied again makes of an engine.
-use Rattle.std.proofs.Common.{◌≡◌, ℕ, ◌+◌, ◌≤◌, Bool, true, false, List, [], ◌++◌, length, Some, None, Result, Ok, Err, refl, sym, ap, ◌∙◌, subst, arith}
+use Rattle.std.proofs.Common.{◌≡◌, ℕ, ◌+◌, ◌≤◌, Bool, true, false, List, [], ◌++◌, length, Some, None, Result, Ok, Err, refl, sym, ap, ◌∙◌, subst, arith, length-append}
 use Rattle.std.specs.Prelude.{◌==◌, if◌then◌else◌, OnOk, IsErr, slice_get}
 use Rattle.std.proofs.lemmas.Result.{on_ok_weaker}
 use Rattle.pm_types.specs.declared.page_id.PageId.{PageId}
@@ -17,9 +17,9 @@ use Rattle.pm_model.specs.Orders.{part_of_line}
 use Rattle.pm_records.specs.declared.limits.TheConstants.{PUT}
 use Rattle.pm_records.specs.LogSteps.{frames_in, world_after, DoesSteps}
 use Rattle.pm_records.specs.Records.{Logical}
-use Rattle.pm_records.proofs.QuietLog.{steps_change}
 use Rattle.pm_segments.specs.Ends.{LogEnd, EndsThere}
 use Rattle.pm_pages.specs.declared.plain.PlainPages.{PlainPages}
+use Rattle.pm_pages.specs.Plain.{plain_seen, plain_count}
 use Rattle.pm_core.specs.BasePages.{Partitions}
 use Rattle.pm_core.specs.Calls.{MakesPrefix, MakesSteps}
 use Rattle.pm_core.specs.Machine.{DiskStep, CanAll, states, worlds}
@@ -32,10 +32,11 @@ use Rattle.pm_core.proofs.OnlyDisk.{logs_disk, none_disk}
 use Rattle.pm_core.proofs.Replaying.{replayed-append}
 use Rattle.pm_engine.specs.AppendRuns.{AppendsAll, append_all_steps, grown_all}
 use Rattle.pm_engine.specs.LoggedLists.{Logged, AddsNames}
-use Rattle.pm_engine.specs.Openings.{Replays, ReplaysPut}
+use Rattle.pm_engine.specs.PagedReplays.{Replays}
+use Rattle.pm_engine.proofs.Applying.{ReplaysPut}
 use Rattle.pm_engine.specs.PagedEngines.{PagedRunning, store_of, AreThere, GoesOn, number_of}
 use Rattle.pm_engine.specs.PagedMaps.{PagedStore, AcceptsLine, pages_of_lists}
-use Rattle.pm_engine.specs.PagedReplays.{line_in, CrashHoldsMap, IsReplaying, ReplaysSomehow, GrewAtEnd, GoesOnReplaying}
+use Rattle.pm_engine.specs.PagedReplays.{line_in, CrashHoldsMap, IsReplaying, AreLasting, ReplaysOn, GrewAtEnd, GoesOnReplaying}
 use Rattle.pm_engine.specs.PageLogs.{change_frames, change_names}
 use Rattle.pm_engine.specs.Records.{logical_frame}
 use Rattle.pm_engine.specs.RunningLines.{KeepsLines, CrashHoldsLines}
@@ -43,11 +44,14 @@ use Rattle.pm_engine.specs.RunningSteps.{appended_to, ChangesStore, SayPagesOver
 use Rattle.pm_engine.specs.RunningStores.{StoreState, RunsOver, IsMarkIn, HasSegmentsFor}
 use Rattle.pm_engine.proofs.AcceptedLines.{changes_store}
 use Rattle.pm_engine.proofs.Applying.{puts_apply}
+use Rattle.pm_engine.proofs.ChangedFrames.{names_few}
 use Rattle.pm_engine.proofs.GrownWorlds.{all_grew, grew_none}
+use Rattle.pm_engine.proofs.LastingFrames.{leads_all, lasts_further}
+use Rattle.pm_engine.proofs.LoggingPages.{few_changed}
 use Rattle.pm_engine.proofs.OperationSteps.{machine_steps}
 use Rattle.pm_engine.proofs.PagedRuns.{operation_few, all_rises, all_size, all_from, all_there}
 use Rattle.pm_engine.proofs.Results.{on_ok_both, on_err}
-use Rattle.pm_engine.proofs.RunningLines.{appended_on, all_no_map, keeps_still, crash_holds, crash_one, map_further, number_at_rest}
+use Rattle.pm_engine.proofs.RunningLines.{ChangeNoMap, appended_on, all_no_map, keeps_still, crash_holds, crash_one, map_further, number_at_rest}
 use Rattle.pm_engine.proofs.RunningLogs.{state_follows}
 use Rattle.pm_engine.proofs.RunningOperations.{replay_says, changes_no_map, store_append_goes, store_append_runs}
 
@@ -102,9 +106,9 @@ goes_on_still {T} {E} tells before now old result sound there same order opens =
   rises = anyway (now.log.end.seg ≤ before.log.end.seg + 32) (omega (arith, ap (λ (st : StoreState). st.log.end.seg) same));
   disk = λ t. none_disk old (sound t);
   ends = λ t. anyway (EndsThere now.log old.world) (subst (λ (st : StoreState). EndsThere st.log old.world) (sym same) (there t));
-  pages = λ t. anyway (old.world.pages ≡ old.world.pages) refl;
+  names = anyway (length now.logged ≤ length before.logged + 32) (omega (arith, ap (λ (st : StoreState). length st.logged) same));
   grew = λ t segments. anyway (GrewAtEnd before.log now.log old.world old.world) (subst (λ (st : StoreState). GrewAtEnd before.log st.log old.world old.world) (sym same) (grew_none before.log old.world));
-  runs = λ t wanted told pairs s is segments. anyway (ReplaysSomehow wanted told pairs now old.world) (record { state = s; is = replaying_same wanted told pairs before now s old.world same is });
+  runs = λ t wanted told pairs s is segments. anyway (ReplaysOn wanted told pairs now s old.world old.world) (record { state = s; is = replaying_same wanted told pairs before now s old.world same is; lasts = λ from left lasts. lasts });
   crash = λ t wanted told pairs s is segments. started old (CrashHoldsMap (before.log.end.seg + 33) (number_of before.mark) wanted before.map.shape pairs) (sound t) (soon_holds wanted told pairs before s old.world is);
 }
   where
@@ -126,9 +130,9 @@ goes_on_as tells before now old new result answer so goes = record {
   rises = so (now.log.end.seg ≤ before.log.end.seg + 32) goes.rises;
   ends = λ t. so (EndsThere now.log new.world) (goes.ends t);
   disk = goes.disk;
-  pages = λ t. so (new.world.pages ≡ old.world.pages) (goes.pages t);
+  names = so (length now.logged ≤ length before.logged + 32) goes.names;
   grew = λ t segments. so (GrewAtEnd before.log now.log old.world new.world) (goes.grew t segments);
-  runs = λ t wanted told pairs s is segments. so (ReplaysSomehow wanted told pairs now new.world) (goes.runs t wanted told pairs s is segments);
+  runs = λ t wanted told pairs s is segments. so (ReplaysOn wanted told pairs now s old.world new.world) (goes.runs t wanted told pairs s is segments);
   crash = goes.crash;
 }
 
@@ -190,9 +194,11 @@ module _ (before : PagedRunning) (now : PagedStore) (line : Line) (accepts : Acc
     can : CanAll told steps s w
     can = store_append_goes wanted told store pairs pairs s w so.runs frames pages names says enough
 
+    none : ChangeNoMap before.map.shape frames
+    none = changes_no_map store so.runs.is_shape part list pages change so.runs.frames so.runs.files so.runs.tracks
+
     keeps : KeepsLines before.map.shape 0 pairs [] s.first (appended (states steps s w))
     keeps =
-        let none = changes_no_map store so.runs.is_shape part list pages change so.runs.frames so.runs.files so.runs.tracks in
         subst (λ (l : List Frame). KeepsLines before.map.shape 0 pairs [] s.first l) (sym (appended_on (append_all_steps before.log frames) s w))
         (keeps_still before.map.shape 0 pairs [] s.first pairs (appended s) (frames_in (append_all_steps before.log frames)) so.keeps (newest_of wanted told pairs before s w so) refl
         (all_no_map before.map.shape before.log frames none))
@@ -200,7 +206,13 @@ module _ (before : PagedRunning) (now : PagedStore) (line : Line) (accepts : Acc
     then_is : RunsOver wanted told next pairs (states steps s w) (worlds steps s w)
     then_is = store_append_runs wanted told store pairs pairs s w so.runs frames pages names says enough
 
-    again_is : (new : PagedRunning) (world : World) → store_of new ≡ next → world ≡ worlds steps s w → ReplaysSomehow wanted told pairs new world
+    -- what is left to be applied is lasting still
+    still_lasts : (from : Place) (left : List Frame) → AreLasting from left before.map.shape pairs s w → AreLasting from left before.map.shape pairs (states steps s w) (worlds steps s w)
+    still_lasts from left lasts =
+        lasts_further from left (frames_in (append_all_steps before.log frames)) before.map.shape pairs s (states steps s w) w (worlds steps s w) lasts (all_no_map before.map.shape before.log frames none)
+        (leads_all wanted told frames store so.runs.frames pairs s w so.runs.log says.kinds pairs says.map enough from (left ++ lasts.later) lasts.leads)
+
+    again_is : (new : PagedRunning) (world : World) → store_of new ≡ next → world ≡ worlds steps s w → ReplaysOn wanted told pairs new s w world
     again_is new world new_is world_is = record {
       state = states steps s w;
       is = record {
@@ -208,6 +220,9 @@ module _ (before : PagedRunning) (now : PagedStore) (line : Line) (accepts : Acc
         keeps = subst (λ (st : StoreState). KeepsLines st.shape 0 pairs [] (states steps s w).first (appended (states steps s w))) (sym new_is)
             (subst (λ (p : Pairs). KeepsLines before.map.shape 0 pairs [] p (appended (states steps s w))) (sym (state_follows (append_all_steps before.log frames) [] s w).first) keeps);
       };
+      lasts = λ from left.
+          subst (λ (q : StoreState × World). AreLasting from left q.0.shape pairs s w → AreLasting from left q.0.shape pairs (states steps s w) q.1) {x = (next, worlds steps s w)} {y = (store_of new, world)} (λ i. (sym new_is i, sym world_is i))
+          (still_lasts from left);
     }
 
     again_crash : (world : World) → MakesPrefix steps s w world → CrashHoldsMap (before.log.end.seg + 33) (number_of before.mark) wanted before.map.shape pairs world
@@ -243,6 +258,21 @@ module _ (before : PagedRunning) (now : PagedStore) (line : Line) (accepts : Acc
     world_now : tells → OnOk result (hist.world ≡ world_after (append_all_steps before.log frames) before.log.end old.world)
     world_now t = on_ok_weaker result (λ all. all ∙ ap (λ (ps : List PageId). world_after (append_all_steps before.log (change_frames list ps)) before.log.end old.world) same) (appends.steps t).all
 
+    names_now : OnOk result (length new.logged ≤ length before.logged + 32)
+    names_now =
+        on_ok_weaker result
+        (λ (added : AddsNames (change_names list was.pages) was logged). omega (
+          arith,
+          ap length logged_is,
+          ap length added.pages,
+          length-append was.pages (change_names list was.pages),
+          ap length same,
+          names_few (plain_seen list) was.pages (plain_count list),
+          few_changed list change.plain (plain_count list),
+          change.plain.few,
+        ))
+        adds
+
     pub goes_on_with : {S F : Type 0} (answer : Result S F) → ((P : Type 0) → OnOk result P → OnOk answer P) → new.order ≡ before.order → OnOk answer (new.is_open ≡ true) → (tells → EndsThere before.log old.world)
         → GoesOnReplaying {T = S} {E = F} tells before new old hist answer
     goes_on_with answer so order opens there = record {
@@ -253,14 +283,13 @@ module _ (before : PagedRunning) (now : PagedStore) (line : Line) (accepts : Acc
       rises = so (new.log.end.seg ≤ before.log.end.seg + 32) (on_ok_weaker result (λ (grown : new.log ≡ grown_all before.log frames). omega (arith, all_rise, ap (λ (l : LogEnd). l.end.seg) grown)) log_now);
       ends = λ t. so (EndsThere new.log hist.world) (on_ok_weaker result (λ (ends : EndsThere log hist.world). subst (λ (l : LogEnd). EndsThere l hist.world) (sym log_is) ends) (appends.ends t));
       disk = λ t. logs_disk old hist (append_all_steps before.log (change_frames list was.pages)) before.log.end (appends.steps t).moments;
-      pages = λ t. so (hist.world.pages ≡ old.world.pages) (on_ok_weaker result (λ (all : hist.world ≡ world_after (append_all_steps before.log frames) before.log.end old.world).
-          ap (λ (v : World). v.pages) all ∙ (steps_change (append_all_steps before.log frames) before.log.end old.world).pages) (world_now t));
+      names = so (length new.logged ≤ length before.logged + 32) names_now;
       grew = λ t segments. so (GrewAtEnd before.log new.log old.world hist.world)
           (on_ok_both result (new.log ≡ grown_all before.log frames) (hist.world ≡ world_after (append_all_steps before.log frames) before.log.end old.world) (GrewAtEnd before.log new.log old.world hist.world)
           (λ grown all. subst (λ (q : LogEnd × World). GrewAtEnd before.log q.0 old.world q.1) {x = (grown_all before.log frames, world_after (append_all_steps before.log frames) before.log.end old.world)} {y = (new.log, hist.world)}
           (λ i. (sym grown i, sym all i)) (all_grew before.log frames old.world (there t) (omega (arith, segments, few)))) log_now (world_now t));
-      runs = λ t wanted told pairs s is_so segments. so (ReplaysSomehow wanted told pairs new hist.world)
-          (on_ok_both result (store_of new ≡ next) (hist.world ≡ worlds (on_log (append_all_steps before.log frames)) s old.world) (ReplaysSomehow wanted told pairs new hist.world)
+      runs = λ t wanted told pairs s is_so segments. so (ReplaysOn wanted told pairs new s old.world hist.world)
+          (on_ok_both result (store_of new ≡ next) (hist.world ≡ worlds (on_log (append_all_steps before.log frames)) s old.world) (ReplaysOn wanted told pairs new s old.world hist.world)
           (λ new_is world_is. again_is wanted told pairs s old.world is_so segments new hist.world new_is world_is) next_is (made t s is_so.runs.log.ends).all);
       crash = λ t wanted told pairs s is_so segments.
           weaker old hist (MakesPrefix (on_log (append_all_steps before.log frames)) s old.world) (CrashHoldsMap (before.log.end.seg + 33) (number_of before.mark) wanted before.map.shape pairs)

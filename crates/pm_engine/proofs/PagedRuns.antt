@@ -44,7 +44,7 @@ use Rattle.pm_engine.specs.RunningLines.{HasRun, CrashHoldsLines}
 use Rattle.pm_engine.specs.RunningSteps.{MakesPages, appended_to, operation_frames, operation_names}
 use Rattle.pm_engine.specs.RunningStores.{StoreState, IsMarkIn, HasSegmentsFor, map_of}
 use Rattle.pm_engine.specs.TrackedPages.{ChangesWithin, ChangesPart}
-use Rattle.pm_engine.proofs.Above.{grown_rises}
+use Rattle.pm_engine.proofs.RisenLogs.{grown_rises}
 use Rattle.pm_engine.proofs.AcceptedLines.{makes_pages, map_after}
 use Rattle.pm_engine.proofs.ChangedFrames.{changed_count, below_zero, below_next, names_zero, names_next}
 use Rattle.pm_engine.proofs.CheckpointedLines.{between_crash}

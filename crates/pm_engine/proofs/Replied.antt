@@ -10,7 +10,7 @@ use Rattle.pm_model.specs.Eval.{Pairs, after_all, replies_to, reply_to}
 use Rattle.pm_model.specs.ReplyLists.{ReplyList, with_replies}
 use Rattle.pm_model.proofs.Runs.{replies_to-append, length-replies_to}
 use Rattle.pm_engine.specs.Batches.{HasReplied}
-use Rattle.pm_engine.proofs.Batching.{take_one_more}
+use Rattle.pm_engine.proofs.TakenLines.{take_one_more}
 
 -- no replies more
 pub with_none : (list : ReplyList) → list ≡ with_replies [] list

@@ -36,18 +36,19 @@ use Rattle.pm_core.specs.States.{State, HavePairs}
 use Rattle.pm_core.proofs.Finishing.{rebuilt_inside}
 use Rattle.pm_core.proofs.Junk.{counted_same, pairs_same}
 use Rattle.pm_core.proofs.LogSteps.{written_by, is_written, from_end}
+use Rattle.pm_core.proofs.Replaying.{replayed-append}
 use Rattle.pm_pages.specs.Rows.{Partition}
 use Rattle.pm_pages.specs.WellFormed.{IsWellFormed}
 use Rattle.pm_ckpt.specs.Checkpoints.{CanCheckpoint}
-use Rattle.pm_ckpt.specs.Marked.{number_after, next_number, from_after, begin_of, begin_frame, begin_log}
+use Rattle.pm_ckpt.specs.Marked.{number_after, next_number, from_after, begin_of, replay_or, begin_frame, begin_log}
 use Rattle.pm_ckpt.proofs.GoingOn.{can_join, payload_len, begin_is, begin_fits, begin_stays}
 use Rattle.pm_ckpt.proofs.Opening.{grown_end}
-use Rattle.pm_engine.specs.RunningStores.{StoreState, LogRuns, IsRunning, IsMarkIn, HasSegmentsFor, map_of, mark_after, ended_with}
+use Rattle.pm_engine.specs.RunningStores.{StoreState, LogRuns, RunsOver, IsMarkIn, HasSegmentsFor, MakesNewest, map_of, mark_at, ended_with}
 use Rattle.pm_engine.specs.TrackedPages.{TracksPages}
 use Rattle.pm_engine.proofs.CheckpointPages.{base_is, has_first}
 use Rattle.pm_engine.proofs.RunningAppends.{steps_run}
 use Rattle.pm_engine.proofs.RunningQuiet.{forced_leaves}
-use Rattle.pm_engine.proofs.RunningLogs.{state_follows, append_replays, open_as, seal_is, can_low}
+use Rattle.pm_engine.proofs.RunningLogs.{state_follows, append_replays, open_as, seal_is, can_low, leads_on}
 use Rattle.pm_engine.proofs.TrackedFrames.{tracks_no_page}
 
 -- the bytes of a CP_BEGIN's payload
@@ -155,9 +156,21 @@ can_split : (low : ℕ) (xs ys : List Step) (end : Place) (t : Written) → CanW
 can_split low [] ys end t can = (tt, can)
 can_split low (x ∷ xs) ys end t can = let rest = can_split low xs ys (step_end x end) (next_written x t) can.1 in ((can.0, rest.0), rest.1)
 
-module _ (wanted : Shape) (told : List ℕ → ℕ) (store : StoreState) (s : State) (w : World) (runs : IsRunning wanted told store s w) (numbered : number_after store.mark < 2 ^ 64) where
+-- the place that a replay begins from has room for a frame
+replay_fits : (replay : Option Place) (store : StoreState) (pairs : Pairs) (s : State) (w : World) → MakesNewest replay store pairs s w → IsMarkPlace (replay_or None (begin_of store.log)) → IsMarkPlace (replay_or replay (begin_of store.log))
+replay_fits None store pairs s w newest fits = fits
+replay_fits (Some from) store pairs s w newest fits = newest.fits
+
+-- Lasting frames lead on from this place to the log's end, and make the map of this one.
+pub record LeadsOn (from : Place) (base : Pairs) (s : State) (w : World) : Type 0 where
+  pub frames : List Frame
+  pub leads : HasLasting all_frames w.log s.low s.at from frames
+  pub makes : all_replayed s.shape frames (Some base) ≡ Some s.map
+
+module _ (wanted : Shape) (told : List ℕ → ℕ) (store : StoreState) (pairs : Pairs) (replay : Option Place) (s : State) (w : World) (runs : RunsOver wanted told store pairs s w) (newest : MakesNewest replay store pairs s w)
+    (numbered : number_after store.mark < 2 ^ 64) where
   abbrev mark : Mark
-  mark = mark_after store
+  mark = mark_at store replay
 
   abbrev log : LogEnd
   log = store.log
@@ -191,7 +204,7 @@ module _ (wanted : Shape) (told : List ℕ → ℕ) (store : StoreState) (s : St
     numbered = subst (λ n. 1 ≤ n) (sym (next_is store.mark numbered)) (number_from store.mark);
     number_fits = subst (λ n. n < 2 ^ 64) (sym (next_is store.mark numbered)) numbered;
     begin = record { numbered = room.from_one; seg_fits = room.seg_fits; within = omega (arith, room.within) };
-    replay = record { numbered = room.from_one; seg_fits = room.seg_fits; within = room.within };
+    replay = replay_fits replay store pairs s w newest (record { numbered = room.from_one; seg_fits = room.seg_fits; within = room.within });
     from = from_fits store.mark runs.is_mark;
     shape = runs.is_shape;
   }
@@ -247,17 +260,17 @@ module _ (wanted : Shape) (told : List ℕ → ℕ) (store : StoreState) (s : St
     frames_are : frames_in steps ≡ frames_in rolls ++ frame ∷ []
     frames_are = frames_in-append appends (Force ∷ []) ∙ append-nil (frames_in appends) ∙ frames_in-append rolls (Append frame ∷ [])
 
-    replays : all_replayed store.shape (frames_in steps) (Some (map_of store)) ≡ Some (map_of store)
+    pub replays : all_replayed store.shape (frames_in steps) (Some pairs) ≡ Some pairs
     replays =
-        ap (λ fs. all_replayed store.shape fs (Some (map_of store))) (frames_in-append appends (Force ∷ []) ∙ append-nil (frames_in appends))
-        ∙ append_replays log frame store.shape (map_of store) ∙ begin_stays mark is_mark store.shape (map_of store)
+        ap (λ fs. all_replayed store.shape fs (Some pairs)) (frames_in-append appends (Force ∷ []) ∙ append-nil (frames_in appends))
+        ∙ append_replays log frame store.shape pairs ∙ begin_stays mark is_mark store.shape pairs
 
     ends_there : end_after steps log.end ≡ (grown log frame).end
     ends_there = end_after-append appends (Force ∷ []) log.end ∙ grown_end log frame
 
     -- once the begin is appended and forced, the log runs
-    pub begun_runs : LogRuns wanted told (record store { log = grown log frame }) (runs.frames ++ frames_in steps) (map_of store) s2 w2
-    begun_runs = steps_run wanted told store runs.frames (map_of store) s w runs.log steps (grown log frame) (map_of store) can_steps replays ends_there open_after
+    pub begun_runs : LogRuns wanted told (record store { log = grown log frame }) (runs.frames ++ frames_in steps) pairs s2 w2
+    begun_runs = steps_run wanted told store runs.frames pairs s w runs.log steps (grown log frame) pairs can_steps replays ends_there open_after
         (forced_leaves log frame w runs.log.quiet.segments)
 
     pub none_pending : s2.pending ≡ []
@@ -286,9 +299,9 @@ module _ (wanted : Shape) (told : List ℕ → ℕ) (store : StoreState) (s : St
         ∙ plain_after t.at.seg t.at.off t.pending parts.1.0.1 ∙ sym at ∙ ap (end_after rolls) runs.log.ends
         ∙ roomy_end log len ∙ ap (λ n. (roomy log n).end) len_is
 
-    -- the replay place is where the log ends then
-    pub replay_is : mark.replay ≡ s2.at
-    replay_is =
+    -- the place just after the begin is where the log ends then
+    after_begin : replay_or None (begin_of log) ≡ s2.at
+    after_begin =
         let at : s2.end ≡ place s2.at.seg (s2.at.off + frames_len s2.pending) = end_ready s2.tail s2.end s2.at s2.pending begun_runs.is_open.ready begun_runs.stands.ends in
         let none : s2.at.off + frames_len s2.pending ≡ s2.at.off = omega (arith, ap frames_len none_pending) in
         let last : s2.end ≡ s2.at = at ∙ ap (λ n. place s2.at.seg n) none in
@@ -301,8 +314,8 @@ module _ (wanted : Shape) (told : List ℕ → ℕ) (store : StoreState) (s : St
     abbrev rebuilt : Partitions
     rebuilt = tracks_begin.rebuilt
 
-    pub map_there : s2.map ≡ map_of store
-    map_there = same s2.map (map_of store) (ap (λ fs. all_replayed s2.shape fs (Some s2.map)) (sym none_pending) ∙ begun_runs.newest)
+    pub map_there : s2.map ≡ pairs
+    map_there = same s2.map pairs (ap (λ fs. all_replayed s2.shape fs (Some s2.map)) (sym none_pending) ∙ begun_runs.newest)
       where
         same : (a b : Pairs) → Some a ≡ Some b → a ≡ b
         same a b e = cc
@@ -320,6 +333,39 @@ module _ (wanted : Shape) (told : List ℕ → ℕ) (store : StoreState) (s : St
         (subst (λ (files : Partitions). HavePairs store.shape (laid_over rebuilt files) (map_of store)) (sym files_stay)
         (base_pairs store before runs.files s.files tracks_begin runs.grows runs.holds.well_formed))
 
+    -- the steps may be made, whatever frames are lasting
+    can_over : (fs : List Frame) → CanWriteAll 0 steps s.end (written_by s fs)
+    can_over fs =
+        let opened : LogIsOpen log (written_by s fs) = open_as log s fs runs.log.is_open in
+        subst (λ (p : Place). CanWriteAll 0 steps p (written_by s fs)) (sym runs.log.ends)
+        (can_join 0 appends (Force ∷ []) log.end (written_by s fs) (append_can log frame record_fits (written_by s fs) opened 0) (inl (append_tail log frame record_fits (written_by s fs) opened), tt))
+
+    -- what led to the end of the lasting log still does once the begin is lasting
+    pub leads_begun : (from : Place) (fs : List Frame) → HasLasting all_frames w.log s.low s.at from fs → HasLasting all_frames w2.log s2.low s2.at from ((fs ++ s.pending) ++ frames_in steps)
+    leads_begun from fs leads =
+        let all : List Frame = (written_after steps (written_by s fs)).lasting in
+        let none : (written_after steps (written_by s fs)).pending ≡ [] = sym (state_follows steps fs s w).pending ∙ none_pending in
+        subst (λ (l : List Frame). HasLasting all_frames w2.log s2.low s2.at from l) (sym (append-nil all) ∙ ap (λ (l : List Frame). all ++ l) (sym none) ∙ frames_after steps (written_by s fs))
+        (leads_on wanted told s w runs.log.stands steps from fs leads (can_over fs))
+
+    -- from the replay place on the log makes the newest map of that of the pages
+    pub leads_on_from : LeadsOn mark.replay (map_of store) s2 w2
+    leads_on_from = by replay newest
+      where
+        by : (place : Option Place) → MakesNewest place store pairs s w → LeadsOn (replay_or place (begin_of log)) (map_of store) s2 w2
+        by None same = record {
+          frames = [];
+          leads = subst (λ (p : Place). HasLasting all_frames w2.log s2.low s2.at p []) (sym after_begin) (from_end wanted told s2 w2 begun_runs.stands);
+          makes = ap (λ (p : Pairs). Some p) (sym (map_there ∙ same));
+        }
+        by (Some from) ahead = record {
+          frames = (ahead.frames ++ s.pending) ++ frames_in steps;
+          leads = leads_begun from ahead.frames ahead.leads;
+          makes = ap (λ (k : Shape). all_replayed k ((ahead.frames ++ s.pending) ++ frames_in steps) (Some (map_of store))) begun_runs.shape
+              ∙ replayed-append store.shape (ahead.frames ++ s.pending) (frames_in steps) (Some (map_of store)) ∙ ap (all_replayed store.shape (frames_in steps)) ahead.makes ∙ replays
+              ∙ ap (λ (p : Pairs). Some p) (sym map_there);
+        }
+
     pub may_start : CanStart mark rebuilt s2 w2
     may_start = record {
       alone = begun_runs.alone;
@@ -335,11 +381,11 @@ module _ (wanted : Shape) (told : List ℕ → ℕ) (store : StoreState) (s : St
       in_grammar = (ap is_some (begin_is mark is_mark), tt);
       rebuilds = tracks_begin.is;
       has_meta = meta_there;
-      frames = [];
-      replay = subst (λ (p : Place). HasLasting all_frames w2.log s2.low s2.at p []) (sym replay_is) (from_end wanted told s2 w2 begun_runs.stands);
+      frames = leads_on_from.frames;
+      replay = leads_on_from.leads;
       based = map_of store;
       based_is = pairs_there;
-      same_map = ap (λ (p : Pairs). Some p) (sym map_there);
+      same_map = leads_on_from.makes;
     }
 
     pub may_checkpoint : CanCheckpoint wanted told s log mark store.pages store.logged w

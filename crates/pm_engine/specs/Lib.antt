@@ -1,11 +1,8 @@
 pub mod AppendRuns
 pub mod Batches
-pub mod Crashes
-pub mod Engines
 pub mod LoggedLists
 pub mod Merges
 pub mod OpenedStores
-pub mod Openings
 pub mod PagedBatches
 pub mod PagedEngines
 pub mod PagedMaps
@@ -14,9 +11,7 @@ pub mod PagedReplays
 pub mod PagedStores
 pub mod PageLogs
 pub mod Records
-pub mod ReplayStates
 pub mod RunningLines
 pub mod RunningSteps
 pub mod RunningStores
-pub mod StoredShapes
 pub mod TrackedPages

@@ -5,6 +5,7 @@ use Rattle.pm_types.specs.declared.fault.StoreFault.{StoreFault}
 use Rattle.pm_types.specs.declared.fault.StoreFault.TheVariants.{Failed, Memory}
 use Rattle.pm_types.specs.declared.limits.TheConstants.{OP_PAGES, SEGMENT_BYTES_MAX}
 use Rattle.pm_types.specs.declared.page_id.PageId.{PageId}
+use Rattle.pm_types.specs.declared.place.Place.{Place}
 use Rattle.pm_types.specs.declared.shape.Mark.{Mark}
 use Rattle.pm_types.specs.declared.shape.Shape.{Shape}
 use Rattle.pm_config.specs.declared.config.Config.{Config}
@@ -27,8 +28,8 @@ use Rattle.pm_engine.specs.PageLogs.{change_frames, change_names}
 use Rattle.pm_engine.specs.Records.{logical_frame}
 use Rattle.pm_engine.specs.declared.page_log.TheConstants.{PAGE_NAME_LEN}
 use Rattle.pm_engine.specs.PagedMaps.{PagedStore, KeepsStore, pages_of_lists}
-use Rattle.pm_engine.specs.RunningLines.{HasRun}
-use Rattle.pm_engine.specs.RunningStores.{StoreState, IsMarkIn, HasSegmentsFor, checkpointed, map_of}
+use Rattle.pm_engine.specs.RunningLines.{HasRun, CrashHoldsLines}
+use Rattle.pm_engine.specs.RunningStores.{StoreState, IsMarkIn, HasSegmentsFor, checkpointed_at, map_of}
 
 -- An engine that logs its pages: its map, the pages that the log has had whole since the last CP_BEGIN or
 -- RESTART, where the log ends, the start marker in force, and the numbers of the accepted lines whose records
@@ -129,6 +130,19 @@ pub record HasLastingLines (wanted : Shape) (told : List ℕ → ℕ) (from : �
   pub lines_are : HasRunLines wanted told from start lines engine world
   pub quiet : NothingPending world
 
+-- the number of the checkpoint with the start marker in force, 0 where there is none
+abbrev pub number_of : Option Mark → ℕ
+number_of None = 0
+number_of (Some mark) = mark.number
+
+-- A checkpoint was made of a store that has done these lines: it has done them still, and all of them last.
+-- Whatever a crash leaves meanwhile holds a prefix of them.
+pub record ChecksLines {T E : Type 0} (wanted : Shape) (told : List ℕ → ℕ) (from : ℕ) (start : Pairs)
+    (lines : List Line) (before now : PagedRunning) (old new : History) (result : Result T E) : Type 0 where
+  pub lasting : OnOk result (HasLastingLines wanted told from start lines now new.world)
+  pub crash : AllMoments old new (CrashHoldsLines (before.log.end.seg + 2) (number_of before.mark + 1)
+      wanted before.map.shape start lines)
+
 -- In some state of the disk machine the engine's store runs, and all its lines last: nothing is pending, and
 -- whatever a crash leaves now holds its map.
 pub record AllLast (wanted : Shape) (told : List ℕ → ℕ) (engine : PagedRunning) (world : World) : Type 0 where
@@ -146,16 +160,14 @@ pub record IsClosedAs (before now : PagedRunning) : Type 0 where
   pub order : now.order ≡ before.order
   pub is_open : now.is_open ≡ false
 
--- the engine after its next checkpoint
-abbrev pub after_checkpoint : PagedRunning → PagedRunning
-after_checkpoint engine =
-    let store = checkpointed (store_of engine) in
+-- the engine after its next checkpoint, whose replay place is this one, or just after its CP_BEGIN
+abbrev pub after_checkpoint_at : Option Place → PagedRunning → PagedRunning
+after_checkpoint_at replay engine =
+    let store = checkpointed_at (store_of engine) replay in
     record engine { logged = store.logged; log = store.log; mark = store.mark; began = store.log.total }
 
--- the number of the checkpoint with the start marker in force, 0 where there is none
-abbrev pub number_of : Option Mark → ℕ
-number_of None = 0
-number_of (Some mark) = mark.number
+abbrev pub after_checkpoint : PagedRunning → PagedRunning
+after_checkpoint engine = after_checkpoint_at None engine
 
 -- the log ends at the replay place of the start marker in force: no record has to be applied again
 pub record EndsAtReplay (engine : PagedRunning) : Type 0 where

@@ -1,8 +1,9 @@
 -- How a store that was restored applies the records of its log again.
 --
 -- Its RESTART was appended. From the replay place on the records that the log had before it are applied to the
--- pages that were loaded, one after the other. The records of the pages that one changes are appended behind;
--- it itself isn't.
+-- pages that were loaded, one after the other. The records of the pages that one changes are appended after the
+-- RESTART; it itself isn't. Where too few frames may be left for the pages of the next record, a checkpoint is
+-- made first, whose replay place is the place of that record.
 use Rattle.std.specs.Prelude.{◌≡◌, ◌⊎◌, ◌<◌, ◌≤◌, ◌+◌, ◌*◌, ◌^◌, ◌==◌, if◌then◌else◌, ℕ, List, [], ◌++◌, length}
 use Rattle.std.specs.Prelude.{Bool, true, false, Option, Some, None, Result, OnOk, IsErrOf}
 use Rattle.pm_types.specs.declared.fault.StoreFault.{StoreFault}
@@ -18,8 +19,9 @@ use Rattle.pm_model.specs.declared.line.Cmd.TheVariants.{Put, Remove}
 use Rattle.pm_model.specs.declared.line.Line.{Line}
 use Rattle.pm_model.specs.declared.line.Line.TheVariants.{Good}
 use Rattle.pm_model.specs.Eval.{Pairs}
-use Rattle.pm_records.specs.LogFiles.{contents}
+use Rattle.pm_records.specs.LogFiles.{HasLasting, contents}
 use Rattle.pm_records.specs.Logs.{all_frames, record_in, after_frames, is_over, HasFrames}
+use Rattle.pm_records.specs.Records.{Record}
 use Rattle.pm_records.specs.declared.limits.TheConstants.{PUT}
 use Rattle.pm_segments.specs.Ends.{LogEnd, EndsThere}
 use Rattle.pm_segments.specs.Scans.{Scanned, frame_ahead, Advances}
@@ -32,8 +34,7 @@ use Rattle.pm_core.specs.States.{State}
 use Rattle.pm_redo.specs.Restoring.{CrashHolds}
 use Rattle.pm_engine.specs.AppendRuns.{AppendsAll}
 use Rattle.pm_engine.specs.LoggedLists.{Logged, AddsNames}
-use Rattle.pm_engine.specs.Openings.{Replays}
-use Rattle.pm_engine.specs.PagedEngines.{PagedRunning, store_of, number_of}
+use Rattle.pm_engine.specs.PagedEngines.{PagedRunning, HasNumbersFor, store_of, number_of}
 use Rattle.pm_engine.specs.PagedMaps.{PagedStore}
 use Rattle.pm_engine.specs.PageLogs.{change_frames, change_names}
 use Rattle.pm_engine.specs.RunningLines.{KeepsLines, GoesUpTo}
@@ -57,6 +58,30 @@ pub record IsReplaying (wanted : Shape) (told : List ℕ → ℕ) (pairs : Pairs
   pub runs : RunsOver wanted told (store_of engine) pairs s world
   pub keeps : KeepsLines engine.map.shape 0 pairs [] s.first (appended s)
 
+-- From this place on these frames are lasting, which are left to be applied, and after them others that make no
+-- other map of this one, with those that were appended since.
+pub record AreLasting (from : Place) (left : List Frame) (shape : Shape) (pairs : Pairs) (s : State)
+    (world : World) : Type 0 where
+  pub later : List Frame
+  pub leads : HasLasting all_frames world.log s.low s.at from (left ++ later)
+  pub stays : all_replayed shape (later ++ s.pending) (Some pairs) ≡ Some pairs
+
+-- in some state of the disk machine it is so, and the frames that were lasting still are
+pub record ReplaysOn (wanted : Shape) (told : List ℕ → ℕ) (pairs : Pairs) (engine : PagedRunning) (s : State)
+    (old new : World) : Type 0 where
+  pub state : State
+  pub is : IsReplaying wanted told pairs engine state new
+  pub lasts : (from : Place) (left : List Frame) → AreLasting from left engine.map.shape pairs s old
+      → AreLasting from left engine.map.shape pairs state new
+
+-- in some state of the disk machine it is so, and these frames from this place on are lasting and left to be
+-- applied
+pub record ReplaysFrom (wanted : Shape) (told : List ℕ → ℕ) (pairs : Pairs) (from : Place) (left : List Frame)
+    (engine : PagedRunning) (world : World) : Type 0 where
+  pub state : State
+  pub is : IsReplaying wanted told pairs engine state world
+  pub lasts : AreLasting from left engine.map.shape pairs state world
+
 -- in some state of the disk machine it is so
 pub record ReplaysSomehow (wanted : Shape) (told : List ℕ → ℕ) (pairs : Pairs) (engine : PagedRunning)
     (world : World) : Type 0 where
@@ -76,9 +101,8 @@ pub record LogsChanges {T E : Type 0} (tells : Type 0) (old new : History) (resu
   pub appends : AppendsAll {T = T} {E = E} tells old new result before now (change_frames list was.pages)
   pub names : OnOk result (AddsNames (change_names list was.pages) was logged)
 
--- A record was applied again. At `Ok` the engine goes on with it, the log has grown at its end, and nothing but
--- the log has changed on the disk. Whatever a crash leaves meanwhile of a sound store holds what the store
--- held.
+-- A record was applied again. At `Ok` the engine goes on with it, and the log has grown at its end. Whatever a
+-- crash leaves meanwhile of a sound store holds what the store held.
 pub record GoesOnReplaying {T E : Type 0} (tells : Type 0) (before now : PagedRunning) (old new : History)
     (result : Result T E) : Type 0 where
   pub shape : now.map.shape ≡ before.map.shape
@@ -86,18 +110,24 @@ pub record GoesOnReplaying {T E : Type 0} (tells : Type 0) (before now : PagedRu
   pub order : now.order ≡ before.order
   pub is_open : OnOk result (now.is_open ≡ true)
   pub rises : OnOk result (now.log.end.seg ≤ before.log.end.seg + OP_PAGES)
+  -- no more pages are logged for the first time than an operation may ask for
+  pub names : OnOk result (length now.logged ≤ length before.logged + OP_PAGES)
   pub ends : tells → OnOk result (EndsThere now.log new.world)
   pub disk : tells → AllMoments old new (ChangesDisk old.world)
-  pub pages : tells → OnOk result (new.world.pages ≡ old.world.pages)
   pub grew : tells → HasSegmentsFor before.log OP_PAGES
       → OnOk result (GrewAtEnd before.log now.log old.world new.world)
   pub runs : tells → (wanted : Shape) (told : List ℕ → ℕ) (pairs : Pairs) (s : State)
       → IsReplaying wanted told pairs before s old.world → HasSegmentsFor before.log OP_PAGES
-      → OnOk result (ReplaysSomehow wanted told pairs now new.world)
+      → OnOk result (ReplaysOn wanted told pairs now s old.world new.world)
   pub crash : tells → (wanted : Shape) (told : List ℕ → ℕ) (pairs : Pairs) (s : State)
       → IsReplaying wanted told pairs before s old.world → HasSegmentsFor before.log OP_PAGES
       → AllMoments old new (CrashHoldsMap (before.log.end.seg + (OP_PAGES + 1)) (number_of before.mark)
       wanted before.map.shape pairs)
+
+-- whether a record could be replayed, and the map that it leaves
+abbrev pub Replays : Bool → Shape → Option Record → Pairs → Pairs → Type 0
+Replays true shape found before now = replayed shape found before ≡ Some now
+Replays false shape found before now = replayed shape found before ≡ None
 
 -- whether a frame was there and could be applied, and the map that it leaves
 abbrev pub AppliesFound : Bool → Shape → Option Frame → Pairs → Pairs → Type 0
@@ -112,10 +142,9 @@ pub record AppliesNext (tells : Type 0) (can : Bool) (scan later : Scanned) (bef
   pub advances : Advances scan later found
   pub applies : AppliesFound can before.shape found before.pairs now.pairs
 
--- the shape, the start marker and the order are as they were
+-- the shape and the order are as they were
 pub record KeepsReplaying (before now : PagedRunning) : Type 0 where
   pub shape : now.map.shape ≡ before.map.shape
-  pub mark : now.mark ≡ before.mark
   pub order : now.order ≡ before.order
 
 -- What stands next, at this place, can't be applied, or nothing stands there; the disk is as it was.
@@ -127,39 +156,75 @@ pub record IsBadNext (scan : Scanned) (map : PagedStore) (old new : World) (at :
   pub fails : (now : Pairs) → AppliesFound false map.shape found map.pairs now
 
 -- From this place on frames stand that lead to the log's old end and make this map of the map of the engine's
--- pages. There are numbers for the segments that their pages may take, up to the last one.
-pub record HasRecordsFor (last : ℕ) (pairs : Pairs) (from end : Place) (engine : PagedRunning) (world : World)
-    : Type 0 where
+-- pages.
+pub record HasRecords (pairs : Pairs) (from end : Place) (engine : PagedRunning) (world : World) : Type 0 where
   pub rest : List Frame
   pub run : HasFrames all_frames (contents world.log) from rest
   pub to : after_frames from rest ≡ end
   pub goes_on : is_over from rest ≡ false
   pub left : all_replayed engine.map.shape rest (Some engine.map.pairs) ≡ Some pairs
   pub behind : end.seg ≤ engine.log.end.seg
-  pub room : engine.log.end.seg + OP_PAGES * length rest ≤ last
-  pub numbered : last + 2 < 2 ^ 64
 
--- The store is replaying, and frames stand that make the newest map of the map of its pages.
-pub record CanReplay (last : ℕ) (wanted : Shape) (told : List ℕ → ℕ) (pairs : Pairs) (from end : Place)
+-- There are numbers for the segments that so many records may take, their pages and a checkpoint before each,
+-- up to the last one and two more, and for these checkpoints, up to the highest.
+pub record HasNumbersUpTo (last highest records : ℕ) (engine : PagedRunning) : Type 0 where
+  pub segments : engine.log.end.seg + (OP_PAGES + 1) * records ≤ last
+  pub last_fits : last + 2 < 2 ^ 64
+  pub marks : number_of engine.mark + records ≤ highest
+  pub highest_fits : highest < 2 ^ 64
+
+-- The store is replaying, and lasting frames stand that make the newest map of the map of its pages.
+pub record CanReplay (last highest : ℕ) (wanted : Shape) (told : List ℕ → ℕ) (pairs : Pairs) (from end : Place)
     (engine : PagedRunning) (s : State) (world : World) : Type 0 where
   pub is : IsReplaying wanted told pairs engine s world
-  pub ahead : HasRecordsFor last pairs from end engine world
+  pub ahead : HasRecords pairs from end engine world
+  pub numbers : HasNumbersUpTo last highest (length ahead.rest) engine
+  pub lasts : AreLasting from ahead.rest engine.map.shape pairs s world
 
--- All records were applied, the map of the pages is this one, and the log ends in a segment up to the last one.
--- No record is bad.
-pub record MakesMap {T : Type 0} (last : ℕ) (pairs : Pairs) (now : PagedRunning) (result : Result T StoreFault)
-    : Type 0 where
-  pub map : OnOk result (now.map.pairs ≡ pairs)
-  pub segment : OnOk result (now.log.end.seg ≤ last)
-  pub no_bad : (at : Place) → IsErrOf result (BadRecord at) → ⊥
-
--- The store goes on replaying once all records were applied. Whatever a crash leaves meanwhile holds what it
--- held, and ends at most one segment after the last one.
-pub record ReplaysAll {T : Type 0} (last : ℕ) (wanted : Shape) (told : List ℕ → ℕ) (pairs : Pairs)
+-- All records were applied: the store goes on replaying, the map of the pages is this one, the log ends in a
+-- segment up to the last one, and the start marker in force has at most the highest number. No record is bad.
+-- Whatever a crash leaves meanwhile holds what the store held, and goes at most one segment further.
+pub record ReplaysAll {T : Type 0} (last highest : ℕ) (wanted : Shape) (told : List ℕ → ℕ) (pairs : Pairs)
     (before now : PagedRunning) (old new : History) (result : Result T StoreFault) : Type 0 where
   pub replays : OnOk result (ReplaysSomehow wanted told pairs now new.world)
-  pub crash : AllMoments old new
-      (CrashHoldsMap (last + 1) (number_of before.mark) wanted before.map.shape pairs)
+  pub map : OnOk result (now.map.pairs ≡ pairs)
+  pub segment : OnOk result (now.log.end.seg ≤ last)
+  pub number : OnOk result (number_of now.mark ≤ highest)
+  pub no_bad : (at : Place) → IsErrOf result (BadRecord at) → ⊥
+  pub crash : AllMoments old new (CrashHoldsMap (last + 1) highest wanted before.map.shape pairs)
+
+-- All records up to the log's old end were applied, whether the store is sound or not: frames lead there from the
+-- first place and make this map of the one that was, and the log ends where the engine has it.
+pub record AppliesAll (from end : Place) (before now : PagedRunning) (world : World) : Type 0 where
+  pub ends : EndsThere now.log world
+  pub frames : List Frame
+  pub to : after_frames from frames ≡ end
+  pub makes : all_replayed before.map.shape frames (Some before.map.pairs) ≡ Some now.map.pairs
+
+-- A checkpoint may have been made, after which a restart applies the log from this place on. At `Ok` the engine
+-- goes on with its map, and of a sound store the frames from there on are as lasting as they were. Whatever a
+-- crash leaves meanwhile holds what the store held.
+pub record ChecksIn {T E : Type 0} (tells : Type 0) (from : Place) (before now : PagedRunning)
+    (old new : History) (result : Result T E) : Type 0 where
+  pub keeps : KeepsReplaying before now
+  pub map : OnOk result (now.map ≡ before.map)
+  pub is_open : OnOk result (now.is_open ≡ true)
+  pub rises : OnOk result (now.log.end.seg ≤ before.log.end.seg + 1)
+  pub number : OnOk result (number_of now.mark ≤ number_of before.mark + 1)
+  pub names : OnOk result (length now.logged ≤ length before.logged)
+  pub ends : tells → OnOk result (EndsThere now.log new.world)
+  pub disk : tells → AllMoments old new (ChangesDisk old.world)
+  pub runs : tells → (wanted : Shape) (told : List ℕ → ℕ) (pairs : Pairs) (s : State) (left : List Frame)
+      → IsReplaying wanted told pairs before s old.world
+      → AreLasting from left before.map.shape pairs s old.world
+      → all_replayed before.map.shape left (Some before.map.pairs) ≡ Some pairs → HasNumbersFor before 1 1
+      → OnOk result (ReplaysFrom wanted told pairs from left now new.world)
+  pub crash : tells → (wanted : Shape) (told : List ℕ → ℕ) (pairs : Pairs) (s : State) (left : List Frame)
+      → IsReplaying wanted told pairs before s old.world
+      → AreLasting from left before.map.shape pairs s old.world
+      → all_replayed before.map.shape left (Some before.map.pairs) ≡ Some pairs → HasNumbersFor before 1 1
+      → AllMoments old new (CrashHoldsMap (before.log.end.seg + 2) (number_of before.mark + 1)
+      wanted before.map.shape pairs)
 
 -- no frame stands at this place, or the log was over before
 abbrev pub EndsBefore : List Frame → Place → World → Place → Type 0
@@ -183,8 +248,3 @@ pub record IsBadReplay (shape : Shape) (base : Pairs) (from end : Place) (world 
   pub map : Pairs
   pub holds : all_replayed shape before (Some base) ≡ Some map
   pub bad : IsBadAt shape map world at ⊎ EndsBefore before from world at
-
--- the same of the pages of a map, when the partitions' files are as they were
-pub record IsBadLog (map : PagedStore) (from end : Place) (old new : World) (at : Place) : Type 0 where
-  pub is : IsBadReplay map.shape map.pairs from end new at
-  pub pages : new.pages ≡ old.pages

@@ -5,6 +5,7 @@
 -- map that the log leaves.
 use Rattle.std.specs.Prelude.{◌≡◌, ◌<◌, ◌+◌, ◌^◌, ℕ, List, [], ◌∷◌, ◌++◌, Option, Some, None}
 use Rattle.pm_types.specs.declared.page_id.PageId.{PageId}
+use Rattle.pm_types.specs.declared.place.Place.{Place}
 use Rattle.pm_types.specs.declared.shape.Mark.{Mark}
 use Rattle.pm_types.specs.declared.shape.Shape.{Shape}
 use Rattle.pm_types.specs.Shapes.{IsShape}
@@ -15,7 +16,7 @@ use Rattle.pm_records.specs.LogFiles.{HasLasting, IsQuietBut, IsRecordFrame}
 use Rattle.pm_records.specs.Logs.{all_frames}
 use Rattle.pm_segments.specs.Ends.{LogEnd, LogIsOpen}
 use Rattle.pm_marks.specs.InForce.{Checkpoint, NoStart, Ended}
-use Rattle.pm_marks.specs.Slots.{IsMark}
+use Rattle.pm_marks.specs.Slots.{IsMark, IsMarkPlace}
 use Rattle.pm_core.specs.BasePages.{Partitions}
 use Rattle.pm_core.specs.Held.{AllWellFormed, pairs_in}
 use Rattle.pm_core.specs.PageLaws.{Grows}
@@ -42,17 +43,25 @@ pub record StoreState : Type 0 where
 abbrev pub map_of : StoreState → Pairs
 map_of store = pairs_in store.shape.partitions store.pages
 
--- the mark of its next checkpoint, after which a restart applies the log from just after the CP_BEGIN
-abbrev pub mark_after : StoreState → Mark
-mark_after store = next_mark store.shape store.mark store.log None
+-- the mark of its next checkpoint, after which a restart applies the log from this place on, or from just after
+-- the CP_BEGIN
+abbrev pub mark_at : StoreState → Option Place → Mark
+mark_at store replay = next_mark store.shape store.mark store.log replay
 
 -- the store after that checkpoint
-abbrev pub checkpointed : StoreState → StoreState
-checkpointed store = record store {
+abbrev pub checkpointed_at : StoreState → Option Place → StoreState
+checkpointed_at store replay = record store {
   logged = [];
-  log = log_after store.log (mark_after store);
-  mark = Some (mark_after store);
+  log = log_after store.log (mark_at store replay);
+  mark = Some (mark_at store replay);
 }
+
+-- the same, where the log is applied from just after the CP_BEGIN on
+abbrev pub mark_after : StoreState → Mark
+mark_after store = mark_at store None
+
+abbrev pub checkpointed : StoreState → StoreState
+checkpointed store = checkpointed_at store None
 
 -- the checkpoint with this start marker: none yet, or one that is ended
 abbrev pub ended_with : Option Mark → Checkpoint
@@ -113,6 +122,21 @@ pub record RunsOver (wanted : Shape) (told : List ℕ → ℕ) (store : StoreSta
 -- The store runs: the newest map is that of its pages.
 abbrev pub IsRunning : Shape → (List ℕ → ℕ) → StoreState → State → World → Type 0
 IsRunning wanted told store s world = RunsOver wanted told store (map_of store) s world
+
+-- From this place on these frames are lasting. With those that were appended after them they make the newest
+-- map of the map of the store's pages.
+pub record MakesNewestFrom (from : Place) (store : StoreState) (pairs : Pairs) (s : State) (world : World)
+    : Type 0 where
+  pub fits : IsMarkPlace from
+  pub frames : List Frame
+  pub leads : HasLasting all_frames world.log s.low s.at from frames
+  pub makes : all_replayed store.shape (frames ++ s.pending) (Some (map_of store)) ≡ Some pairs
+
+-- The log makes the newest map of the map of the store's pages from the replay place on. Where that is just
+-- after the next CP_BEGIN, the two are one.
+abbrev pub MakesNewest : Option Place → StoreState → Pairs → State → World → Type 0
+MakesNewest None store pairs s world = pairs ≡ map_of store
+MakesNewest (Some from) store pairs s world = MakesNewestFrom from store pairs s world
 
 -- there are numbers for so many segments more
 abbrev pub HasSegmentsFor : LogEnd → ℕ → Type 0

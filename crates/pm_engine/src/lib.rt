@@ -2,13 +2,10 @@
 #![tactic(auto)]
 
 mod accepting;
-mod apply;
-mod engine;
 mod laws;
 mod loading;
 mod logged_pages;
 mod merging;
-mod open;
 mod operation_log;
 mod page_log;
 mod page_marks;
@@ -22,15 +19,12 @@ mod paged_opening;
 mod paged_replay;
 mod partitions;
 mod record;
-mod replay;
 mod replay_log;
 mod running;
 mod running_lines;
-mod stored_shape;
 mod tracking;
 
 pub use accepting::an_accepted_line_makes_pages;
-pub use engine::Engine;
 pub use laws::a_store_is_its_partitions;
 pub use logged_pages::LoggedPages;
 pub use operation_log::log_operation;

@@ -8,7 +8,7 @@ ghost use Rattle.pm_disk.specs.States.{IsUsable};
 ghost use Rattle.pm_pages.specs.Plain.{plain_seen};
 ghost use Rattle.pm_core.specs.BasePages.{Partitions};
 ghost use Rattle.pm_redo.specs.Loading.{BaseIs, HaveShape, AreCounted, IsBadBase, HasPageFault};
-ghost use Rattle.pm_engine.specs.Openings.{IsSame};
+ghost use Rattle.pm_redo.specs.Rebuilding.{IsSame};
 ghost use Rattle.pm_engine.specs.PagedMaps.{pages_of_lists, ArePlainPartitions, IsPlainPartition};
 
 use pm_disk::Host;

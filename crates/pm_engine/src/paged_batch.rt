@@ -155,7 +155,7 @@ impl PagedEngine {
     }
 
     // Whether so many pages are logged that too few frames may be left for those of one operation more.
-    fn is_crowded(&self, config: &Config) -> bool
+    pub(crate) fn is_crowded(&self, config: &Config) -> bool
         ensures { result ≡ is_crowded self.now config.now }
     {
         let most = config.frames.saturating_sub(OP_PAGES);

@@ -1,7 +1,7 @@
 //! The engine that logs the pages that its lines change, and how it runs a line.
 
 ghost use Rattle.std.specs.Prelude.{◌≡◌, ◌≤◌, ◌<◌, ◌+◌, ◌^◌, ℕ, List, [], ◌∷◌, ◌++◌, true, IfOk, OnOk};
-ghost use Rattle.std.specs.Prelude.{IsErrOf, Option};
+ghost use Rattle.std.specs.Prelude.{IsErrOf, Option, length, vec_capacity};
 ghost use Rattle.pm_types.specs.declared.limits.TheConstants.{OP_PAGES, SEGMENT_BYTES_MAX};
 ghost use Rattle.pm_types.specs.declared.shape.Shape.{Shape};
 ghost use Rattle.pm_disk.specs.Moments.{AllMoments};
@@ -12,13 +12,12 @@ ghost use Rattle.pm_model.specs.Batches.{HasCache};
 ghost use Rattle.pm_model.specs.Eval.{Pairs};
 ghost use Rattle.pm_core.specs.Calls.{ChangesDisk};
 ghost use Rattle.pm_core.specs.States.{State};
-ghost use Rattle.pm_engine.specs.Batches.{HasPlainFault, HasReplied};
+ghost use Rattle.pm_engine.specs.Batches.{HasPlainFault, HasReplied, noted};
 ghost use Rattle.pm_engine.specs.PagedEngines.{store_of, DoesLine, HasRunLines, number_of};
 ghost use Rattle.pm_engine.specs.PagedMaps.{IsPagedStore};
 ghost use Rattle.pm_engine.specs.RunningLines.{HasRun, CrashHoldsLines};
 ghost use Rattle.pm_engine.specs.RunningStores.{HasSegmentsFor, IsMarkIn};
 
-use crate::engine::note;
 use crate::logged_pages::LoggedPages;
 use crate::page_log::PAGE_NAME_LEN;
 use crate::paged_lines::{answer_line, append_line};
@@ -33,7 +32,7 @@ use std::marker::Model;
 /// A store that is open: its map in pages, its log, to which the record of each accepted line is appended and
 /// after it those of the pages that it changed, and what its next checkpoint needs.
 ///
-/// Not used by the program yet. After `Failed` no call but `into_order` may be made: the store on the disk is
+/// After `Failed` no call but `into_order` may be made: the store on the disk is
 /// as a crash would leave it.
 #[derive(Drop)]
 pub struct PagedEngine {
@@ -218,5 +217,16 @@ impl PagedEngine {
         ensures { result.items ≡ self.order }
     {
         self.order
+    }
+}
+
+// Puts the number of a line into the order, where its record was handed to the log.
+fn note(order: &mut Vec<u32>, tried: bool, number: u64)
+    requires numbered { number < 2 ^ 32 }
+    requires room { length order.old.items < vec_capacity order.old }
+    ensures { order.new.items ≡ order.old.items ++ noted tried number }
+{
+    if tried {
+        order.push_reserved(number as u32);
     }
 }

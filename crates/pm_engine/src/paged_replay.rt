@@ -14,16 +14,14 @@ ghost use Rattle.pm_pages.specs.Plain.{plain_count};
 ghost use Rattle.pm_engine.specs.declared.page_log.TheConstants.{PAGE_NAME_LEN};
 ghost use Rattle.pm_engine.specs.Batches.{HasPlainFault};
 ghost use Rattle.pm_engine.specs.LoggedLists.{HasLogRoom, KeepsLogged};
-ghost use Rattle.pm_engine.specs.Openings.{Replays};
 ghost use Rattle.pm_engine.specs.PagedMaps.{AnswersLine, IsPagedStore};
-ghost use Rattle.pm_engine.specs.PagedReplays.{line_in, GoesOnReplaying, LogsChanges};
+ghost use Rattle.pm_engine.specs.PagedReplays.{line_in, GoesOnReplaying, LogsChanges, Replays};
 
 use crate::logged_pages::LoggedPages;
 use crate::page_log::log_changes;
 use crate::paged_engine::PagedEngine;
 use crate::paged_lines::{part_of_line, reserve_names};
 use crate::paged_map::PagedMap;
-use crate::replay::make_room;
 use pm_disk::{Failed, Host, LogFile};
 use pm_model::{Cmd, Line, Replies};
 use pm_records::{LogRecord, PUT, decode};
@@ -221,4 +219,15 @@ fn line_of(alloc: Global, op: u8, cache: u8, key: &[u8], value: &[u8]) -> Result
         return Ok(Line::Good(Cmd::Put { cache, key, value }));
     }
     Ok(Line::Good(Cmd::Remove { cache, key }))
+}
+
+// Makes room for one reply. Only a list that memory ran out for has none after it was cleared.
+fn make_room(alloc: Global, replies: &mut Replies) -> Result<(), AllocError>
+    ensures { OnOk result (0 < replies.new.spare) }
+{
+    replies.clear(alloc)?;
+    if replies.spare() == 0 {
+        *replies = Replies::with_room(alloc, 1)?;
+    }
+    Ok(())
 }

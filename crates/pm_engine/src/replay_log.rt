@@ -4,23 +4,26 @@ ghost use Rattle.std.specs.Prelude.{ℕ, ◌≡◌, ◌≤◌, ◌<◌, ◌+◌,
 ghost use Rattle.pm_types.specs.declared.limits.TheConstants.{OP_PAGES};
 ghost use Rattle.pm_types.specs.declared.place.Place.{Place};
 ghost use Rattle.pm_types.specs.declared.shape.Shape.{Shape};
-ghost use Rattle.pm_frame.specs.declared.limits.TheConstants.{SEGMENT_END_MAX as last_end};
+ghost use Rattle.pm_frame.specs.declared.limits.TheConstants.{FRAME_END_MAX, SEGMENT_END_MAX as last_end};
 ghost use Rattle.pm_disk.specs.Moments.{AllMoments};
 ghost use Rattle.pm_disk.specs.States.{IsUsable};
 ghost use Rattle.pm_disk.specs.Worlds.{World};
 ghost use Rattle.pm_model.specs.Eval.{Pairs};
 ghost use Rattle.pm_records.specs.LogFiles.{contents};
+ghost use Rattle.pm_marks.specs.Slots.{IsMarkPlace};
 ghost use Rattle.pm_segments.specs.Ends.{EndsThere};
 ghost use Rattle.pm_segments.specs.Scans.{IsAhead, StaysAt};
 ghost use Rattle.pm_core.specs.Calls.{ChangesDisk};
 ghost use Rattle.pm_core.specs.States.{State};
 ghost use Rattle.pm_engine.specs.Batches.{HasPlainFault, HasStoreFault};
-ghost use Rattle.pm_engine.specs.PagedReplays.{GoesOnReplaying, AppliesNext, IsBadNext, IsBadLog};
-ghost use Rattle.pm_engine.specs.PagedReplays.{KeepsReplaying, HasRecordsFor, MakesMap, CanReplay, ReplaysAll};
+ghost use Rattle.pm_engine.specs.PagedBatches.{HasFrames, is_crowded};
+ghost use Rattle.pm_engine.specs.PagedReplays.{GoesOnReplaying, AppliesNext, IsBadNext, IsBadReplay};
+ghost use Rattle.pm_engine.specs.PagedReplays.{AppliesAll, KeepsReplaying, CanReplay, ChecksIn, ReplaysAll};
 
-use crate::open::segment_of;
 use crate::paged_engine::PagedEngine;
+use pm_config::Config;
 use pm_disk::Host;
+use pm_frame::FRAME_END_MAX;
 use pm_model::Replies;
 use pm_segments::Scan;
 use pm_types::{Place, StoreFault};
@@ -30,37 +33,40 @@ use std::alloc::Global;
 const LAST_LOOK: u64 = u64::MAX - 64;
 
 /// Applies the records of the log from `from` on up to `end`, where the log ended before the RESTART. What is
-/// appended meanwhile comes after that, and isn't looked at.
+/// appended meanwhile comes after that, and isn't looked at. Where too few frames may be left for the pages of
+/// a record, a checkpoint is made first, so that a restart applies the log from that record on.
 ///
 /// `BadRecord` names a record that is in no grammar, or is a put that meets a full partition, or a place before
 /// `end` at which none stands. After an error the engine isn't to be used any more.
 pub(crate) fn replay_log<H: Host>(
     alloc: Global,
     host: &mut H,
+    config: &Config,
     engine: &mut PagedEngine,
     from: Place,
     end: Place,
 ) -> Result<(), StoreFault>
     requires usable { IsUsable (H.Device.state host.old) }
     requires is_open { engine.old.is_open ≡ true }
+    requires from_one { 1 ≤ from.seg }
     requires within { from.off ≤ last_end }
     requires there { H.Device.tells → EndsThere engine.old.log (H.Device.history host.old).world }
     ensures keeps { KeepsReplaying engine.old engine.new }
     ensures is_open { OnOk result (engine.new.is_open ≡ true) }
-    ensures ends { H.Device.tells → OnOk result (EndsThere engine.new.log (H.Device.history host.new).world) }
+    ensures frames { HasFrames config.now engine.old → OnOk result (HasFrames config.now engine.new) }
+    ensures applies { H.Device.tells → OnOk result (AppliesAll from end engine.old engine.new
+        (H.Device.history host.new).world) }
     ensures disk { H.Device.tells → AllMoments (H.Device.history host.old) (H.Device.history host.new)
         (ChangesDisk (H.Device.history host.old).world) }
     ensures bad { H.Device.tells → (at : Place) → IsErrOf result (StoreFault.BadRecord at)
-        → IsBadLog engine.old.map from end (H.Device.history host.old).world
+        → IsBadReplay engine.old.map.shape engine.old.map.pairs from end
         (H.Device.history host.new).world at }
 
-    // What it makes of a map, and what a crash leaves meanwhile of a sound store.
-    ensures makes { H.Device.tells → (last : ℕ) (pairs : Pairs)
-        → HasRecordsFor last pairs from end engine.old (H.Device.history host.old).world
-        → MakesMap last pairs engine.new result }
-    ensures sound { H.Device.tells → (last : ℕ) (wanted : Shape) (told : List ℕ → ℕ) (pairs : Pairs) (s : State)
-        → CanReplay last wanted told pairs from end engine.old s (H.Device.history host.old).world
-        → ReplaysAll last wanted told pairs engine.old engine.new
+    // What it makes of a sound store, and what a crash leaves of it meanwhile.
+    ensures sound { H.Device.tells → (last highest : ℕ) (wanted : Shape) (told : List ℕ → ℕ) (pairs : Pairs)
+        (s : State)
+        → CanReplay last highest wanted told pairs from end engine.old s (H.Device.history host.old).world
+        → ReplaysAll last highest wanted told pairs engine.old engine.new
         (H.Device.history host.old) (H.Device.history host.new) result }
     ensures cause { HasStoreFault (H.Device.state host.old) (H.Device.state host.new) result }
 {
@@ -72,8 +78,55 @@ pub(crate) fn replay_log<H: Host>(
         if next == end {
             return Ok(());
         }
+        make_frames(alloc, host, config, engine, &mut scan)?;
         replay_next(alloc, host, engine, &mut scan, &mut replies)?;
     }
+}
+
+// Makes a checkpoint where too few frames may be left for the pages of the next record: a restart applies the
+// log from that record on then. `BadRecord` comes where no frame can stand there.
+fn make_frames<H: Host>(
+    alloc: Global,
+    host: &mut H,
+    config: &Config,
+    engine: &mut PagedEngine,
+    scan: &mut Scan,
+) -> Result<(), StoreFault>
+    requires usable { IsUsable (H.Device.state host.old) }
+    requires is_open { engine.old.is_open ≡ true }
+    requires from_one { 1 ≤ scan.old.next.seg }
+    requires there { H.Device.tells → EndsThere engine.old.log (H.Device.history host.old).world }
+    requires ahead { H.Device.tells → IsAhead scan.old (H.Device.history host.old).world }
+    ensures checks { ChecksIn H.Device.tells scan.old.next engine.old engine.new
+        (H.Device.history host.old) (H.Device.history host.new) result }
+    ensures room { OnOk result (is_crowded engine.new config.now ≡ false) }
+    ensures stays { StaysAt scan.old scan.new }
+    ensures ahead { H.Device.tells → OnOk result (IsAhead scan.new (H.Device.history host.new).world) }
+    ensures bad { H.Device.tells → (at : Place) → IsErrOf result (StoreFault.BadRecord at)
+        → IsBadNext scan.old engine.old.map (H.Device.history host.old).world
+        (H.Device.history host.new).world at }
+    ensures cause { HasStoreFault (H.Device.state host.old) (H.Device.state host.new) result }
+{
+    if !engine.is_crowded(config) {
+        return Ok(());
+    }
+    let next = scan.next_place();
+    if !may_stand(next) {
+        return Err(StoreFault::BadRecord(next));
+    }
+    engine.checkpoint_at(alloc, host, Some(next))?;
+    scan.forget();
+    Ok(())
+}
+
+// Whether a frame may stand at a place of the log, so that a marker may name it.
+fn may_stand(at: Place) -> bool
+    requires { 1 ≤ at.seg }
+    ensures yes { result ≡ true → IsMarkPlace at }
+    ensures no { result ≡ false → FRAME_END_MAX < at.off }
+{
+    let _segment = segment_of(at);
+    at.off <= FRAME_END_MAX
 }
 
 // Applies the next record of the log.
@@ -159,4 +212,11 @@ fn stays_ahead(before: Place, next: Place) -> bool
     ensures { result ≡ true → (before.seg + OP_PAGES + 1 < 2 ^ 64) × (next.seg ≤ before.seg) }
 {
     before.seg < LAST_LOOK && next.seg <= before.seg
+}
+
+// The segment of a place: a number below 2^64, so that a log ends.
+fn segment_of(at: Place) -> u64
+    ensures { result ≡ at.seg }
+{
+    at.seg
 }

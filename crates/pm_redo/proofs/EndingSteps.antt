@@ -20,15 +20,16 @@ use Rattle.pm_marks.specs.Slots.{IsMark}
 use Rattle.std.specs.FinMap.{empty}
 use Rattle.pm_records.specs.LogFiles.{Uncut}
 use Rattle.pm_records.specs.Logs.{place}
-use Rattle.pm_marks.specs.InForce.{NoStart}
+use Rattle.pm_marks.specs.InForce.{NoStart, Started, number_in}
 use Rattle.pm_core.specs.BasePages.{Partitions, no_pages, page_in_file, pages_of, laid_over}
-use Rattle.pm_core.specs.Calls.{MakesPrefix, end_steps, force_steps, finish_steps, CanFinish}
+use Rattle.pm_core.specs.Calls.{AreRebuilt, MakesPrefix, end_steps, force_steps, finish_steps, CanFinish}
 use Rattle.pm_core.specs.Machine.{DiskStep, WritePage, ForcePages, CanWritePage, CanAll, next_state, next_world, states, worlds, forced_pages}
 use Rattle.pm_core.specs.PageLaws.{Grows}
 use Rattle.pm_core.specs.PageSets.{has_part, has_index}
-use Rattle.pm_core.specs.Stands.{page_low, page_high, IsViewOf, IsGood, Stands}
+use Rattle.pm_core.specs.Prefixes.{last_number}
+use Rattle.pm_core.specs.Stands.{page_low, page_high, IsViewOf, IsGood, Stands, soon_or}
 use Rattle.pm_core.specs.Starts.{appended}
-use Rattle.pm_core.specs.States.{State}
+use Rattle.pm_core.specs.States.{State, View}
 use Rattle.pm_core.proofs.CrashLaw.{run_stands}
 use Rattle.pm_core.proofs.Finishing.{finish_can}
 use Rattle.pm_core.proofs.Joins.{can-append}
@@ -36,7 +37,7 @@ use Rattle.pm_core.proofs.Making.{makes_none, moments_one, moments_joined, world
 use Rattle.pm_core.proofs.Ranges.{page_own, page_within}
 use Rattle.pm_redo.specs.PageMaps.{PageMap, kept_pages}
 use Rattle.pm_redo.specs.Pictures.{files_in}
-use Rattle.pm_redo.specs.Ending.{IsUnended, BeginsSteps, StandsInFile, WritesOne, WritesPages, MayEnd, EndsCheckpoint, ended_state}
+use Rattle.pm_redo.specs.Ending.{IsUnended, BeginsSteps, StandsInFile, WritesOne, WritesPages, MayEnd, EndsCheckpoint, LaysPages, ended_state}
 use Rattle.pm_redo.proofs.WrittenPages.{stands_here, stands_still}
 
 pub states_join : (xs ys : List DiskStep) (s : State) (w : World) → states (xs ++ ys) s w ≡ states ys (states xs s w) (worlds xs s w)
@@ -47,7 +48,7 @@ states_join (x ∷ xs) ys s w = states_join xs ys (next_state x s w) (next_world
 
 module _ (told : List ℕ → ℕ) (mark : Mark) (kept : PageMap) (page : PageId) (s : State) (old new : History) (sound : IsHistory old) (unended : IsUnended mark kept s) where
   pub no_steps : BeginsSteps told s old old
-  no_steps = record { steps = []; can = tt; moments = makes_none old [] s sound; added = refl }
+  no_steps = record { steps = []; can = tt; moments = makes_none old [] s sound; added = refl; number = refl }
 
   pub nothing_written : kept_pages kept (part_of_id page) (index_of_id page) ≡ None → WritesOne told kept page s old old
   nothing_written none = record {
@@ -59,6 +60,7 @@ module _ (told : List ℕ → ℕ) (mark : Mark) (kept : PageMap) (page : PageId
     ends = refl;
     here = λ bytes is. let no : None ≡ Some bytes = sym none ∙ is in absurd cc;
     others = λ part index bytes is stands. stands;
+    apart = λ part index bytes none stands. stands;
   }
 
   module _ {T E : Type 0} (result : Result T E) (bytes : List ℕ) (found : kept_pages kept (part_of_id page) (index_of_id page) ≡ Some bytes) (sized : length bytes ≡ kept.shape.page_size)
@@ -80,7 +82,7 @@ module _ (told : List ℕ → ℕ) (mark : Mark) (kept : PageMap) (page : PageId
     moments = moments_one old new result step s sound writes.does
 
     pub page_begun : BeginsSteps told s old new
-    page_begun = record { steps = step ∷ []; can = (can_write, tt); moments = moments; added = refl }
+    page_begun = record { steps = step ∷ []; can = (can_write, tt); moments = moments; added = refl; number = refl }
 
     pub page_written : new.world ≡ next_world step s old.world → WritesOne told kept page s old new
     page_written is = record {
@@ -98,6 +100,10 @@ module _ (told : List ℕ → ℕ) (mark : Mark) (kept : PageMap) (page : PageId
           subst (λ (w : World). StandsInFile kept.shape.page_size w part index other) (sym is)
           (stands_still kept.shape.page_size old.world page writes.gap bytes sized writes.reaches part index other
           (λ p i. same_Some other bytes (sym there ∙ ap (λ n. kept_pages kept n index) p ∙ ap (λ n. kept_pages kept (part_of_id page) n) i ∙ found)) stands);
+      apart = λ part index other none stands.
+          subst (λ (w : World). StandsInFile kept.shape.page_size w part index other) (sym is)
+          (stands_still kept.shape.page_size old.world page writes.gap bytes sized writes.reaches part index other
+          (λ p i. (let both : None ≡ Some bytes = sym none ∙ ap (λ n. kept_pages kept n index) p ∙ ap (λ n. kept_pages kept (part_of_id page) n) i ∙ found in absurd cc)) stands);
     }
 
 -- ---- pages, one after the other
@@ -111,6 +117,7 @@ written_none told kept pages s old sound = record {
   still = refl;
   ends = refl;
   written = λ part index bytes has there. inl has;
+  apart = λ part index bytes none stands. stands;
 }
 
 module _ (told : List ℕ → ℕ) (kept : PageMap) (pages left rest : List PageId) (page : PageId) (s : State) (old mid new : History) (first : WritesPages told kept pages left s old mid) where
@@ -129,8 +136,12 @@ module _ (told : List ℕ → ℕ) (kept : PageMap) (pages left rest : List Page
     steps = first.steps ++ begun.steps;
     can = can_then begun.steps begun.can;
     moments = moments_then begun.steps begun.moments;
-    added = ap appended (states_join first.steps begun.steps s old.world ∙ ap (λ (r : State). states begun.steps r (worlds first.steps s old.world)) first.still ∙ ap (λ (w : World). states begun.steps s w) (sym first.is)) ∙ begun.added;
+    added = ap appended state_then ∙ begun.added;
+    number = ap last_number state_then ∙ begun.number;
   }
+    where
+      state_then : states (first.steps ++ begun.steps) s old.world ≡ states begun.steps s mid.world
+      state_then = states_join first.steps begun.steps s old.world ∙ ap (λ (r : State). states begun.steps r (worlds first.steps s old.world)) first.still ∙ ap (λ (w : World). states begun.steps s w) (sym first.is)
 
   pub pages_more : left ≡ page ∷ rest → WritesOne told kept page s mid new → WritesPages told kept pages rest s old new
   pages_more is one = record {
@@ -147,6 +158,7 @@ module _ (told : List ℕ → ℕ) (kept : PageMap) (pages left rest : List Page
           by part index bytes there (part_of_id page == part && index_of_id page == index) refl
           (subst (λ (l : List PageId). has_index part index l ≡ true) is still)
     ];
+    apart = λ part index bytes none stands. one.apart part index bytes none (first.apart part index bytes none stands);
   }
     where
       by : (part index : ℕ) (bytes : List ℕ) → kept_pages kept part index ≡ Some bytes → (b : Bool) → (part_of_id page == part && index_of_id page == index) ≡ b
@@ -207,6 +219,27 @@ short_page size index file short =
           absurd (omega (arith, (page_within size index (content file) some.0 some.1).0, subst (λ (o : Option (List ℕ)). length (bytes_of o) < page_high size index) last (short (length file.since) (omega arith))))
     ]
 
+-- the end of a checkpoint leaves what the partitions' files hold
+finish_files : (mark : Mark) (pages : List PageId) (s : State) (w : World) (part : ℕ) → content ((worlds (finish_steps mark pages) s w).pages part) ≡ content (w.pages part)
+finish_files mark pages s w part =
+    let forces = force_steps 0 PARTITIONS_MAX pages in
+    ap (λ (v : World). content (v.pages part)) (worlds_join forces (end_steps mark) s w) ∙ forces_content 0 PARTITIONS_MAX pages s w part
+
+-- the pages that the log rebuilds are in their files then, and the others are still
+pub lays_pages : (told : List ℕ → ℕ) (mark : Mark) (kept : PageMap) (pages : List PageId) (s : State) (old mid new : History) → WritesPages told kept pages [] s old mid → AreRebuilt pages (kept_pages kept)
+    → new.world ≡ worlds (finish_steps mark pages) s mid.world → LaysPages kept old.world new.world
+lays_pages told mark kept pages s old mid new wrote are is part index bytes was = then_there (by (kept_pages kept part index) refl was)
+  where
+    then_there : StandsInFile kept.shape.page_size mid.world part index bytes → StandsInFile kept.shape.page_size new.world part index bytes
+    then_there there =
+        ap (λ (o : Option (List ℕ)). page_in_file kept.shape.page_size o index) (ap (λ (w : World). content (w.pages part)) is ∙ finish_files mark pages s mid.world part) ∙ there
+
+    by : (o : Option (List ℕ)) → kept_pages kept part index ≡ o → option_or o (page_in_file kept.shape.page_size (content (old.world.pages part)) index) ≡ Some bytes → StandsInFile kept.shape.page_size mid.world part index bytes
+    by None none there = wrote.apart part index bytes none there
+    by (Some page) some there =
+        let found : kept_pages kept part index ≡ Some bytes = some ∙ there in
+        all_written told kept pages s old mid wrote part index bytes (are part index (ap (λ o. is_some o) found)) found
+
 module _ (wanted : Shape) (told : List ℕ → ℕ) (mark : Mark) (kept : PageMap) (pages : List PageId) (s : State) (old mid new : History) (may : MayEnd wanted told mark kept pages s old.world) (fits : IsMark mark)
     (wrote : WritesPages told kept pages [] s old mid) where
   stands_mid : Stands wanted told s mid.world
@@ -238,6 +271,10 @@ module _ (wanted : Shape) (told : List ℕ → ℕ) (mark : Mark) (kept : PageMa
   moments_all : AllMoments mid new (MakesPrefix (finish_steps mark pages) s mid.world) → AllMoments old new (MakesPrefix all_steps s old.world)
   moments_all at_each = moments_then told kept pages [] [] (record { 0 = 0 }) s old mid new wrote (finish_steps mark pages) at_each
 
+  -- the checkpoint that runs was the last to begin
+  runs_alone : IsUnended mark kept s → last_number s ≡ mark.number
+  runs_alone unended = ap (λ (o : Option View). number_in (soon_or o s.now).checkpoint) unended.alone ∙ ap number_in unended.runs
+
   ended_by : states (finish_steps mark pages) s mid.world ≡ ended_state mark (forced_pages s (worlds (force_steps 0 PARTITIONS_MAX pages) s mid.world)) s
   ended_by =
       let forces = force_steps 0 PARTITIONS_MAX pages in
@@ -245,9 +282,7 @@ module _ (wanted : Shape) (told : List ℕ → ℕ) (mark : Mark) (kept : PageMa
       ∙ ap (λ (r : State). states (end_steps mark) r (worlds forces s mid.world)) (forces_still 0 PARTITIONS_MAX pages s mid.world)
 
   same_files : new.world ≡ worlds (finish_steps mark pages) s mid.world → (part : ℕ) → content (new.world.pages part) ≡ content (mid.world.pages part)
-  same_files is part =
-      let forces = force_steps 0 PARTITIONS_MAX pages in
-      ap (λ (w : World). content (w.pages part)) (is ∙ worlds_join forces (end_steps mark) s mid.world) ∙ forces_content 0 PARTITIONS_MAX pages s mid.world part
+  same_files is part = ap (λ (w : World). content (w.pages part)) is ∙ finish_files mark pages s mid.world part
 
   now_good : IsGood wanted s mid.world.log mid.world.pages s.now
   now_good = stands_mid.good s.now (subst (λ o. IsViewOf s.now o s.now) (sym may.unended.alone) refl)
@@ -286,7 +321,7 @@ module _ (wanted : Shape) (told : List ℕ → ℕ) (mark : Mark) (kept : PageMa
       ∙ ap (λ (w : World). states (finish_steps mark pages) s w) (sym wrote.is) ∙ ended_by
 
   pub end_begun : AllMoments mid new (MakesPrefix (finish_steps mark pages) s mid.world) → BeginsSteps told s old new
-  end_begun at_each = record { steps = all_steps; can = can_all; moments = moments_all at_each; added = ap appended state_all }
+  end_begun at_each = record { steps = all_steps; can = can_all; moments = moments_all at_each; added = ap appended state_all; number = ap last_number state_all ∙ sym (runs_alone may.unended) }
 
   pub ends : AllMoments mid new (MakesPrefix (finish_steps mark pages) s mid.world) → new.world ≡ worlds (finish_steps mark pages) s mid.world → EndsCheckpoint told mark s old new
   ends at_each is = record {
@@ -318,6 +353,26 @@ any_state shape = record {
   order = [];
   map = empty;
 }
+
+-- a state in which this checkpoint runs alone, and these are the pages that the log rebuilds for it
+abbrev pub unended_state : Mark → PageMap → State
+unended_state mark kept = record {
+  shape = kept.shape;
+  low = 0;
+  at = place 1 0;
+  pending = [];
+  end = place 1 0;
+  tail = Uncut;
+  now = record { checkpoint = Started mark; rebuilt = kept_pages kept };
+  soon = None;
+  files = no_pages;
+  first = empty;
+  order = [];
+  map = empty;
+}
+
+pub is_unended : (mark : Mark) (kept : PageMap) → IsUnended mark kept (unended_state mark kept)
+is_unended mark kept = record { runs = refl; alone = refl; rebuilt = refl; shaped = refl }
 
 forces_log : (from n : ℕ) (pages : List PageId) (s : State) (w : World) → (worlds (force_steps from n pages) s w).log ≡ w.log
 unfolding force_steps

@@ -9,7 +9,7 @@ use Rattle.pm_records.proofs.QuietLog.{changed_quiet, forced_quiet}
 use Rattle.pm_marks.specs.InForce.{Checkpoint, NoStart, Started, Ended}
 use Rattle.pm_marks.specs.Slots.{mark_at, slot_of}
 use Rattle.pm_marks.proofs.FirstSlots.{cleared_none}
-use Rattle.pm_core.specs.Stands.{HasNewFirst, IsStill, MarksSay}
+use Rattle.pm_core.specs.Stands.{IsStill, MarksSay}
 use Rattle.pm_redo.specs.Restoring.{KeepsMarks, with_end}
 
 -- a file with a valid mark isn't one to whose first slot zeros alone were written

@@ -2,8 +2,10 @@ pub mod EndingSteps
 pub mod FitMarks
 pub mod Entries
 pub mod ForcedMarks
+pub mod KeptBase
 pub mod Listed
 pub mod LoadedPages
+pub mod LowestKept
 pub mod MoreFrames
 pub mod RangeReads
 pub mod Restored

@@ -30,7 +30,7 @@ use Rattle.pm_core.specs.Calls.{MakesPrefix}
 use Rattle.pm_core.specs.Held.{in_force, store_shape}
 use Rattle.pm_core.specs.LogAlone.{image_of}
 use Rattle.pm_core.specs.Machine.{DiskStep, CanAll, states, worlds}
-use Rattle.pm_core.specs.Prefixes.{KeepsPrefix}
+use Rattle.pm_core.specs.Prefixes.{KeepsPrefix, last_number}
 use Rattle.pm_core.specs.Replays.{all_replayed}
 use Rattle.pm_core.specs.Sound.{SoundImage}
 use Rattle.pm_core.specs.Stands.{HasShape, MarksSay, QuietMarks, IsViewOf, soon_checkpoint, soon_or, Stands}
@@ -168,6 +168,7 @@ module _ (told : List ℕ → ℕ) (s : State) (old mid new : History) (same : m
     can = subst (λ (w : World). CanAll told begun.steps s w) same begun.can;
     moments = moments_after begun.steps begun.moments;
     added = ap (λ (w : World). appended (states begun.steps s w)) (sym same) ∙ begun.added;
+    number = ap (λ (w : World). last_number (states begun.steps s w)) (sym same) ∙ begun.number;
   }
 
   pub restores_after : (checkpoint : Checkpoint) → Restores told checkpoint s mid new → Restores told checkpoint s old new

@@ -19,6 +19,7 @@ use Rattle.pm_marks.specs.InForce.{Checkpoint, NoStart, Started, Ended}
 use Rattle.pm_core.specs.BasePages.{Partitions, no_pages, pages_of, laid_over, Rebuilds, rebuilt_of}
 use Rattle.pm_core.specs.Calls.{MakesPrefix, AreRebuilt}
 use Rattle.pm_core.specs.Machine.{DiskStep, CanAll, map_or, states, worlds}
+use Rattle.pm_core.specs.Prefixes.{last_number}
 use Rattle.pm_core.specs.Replays.{all_replayed}
 use Rattle.pm_core.specs.Rounds.{on_log}
 use Rattle.pm_core.specs.Stands.{Stands}
@@ -113,6 +114,7 @@ module _ (wanted : Shape) (told : List ℕ → ℕ) (checkpoint : Checkpoint) (s
     can = tt;
     moments = weaker old new (IsSame old.world) (MakesPrefix [] s old.world) (λ w is. (0, omega arith, is)) same;
     added = refl;
+    number = refl;
   }
 
   module _ {T E : Type 0} (mid new : History) (result : Result T E) (same : mid.world ≡ old.world) (first : AllMoments old mid (IsSame old.world)) (cut : DoesSteps {T = T} {E = E} mid new result cut_steps s.at) where
@@ -123,7 +125,7 @@ module _ (wanted : Shape) (told : List ℕ → ℕ) (checkpoint : Checkpoint) (s
         (read_and_cut old mid new result s.at same first cut)
 
     pub begins_cut : BeginsSteps told s old new
-    begins_cut = record { steps = cuts; can = cut_can; moments = prefixes; added = cut_appended }
+    begins_cut = record { steps = cuts; can = cut_can; moments = prefixes; added = cut_appended; number = refl }
 
     pub cut_world : OnOk result (new.world ≡ worlds cuts s old.world)
     cut_world = on_ok_weaker result
@@ -167,8 +169,12 @@ module _ (wanted : Shape) (told : List ℕ → ℕ) (checkpoint : Checkpoint) (s
         steps = cuts ++ begun.steps;
         can = can-append told cuts begun.steps s old.world cut_can (subst (λ (w : World). CanAll told begun.steps cut_state w) is begun.can);
         moments = moments_joined old new last cuts begun.steps s prefixes is begun.moments;
-        added = ap appended (states_join cuts begun.steps s old.world ∙ ap (λ (w : World). states begun.steps cut_state w) (sym is)) ∙ begun.added ∙ cut_appended;
+        added = ap appended state_then ∙ begun.added ∙ cut_appended;
+        number = ap last_number state_then ∙ begun.number;
       }
+        where
+          state_then : states (cuts ++ begun.steps) s old.world ≡ states begun.steps cut_state new.world
+          state_then = states_join cuts begun.steps s old.world ∙ ap (λ (w : World). states begun.steps cut_state w) (sym is)
 
       pub restores_then : (last : History) (mark : Mark) → checkpoint ≡ Started mark → EndsCheckpoint told mark cut_state new last → last.world.log ≡ new.world.log → Restores told checkpoint s old last
       restores_then last mark started ends log =

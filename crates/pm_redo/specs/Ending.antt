@@ -13,6 +13,7 @@ use Rattle.pm_core.specs.Calls.{MakesPrefix, AreRebuilt}
 use Rattle.pm_core.specs.Machine.{DiskStep, CanAll, states, worlds}
 use Rattle.pm_core.specs.PageLaws.{Grows}
 use Rattle.pm_core.specs.PageSets.{has_index}
+use Rattle.pm_core.specs.Prefixes.{last_number}
 use Rattle.pm_core.specs.Stands.{Stands}
 use Rattle.pm_core.specs.Starts.{appended}
 use Rattle.pm_core.specs.States.{State}
@@ -31,8 +32,9 @@ pub record BeginsSteps (told : List ℕ → ℕ) (s : State) (old new : History)
   pub steps : List DiskStep
   pub can : CanAll told steps s old.world
   pub moments : AllMoments old new (MakesPrefix steps s old.world)
-  -- nothing is appended
+  -- nothing is appended, and no checkpoint is begun
   pub added : appended (states steps s old.world) ≡ appended s
+  pub number : last_number (states steps s old.world) ≡ last_number s
 
 -- the page of this index stands in its partition's file, as it is in this world
 abbrev pub StandsInFile : ℕ → World → ℕ → ℕ → List ℕ → Type 0
@@ -54,6 +56,9 @@ pub record WritesOne (told : List ℕ → ℕ) (kept : PageMap) (page : PageId) 
   pub others : (part index : ℕ) (bytes : List ℕ) → kept_pages kept part index ≡ Some bytes
       → StandsInFile kept.shape.page_size old.world part index bytes
       → StandsInFile kept.shape.page_size new.world part index bytes
+  pub apart : (part index : ℕ) (bytes : List ℕ) → kept_pages kept part index ≡ None
+      → StandsInFile kept.shape.page_size old.world part index bytes
+      → StandsInFile kept.shape.page_size new.world part index bytes
 
 -- These pages were written, but for those that are left.
 pub record WritesPages (told : List ℕ → ℕ) (kept : PageMap) (pages left : List PageId) (s : State)
@@ -67,6 +72,15 @@ pub record WritesPages (told : List ℕ → ℕ) (kept : PageMap) (pages left : 
   pub written : (part index : ℕ) (bytes : List ℕ) → has_index part index pages ≡ true
       → kept_pages kept part index ≡ Some bytes
       → (has_index part index left ≡ true) ⊎ StandsInFile kept.shape.page_size new.world part index bytes
+  pub apart : (part index : ℕ) (bytes : List ℕ) → kept_pages kept part index ≡ None
+      → StandsInFile kept.shape.page_size old.world part index bytes
+      → StandsInFile kept.shape.page_size new.world part index bytes
+
+-- each page that the log rebuilds stands in its partition's file, and so does each other one that stood there
+abbrev pub LaysPages : PageMap → World → World → Type 0
+LaysPages kept old new = (part index : ℕ) (bytes : List ℕ)
+    → laid_over (kept_pages kept) (pages_of kept.shape.page_size (files_in old)) part index ≡ Some bytes
+    → StandsInFile kept.shape.page_size new part index bytes
 
 -- this checkpoint may be ended, once these pages, all that the log rebuilds, are in their files
 pub record MayEnd (wanted : Shape) (told : List ℕ → ℕ) (mark : Mark) (kept : PageMap) (pages : List PageId)

@@ -4,7 +4,8 @@
 --   the pages of a checkpoint without its end marker are rebuilt from the log
 --   the log is read from the replay place to its end, and is cut there
 --   the rebuilt pages are written and forced, and the end marker is written and forced
-use Rattle.std.specs.Prelude.{◌≡◌, ◌⊎◌, ◌<◌, ◌≤◌, ℕ, min, List, [], length, Option, Some, None, IfSome, IfErr, Result, false}
+use Rattle.std.specs.Prelude.{◌≡◌, ◌⊎◌, ◌<◌, ◌≤◌, ◌-◌, ℕ, min, List, [], length, Option, Some, None, IsSome}
+use Rattle.std.specs.Prelude.{IfSome, IfErr, Result, false, OnOk}
 use Rattle.std.specs.Option.{option_and_then}
 use Rattle.pm_types.specs.declared.fault.Field.{Field}
 use Rattle.pm_types.specs.declared.fault.OpenFault.{OpenFault}
@@ -17,7 +18,7 @@ use Rattle.pm_types.specs.declared.shape.Shape.{Shape}
 use Rattle.pm_frame.specs.Frames.{Frame}
 use Rattle.pm_disk.specs.Images.{Image, LeavesAll, NothingPending}
 use Rattle.pm_disk.specs.Moments.{History, AllMoments}
-use Rattle.pm_disk.specs.Worlds.{World}
+use Rattle.pm_disk.specs.Worlds.{World, segment_in}
 use Rattle.pm_model.specs.Eval.{Pairs}
 use Rattle.pm_records.specs.FirstRecords.{is_restart}
 use Rattle.pm_records.specs.LogFiles.{Uncut, Ready, contents}
@@ -42,7 +43,7 @@ use Rattle.pm_redo.specs.Ending.{BeginsSteps}
 use Rattle.pm_redo.specs.FoundMarks.{replay_at}
 use Rattle.pm_redo.specs.LogEnds.{LogEndsAt}
 use Rattle.pm_redo.specs.Pictures.{files_in, AreOfFiles}
-use Rattle.pm_redo.specs.Rebuilding.{CanNotRebuildFor}
+use Rattle.pm_redo.specs.Rebuilding.{CanNotRebuildFor, IsSame}
 
 -- ---- the shape
 
@@ -76,7 +77,7 @@ mark_of (Ended mark) = Some mark
 abbrev pub first_kept : Mark → ℕ
 first_kept mark = min mark.from.seg (min mark.begin.seg mark.replay.seg)
 
--- the first segment that is kept
+-- the first segment that is needed
 abbrev pub first_of : Checkpoint → ℕ
 first_of NoStart = 1
 first_of (Started mark) = first_kept mark
@@ -115,17 +116,49 @@ LeavesStore old now (opening.Store Memory) = Unit {0}
 LeavesStore old now (opening.Store (BadPage page)) = now ≡ old
 LeavesStore old now (opening.Store (BadRecord at)) = now ≡ old
 
--- Nothing but the store's files is changed, and after a fault that names something nothing at all.
-pub record OnlyRestores {T : Type 0} (old new : History) (result : Result T OpenFault) : Type 0 where
-  pub disk : AllMoments old new (ChangesDisk old.world)
-  pub untouched : IfErr result (LeavesStore old.world new.world)
+-- the checkpoint with its end marker
+abbrev pub with_end : Checkpoint → Checkpoint
+with_end NoStart = NoStart
+with_end (Started mark) = Ended mark
+with_end (Ended mark) = Ended mark
 
--- what a fault says of the shape: it names the field that differs, and a record is bad only where none does
+-- where no checkpoint is without its end marker the partitions' files are as they were
+abbrev pub KeepsPages : Checkpoint → World → World → Type 0
+KeepsPages NoStart old now = now.pages ≡ old.pages
+KeepsPages (Started mark) old now = Unit {0}
+KeepsPages (Ended mark) old now = now.pages ≡ old.pages
+
+-- The base pages stand in the partitions' files, whether the store is sound or not: each page that the log
+-- rebuilds for a checkpoint without its end marker, and each other one that stood there.
+pub record KeepsBase (checkpoint : Checkpoint) (old now : World) : Type 0 where
+  pub rebuilt : Partitions
+  pub rebuilt_are : RebuiltAre checkpoint (contents old.log) rebuilt
+  pub stays : (part index : ℕ) (page : List ℕ)
+      → base_of checkpoint rebuilt (files_in old) part index ≡ Some page
+      → base_of (with_end checkpoint) no_pages (files_in now) part index ≡ Some page
+  pub files : KeepsPages checkpoint old now
+
+-- Nothing but the store's files is changed, and at `Ok` the base pages stand in them.
+pub record RestoresFiles {T E : Type 0} (checkpoint : Checkpoint) (old new : History) (result : Result T E)
+    : Type 0 where
+  pub disk : AllMoments old new (ChangesDisk old.world)
+  pub base : OnOk result (KeepsBase checkpoint old.world new.world)
+
+-- Nothing but the store's files is changed, after a fault that names something nothing at all, and where the
+-- shape differs nothing at any moment. At `Ok` the base pages stand in the files.
+pub record OnlyRestores {T : Type 0} (differs : Option Field) (old new : History) (result : Result T OpenFault)
+    : Type 0 where
+  pub disk : AllMoments old new (ChangesDisk old.world)
+  pub base : OnOk result (KeepsBase (in_force (image_of old.world)) old.world new.world)
+  pub untouched : IfErr result (LeavesStore old.world new.world)
+  pub differing : (field : Field) → differs ≡ Some field → AllMoments old new (IsSame old.world)
+
+-- what a fault says of the shape: it names the field that differs, and a record or a page is bad only where none does
 abbrev pub ComparesShape : Option Field → OpenFault → Type 0
 ComparesShape differs (opening.Shape field) = differs ≡ Some field
 ComparesShape differs (opening.Store Failed) = Unit {0}
 ComparesShape differs (opening.Store Memory) = Unit {0}
-ComparesShape differs (opening.Store (BadPage page)) = Unit {0}
+ComparesShape differs (opening.Store (BadPage page)) = differs ≡ None
 ComparesShape differs (opening.Store (BadRecord at)) = differs ≡ None
 
 -- ---- the log
@@ -140,10 +173,24 @@ segment_bytes_of (Ended mark) wanted = mark.shape.segment_bytes
 abbrev pub IsBadLog : Checkpoint → (ℕ → List ℕ) → Place → Type 0
 IsBadLog checkpoint log at = CanNotRebuildFor checkpoint log at ⊎ IsPastEnd log (replay_of checkpoint) at
 
--- the log that ends there, with this first segment and this size of its segments
-pub record CutsLog (log : ℕ → List ℕ) (replay : Place) (first segment_bytes : ℕ) (cut : LogEnd) : Type 0 where
+-- the log that ends there, with this size of its segments
+pub record CutsLog (log : ℕ → List ℕ) (replay : Place) (segment_bytes : ℕ) (cut : LogEnd) : Type 0 where
   pub ends : LogEndsAt log replay cut.end
-  pub is : cut ≡ fresh_log first cut.end segment_bytes
+  pub is : cut ≡ fresh_log cut.first cut.end segment_bytes
+
+-- The lowest segment that is there, without a gap up to the one from which on segments are needed: each
+-- between the two is there, and the one right below it isn't. The first segment of all is 1.
+pub record IsLowestKept (world : World) (needed lowest : ℕ) : Type 0 where
+  pub below : lowest ≤ needed
+  pub from_one : 1 ≤ needed → 1 ≤ lowest
+  pub there : (seg : ℕ) → lowest ≤ seg → seg < needed → IsSome (segment_in world seg)
+  pub gone : 1 < lowest → segment_in world (lowest - 1) ≡ None
+
+-- The segments of a log that is needed from this one on: the last one ends where the log ends, and the first
+-- one that counts as kept is the lowest that is there, so that none is left that no checkpoint would remove.
+pub record HasSegments (needed : ℕ) (world : World) (log : LogEnd) : Type 0 where
+  pub ends : EndsThere log world
+  pub lowest : IsLowestKept world needed log.first
 
 -- Whatever its files hold: the log ends in a segment of a number that a segment has, and a segment may have as many
 -- bytes as one of a store.
@@ -167,12 +214,6 @@ pub record IsLeft (wanted : Shape) (told : List ℕ → ℕ) (checkpoint : Check
   pub at_end : s.end ≡ s.at
   pub nothing_pending : s.pending ≡ []
   pub files : s.files ≡ pages_of s.shape.page_size (files_in world)
-
--- the checkpoint with its end marker
-abbrev pub with_end : Checkpoint → Checkpoint
-with_end NoStart = NoStart
-with_end (Started mark) = Ended mark
-with_end (Ended mark) = Ended mark
 
 -- The state after a restart's steps: the tail is cut and forced, the checkpoint has its end marker, if there
 -- is a start marker, and nothing else has changed.
@@ -223,7 +264,7 @@ CrashHolds wanted shape pairs world =
     (image : Image) → LeavesAll world image → IsTrueImage world image → SoundImage wanted image shape pairs
 
 -- What was found: the store's shape, the start marker, from where the log is to be replayed, where it ends, and
--- the log that ends there, as it does in its files now.
+-- the log that ends there, as it does in its files now. Its first segment is the lowest that is there.
 pub record IsBase (checkpoint : Checkpoint) (wanted : Shape) (log : ℕ → List ℕ) (now : World) (base : Base)
     : Type 0 where
   pub shape : base.shape ≡ found_shape checkpoint log
@@ -231,8 +272,9 @@ pub record IsBase (checkpoint : Checkpoint) (wanted : Shape) (log : ℕ → List
   pub replay : base.replay ≡ replay_of checkpoint
   pub ends : LogEndsAt log base.replay base.log_end
   pub cut : base.log
-      ≡ fresh_log (first_of checkpoint) base.log_end (segment_bytes_of checkpoint wanted.segment_bytes)
+      ≡ fresh_log base.log.first base.log_end (segment_bytes_of checkpoint wanted.segment_bytes)
   pub there : EndsThere base.log now
+  pub lowest : IsLowestKept now (first_of checkpoint) base.log.first
 
 -- Whatever the host tells: the start marker says what a marker may, with the wanted shape, and the log ends where
 -- it was cut.

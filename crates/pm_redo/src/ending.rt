@@ -7,10 +7,12 @@ ghost use Rattle.pm_types.specs.declared.shape.Mark.{Mark};
 ghost use Rattle.pm_disk.specs.Moments.{AllMoments};
 ghost use Rattle.pm_disk.specs.States.{HasCause, IsUsable};
 ghost use Rattle.pm_marks.specs.Slots.{IsMark};
-ghost use Rattle.pm_core.specs.Calls.{ChangesDisk, MakesSteps, force_steps, finish_steps};
+ghost use Rattle.pm_core.specs.Calls.{AreRebuilt, ChangesDisk, MakesSteps, force_steps, finish_steps};
 ghost use Rattle.pm_core.specs.PageSets.{has_part};
 ghost use Rattle.pm_core.specs.States.{State};
-ghost use Rattle.pm_redo.specs.Ending.{IsUnended, BeginsSteps, WritesOne, WritesPages, MayEnd, EndsCheckpoint};
+ghost use Rattle.pm_redo.specs.Ending.{IsUnended, BeginsSteps, WritesOne, WritesPages, MayEnd};
+ghost use Rattle.pm_redo.specs.Ending.{EndsCheckpoint, LaysPages};
+ghost use Rattle.pm_redo.specs.PageMaps.{kept_pages};
 
 use crate::rebuilt_pages::RebuiltPages;
 use pm_disk::{Failed, Host};
@@ -33,6 +35,9 @@ pub(crate) fn end_checkpoint<H: Host>(
     ensures ended { H.Device.tells → (wanted : Shape) (told : List ℕ → ℕ) (s : State)
         → MayEnd wanted told mark.now rebuilt.now pages.now.items s (H.Device.history host.old).world
         → OnOk result (EndsCheckpoint told mark.now s (H.Device.history host.old) (H.Device.history host.new)) }
+    ensures pages { H.Device.tells → AreRebuilt pages.now.items (kept_pages rebuilt.now)
+        → OnOk result (LaysPages rebuilt.now (H.Device.history host.old).world
+        (H.Device.history host.new).world) }
     ensures log { H.Device.tells → OnOk result
         ((H.Device.history host.new).world.log ≡ (H.Device.history host.old).world.log) }
     ensures disk { H.Device.tells → AllMoments (H.Device.history host.old) (H.Device.history host.new)

@@ -44,6 +44,9 @@ pub struct Base {
 /// log where it ends, and ends that checkpoint: it writes the rebuilt pages, forces their files, and then
 /// writes the end marker and forces it.
 ///
+/// The log counts as kept each segment that is there right below those that the start marker names, where
+/// earlier crashes left some: the next checkpoint removes them.
+///
 /// `Shape` comes exactly where the store has a shape and it differs, unless a call failed or memory ran
 /// out: it names the first field that does. `BadRecord` comes only where the store isn't sound: where
 /// without a start marker the first record is no RESTART, where the log doesn't rebuild the pages, and where
@@ -67,7 +70,10 @@ pub fn restore<H: Host>(alloc: Global, host: &mut H, wanted: &Shape) -> Result<B
         → IsErrOf result (OpenFault.Store (StoreFault.BadRecord at)) → IsBadRestore
         (in_force (image_of (H.Device.history host.old).world))
         (contents (H.Device.history host.old).world.log) at }
-    ensures only { H.Device.tells → OnlyRestores (H.Device.history host.old) (H.Device.history host.new) result }
+    ensures only { H.Device.tells → OnlyRestores (difference_from (found_shape
+        (in_force (image_of (H.Device.history host.old).world))
+        (contents (H.Device.history host.old).world.log)) wanted.now)
+        (H.Device.history host.old) (H.Device.history host.new) result }
 
     // What it makes of a sound store with nothing pending, and what a crash leaves meanwhile.
     ensures within { H.Device.tells → (told : List ℕ → ℕ) (shape : Shape) (pairs : Pairs)

@@ -2,207 +2,168 @@
 
 ghost use Rattle.std.specs.Prelude.{◌<◌};
 
-use crate::runs::{Run, lasting_len, log_left, look_at_refused, run_over, run_refusing, run_until};
+use crate::runs::lasting_len;
 use crate::scripts::run_in_pieces;
-use pm_disk_mem::{MemDisk, Pick};
 use std::process::Abort;
 use std::test::Fail;
 
-/// Three batches of one line each: a scan is a batch by itself.
-const THREE: &[u8] = b"put 0 a 1\nscan 3\nput 0 b 2\n";
+/// What has come of a script whose call of the first number is refused: how many lines were answered, which
+/// were accepted, what was said, and how many bytes of the log each crash leaves.
+type Row = (u64, u64, &'static [u32], &'static [u8], usize);
 
-/// The number of the call that forces the last batch of `THREE`.
-const LAST_FORCE: u64 = 14;
+/// A scan is a batch by itself.
+const SCAN: &[u8] = b"put 0 a 1\nscan 3\nput 0 b 2\n";
 
-// The folder is bound, the configuration and the store's shape are read; the log is read, cut and
-// forced, and the RESTART written; then the whole script is read. The put is written, forced and
-// answered, the scan forced and answered, and the last put written, forced and answered; then the
-// script's end is read. At last the log is forced once more.
-#[test]
-fn a_batch_is_lasting_before_it_is_answered(rt: HostRuntime) -> Result<(), Fail> {
-    // (refused call, lines answered, order, said, lasting bytes of the log)
-    let cases = [
-        (6, 0, [].as_slice(), b"".as_slice(), 0),
-        (7, 0, &[], b"", 0),
-        (8, 0, &[1], b"", 0),
-        (9, 0, &[1], b"", 0),
-        (10, 0, &[1], b"", 67),
-        (11, 1, &[1], b"ok\n", 67),
-        (12, 1, &[1], b"ok\n", 67),
-        (13, 2, &[1, 3], b"ok\nend 0\n", 67),
-        (LAST_FORCE, 2, &[1, 3], b"ok\nend 0\n", 67),
-        (15, 2, &[1, 3], b"ok\nend 0\n", 97),
-        (16, 3, &[1, 3], b"ok\nend 0\nok\n", 97),
-        (17, 3, &[1, 3], b"ok\nend 0\nok\n", 97),
-    ];
-    for (refused, lines, order, said, lasting) in cases {
-        let run = run_refusing(&rt, THREE, refused)?;
-        look_at_refused(&rt, &run, refused, lines, order, said)?;
-        assert_eq!(rt; lasting_len(&rt, &run)?, lasting, "{refused}");
-    }
-    Ok(())
-}
+// Ten calls open the store, of which the last one writes the RESTART, and then the whole script is read. The
+// first put takes four calls, its record and three pages, and then its batch is forced and answered. The scan
+// is forced and answered, and the other put is as the first one. Then the script's end is read, and the log
+// forced once more.
+const ON_SCAN: [Row; 14] = [
+    (9, 0, &[], b"", 0),
+    (10, 0, &[], b"", 0),
+    (11, 0, &[1], b"", 0),
+    (14, 0, &[1], b"", 0),
+    (15, 0, &[1], b"", 0),
+    (16, 0, &[1], b"", 12_442),
+    (17, 1, &[1], b"ok\n", 12_442),
+    (18, 1, &[1], b"ok\n", 12_442),
+    (19, 2, &[1, 3], b"ok\nend 0\n", 12_442),
+    (22, 2, &[1, 3], b"ok\nend 0\n", 12_442),
+    (23, 2, &[1, 3], b"ok\nend 0\n", 12_442),
+    (24, 2, &[1, 3], b"ok\nend 0\n", 24_847),
+    (25, 3, &[1, 3], b"ok\nend 0\nok\n", 24_847),
+    (26, 3, &[1, 3], b"ok\nend 0\nok\n", 24_847),
+];
 
-/// So many puts of one key.
-fn puts(rt: &impl AllocGlobal, count: usize) -> Result<Vec<u8>, Fail> {
-    let mut script = Vec::new(rt.alloc());
-    for _ in 0..count {
-        script.extend_from_slice(b"put 0 a 1\n")?;
-    }
-    Ok(script)
-}
+/// So is a line that asks for a checkpoint.
+const CHECKPOINT: &[u8] = b"put 0 a 1\ncheckpoint\nput 0 a 2\n";
 
-/// Runs so many puts, and looks at how many were answered and how many calls that took.
-fn run_puts(rt: &(impl Abort + AllocGlobal), lines: usize, calls: u64) -> Result<(), Fail> {
-    let run = run_over(rt, &puts(rt, lines)?, MemDisk::empty(rt.alloc()))?;
-    assert_eq!(rt; run.report.status, 0, "{lines}");
-    assert_eq!(rt; run.report.lines, lines as u64, "{lines}");
-    assert_eq!(rt; run.report.order.len(), lines, "{lines}");
-    assert_eq!(rt; run.said().len(), lines.saturating_mul(3), "{lines}");
-    assert_eq!(rt; run.calls(), calls, "{lines}");
-    Ok(())
-}
+// The checkpoint's begin is written and forced, its start marker read, made, written and forced, the three
+// pages written and forced, and its end marker read, made, written and forced. Then the log is forced, and the
+// line answered. Of the other put's pages one is changed, which is logged whole.
+const ON_CHECKPOINT: [Row; 11] = [
+    (17, 1, &[1], b"ok\n", 12_442),
+    (18, 1, &[1], b"ok\n", 12_442),
+    (19, 1, &[1], b"ok\n", 12_483),
+    (30, 1, &[1], b"ok\n", 12_483),
+    (31, 1, &[1], b"ok\n", 12_483),
+    (32, 1, &[1], b"ok\n", 12_483),
+    (33, 2, &[1, 3], b"ok\nok\n", 12_483),
+    (34, 2, &[1, 3], b"ok\nok\n", 12_483),
+    (35, 2, &[1, 3], b"ok\nok\n", 12_483),
+    (36, 2, &[1, 3], b"ok\nok\n", 16_638),
+    (38, 3, &[1, 3], b"ok\nok\nok\n", 16_638),
+];
 
-// Beside the write of each put: eight calls up to the script's first piece, a force and a print for
-// each batch, the read of the script's end, and the last force. 7,168 lines are two pieces, and one
-// read more: a read that gave all that it was asked for ends no batch.
-#[test]
-fn a_batch_has_at_most_1024_lines(rt: HostRuntime) -> Result<(), Fail> {
-    for (lines, calls) in [
-        (1_023, 1_035),
-        (1_024, 1_036),
-        (1_025, 1_039),
-        (2_049, 2_065),
-        (7_168, 7_193),
-    ] {
-        run_puts(&rt, lines, calls)?;
-    }
-    Ok(())
-}
+/// A script of lines that come one by one, each with its own read.
+const LINES: &[u8] = b"put 0 a 1\nput 0 b 2\nget 0 a\n";
+
+const ON_LINES: [Row; 13] = [
+    (0, 0, &[], b"", 0),
+    (5, 0, &[], b"", 0),
+    (10, 0, &[], b"", 0),
+    (11, 0, &[1], b"", 0),
+    (16, 0, &[1], b"", 12_442),
+    (17, 1, &[1], b"ok\n", 12_442),
+    (18, 1, &[1, 2], b"ok\n", 12_442),
+    (23, 1, &[1, 2], b"ok\n", 24_847),
+    (24, 2, &[1, 2], b"ok\nok\n", 24_847),
+    (25, 2, &[1, 2], b"ok\nok\n", 24_847),
+    (26, 2, &[1, 2], b"ok\nok\n", 24_847),
+    (27, 3, &[1, 2], b"ok\nok\nvalue 1\n", 24_847),
+    (28, 3, &[1, 2], b"ok\nok\nvalue 1\n", 24_847),
+];
 
 /// Two puts, of ten bytes each.
 const TWO: &[u8] = b"put 0 a 1\nput 0 b 2\n";
 
-/// Runs `TWO` in pieces of this size, where the call of this number, a read, is refused, and looks
-/// at what was answered before.
-fn look_before_read(
+// The second piece of seven bytes has the first line's newline, and the third one the end of the second line.
+const ON_PIECES: [Row; 2] = [(11, 0, &[], b"", 0), (18, 1, &[1], b"ok\n", 12_442)];
+
+// Lines that are read at once are one batch.
+const AT_ONCE: [Row; 2] = [
+    (20, 0, &[1, 2], b"", 24_847),
+    (21, 2, &[1, 2], b"ok\nok\n", 24_847),
+];
+
+/// Runs a script in pieces of this size, where the call of each row is refused, and looks at what the run
+/// reported and said, at what lasts, and that it made no call more.
+fn look_at_rows(
     rt: &(impl Abort + AllocGlobal),
+    script: &[u8],
     piece: usize,
-    refused: u64,
-    order: &[u32],
-    said: &[u8],
+    rows: &[Row],
 ) -> Result<(), Fail>
     requires { 0 < piece }
 {
-    let run = run_in_pieces(rt, &["run", "d"], TWO, piece, &[refused])?;
-    look_at_refused(rt, &run, refused, order.len() as u64, order, said)
-}
-
-// The first piece is read by the call of number 7, and each put is written, forced and answered by three calls.
-#[test]
-fn a_line_is_answered_before_the_next_read(rt: HostRuntime) -> Result<(), Fail> {
-    look_before_read(&rt, 10, 11, &[1], b"ok\n")?;
-    look_before_read(&rt, 10, 15, &[1, 2], b"ok\nok\n")?;
-    // The second piece has the first line's newline, and the third one the end of the second line.
-    look_before_read(&rt, 7, 8, &[], b"")?;
-    look_before_read(&rt, 7, 12, &[1], b"ok\n")
-}
-
-#[test]
-fn lines_that_are_read_at_once_are_one_batch(rt: HostRuntime) -> Result<(), Fail> {
-    look_before_read(&rt, 20, 12, &[1, 2], b"ok\nok\n")?;
-    look_before_read(&rt, 65_536, 12, &[1, 2], b"ok\nok\n")
-}
-
-/// Looks at how many lines were answered by a run of puts whose call of this number was refused.
-fn look_at_answered(rt: &impl Abort, run: &Run, refused: u64, lines: usize) -> Result<(), Fail> {
-    assert_eq!(rt; run.report.status, 3, "{refused}");
-    assert_eq!(rt; run.report.lines, lines as u64, "{refused}");
-    assert_eq!(rt; run.said().len(), lines.saturating_mul(3), "{refused}");
+    for (refused, lines, order, said, lasting) in rows {
+        let run = run_in_pieces(rt, &["run", "d"], script, piece, &[*refused])?;
+        assert_eq!(rt; run.report.status, 3, "{refused}");
+        assert_eq!(rt; run.report.lines, *lines, "{refused}");
+        assert_eq!(rt; run.report.order.as_slice(), *order, "{refused}");
+        assert_eq!(rt; run.said(), *said, "{refused}");
+        assert_eq!(rt; run.calls(), refused.saturating_add(1), "{refused}");
+        assert_eq!(rt; lasting_len(rt, &run)?, *lasting, "{refused}");
+    }
     Ok(())
 }
 
 #[test]
-fn the_line_after_1024_waits_for_a_force_of_its_own(rt: HostRuntime) -> Result<(), Fail> {
-    let script = puts(&rt, 1_025)?;
-    // (refused call, lines answered, lasting bytes of the log): both forces and both prints.
-    for (refused, lines, lasting) in [
-        (1_032, 0, 0),
-        (1_033, 0, 30_757),
-        (1_035, 1_024, 30_757),
-        (1_036, 1_024, 30_787),
+fn a_batch_lasts_before_it_is_answered_and_after_a_refused_call_none_is_made(
+    rt: HostRuntime,
+) -> Result<(), Fail> {
+    look_at_rows(&rt, SCAN, 65_536, &ON_SCAN)?;
+    look_at_rows(&rt, CHECKPOINT, 65_536, &ON_CHECKPOINT)?;
+    look_at_rows(&rt, LINES, 10, &ON_LINES)?;
+    look_at_rows(&rt, TWO, 7, &ON_PIECES)?;
+    look_at_rows(&rt, TWO, 20, &AT_ONCE)?;
+    look_at_rows(&rt, TWO, 65_536, &AT_ONCE)
+}
+
+/// Runs so many gets, of nine bytes each, where the call of this number is refused if there is one, and looks
+/// at how many were answered and how many calls that took.
+fn look_at_gets(
+    rt: &(impl Abort + AllocGlobal),
+    lines: usize,
+    refused: u64,
+    answered: usize,
+    calls: u64,
+) -> Result<(), Fail> {
+    let mut script = Vec::new(rt.alloc());
+    for _ in 0..lines {
+        script.extend_from_slice(b"get 0 aa\n")?;
+    }
+    let run = run_in_pieces(rt, &["run", "d"], &script, 1_000_000, &[refused])?;
+    let status = if calls > refused { 3 } else { 0 };
+    assert_eq!(rt; run.report.status, status, "{lines} {refused}");
+    assert_eq!(rt; run.report.lines, answered as u64, "{lines} {refused}");
+    assert_eq!(rt;
+        run.said().len(),
+        answered.saturating_mul(5),
+        "{lines} {refused}"
+    );
+    assert_eq!(rt; run.calls(), calls, "{lines} {refused}");
+    Ok(())
+}
+
+// Eleven calls up to the script's first piece, a force and a print for each batch, the read of the script's
+// end, and the last force. 8,192 lines are two pieces, and one read more: a read that gave all that it was
+// asked for ends no batch.
+#[test]
+fn a_batch_has_at_most_1024_lines(rt: HostRuntime) -> Result<(), Fail> {
+    for (lines, refused, answered, calls) in [
+        (1_023, 100, 1_023, 15),
+        (1_024, 100, 1_024, 15),
+        (1_025, 100, 1_025, 17),
+        (2_049, 100, 2_049, 19),
+        (8_192, 100, 8_192, 30),
+        // The line after 1,024 waits for a force and a print of its own.
+        (1_025, 11, 0, 12),
+        (1_025, 12, 0, 13),
+        (1_025, 13, 1_024, 14),
+        (1_025, 14, 1_024, 15),
     ] {
-        let run = run_refusing(&rt, &script, refused)?;
-        look_at_answered(&rt, &run, refused, lines)?;
-        assert_eq!(rt; lasting_len(&rt, &run)?, lasting, "{refused}");
+        look_at_gets(&rt, lines, refused, answered, calls)?;
     }
     Ok(())
-}
-
-/// Looks for these bytes as the log that a crash leaves of a run, whatever of it was pending.
-fn look_at_log(
-    rt: &(impl Abort + AllocGlobal),
-    run: &Run,
-    wanted: &[u8],
-    pick: Pick,
-) -> Result<(), Fail> {
-    for left in [Pick::Kept, Pick::Lost] {
-        assert_eq!(rt; log_left(rt, run, left)?.as_slice(), wanted, "{pick:?}");
-    }
-    Ok(())
-}
-
-/// Restarts over a crash in the last batch, and looks for the first put alone and for a RESTART after it.
-fn restart_without(
-    rt: &(impl Abort + AllocGlobal),
-    run: &Run,
-    pick: Pick,
-    wanted: &[u8],
-) -> Result<(), Fail> {
-    let restarted = run_over(rt, b"get 0 a\nget 0 b\n", run.crashed(rt, pick)?)?;
-    assert_eq!(rt; restarted.report.status, 0, "{pick:?}");
-    assert_eq!(rt; restarted.said(), b"value 1\nnone\n".as_slice(), "{pick:?}");
-    look_at_log(rt, &restarted, wanted, pick)
-}
-
-/// Stops a script before the force of its last batch, a put whose frame has so many bytes.
-fn stop_before_last_force(
-    rt: &(impl Abort + AllocGlobal),
-    script: &[u8],
-    frame_len: u64,
-) -> Result<Run, Fail> {
-    let run = run_until(rt, script, MemDisk::empty(rt.alloc()), Some(LAST_FORCE))?;
-    assert_eq!(rt; run.said(), b"ok\nend 0\n".as_slice());
-    let written = log_left(rt, &run, Pick::Kept)?.len() as u64;
-    assert_eq!(rt; written, frame_len.saturating_add(67));
-    Ok(run)
-}
-
-/// Stops a script before the force of its last batch, a put whose frame has so many bytes, and
-/// restarts over each crash in which that frame is torn or damaged.
-fn tear(rt: &(impl Abort + AllocGlobal), script: &[u8], frame_len: u64) -> Result<(), Fail> {
-    let run = stop_before_last_force(rt, script, frame_len)?;
-    let wanted = log_after_restart(rt)?;
-    assert_eq!(rt; wanted.len(), 104);
-    for count in 0..frame_len {
-        restart_without(rt, &run, Pick::Cut(count), &wanted)?;
-    }
-    for pick in [Pick::Lost, Pick::Fill(0), Pick::Fill(5), Pick::Fill(238)] {
-        restart_without(rt, &run, pick, &wanted)?;
-    }
-    Ok(())
-}
-
-/// The log of a run with one put and of a second one, which appended its RESTART.
-fn log_after_restart(rt: &impl AllocGlobal) -> Result<Vec<u8>, Fail> {
-    let run = run_over(rt, b"put 0 a 1\n", MemDisk::empty(rt.alloc()))?;
-    let next = run_over(rt, b"", run.disk(rt)?)?;
-    log_left(rt, &next, Pick::Lost)
-}
-
-// The longer frame has as many bytes as the RESTART that is written in its place.
-#[test]
-fn a_torn_batch_is_cut_off(rt: HostRuntime) -> Result<(), Fail> {
-    tear(&rt, THREE, 30)?;
-    tear(&rt, b"put 0 a 1\nscan 3\nput 0 b 12345678\n", 37)
 }

@@ -1,5 +1,6 @@
 //! The calls of a host as values, and what a host answers to each, as text.
 
+ghost use Rattle.std.specs.Prelude.{◌≡◌, false, OnOk};
 ghost use Rattle.pm_disk.specs.States.{IsUsable};
 
 use crate::noted::Forced;
@@ -196,6 +197,14 @@ fn change_log<L: LogFile>(log: &mut L, call: &Call) -> Result<(), Failed>
         Call::ForceLog(seg) => log.force_log(*seg),
         _ => Err(Failed),
     }
+}
+
+/// Binds a host to a folder.
+pub fn bind<H: Host>(host: &mut H, folder: &str) -> Result<(), Failed>
+    requires { (H.state host.old).access.is_lent ≡ false }
+    ensures { OnOk result (IsUsable (H.state host.new)) }
+{
+    host.bind(folder)
 }
 
 /// What a host answers to `bind` that is bound to a folder already.

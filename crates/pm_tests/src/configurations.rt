@@ -1,7 +1,8 @@
 //! Runs with a configuration.
 
-use crate::runs::{Run, SEGMENT, log_left, run_configured};
+use crate::runs::{OTHER_PUT, Run, disk_of, log_left, run_configured, with_frame};
 use pm_disk_mem::{MemDisk, Pick};
+use pm_frame::LOGICAL;
 use std::process::Abort;
 use std::test::Fail;
 
@@ -133,31 +134,19 @@ fn a_store_keeps_its_shape(rt: HostRuntime) -> Result<(), Fail> {
     Ok(())
 }
 
-/// What is left where a run meets a store of another shape whose second record is bad: the shape is
-/// looked at first.
+// The log ends with a record that meets a full partition: another key's put.
 #[test]
 fn the_shape_is_compared_before_records_are_replayed(rt: HostRuntime) -> Result<(), Fail> {
-    let first = run_fresh(&rt, b"{\"max_rows\": 1, \"partitions\": 1}", b"put 0 a 1\n")?;
-    let mut log = log_left(&rt, &first, Pick::Kept)?;
-    // The same put once more is good, so another key's is appended, which meets a full partition.
-    log = crate::runs::with_frame(&rt, &log, pm_frame::LOGICAL, crate::runs::OTHER_PUT)?;
-    let mut disk = MemDisk::empty(rt.alloc());
-    disk.put_file(SEGMENT, &log)?;
-    let run = run_fresh_over(&rt, b"", disk)?;
-    assert_eq!(rt; run.report.status, 2);
-    assert_eq!(rt; run.said(), b"fault config partitions\n".as_slice());
-    let again = run_configured(
-        &rt,
-        b"{\"max_rows\": 1, \"partitions\": 1}",
-        b"",
-        run.disk(&rt)?,
-    )?;
-    assert_eq!(rt; again.report.status, 5);
-    assert_eq!(rt; again.said(), b"fault record 1:67\n".as_slice());
+    let asked = b"{\"max_rows\": 1, \"partitions\": 1}".as_slice();
+    let first = run_fresh(&rt, asked, b"put 0 a 1\n")?;
+    let log = with_frame(&rt, &log_left(&rt, &first, Pick::Kept)?, LOGICAL, OTHER_PUT)?;
+    for (config, status, said) in [
+        (b"".as_slice(), 2, b"fault config partitions\n".as_slice()),
+        (asked, 5, b"fault record 1:12442\n"),
+    ] {
+        let run = run_configured(&rt, config, b"", disk_of(&rt, &log)?)?;
+        assert_eq!(rt; run.report.status, status, "{config:?}");
+        assert_eq!(rt; run.said(), said, "{config:?}");
+    }
     Ok(())
-}
-
-/// Runs an empty script over a disk with a configuration.
-fn run_fresh_over(rt: &impl AllocGlobal, config: &[u8], disk: MemDisk) -> Result<Run, Fail> {
-    run_configured(rt, config, b"", disk)
 }

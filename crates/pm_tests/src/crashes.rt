@@ -1,16 +1,21 @@
-//! A run that is stopped at each of its calls, what each crash leaves, and the restarts over that.
+//! A run with checkpoints that is stopped at each of its calls, what each crash leaves, and the restarts over
+//! that.
 
-use crate::runs::{Run, log_left, run_until};
+use crate::runs::{Run, SEGMENT, call_over, log_len, run_configured, run_until};
 use pm_disk_mem::{MemDisk, Pick};
-use std::ops::Range;
 use std::process::Abort;
 use std::test::Fail;
 
+/// Two partitions, and the shortest segments: the log goes on into the second one before the second checkpoint,
+/// which drops the first one.
+pub const CONFIG: &[u8] = b"{\"partitions\": 2, \"page_size\": 8192, \"segment_bytes\": 65536}";
+
 /// The run's script: twelve lines that are accepted, of which one is a remove, and eleven that are
-/// not. Three of these are scans, each a batch by itself, between four batches of five lines.
-const SCRIPT: &[u8] =
-    b"put 0 a 1\nget 0 a\nput 0 b 2\nput 0 a 3\nget 0 b\nscan 3\nput 1 a 4\nremove 0 z\nput 0 c 5\nget 1 a\nput 0 b 6\nscan 3\n\
-remove 0 a\nget 0 c\nput 1 a 8\nput 0 c 9\nget 0 d\nscan 3\nput 0 a 10\nget 0 a\nput 0 b 11\nput 1 a 12\nget 1 a\n";
+/// not. Two of these ask for checkpoints and one is a scan, each a batch by itself.
+const SCRIPT: &[u8] = b"put 0 a 1\nget 0 a\nput 0 b 2\nput 0 a 3\nget 0 b\ncheckpoint\n\
+put 1 a 4\nremove 0 z\nput 0 c 5\nget 1 a\nput 0 b 6\nscan 3\n\
+remove 0 a\nget 0 c\nput 1 a 8\nput 0 c 9\nget 0 d\ncheckpoint\n\
+put 0 a 10\nget 0 a\nput 0 b 11\nput 1 a 12\nget 1 a\n";
 
 /// The script of each restart.
 const QUESTIONS: &[u8] = b"get 0 a\nget 0 b\nget 0 c\nget 1 a\n";
@@ -32,29 +37,22 @@ const ANSWERS: [&[u8]; 13] = [
     b"value 10\nvalue 11\nvalue 9\nvalue 12\n",
 ];
 
-/// How many calls the run of the script makes.
-const CALLS: u64 = 36;
-
 /// More calls than any restart makes.
-const CALLS_MAX: u64 = 100;
+const CALLS_MAX: u64 = 200;
 
-/// How many bytes of the log a crash of this run may lose.
-fn pending_bytes(rt: &impl AllocGlobal, run: &Run) -> Result<u64, Fail> {
-    let kept = log_left(rt, run, Pick::Kept)?.len();
-    let lost = log_left(rt, run, Pick::Lost)?.len();
-    Ok(kept.saturating_sub(lost) as u64)
-}
+/// How many prefixes of the log's pending bytes are kept at most in the crashes of a run.
+const CUTS: u64 = 6;
 
-/// The picks of a crash of this run: one where nothing is pending, and else each first part of the
-/// pending bytes besides.
-fn picks(rt: &impl AllocGlobal, run: &Run) -> Result<Vec<Pick>, Fail> {
-    let pending = pending_bytes(rt, run)?;
-    if pending == 0 {
-        return Ok(Vec::from_slice(rt.alloc(), &[Pick::Lost])?);
-    }
-    let mut picks = Vec::from_slice(rt.alloc(), &[Pick::Kept, Pick::Lost, Pick::Fill(238)])?;
-    for count in 1..pending {
-        picks.push(Pick::Cut(count))?;
+/// What becomes of all that is pending in the crashes of each run, and of each restart that is stopped.
+const PICKS: [Pick; 3] = [Pick::Kept, Pick::Lost, Pick::Fill(238)];
+
+/// The crashes of this run: in those beside, a prefix of the log's pending bytes is kept.
+fn picks_of(rt: &impl AllocGlobal, run: &Run) -> Result<Vec<Pick>, Fail> {
+    let kept = log_len(&run.disk(rt)?);
+    let pending = kept.saturating_sub(log_len(&run.crashed(rt, Pick::Lost)?));
+    let mut picks = Vec::from_slice(rt.alloc(), &PICKS)?;
+    for part in 1..CUTS.min(pending) {
+        picks.push(Pick::Cut(part.saturating_mul(pending) / CUTS))?;
     }
     Ok(picks)
 }
@@ -95,7 +93,7 @@ fn restart(
     bounds: Bounds,
     earlier: &[u8],
 ) -> Result<(), Fail> {
-    let run = run_until(rt, QUESTIONS, disk, None)?;
+    let run = run_configured(rt, CONFIG, QUESTIONS, disk)?;
     assert_eq!(rt; run.report.status, 0);
     let said = run.said();
     assert!(rt; is_within(said, bounds), "{said:?}");
@@ -103,130 +101,78 @@ fn restart(
     Ok(())
 }
 
-/// Restarts over what a crash left of a restart that was stopped. Answers how many restarts there were.
-fn restart_again(
-    rt: &(impl Abort + AllocGlobal),
-    stopped: &Run,
-    bounds: Bounds,
-) -> Result<u32, Fail> {
-    let picks = [Pick::Kept, Pick::Lost, Pick::Fill(238)];
-    for pick in picks {
-        let disk = stopped.crashed(rt, pick)?;
-        restart(rt, disk, bounds, stopped.said())?;
-    }
-    Ok(picks.len() as u32)
-}
-
-/// Restarts over what this crash left of the script's run, stopped at each call. Answers how many
-/// restarts there were.
+/// Restarts over what this crash left of the script's run, stopped at this call, and again over each crash of
+/// that. Answers whether it was done.
 fn restart_stopped(
     rt: &(impl Abort + AllocGlobal),
     run: &Run,
     pick: Pick,
     bounds: Bounds,
-) -> Result<u32, Fail> {
-    let mut restarts: u32 = 0;
+    stop: u64,
+) -> Result<bool, Fail> {
+    let disk = run.crashed(rt, pick)?;
+    let stopped = run_until(rt, CONFIG, QUESTIONS, disk, Some(stop))?;
+    for again in PICKS {
+        restart(rt, stopped.crashed(rt, again)?, bounds, stopped.said())?;
+    }
+    Ok(stopped.report.status == 0)
+}
+
+/// Restarts over what this crash left of the script's run, stopped at each call.
+fn restart_at_each_stop(
+    rt: &(impl Abort + AllocGlobal),
+    run: &Run,
+    pick: Pick,
+    bounds: Bounds,
+) -> Result<(), Fail> {
     for stop in 0..CALLS_MAX {
-        let disk = run.crashed(rt, pick)?;
-        let stopped = run_until(rt, QUESTIONS, disk, Some(stop))?;
-        if stopped.report.status == 0 {
-            return Ok(restarts);
+        if restart_stopped(rt, run, pick, bounds, stop)? {
+            assert!(rt; stop > 12, "{stop}");
+            return Ok(());
         }
-        assert_eq!(rt; stopped.calls(), stop + 1);
-        restarts = restarts.saturating_add(1);
-        restarts = restarts.saturating_add(restart_again(rt, &stopped, bounds)?);
     }
     panic!(rt; "no restart was done")
 }
 
-/// Whether restarts over a crash with this pick are stopped too, and not only made whole. Of the
-/// cuts that is each eleventh, which falls on another byte of each frame: stopped restarts over
-/// each cut would take seven times as long.
-fn is_stopped(pick: Pick) -> bool {
-    match pick {
-        Pick::Cut(count) => count % 11 == 0,
-        _ => true,
-    }
-}
-
-/// Restarts over each crash of one run, and over some of them with restarts that are stopped at
-/// each call. Answers how many restarts there were.
-fn crash(rt: &(impl Abort + AllocGlobal), run: &Run) -> Result<u32, Fail> {
+/// Checks the store that each crash of one run left and restarts over it, and, where that is asked for, restarts
+/// over some of them stopped at each call.
+fn crash(rt: &(impl Abort + AllocGlobal), run: &Run, stops: bool) -> Result<(), Fail> {
     let bounds = bounds_of(run);
-    let mut restarts: u32 = 0;
-    for pick in picks(rt, run)? {
+    for pick in picks_of(rt, run)? {
+        let checked = call_over(rt, "verify", b"", run.crashed(rt, pick)?)?;
+        assert_eq!(rt; checked.report.status, 0, "{pick:?}");
         restart(rt, run.crashed(rt, pick)?, bounds, b"")?;
-        restarts = restarts.saturating_add(1);
-        if is_stopped(pick) {
-            restarts = restarts.saturating_add(restart_stopped(rt, run, pick, bounds)?);
+        if stops && PICKS.contains(&pick) {
+            restart_at_each_stop(rt, run, pick, bounds)?;
         }
     }
-    Ok(restarts)
+    Ok(())
 }
 
-/// Runs the script over an empty disk, stopped at this call where it makes one of this number.
-fn run_stopped(rt: &(impl Abort + AllocGlobal), stop: u64) -> Result<Run, Fail> {
-    let run = run_until(rt, SCRIPT, MemDisk::empty(rt.alloc()), Some(stop))?;
-    if run.report.status == 0 {
-        assert_eq!(rt; run.report.lines, 23);
-    } else {
-        assert_eq!(rt; run.report.status, 3);
-        assert_eq!(rt; run.calls(), stop.saturating_add(1));
+/// Runs the script over an empty disk, up to a stop.
+fn run_stopped(rt: &impl AllocGlobal, stop: Option<u64>) -> Result<Run, Fail> {
+    run_until(rt, CONFIG, SCRIPT, MemDisk::empty(rt.alloc()), stop)
+}
+
+/// How many calls the run of the script makes, which drops the log's first segment.
+fn count_calls(rt: &(impl Abort + AllocGlobal)) -> Result<u64, Fail> {
+    let run = run_stopped(rt, None)?;
+    assert_eq!(rt; run.report.status, 0);
+    assert_eq!(rt; run.report.lines, 23);
+    assert!(rt; run.crashed(rt, Pick::Lost)?.file(SEGMENT).is_none());
+    Ok(run.calls())
+}
+
+// Restarts are stopped too over the crashes of some runs, of which the second one and the last one are stopped
+// between a checkpoint's markers.
+#[test]
+fn restarts_after_each_crash_have_what_was_acknowledged(rt: HostRuntime) -> Result<(), Fail> {
+    let calls = count_calls(&rt)?;
+    for stop in 0..calls.saturating_add(1) {
+        let run = run_stopped(&rt, Some(stop))?;
+        let status = if stop == calls { 0 } else { 3 };
+        assert_eq!(rt; run.report.status, status, "{stop}");
+        crash(&rt, &run, stop % 26 == 5)?;
     }
-    Ok(run)
-}
-
-/// Restarts over each crash of the script's run, stopped at each of these calls. Answers how many
-/// restarts there were.
-fn crash_at(rt: &(impl Abort + AllocGlobal), stops: Range<u64>) -> Result<u32, Fail> {
-    let mut restarts: u32 = 0;
-    for stop in stops {
-        let run = run_stopped(rt, stop)?;
-        assert_eq!(rt; run.report.status == 0, stop == CALLS);
-        restarts = restarts.saturating_add(crash(rt, &run)?);
-    }
-    Ok(restarts)
-}
-
-// The whole run makes 36 calls: the folder, the configuration and the shape; the log is read, cut and forced,
-// and the RESTART written; the script is read; of each of the seven batches the records are written, forced and
-// answered; the end is read, and the log forced. Where it is stopped at a call, or at none, what is pending
-// then are the bytes of the RESTART and of the records since the last force: 37, 37, 67, 97 and 127 bytes in
-// the first batch, 30, 60 and 90 in the third, 29, 59 and 89 in the fifth, 31, 62 and 93 in the seventh, and
-// none in the 23 other runs. Of p pending bytes there are p + 2 crashes, and else one. Restarts are
-// stopped over three of them and over each eleventh cut, or over the one. A restart makes 12 calls:
-// seven as above, the questions are read, forced and answered, the end is read, and the log forced.
-// So there are p + 2 restarts and (3 + (p - 1) / 11) * 12 * (1 + 3) more of a run with p pending
-// bytes, and 1 + 12 * (1 + 3) of each other one.
-
-#[test]
-fn restarts_after_a_crash_up_to_the_first_batch_have_what_was_acknowledged(
-    rt: HostRuntime,
-) -> Result<(), Fail> {
-    assert_eq!(rt; crash_at(&rt, 0..12)?, 7 * 49 + 2 * 327 + 501 + 627 + 801);
-    Ok(())
-}
-
-#[test]
-fn restarts_after_a_crash_up_to_the_third_batch_have_what_was_acknowledged(
-    rt: HostRuntime,
-) -> Result<(), Fail> {
-    assert_eq!(rt; crash_at(&rt, 12..19)?, 4 * 49 + 272 + 446 + 620);
-    Ok(())
-}
-
-#[test]
-fn restarts_after_a_crash_up_to_the_fifth_batch_have_what_was_acknowledged(
-    rt: HostRuntime,
-) -> Result<(), Fail> {
-    assert_eq!(rt; crash_at(&rt, 19..26)?, 4 * 49 + 271 + 445 + 619);
-    Ok(())
-}
-
-#[test]
-fn restarts_after_a_crash_up_to_the_end_have_what_was_acknowledged(
-    rt: HostRuntime,
-) -> Result<(), Fail> {
-    assert_eq!(rt; crash_at(&rt, 26..37)?, 8 * 49 + 273 + 448 + 623);
     Ok(())
 }

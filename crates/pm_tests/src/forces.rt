@@ -1,13 +1,11 @@
 //! A run of the top call over real files that write a trace.
 
-ghost use Rattle.std.specs.Prelude.{◌≡◌, false};
-
 use crate::consoles::SAID;
 use crate::noted::{Forced, note_force};
 use crate::recorded::{TRACE, recorded_host};
-use crate::runs::call_with;
+use crate::runs::status_of;
 use crate::traces::{count_forces, count_prints};
-use pm_disk::Host;
+use pm_disk::MarkFile;
 use std::fs;
 use std::process::Abort;
 use std::rt::Files;
@@ -16,11 +14,17 @@ use std::test::Fail;
 /// The folder of the store.
 const FOLDER: &str = "lasts";
 
-/// The file of the log's first segment.
-const SEGMENT: &str = "lasts/wal-0000000000000001.seg";
+/// The files of the log's first segment, of two partitions, and of the markers.
+const FILES: [(Forced, &str); 5] = [
+    (Forced::Segment(1), "lasts/wal-0000000000000001.seg"),
+    (Forced::Pages(0), "lasts/part-000.pages"),
+    (Forced::Pages(1), "lasts/part-001.pages"),
+    (Forced::Marks(MarkFile::Start), "lasts/cp.start"),
+    (Forced::Marks(MarkFile::End), "lasts/cp.end"),
+];
 
-/// A script, which is answered twice.
-const SCRIPT: &[u8] = b"put 0 a 1\nget 0 a\nremove 0 a\nput 1 b 2\n";
+/// A script of three batches, which is answered twice.
+const SCRIPT: &[u8] = b"put 0 a 1\nget 0 a\nremove 0 a\nput 1 b 2\ncheckpoint\nput 0 a 3\n";
 
 /// A folder in folders that aren't there.
 const DEEP_FOLDER: &str = "deep/down/store";
@@ -31,27 +35,22 @@ const DEEP_SEGMENT: &str = "deep/down/store/wal-0000000000000001.seg";
 /// The folders that get the names of those that are made for it, by the paths that they are synced by.
 const ABOVE: [&str; 3] = [".", "deep", "deep/down"];
 
-/// The status with which a script is answered over a host.
-fn status_of<H: Host>(rt: &impl AllocGlobal, host: &mut H, folder: &str) -> Result<u8, Fail>
-    requires { (H.state host.old).access.is_lent ≡ false }
-{
-    let report = call_with(rt, &["run", folder], host)?;
-    Ok(report.status)
-}
-
 /// Answers a script over a folder. Answers the status.
 fn run_recorded(rt: &HostRuntime, folder: &str, script: &'static [u8]) -> Result<u8, Fail> {
     let mut host = recorded_host(rt, script)?;
     status_of(rt, &mut host, folder)
 }
 
-/// Looks at the trace of so many runs: whenever something was printed the segment lasted, and the names, and so
+/// Looks at the trace of so many runs: whenever something was printed the files lasted, and the names, and so
 /// they did at the end of each run.
 fn look_at_forces(rt: &(impl Abort + AllocGlobal + Files), runs: usize) -> Result<(), Fail> {
-    note_force(rt, FOLDER, Forced::Segment(1));
-    let trace = fs::read_to_string(rt, TRACE)?;
-    assert_eq!(rt; count_forces(&trace, FOLDER, SEGMENT), Some(runs));
-    assert_eq!(rt; count_prints(&trace, FOLDER, SEGMENT), Some(runs));
+    for (forced, path) in FILES {
+        note_force(rt, FOLDER, forced);
+        let trace = fs::read_to_string(rt, TRACE)?;
+        assert_eq!(rt; count_forces(&trace, FOLDER, path), Some(runs), "{path}");
+        let prints = runs.saturating_mul(3);
+        assert_eq!(rt; count_prints(&trace, FOLDER, path), Some(prints), "{path}");
+    }
     Ok(())
 }
 
@@ -72,7 +71,7 @@ fn each_folder_that_is_made_lasts_before_a_reply(rt: HostRuntime) -> Result<(), 
     let trace = fs::read_to_string(&rt, TRACE)?;
     for folder in ABOVE {
         let count = count_prints(&trace, folder, DEEP_SEGMENT);
-        assert_eq!(rt; count, Some(1), "{folder}");
+        assert_eq!(rt; count, Some(3), "{folder}");
     }
     fs::remove_dir_all(&rt, "deep")?;
     fs::remove_file(&rt, TRACE)?;

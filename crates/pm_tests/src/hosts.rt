@@ -1,15 +1,15 @@
 //! The host over files and the host in memory, call by call.
 
-ghost use Rattle.std.specs.Prelude.{◌≡◌, false, IfOk, OnOk};
+ghost use Rattle.std.specs.Prelude.{◌≡◌, false, IfOk};
 ghost use Rattle.pm_disk.specs.States.{IsUsable};
 ghost use Rattle.pm_disk_mem.specs.Hosts.{state_of};
 
-use crate::calls::{Call, Round, answer};
+use crate::calls::{Call, Round, answer, bind};
 use crate::consoles::SAID;
 use crate::noted::note_force;
 use crate::recorded::{TRACE, recorded_host};
 use crate::traces::count_forces;
-use pm_disk::{Failed, Host, MarkFile};
+use pm_disk::{Host, MarkFile};
 use pm_disk_mem::{MemDisk, MemHost, Pick};
 use std::alloc::{AllocError, Global};
 use std::fs;
@@ -345,14 +345,6 @@ fn fill_folder(rt: &(impl AllocGlobal + Files)) -> Result<(), Fail> {
     Ok(())
 }
 
-/// Binds a host to the folder.
-fn bind<H: Host>(host: &mut H) -> Result<(), Failed>
-    requires { (H.state host.old).access.is_lent ≡ false }
-    ensures { OnOk result (IsUsable (H.state host.new)) }
-{
-    host.bind(FOLDER)
-}
-
 /// Makes all the calls on both, up to the first one where something isn't as wanted. Answers what that is.
 fn make_calls<F: Host>(
     rt: &(impl AllocGlobal + Files),
@@ -379,8 +371,8 @@ fn bind_and_call<F: Host>(
     requires memory { memory.old.is_lent ≡ false }
     requires files { (F.state files.old).access.is_lent ≡ false }
 {
-    bind(memory)?;
-    bind(files)?;
+    bind(memory, FOLDER)?;
+    bind(files, FOLDER)?;
     fill_folder(rt)?;
     make_calls(rt, memory, files)
 }

@@ -1,13 +1,13 @@
 //! Which forces the system is asked for: a file that this run hasn't changed since it forced it isn't synced
 //! again.
 
-ghost use Rattle.std.specs.Prelude.{◌≡◌, false, OnOk};
+ghost use Rattle.std.specs.Prelude.{◌≡◌, false};
 ghost use Rattle.pm_disk.specs.States.{IsUsable};
 
-use crate::calls::{Call, Round, answer};
+use crate::calls::{Call, Round, answer, bind};
 use crate::recorded::{TRACE, recorded_host};
 use crate::traces::count_syncs;
-use pm_disk::{Failed, Host, MarkFile};
+use pm_disk::{Host, MarkFile};
 use std::fs;
 use std::process::Abort;
 use std::rt::Files;
@@ -113,14 +113,6 @@ fn make_calls<H: Host>(
     Ok(None)
 }
 
-/// Binds the host to the folder.
-fn bind<H: Host>(host: &mut H) -> Result<(), Failed>
-    requires { (H.state host.old).access.is_lent ≡ false }
-    ensures { OnOk result (IsUsable (H.state host.new)) }
-{
-    host.bind(FOLDER)
-}
-
 /// Binds the host to the folder, and makes the calls of the first one, or of the next.
 fn bind_and_call<H: Host>(
     rt: &(impl AllocGlobal + Files),
@@ -129,7 +121,7 @@ fn bind_and_call<H: Host>(
 ) -> Result<Option<usize>, Fail>
     requires { (H.state host.old).access.is_lent ≡ false }
 {
-    bind(host)?;
+    bind(host, FOLDER)?;
     if is_next {
         make_calls(rt, host, &LATER)
     } else {
@@ -168,7 +160,7 @@ fn is_another_refused(rt: &HostRuntime) -> Result<bool, Fail> {
 fn refuse_after<H: Host>(rt: &HostRuntime, first: &mut H) -> Result<String, Fail>
     requires { (H.state first.old).access.is_lent ≡ false }
 {
-    bind(first)?;
+    bind(first, FOLDER)?;
     fs::remove_file(rt, TRACE)?;
     if is_another_refused(rt)? {
         Ok(fs::read_to_string(rt, TRACE)?)

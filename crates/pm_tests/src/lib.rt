@@ -1,12 +1,13 @@
-//! Tests that cross crates: the top call over a host in memory, both hosts call by call, the log
-//! over small segments, and callers that are proved against the contracts of pages and of page
-//! locks alone.
+//! Tests that cross crates: the top call over a host in memory and its crashes, both hosts call by call, the
+//! log over small segments, and callers that are proved against the contracts of pages and of page locks alone.
 #![tactic(auto)]
 
 #[cfg(test)]
 mod batches;
 #[cfg(test)]
 mod calls;
+#[cfg(test)]
+mod checkpoints;
 #[cfg(test)]
 mod configurations;
 #[cfg(test)]
@@ -21,13 +22,13 @@ mod forces;
 mod hosts;
 #[cfg(test)]
 mod lasting;
+#[cfg(test)]
+mod left_segments;
 pub mod lock_clients;
 #[cfg(test)]
 mod log_writers;
 #[cfg(test)]
 mod logs;
-#[cfg(test)]
-mod markers;
 #[cfg(test)]
 mod noted;
 pub mod pages;
@@ -46,8 +47,6 @@ pub mod rounds;
 mod runs;
 #[cfg(test)]
 mod scripts;
-#[cfg(test)]
-mod segment_crashes;
 #[cfg(test)]
 mod shapes;
 #[cfg(test)]

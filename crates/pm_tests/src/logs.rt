@@ -177,54 +177,46 @@ fn scan_after(
     Ok(scan.place())
 }
 
-/// Looks for a first segment of so many bytes that ends with this frame.
-fn look_at_first(rt: &impl Abort, disk: &MemDisk, len: usize, frame: &[u8]) -> Result<(), Fail> {
-    let first = disk.file(SEGMENT).unwrap_or(b"");
-    assert_eq!(rt; first.len(), len);
-    assert!(rt; first.ends_with(frame));
+/// Looks for a first segment of so many bytes that ends with this frame, and for a second one, in what a crash
+/// leaves.
+fn look_at_segments(
+    rt: &(impl Abort + AllocGlobal),
+    host: &MemHost,
+    pick: Pick,
+    first: (usize, &[u8]),
+    second: Option<&[u8]>,
+) -> Result<(), Fail> {
+    let disk = host.image(rt.alloc(), pick)?;
+    let bytes = disk.file(SEGMENT).unwrap_or(b"");
+    assert_eq!(rt; bytes.len(), first.0, "{pick:?}");
+    assert!(rt; bytes.ends_with(first.1), "{pick:?}");
+    assert!(rt; disk.file(SECOND) == second, "{pick:?}");
     Ok(())
 }
 
-// A frame has 21 bytes beside its payload, so this one has 515: with a SEAL it ends at 65,536.
+// A frame has 21 bytes beside its payload, so the first one has 515: with a SEAL it ends at 65,536. The second
+// one has 516. The SEAL before it is lasting, and so is the next segment, which is empty: the frame itself is
+// pending.
 #[test]
-fn a_frame_stands_where_a_seal_still_fits_after_it(rt: HostRuntime) -> Result<(), Fail> {
+fn a_frame_begins_the_next_segment_where_no_seal_fits_after_it(
+    rt: HostRuntime,
+) -> Result<(), Fail> {
     let mut host = empty_host(&rt)?;
     let log = append_after(&rt, &mut host, 494, END)?;
     assert_eq!(rt; scan_after(&rt, &mut host, 494, END)?, log.end());
     let head = [1, 1, 0, 0, 0, 0, 0, 0, 0, 232, 253, 0, 0, 238, 1, 0, 0];
     let frame = with_sevens(&rt, &head, 494, &[188, 155, 207, 230])?;
-    let disk = host.image(rt.alloc(), Pick::Kept)?;
-    look_at_first(&rt, &disk, 65_515, &frame)?;
-    assert!(rt; disk.file(SECOND).is_none());
-    Ok(())
-}
+    look_at_segments(&rt, &host, Pick::Kept, (65_515, &frame), None)?;
 
-/// Looks for a first segment that ends with a SEAL, and for these bytes as the second one, in what
-/// a crash leaves.
-fn look_at_rolled(
-    rt: &(impl Abort + AllocGlobal),
-    host: &MemHost,
-    pick: Pick,
-    second: &[u8],
-) -> Result<(), Fail> {
-    let disk = host.image(rt.alloc(), pick)?;
-    look_at_first(rt, &disk, 65_021, &SEAL_FRAME)?;
-    assert!(rt; disk.file(SECOND) == Some(second), "{pick:?}");
-    Ok(())
-}
-
-// This one has 516. The SEAL is lasting, and so is the next segment, which is empty: the frame
-// itself is pending.
-#[test]
-fn a_longer_frame_begins_the_next_segment_after_a_seal(rt: HostRuntime) -> Result<(), Fail> {
     let mut host = empty_host(&rt)?;
     let log = append_after(&rt, &mut host, 495, NEXT)?;
     assert_eq!(rt; log.appended(), 65_000 + 21 + 516);
     assert_eq!(rt; scan_after(&rt, &mut host, 495, NEXT)?, log.end());
     let head = [1, 2, 0, 0, 0, 0, 0, 0, 0, 0, 0, 0, 0, 239, 1, 0, 0];
     let frame = with_sevens(&rt, &head, 495, &[4, 176, 227, 59])?;
-    look_at_rolled(&rt, &host, Pick::Kept, &frame)?;
-    look_at_rolled(&rt, &host, Pick::Lost, b"")
+    let first = (65_021, SEAL_FRAME.as_slice());
+    look_at_segments(&rt, &host, Pick::Kept, first, Some(&frame))?;
+    look_at_segments(&rt, &host, Pick::Lost, first, Some(b""))
 }
 
 /// Makes a log of so many records. Answers where it ends.

@@ -173,42 +173,31 @@ fn is_left(
     Ok(true)
 }
 
-/// Whether all calls were done, and each crash left what it should.
-fn is_pair_left(rt: &impl AllocGlobal, on_log: usize, on_pages: usize) -> Result<bool, Fail> {
-    let mut host = host_before(rt, None)?;
-    let done = round(&mut host, on_log, on_pages)?;
-    Ok(done && is_left(rt, &host, on_log, on_pages)?)
+/// Whether each crash leaves what it does after so many calls of each part, where a round makes these calls,
+/// all of them where there is no stop.
+fn is_pair_left(
+    rt: &impl AllocGlobal,
+    stop: Option<u64>,
+    calls: (usize, usize),
+    left: (usize, usize),
+) -> Result<bool, Fail> {
+    let mut host = host_before(rt, stop)?;
+    let done = round(&mut host, calls.0, calls.1)?;
+    Ok(done == (calls == left) && is_left(rt, &host, left.0, left.1)?)
 }
 
 #[test]
 fn a_crash_leaves_each_pair_of_moments_of_a_round(rt: HostRuntime) -> Result<(), Fail> {
     for on_log in 0..5 {
         for on_pages in 0..5 {
-            assert!(rt; is_pair_left(&rt, on_log, on_pages)?, "{on_log} {on_pages}");
+            let pair = (on_log, on_pages);
+            assert!(rt; is_pair_left(&rt, None, pair, pair)?, "{pair:?}");
         }
     }
-    Ok(())
-}
-
-/// Whether a round that is stopped after so many calls of each part has come so far.
-fn is_stopped_there(
-    rt: &impl AllocGlobal,
-    calls: u64,
-    on_log: usize,
-    on_pages: usize,
-) -> Result<bool, Fail> {
-    let mut host = host_before(rt, Some(calls.saturating_add(1)))?;
-    let done = round(&mut host, 4, 4)?;
-    Ok(done == (calls == 6) && is_left(rt, &host, on_log, on_pages)?)
-}
-
-#[test]
-fn a_round_may_be_stopped_at_each_of_its_calls(rt: HostRuntime) -> Result<(), Fail> {
-    for (calls, (on_log, on_pages)) in STOPPED.iter().enumerate() {
-        assert!(rt;
-            is_stopped_there(&rt, calls as u64, *on_log, *on_pages)?,
-            "{calls}"
-        );
+    // A round may be stopped at each of its calls.
+    for (calls, pair) in STOPPED.iter().enumerate() {
+        let stop = Some((calls as u64).saturating_add(1));
+        assert!(rt; is_pair_left(&rt, stop, (4, 4), *pair)?, "{calls}");
     }
     Ok(())
 }

@@ -12,6 +12,14 @@ use std::test::Fail;
 /// The file of the log's first segment.
 pub const SEGMENT: &str = "wal-0000000000000001.seg";
 
+/// The files of the log's first segments.
+pub const SEGMENTS: [&str; 4] = [
+    SEGMENT,
+    "wal-0000000000000002.seg",
+    "wal-0000000000000003.seg",
+    "wal-0000000000000004.seg",
+];
+
 /// The frame of the RESTART that a run appends to an empty log: the store has pages of 4,096 bytes,
 /// 4 partitions of at most 400,000 rows, files of version 1 and segments of 64 MiB. Its sum is that
 /// of Python's zlib.
@@ -19,6 +27,10 @@ pub const FIRST_FRAME: [u8; 37] = [
     5, 1, 0, 0, 0, 0, 0, 0, 0, 0, 0, 0, 0, 16, 0, 0, 0, 0, 16, 0, 0, 4, 0, 1, 0, 128, 26, 6, 0, 0,
     0, 0, 4, 109, 233, 95, 111,
 ];
+
+/// How many bytes the records have by which a partition's first put logs its three pages whole: each has a
+/// frame of 21 bytes, a page's name of 8, and the page of 4,096.
+pub const FIRST_PAGES: usize = 3 * 4_125;
 
 /// The payload of `put 0 a 1`.
 pub const PUT: &[u8] = &[1, 0, 1, 1, 0, 0, 0, b'a', b'1'];
@@ -81,22 +93,23 @@ pub fn call_with<H: Host>(
     Ok(top(rt, &owned(rt, words)?, host))
 }
 
-/// Runs a script over a disk, where the calls of these numbers are refused, and all from the stop on.
-fn run_failing(
-    rt: &impl AllocGlobal,
-    script: &[u8],
-    disk: MemDisk,
-    refused: &[u64],
-    stop: Option<u64>,
-) -> Result<Run, Fail> {
-    let host = MemHost::new(rt.alloc(), script, b"", disk, refused, stop)?;
-    run_on(rt, host)
+/// The status of a run over a folder.
+pub fn status_of<H: Host>(rt: &impl AllocGlobal, host: &mut H, folder: &str) -> Result<u8, Fail>
+    requires { (H.state host.old).access.is_lent ≡ false }
+{
+    let report = call_with(rt, &["run", folder], host)?;
+    Ok(report.status)
 }
 
-/// Runs the script of a host.
-fn run_on(rt: &impl AllocGlobal, mut host: MemHost) -> Result<Run, Fail>
-    requires { host.is_lent ≡ false }
-{
+/// Runs a script over a disk with a configuration, up to a stop.
+pub fn run_until(
+    rt: &impl AllocGlobal,
+    config: &[u8],
+    script: &[u8],
+    disk: MemDisk,
+    stop: Option<u64>,
+) -> Result<Run, Fail> {
+    let mut host = MemHost::new(rt.alloc(), script, config, disk, &[], stop)?;
     let report = call_with(rt, &["run", "d"], &mut host)?;
     Ok(Run { report, host })
 }
@@ -108,53 +121,39 @@ pub fn run_configured(
     script: &[u8],
     disk: MemDisk,
 ) -> Result<Run, Fail> {
-    let host = MemHost::new(rt.alloc(), script, config, disk, &[], None)?;
-    run_on(rt, host)
+    run_until(rt, config, script, disk, None)
 }
 
-/// Runs a script over an empty disk with a configuration, up to a stop.
-pub fn run_configured_until(
+/// Makes the call that this word names over a disk, beside this input.
+pub fn call_over(
     rt: &impl AllocGlobal,
-    config: &[u8],
-    script: &[u8],
-    stop: u64,
-) -> Result<Run, Fail> {
-    let disk = MemDisk::empty(rt.alloc());
-    let host = MemHost::new(rt.alloc(), script, config, disk, &[], Some(stop))?;
-    run_on(rt, host)
-}
-
-/// Runs a script over a disk, up to a stop.
-pub fn run_until(
-    rt: &impl AllocGlobal,
-    script: &[u8],
+    word: &str,
+    input: &[u8],
     disk: MemDisk,
-    stop: Option<u64>,
 ) -> Result<Run, Fail> {
-    run_failing(rt, script, disk, &[], stop)
+    let mut host = MemHost::new(rt.alloc(), input, b"", disk, &[], None)?;
+    let report = call_with(rt, &[word, "d"], &mut host)?;
+    Ok(Run { report, host })
 }
 
 /// Runs a script over a disk.
 pub fn run_over(rt: &impl AllocGlobal, script: &[u8], disk: MemDisk) -> Result<Run, Fail> {
-    run_failing(rt, script, disk, &[], None)
-}
-
-/// Makes the call with these words over a disk, beside no input.
-pub fn call_over(rt: &impl AllocGlobal, words: &[&str], disk: MemDisk) -> Result<Run, Fail> {
-    let mut host = MemHost::new(rt.alloc(), b"", b"", disk, &[], None)?;
-    let report = call_with(rt, words, &mut host)?;
-    Ok(Run { report, host })
-}
-
-/// Runs a script over an empty disk, where the call of this number is refused.
-pub fn run_refusing(rt: &impl AllocGlobal, script: &[u8], refused: u64) -> Result<Run, Fail> {
-    run_failing(rt, script, MemDisk::empty(rt.alloc()), &[refused], None)
+    call_over(rt, "run", script, disk)
 }
 
 /// The log's bytes after a script over an empty disk.
 pub fn log_after(rt: &impl AllocGlobal, script: &[u8]) -> Result<Vec<u8>, Fail> {
     let run = run_over(rt, script, MemDisk::empty(rt.alloc()))?;
     log_left(rt, &run, Pick::Kept)
+}
+
+/// How many bytes the log has on a disk.
+pub fn log_len(disk: &MemDisk) -> u64 {
+    let mut len: u64 = 0;
+    for name in SEGMENTS {
+        len = len.saturating_add(disk.file(name).unwrap_or(b"").len() as u64);
+    }
+    len
 }
 
 /// The bytes of a file, none where it isn't there.
@@ -197,32 +196,23 @@ pub fn with_frame(
     Ok(with)
 }
 
-/// A disk with one file, which has this name and these bytes.
-fn disk_with(rt: &impl AllocGlobal, name: &str, bytes: &[u8]) -> Result<MemDisk, Fail> {
+/// A disk whose log is these bytes.
+pub fn disk_of(rt: &impl AllocGlobal, log: &[u8]) -> Result<MemDisk, Fail> {
     let mut disk = MemDisk::empty(rt.alloc());
-    disk.put_file(name, bytes)?;
+    disk.put_file(SEGMENT, log)?;
     Ok(disk)
 }
 
-/// A disk whose log is these bytes.
-pub fn disk_of(rt: &impl AllocGlobal, log: &[u8]) -> Result<MemDisk, Fail> {
-    disk_with(rt, SEGMENT, log)
-}
-
-/// Looks at what a run did whose call of this number was refused: what it reported, what it said,
-/// and that it made no call more.
-pub fn look_at_refused(
-    rt: &impl Abort,
-    run: &Run,
-    refused: u64,
-    lines: u64,
-    order: &[u32],
-    said: &[u8],
-) -> Result<(), Fail> {
-    assert_eq!(rt; run.report.status, 3, "{refused}");
-    assert_eq!(rt; run.report.lines, lines, "{refused}");
-    assert_eq!(rt; run.report.order.as_slice(), order, "{refused}");
-    assert_eq!(rt; run.said(), said, "{refused}");
-    assert_eq!(rt; run.calls(), refused.saturating_add(1), "{refused}");
-    Ok(())
+/// How many bytes the frames have that stand whole within the first so many bytes, where a log begins with
+/// frames of these lengths.
+pub fn whole_within(frames: &[usize], count: usize) -> usize {
+    let mut whole: usize = 0;
+    for len in frames {
+        let end = whole.saturating_add(*len);
+        if end > count {
+            return whole;
+        }
+        whole = end;
+    }
+    whole
 }

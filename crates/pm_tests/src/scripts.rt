@@ -3,7 +3,7 @@
 ghost use Rattle.std.specs.Prelude.{◌≡◌, ◌<◌, false, IfOk};
 
 use crate::pieces::PieceHost;
-use crate::runs::{Run, call_with, look_at_refused};
+use crate::runs::{Run, call_with};
 use pm_disk_mem::{MemDisk, MemHost};
 use std::process::Abort;
 use std::test::Fail;
@@ -57,75 +57,70 @@ fn answer(
     Ok(())
 }
 
-#[test]
-fn a_put_is_answered_and_found(rt: HostRuntime) -> Result<(), Fail> {
-    for piece in [1, 65_536] {
-        let script = b"put 0 a 1\nget 0 a\n";
-        let run = run_in_pieces(&rt, &["run", "d"], script, piece, &[])?;
-        assert_eq!(rt; run.report.status, 0);
-        assert_eq!(rt; run.report.lines, 2);
-        assert_eq!(rt; run.report.order.as_slice(), [1].as_slice());
-        assert_eq!(rt; run.said(), b"ok\nvalue 1\n".as_slice());
-    }
-    Ok(())
-}
+/// Scripts, each with its replies and with how many lines it has.
+const SCRIPTS: [(&[u8], &[u8], u64); 21] = [
+    (b"", b"", 0),
+    (b"\n", b"error line\n", 1),
+    (b"\n\n", b"error line\nerror line\n", 2),
+    (b"get 0 a", b"none\n", 1),
+    (b"put 0 a 1\nget 0 a\n", b"ok\nvalue 1\n", 2),
+    (b"put 0 a 1\nput 0 a 2\nget 0 a", b"ok\nok\nvalue 2\n", 3),
+    (b"put 0 a 1\nget 1 a\n", b"ok\nnone\n", 2),
+    (b"put 15 a 1\nget 15 a\n", b"ok\nvalue 1\n", 2),
+    (b"put 16 a 1\nput 00 a 1\n", b"error line\nerror line\n", 2),
+    (
+        b"get  0 a\n get 0 a\nget 0 a \n",
+        b"error line\nerror line\nerror line\n",
+        3,
+    ),
+    (b"get 0 a\nremove 0 a\n", b"none\nfalse\n", 2),
+    (
+        b"put 0 a 1\nput 0 a 1\nremove 0 a\nremove 0 a\n",
+        b"ok\nok\ntrue\nfalse\n",
+        4,
+    ),
+    (
+        b"put 0 x:00ff x:\nscan 0\nscan 2\n",
+        b"ok\npair x:00ff x:\nend 1\nend 0\n",
+        3,
+    ),
+    (
+        b"\nget 00 a\nget 16 a\nget  0 a\nget 0 x:4\nput 0 x: 1\n",
+        b"error line\nerror line\nerror line\nerror line\nerror line\nerror line\n",
+        6,
+    ),
+    (
+        b"put 0 x:41 x:4A4b\nget 0 A\nput 0 a x:783a\nget 0 a\n",
+        b"ok\nvalue JK\nok\nvalue x:783a\n",
+        4,
+    ),
+    (
+        b"put 0 b 2\nput 0 a 1\nput 1 c 3\nscan 0\n",
+        b"ok\nok\nok\npair a 1\npair b 2\nend 2\n",
+        4,
+    ),
+    (
+        b"put 0 a \x00\nput 0 a 1\x7f\nput 0 \xff 1\n",
+        b"error line\nerror line\nerror line\n",
+        3,
+    ),
+    (b"put 0 a xx:31\nget 0 a\n", b"ok\nvalue xx:31\n", 2),
+    (b"put 0 a 1\r\nget 0 a\n", b"error line\nnone\n", 2),
+    (
+        b"checkpoint\nput 0 a 1\ncheckpoint\nget 0 a\ncheckpoint",
+        b"ok\nok\nok\nvalue 1\nok\n",
+        5,
+    ),
+    (
+        b"checkpoint \ncheckpoint 0\nscan 16\nremove 0\n",
+        b"error line\nerror line\nerror line\nerror line\n",
+        4,
+    ),
+];
 
 #[test]
 fn each_line_has_its_reply(rt: HostRuntime) -> Result<(), Fail> {
-    let cases = [
-        (b"".as_slice(), b"".as_slice(), 0),
-        (b"\n", b"error line\n", 1),
-        (b"\n\n", b"error line\nerror line\n", 2),
-        (b"get 0 a", b"none\n", 1),
-        (b"put 0 a 1\nput 0 a 2\nget 0 a", b"ok\nok\nvalue 2\n", 3),
-        (b"put 0 a 1\nget 1 a\n", b"ok\nnone\n", 2),
-        (b"put 15 a 1\nget 15 a\n", b"ok\nvalue 1\n", 2),
-        (b"put 16 a 1\nput 00 a 1\n", b"error line\nerror line\n", 2),
-        (
-            b"get  0 a\n get 0 a\nget 0 a \n",
-            b"error line\nerror line\nerror line\n",
-            3,
-        ),
-        (b"get 0 a\nremove 0 a\n", b"none\nfalse\n", 2),
-        (
-            b"put 0 a 1\nput 0 a 1\nremove 0 a\nremove 0 a\n",
-            b"ok\nok\ntrue\nfalse\n",
-            4,
-        ),
-        (
-            b"put 0 x:00ff x:\nscan 0\nscan 2\n",
-            b"ok\npair x:00ff x:\nend 1\nend 0\n",
-            3,
-        ),
-        (
-            b"\nget 00 a\nget 16 a\nget  0 a\nget 0 x:4\nput 0 x: 1\n",
-            b"error line\nerror line\nerror line\nerror line\nerror line\nerror line\n",
-            6,
-        ),
-        (
-            b"put 0 x:41 x:4A4b\nget 0 A\nput 0 a x:783a\nget 0 a\n",
-            b"ok\nvalue JK\nok\nvalue x:783a\n",
-            4,
-        ),
-        (
-            b"put 0 b 2\nput 0 a 1\nput 1 c 3\nscan 0\n",
-            b"ok\nok\nok\npair a 1\npair b 2\nend 2\n",
-            4,
-        ),
-        (
-            b"put 0 a \x00\nput 0 a 1\x7f\nput 0 \xff 1\n",
-            b"error line\nerror line\nerror line\n",
-            3,
-        ),
-        (b"put 0 a xx:31\nget 0 a\n", b"ok\nvalue xx:31\n", 2),
-        (b"put 0 a 1\r\nget 0 a\n", b"error line\nnone\n", 2),
-        (
-            b"checkpoint\nscan 16\nremove 0\n",
-            b"error line\nerror line\nerror line\n",
-            3,
-        ),
-    ];
-    for (script, wanted, lines) in cases {
+    for (script, wanted, lines) in SCRIPTS {
         for piece in [1, 3, 65_536] {
             answer(&rt, script, piece, lines, wanted)?;
         }
@@ -177,23 +172,22 @@ fn lines_are_measured_to_the_byte(rt: HostRuntime) -> Result<(), Fail> {
     Ok(())
 }
 
-/// Runs other words, and looks for the fault.
-fn refuse_words(rt: &(impl Abort + AllocGlobal), words: &[&str]) -> Result<(), Fail> {
-    let run = run_in_pieces(rt, words, b"put 0 a 1\n", 100, &[])?;
-    assert_eq!(rt; run.report.status, 1, "{words:?}");
+/// Runs other words, and looks at the status and at what is said, where the call of this number is refused.
+fn refuse_words(
+    rt: &(impl Abort + AllocGlobal),
+    words: &[&str],
+    refused: u64,
+    status: u8,
+    said: &[u8],
+) -> Result<(), Fail> {
+    let run = run_in_pieces(rt, words, b"put 0 a 1\n", 100, &[refused])?;
+    assert_eq!(rt; run.report.status, status, "{words:?}");
     assert_eq!(rt; run.report.lines, 0, "{words:?}");
-    assert_eq!(rt; run.said(), b"fault usage\n".as_slice(), "{words:?}");
+    assert_eq!(rt; run.said(), said, "{words:?}");
     Ok(())
 }
 
-/// Runs other words where the first call is refused, which would say the fault, and looks for nothing said.
-fn refuse_words_unsaid(rt: &(impl Abort + AllocGlobal), words: &[&str]) -> Result<(), Fail> {
-    let run = run_in_pieces(rt, words, b"put 0 a 1\n", 100, &[0])?;
-    assert_eq!(rt; run.report.status, 3, "{words:?}");
-    assert!(rt; run.said().is_empty(), "{words:?}");
-    Ok(())
-}
-
+// The first call would say the fault.
 #[test]
 fn other_words_are_refused(rt: HostRuntime) -> Result<(), Fail> {
     let cases = [
@@ -202,58 +196,18 @@ fn other_words_are_refused(rt: HostRuntime) -> Result<(), Fail> {
         &["run", "d", "e"],
         &["run", "-x"],
         &["run", ""],
+        &["wal"],
+        &["verify", ""],
+        &["verify", "-d"],
+        &["Verify", "d"],
         &["go", "d"],
         &["--help"],
     ];
     for words in cases {
-        refuse_words(&rt, words)?;
-        refuse_words_unsaid(&rt, words)?;
+        refuse_words(&rt, words, 1, 1, b"fault usage\n")?;
+        refuse_words(&rt, words, 0, 3, b"")?;
     }
     Ok(())
-}
-
-// The folder is bound, the configuration and the store's shape are read; the log is read, cut and
-// forced, and the RESTART written. Each line is read, written if it is a put, forced and answered;
-// then the script's end is read; at last the log is forced once more.
-#[test]
-fn after_a_refused_call_none_is_made(rt: HostRuntime) -> Result<(), Fail> {
-    let script = b"put 0 a 1\nput 0 b 2\nget 0 a\n";
-    // (refused call, lines answered, order, said)
-    let cases = [
-        (0, 0, [].as_slice(), b"".as_slice()),
-        (1, 0, &[], b""),
-        (2, 0, &[], b""),
-        (3, 0, &[], b""),
-        (4, 0, &[], b""),
-        (5, 0, &[], b""),
-        (6, 0, &[], b""),
-        (7, 0, &[], b""),
-        (8, 0, &[1], b""),
-        (9, 0, &[1], b""),
-        (10, 0, &[1], b""),
-        (11, 1, &[1], b"ok\n"),
-        (12, 1, &[1, 2], b"ok\n"),
-        (13, 1, &[1, 2], b"ok\n"),
-        (14, 1, &[1, 2], b"ok\n"),
-        (15, 2, &[1, 2], b"ok\nok\n"),
-        (16, 2, &[1, 2], b"ok\nok\n"),
-        (17, 2, &[1, 2], b"ok\nok\n"),
-        (18, 3, &[1, 2], b"ok\nok\nvalue 1\n"),
-        (19, 3, &[1, 2], b"ok\nok\nvalue 1\n"),
-    ];
-    for (refused, lines, order, wanted) in cases {
-        let run = run_in_pieces(&rt, &["run", "d"], script, 10, &[refused])?;
-        look_at_refused(&rt, &run, refused, lines, order, wanted)?;
-    }
-    let whole = run_in_pieces(&rt, &["run", "d"], script, 10, &[20])?;
-    assert_eq!(rt; whole.report.status, 0);
-    assert_eq!(rt; whole.calls(), 20);
-    Ok(())
-}
-
-/// So many empty lines.
-fn empty_lines(rt: &impl AllocGlobal, count: usize) -> Result<Vec<u8>, Fail> {
-    Ok(vec![in rt.alloc(); b'\n'; count]?)
 }
 
 /// Runs so many empty lines, of which the first 4,000,000 are answered, and looks for this status
@@ -264,7 +218,8 @@ fn run_to_the_limit(
     status: u8,
     tail: &[u8],
 ) -> Result<(), Fail> {
-    let run = run_in_pieces(rt, &["run", "d"], &empty_lines(rt, lines)?, 65_536, &[])?;
+    let script = vec![in rt.alloc(); b'\n'; lines]?;
+    let run = run_in_pieces(rt, &["run", "d"], &script, 65_536, &[])?;
     assert_eq!(rt; run.report.status, status);
     assert_eq!(rt; run.report.lines, 4_000_000);
     assert_eq!(rt; run.said().len(), lines.saturating_mul(11));

@@ -1,4 +1,5 @@
-//! One script over stores of several shapes, which has the same replies over each.
+//! One script over stores of several shapes and with several triggers of checkpoints, which has the same
+//! replies over each.
 
 use crate::runs::{Run, run_configured};
 use pm_disk_mem::MemDisk;
@@ -6,16 +7,18 @@ use std::process::Abort;
 use std::test::Fail;
 
 /// How many lines the script has before its scans.
-const LINES: u32 = 200_000;
+const LINES: u32 = 12_000;
 
 /// How many keys each cache may have.
-const KEYS: u32 = 20_000;
+const KEYS: u32 = 1_500;
 
 /// The configuration of the first run.
 const FIRST: &[u8] = b"{\"partitions\": 4, \"page_size\": 4096}";
 
-/// Other numbers of partitions with its size of page, and each other size with one number of partitions.
-const OTHERS: [&[u8]; 7] = [
+/// Other numbers of partitions with its size of page, and each other size with one number of partitions. The
+/// last ones begin a checkpoint after 64 KiB of log, where one percent of the frames is logged, and where the
+/// frames run short.
+const OTHERS: [&[u8]; 10] = [
     b"{\"partitions\": 1, \"page_size\": 4096}",
     b"{\"partitions\": 3, \"page_size\": 4096}",
     b"{\"partitions\": 64, \"page_size\": 4096}",
@@ -23,6 +26,9 @@ const OTHERS: [&[u8]; 7] = [
     b"{\"partitions\": 3, \"page_size\": 2048}",
     b"{\"partitions\": 3, \"page_size\": 8192}",
     b"{\"partitions\": 3, \"page_size\": 16384}",
+    b"{\"page_size\": 1024, \"segment_bytes\": 65536, \"checkpoint_bytes\": 65536}",
+    b"{\"page_size\": 2048, \"segment_bytes\": 1048576, \"dirty_percent\": 1}",
+    b"{\"workers\": 1, \"frames\": 64, \"buffer_pages\": 32, \"dirty_percent\": 100}",
 ];
 
 /// The next draw of a generator.
@@ -70,10 +76,10 @@ fn run_to_its_end(
 }
 
 #[test]
-fn partitions_and_page_sizes_change_no_reply(rt: HostRuntime) -> Result<(), Fail> {
+fn partitions_page_sizes_and_checkpoints_change_no_reply(rt: HostRuntime) -> Result<(), Fail> {
     let script = script(&rt)?;
     let first = run_to_its_end(&rt, FIRST, &script)?;
-    assert!(rt; first.said().len() > 2_000_000);
+    assert!(rt; first.said().len() > 50_000);
     for config in OTHERS {
         let run = run_to_its_end(&rt, config, &script)?;
         assert!(rt; run.said() == first.said(), "{config:?}");

@@ -1,55 +1,87 @@
 //! Runs one after another over one store.
 
 use crate::runs::{
-    CP_BEGIN_3, DELTA_OF_A_PAGE, FIRST_FRAME, OTHER_PUT, PUT, Run, disk_of, lasting_len, log_after,
-    log_left, run_over, with_frame,
+    CP_BEGIN_3, DELTA_OF_A_PAGE, FIRST_FRAME, FIRST_PAGES, OTHER_PUT, PUT, Run, disk_of, frame,
+    log_after, log_left, run_over, whole_within, with_frame,
 };
 use pm_disk_mem::{MemDisk, Pick};
 use pm_frame::{CP_BEGIN, DELTA, LOGICAL, SNAPSHOT};
 use std::process::Abort;
 use std::test::Fail;
 
-/// Runs a script over a disk, and looks at what it says. Answers the disk that it leaves.
+/// Scripts that are run one after another, each with what it says, and with how long the log is then, where no
+/// page is logged by its ranges. A RESTART has 37 bytes, a put of one byte each of key and value 30, the begin
+/// of a checkpoint 41, and the three pages of a partition `FIRST_PAGES`, at the first put and at each replay of
+/// it.
+const RUNS: [(&[u8], &[u8], Option<usize>); 11] = [
+    (b"", b"", Some(37)),
+    (b"checkpoint\n", b"ok\n", Some(2 * 37 + 41)),
+    (
+        b"put 0 a 1\nput 0 b 2\n",
+        b"ok\nok\n",
+        Some(3 * 37 + 2 * 30 + 2 * FIRST_PAGES + 41),
+    ),
+    (
+        b"get 0 a\nget 0 b\nremove 0 c\nput 0 a\nscan 0\n",
+        b"value 1\nvalue 2\nfalse\nerror line\npair a 1\npair b 2\nend 2\n",
+        Some(4 * 37 + 2 * 30 + 4 * FIRST_PAGES + 41),
+    ),
+    (
+        b"checkpoint\nget 0 a\ncheckpoint\n",
+        b"ok\nvalue 1\nok\n",
+        Some(5 * 37 + 2 * 30 + 6 * FIRST_PAGES + 3 * 41),
+    ),
+    // Nothing is replayed behind a checkpoint.
+    (
+        b"get 0 a\nget 0 b\n",
+        b"value 1\nvalue 2\n",
+        Some(6 * 37 + 2 * 30 + 6 * FIRST_PAGES + 3 * 41),
+    ),
+    (
+        b"put 0 c 3\n",
+        b"ok\n",
+        Some(7 * 37 + 3 * 30 + 7 * FIRST_PAGES + 3 * 41),
+    ),
+    (
+        b"remove 0 a\nremove 0 a\nget 0 c\n",
+        b"true\nfalse\nvalue 3\n",
+        None,
+    ),
+    (b"get 0 a\nremove 0 a\n", b"none\nfalse\n", None),
+    (b"put 0 a 2\nput 1 a x:00ff\n", b"ok\nok\n", None),
+    (
+        b"get 0 a\nget 1 a\nget 2 a\nget 0 b\n",
+        b"value 2\nvalue x:00ff\nnone\nvalue 2\n",
+        None,
+    ),
+];
+
+/// Runs a script over a disk, and looks at what it says and at how long the log is, of which nothing is
+/// pending. Answers the disk that it leaves.
 fn run_next(
     rt: &(impl Abort + AllocGlobal),
     script: &[u8],
     disk: MemDisk,
-    wanted: &[u8],
+    said: &[u8],
+    len: Option<usize>,
 ) -> Result<MemDisk, Fail> {
     let run = run_over(rt, script, disk)?;
-    assert_eq!(rt; run.report.status, 0);
-    assert_eq!(rt; run.said(), wanted);
+    assert_eq!(rt; run.report.status, 0, "{script:?}");
+    assert_eq!(rt; run.said(), said, "{script:?}");
+    let lasting = log_left(rt, &run, Pick::Lost)?;
+    let all = log_left(rt, &run, Pick::Kept)?;
+    assert_eq!(rt; lasting.len(), all.len(), "{script:?}");
+    assert_eq!(rt; all.len(), len.unwrap_or(all.len()), "{script:?}");
     run.disk(rt)
 }
 
-/// Runs scripts one after another over one disk, which is empty at first, and looks at what each says.
-fn run_in_turn(rt: &(impl Abort + AllocGlobal), runs: &[(&[u8], &[u8])]) -> Result<(), Fail> {
+#[test]
+fn each_run_finds_what_those_before_it_put(rt: HostRuntime) -> Result<(), Fail> {
     let mut disk = MemDisk::empty(rt.alloc());
-    for (script, wanted) in runs {
-        disk = run_next(rt, script, disk, wanted)?;
+    for (script, said, len) in RUNS {
+        disk = run_next(&rt, script, disk, said, len)?;
     }
     Ok(())
-}
-
-#[test]
-fn the_next_run_finds_what_was_put(rt: HostRuntime) -> Result<(), Fail> {
-    run_in_turn(
-        &rt,
-        &[
-            (
-                b"put 0 a 1\ncheckpoint\nget 0 a\n",
-                b"ok\nerror line\nvalue 1\n",
-            ),
-            (b"get 0 a\nremove 0 a\n", b"value 1\ntrue\n"),
-            (b"get 0 a\nremove 0 a\n", b"none\nfalse\n"),
-            (b"", b""),
-            (b"put 0 a 2\nput 1 a x:00ff\n", b"ok\nok\n"),
-            (
-                b"get 0 a\nget 1 a\nget 2 a\n",
-                b"value 2\nvalue x:00ff\nnone\n",
-            ),
-        ],
-    )
 }
 
 #[test]
@@ -65,36 +97,6 @@ fn an_empty_script_leaves_a_restart_and_nothing_pending(rt: HostRuntime) -> Resu
     Ok(())
 }
 
-/// Runs a script over a disk, and looks for so many bytes of the log, none of them pending. Answers
-/// the disk that it leaves.
-fn run_to_length(
-    rt: &(impl Abort + AllocGlobal),
-    script: &[u8],
-    disk: MemDisk,
-    len: usize,
-) -> Result<MemDisk, Fail> {
-    let run = run_over(rt, script, disk)?;
-    assert_eq!(rt; run.report.status, 0);
-    assert_eq!(rt; log_left(rt, &run, Pick::Kept)?.len(), len);
-    assert_eq!(rt; lasting_len(rt, &run)?, len);
-    run.disk(rt)
-}
-
-// Each run appends a RESTART of 37 bytes, and each accepted put of one byte each of key and value 30 bytes.
-#[test]
-fn each_run_appends_a_restart(rt: HostRuntime) -> Result<(), Fail> {
-    let mut disk = MemDisk::empty(rt.alloc());
-    for (script, len) in [
-        (b"put 0 a 1\nput 0 b 2\n".as_slice(), 97),
-        (b"", 134),
-        (b"get 0 a\nremove 0 c\nput 0 a\nscan 0\n", 171),
-        (b"put 0 a 2\nremove 0 b\n", 267),
-    ] {
-        disk = run_to_length(&rt, script, disk, len)?;
-    }
-    Ok(())
-}
-
 /// What a run says that reads two keys over this log.
 fn told_by(rt: &(impl Abort + AllocGlobal), log: &[u8]) -> Result<Run, Fail> {
     let run = run_over(rt, b"get 0 a\nget 0 b\n", disk_of(rt, log)?)?;
@@ -102,56 +104,60 @@ fn told_by(rt: &(impl Abort + AllocGlobal), log: &[u8]) -> Result<Run, Fail> {
     Ok(run)
 }
 
-/// Looks at what is answered over a log that has these whole frames at its begin, and at the log
-/// that is left: a RESTART stands after them.
-fn look_at(rt: &(impl Abort + AllocGlobal), log: &[u8], frames: &[u8]) -> Result<(), Fail> {
+/// The lengths of the frames of a log of two puts: a RESTART, and of each put its own and those of three pages.
+const FRAMES: [usize; 9] = [37, 30, 4_125, 4_125, 4_125, 30, 4_125, 4_125, 4_125];
+
+/// Looks at what is answered over a log of which the first so many bytes are whole frames, and at the log that
+/// is left: a RESTART stands after those, and the pages of each put that is replayed.
+fn look_at(rt: &(impl Abort + AllocGlobal), log: &[u8], whole: usize) -> Result<(), Fail> {
     let run = told_by(rt, log)?;
-    let whole = frames.len();
-    let wanted = if whole < 67 {
-        b"none\nnone\n".as_slice()
-    } else {
-        b"value 1\nnone\n"
+    let (said, puts) = match whole {
+        0..=66 => (b"none\nnone\n".as_slice(), 0),
+        67..=12_471 => (b"value 1\nnone\n".as_slice(), 1),
+        _ => (b"value 1\nvalue 2\n".as_slice(), 2),
     };
-    assert_eq!(rt; run.said(), wanted, "{whole}");
+    assert_eq!(rt; run.said(), said, "{whole}");
     let left = log_left(rt, &run, Pick::Lost)?;
-    assert_eq!(rt; left.len(), whole.saturating_add(37), "{whole}");
-    assert!(rt; left.starts_with(frames), "{whole}");
+    let added = FIRST_PAGES.saturating_mul(puts).saturating_add(37);
+    assert_eq!(rt; left.len(), whole.saturating_add(added), "{whole}");
+    assert!(rt; left.starts_with(&log[..whole.min(log.len())]), "{whole}");
     Ok(())
 }
 
-/// How many bytes the frames have that stand whole within so many bytes of a log: a RESTART of 37
-/// bytes, and a put of 30.
-fn whole_within(count: usize) -> usize {
-    match count {
-        0..=36 => 0,
-        37..=66 => 37,
-        _ => 67,
+/// Looks at a log that is cut at this byte, and at one in which the byte is another.
+fn look_at_byte(rt: &(impl Abort + AllocGlobal), log: &[u8], at: usize) -> Result<(), Fail> {
+    let whole = whole_within(&FRAMES, at);
+    let mut damaged = Vec::from_slice(rt.alloc(), log)?;
+    if let Some(byte) = damaged.get_mut(at) {
+        *byte ^= 0x10;
     }
-}
-
-#[test]
-fn a_log_ends_before_its_first_torn_frame(rt: HostRuntime) -> Result<(), Fail> {
-    let log = log_after(&rt, b"put 0 a 1\nput 0 b 2\n")?;
-    assert_eq!(rt; log.len(), 97);
-    for (count, _) in log.iter().enumerate() {
-        let whole = whole_within(count).min(log.len());
-        look_at(&rt, &log[..count], &log[..whole])?;
-    }
-    let run = told_by(&rt, &log)?;
-    assert_eq!(rt; run.said(), b"value 1\nvalue 2\n".as_slice());
-    Ok(())
+    look_at(rt, &log[..at.min(log.len())], whole)?;
+    look_at(rt, &damaged, whole)
 }
 
 #[test]
-fn a_log_ends_before_its_first_damaged_frame(rt: HostRuntime) -> Result<(), Fail> {
+fn a_log_ends_before_its_first_torn_or_damaged_frame(rt: HostRuntime) -> Result<(), Fail> {
     let log = log_after(&rt, b"put 0 a 1\nput 0 b 2\n")?;
-    for (at, _) in log.iter().enumerate() {
-        let mut damaged = Vec::from_slice(rt.alloc(), &log)?;
-        damaged[at] ^= 0x10;
-        let whole = whole_within(at).min(log.len());
-        look_at(&rt, &damaged, &log[..whole])?;
+    assert_eq!(rt; log.len(), whole_within(&FRAMES, log.len()));
+    // The first and the last byte of frames, and one between.
+    for at in [
+        0, 9, 36, 37, 40, 66, 67, 90, 4_191, 4_192, 8_316, 8_317, 12_441, 12_442, 12_450, 12_471,
+        12_472, 16_597, 20_000, 24_846,
+    ] {
+        look_at_byte(&rt, &log, at)?;
     }
-    Ok(())
+    look_at(&rt, &log, log.len())
+}
+
+// Another kind than the six is no frame, and so is one of another place.
+#[test]
+fn what_is_no_frame_ends_the_log(rt: HostRuntime) -> Result<(), Fail> {
+    for kind in [0, 7, 255] {
+        look_at(&rt, &with_frame(&rt, &FIRST_FRAME, kind, b"")?, 37)?;
+    }
+    let mut log = Vec::from_slice(rt.alloc(), &FIRST_FRAME)?;
+    log.extend_from_slice(&frame(&rt, LOGICAL, 38, PUT)?)?;
+    look_at(&rt, &log, 37)
 }
 
 /// A log with records of a page and the begin of a checkpoint between two puts.
@@ -173,14 +179,14 @@ fn log_with_pages(rt: &(impl Abort + AllocGlobal)) -> Result<Vec<u8>, Fail> {
     Ok(log)
 }
 
-// They tell nothing of the map, and stay in the log.
+// Where there is no start marker they tell nothing of the map, and stay in the log.
 #[test]
 fn records_of_pages_and_checkpoints_are_passed_over(rt: HostRuntime) -> Result<(), Fail> {
     let log = log_with_pages(&rt)?;
     let run = told_by(&rt, &log)?;
     assert_eq!(rt; run.said(), b"value 1\nvalue 2\n".as_slice());
     let left = log_left(&rt, &run, Pick::Lost)?;
-    assert_eq!(rt; left.len(), 1263);
+    assert_eq!(rt; left.len(), 1226 + 37 + 2 * FIRST_PAGES);
     assert!(rt; left.starts_with(&log));
     Ok(())
 }

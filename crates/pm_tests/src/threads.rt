@@ -1,8 +1,9 @@
 //! The log part and the writer of a host on two threads.
 
-ghost use Rattle.std.specs.Prelude.{◌≡◌, false, OnOk};
+ghost use Rattle.std.specs.Prelude.{◌≡◌, false};
 ghost use Rattle.pm_disk.specs.States.{IsLaterState, IsUsable, MayWrite};
 
+use crate::calls::bind;
 use pm_disk::{Failed, Host, Lent, LogFile, PageWriter};
 use pm_disk_fs::FsHost;
 use pm_types::PageId;
@@ -115,19 +116,11 @@ fn round<R: Threads, H: Host>(rt: &R, host: &mut H, page: PageId) -> Result<bool
     Ok(is_done && is_written)
 }
 
-/// Binds the host to the folder.
-fn bind<H: Host>(host: &mut H) -> Result<(), Failed>
-    requires { (H.state host.old).access.is_lent ≡ false }
-    ensures { OnOk result (IsUsable (H.state host.new)) }
-{
-    host.bind(FOLDER)
-}
-
 /// Splits the host for each round. Answers how many were done.
 fn rounds<R: Threads, H: Host>(rt: &R, host: &mut H) -> Result<u32, Fail>
     requires { (H.state host.old).access.is_lent ≡ false }
 {
-    bind(host)?;
+    bind(host, FOLDER)?;
     let mut done: u32 = 0;
     for index in 0..ROUNDS {
         if round(rt, host, PageId::new(3, index))? {

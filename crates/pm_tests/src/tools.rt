@@ -16,7 +16,7 @@ fn look(
     status: u8,
     said: &[u8],
 ) -> Result<(), Fail> {
-    let run = call_over(rt, &[word, "d"], disk_of(rt, log)?)?;
+    let run = call_over(rt, word, b"", disk_of(rt, log)?)?;
     assert_eq!(rt; run.said(), said, "{word}");
     assert_eq!(rt; run.report.status, status, "{word}");
     assert_eq!(rt; run.report.lines, 0, "{word}");
@@ -25,53 +25,35 @@ fn look(
     Ok(())
 }
 
+/// What is listed of the log of one put.
+const LISTED: &[u8] = b"1:0 restart\n1:37 put 0 a 1\n1:67 snapshot 0001000000000000\n\
+1:4192 snapshot 0001000000000001\n1:8317 snapshot 0001000000000002\nend 1:12442\n";
+
 #[test]
 fn a_log_is_listed_and_a_store_checked(rt: HostRuntime) -> Result<(), Fail> {
-    look(&rt, "wal", b"", 0, b"end 1:0\n")?;
-    look(&rt, "verify", b"", 0, b"pages 0 rows 0 records 0\n")?;
     let log = log_after(&rt, b"put 0 a 1\nget 0 a\n")?;
-    look(
-        &rt,
-        "wal",
-        &log,
-        0,
-        b"1:0 restart\n1:37 put 0 a 1\nend 1:67\n",
-    )?;
-    look(&rt, "verify", &log, 0, b"pages 0 rows 0 records 1\n")?;
     // Records that aren't changes of the map, and one more change.
     let more = with_frame(&rt, &log, DELTA, DELTA_OF_A_PAGE)?;
     let more = with_frame(&rt, &more, CP_BEGIN, CP_BEGIN_3)?;
     let more = with_frame(&rt, &more, LOGICAL, PUT)?;
-    look(&rt, "verify", &more, 0, b"pages 0 rows 0 records 2\n")?;
     let sealed = with_frame(&rt, &more, SEAL, b"")?;
-    look(&rt, "verify", &sealed, 0, b"pages 0 rows 0 records 2\n")
-}
-
-#[test]
-fn a_frame_that_holds_no_record_is_named(rt: HostRuntime) -> Result<(), Fail> {
-    let log = with_frame(&rt, b"", LOGICAL, PUT)?;
-    // The first record is no RESTART, which opening refuses and these don't.
-    look(&rt, "verify", &log, 0, b"pages 0 rows 0 records 1\n")?;
-    let bad = with_frame(&rt, &log, LOGICAL, b"")?;
-    look(&rt, "wal", &bad, 5, b"1:0 put 0 a 1\nfault record 1:30\n")?;
-    look(&rt, "verify", &bad, 5, b"fault record 1:30\n")
-}
-
-#[test]
-fn other_words_are_no_command(rt: HostRuntime) -> Result<(), Fail> {
-    let log = log_after(&rt, b"put 0 a 1\n")?;
-    let words: [&[&str]; 6] = [
-        &["verify"],
-        &["verify", ""],
-        &["verify", "-d"],
-        &["verify", "d", "e"],
-        &["wal"],
-        &["Verify", "d"],
+    // A first record that is no RESTART, which opening refuses and these don't.
+    let put = with_frame(&rt, b"", LOGICAL, PUT)?;
+    let bad = with_frame(&rt, &put, LOGICAL, b"")?;
+    let empty = Vec::new(rt.alloc());
+    let cases = [
+        (&empty, "wal", 0, b"end 1:0\n".as_slice()),
+        (&empty, "verify", 0, b"pages 0 rows 0 records 0\n"),
+        (&log, "wal", 0, LISTED),
+        (&log, "verify", 0, b"pages 0 rows 0 records 1\n"),
+        (&more, "verify", 0, b"pages 0 rows 0 records 2\n"),
+        (&sealed, "verify", 0, b"pages 0 rows 0 records 2\n"),
+        (&put, "verify", 0, b"pages 0 rows 0 records 1\n"),
+        (&bad, "verify", 5, b"fault record 1:30\n"),
+        (&bad, "wal", 5, b"1:0 put 0 a 1\nfault record 1:30\n"),
     ];
-    for list in words {
-        let run = call_over(&rt, list, disk_of(&rt, &log)?)?;
-        assert_eq!(rt; run.report.status, 1, "{list:?}");
-        assert_eq!(rt; run.said(), b"fault usage\n".as_slice(), "{list:?}");
+    for (bytes, word, status, said) in cases {
+        look(&rt, word, bytes, status, said)?;
     }
     Ok(())
 }

@@ -1,91 +1,104 @@
 //! Runs that are stopped before the force of their batch, and what restarts find, image by image.
 
-use crate::runs::{Run, disk_of, lasting_len, log_left, run_over, run_until};
+use crate::runs::{
+    FIRST_PAGES, Run, disk_of, log_after, log_left, run_over, run_until, whole_within,
+};
 use pm_disk_mem::{MemDisk, Pick};
 use std::process::Abort;
 use std::test::Fail;
 
-/// More calls than any of these runs makes.
-const CALLS_MAX: u64 = 100;
-
-/// Runs a script over a disk, stopped at the call after the one that writes its last record: the force of its
-/// only batch.
+/// Runs a script over this log, stopped at the force of its only batch: of a run's last calls that one is
+/// followed by the print of the replies, the read of the script's end, and the log's last force.
 fn stop_before_force(
     rt: &(impl Abort + AllocGlobal),
     script: &[u8],
-    disk: MemDisk,
-    call: u64,
+    log: &[u8],
 ) -> Result<Run, Fail> {
-    let run = run_until(rt, script, disk, Some(call))?;
+    let whole = run_over(rt, script, disk_of(rt, log)?)?;
+    let stop = whole.calls().saturating_sub(4);
+    let run = run_until(rt, b"", script, disk_of(rt, log)?, Some(stop))?;
     assert_eq!(rt; run.report.status, 3);
     assert!(rt; run.said().is_empty());
     Ok(run)
 }
 
-/// Restarts over a disk, and looks at what it says of two keys.
+/// Restarts over a disk, and looks at what it says of two keys, and at how long the log is then.
 fn look_at_keys(
     rt: &(impl Abort + AllocGlobal),
     disk: MemDisk,
     wanted: &[u8],
-    kept: u64,
+    len: usize,
 ) -> Result<(), Fail> {
     let run = run_over(rt, b"get 0 a\nget 0 b\n", disk)?;
-    assert_eq!(rt; run.report.status, 0, "{kept}");
-    assert_eq!(rt; run.said(), wanted, "{kept}");
+    assert_eq!(rt; run.report.status, 0, "{len}");
+    assert_eq!(rt; run.said(), wanted, "{len}");
+    assert_eq!(rt; log_left(rt, &run, Pick::Lost)?.len(), len, "{len}");
     Ok(())
 }
 
-/// Looks at each crash of a second run, which has 67 bytes pending: the RESTART's 37 and the put's 30.
-fn look_at_cuts(rt: &(impl Abort + AllocGlobal), second: &Run) -> Result<(), Fail> {
-    for kept in 0..67 {
-        let disk = second.crashed(rt, Pick::Cut(kept))?;
-        look_at_keys(rt, disk, b"value 1\nnone\n", kept)?;
+/// How long the log of one put is: a RESTART of 37 bytes, the put of 30, and the pages.
+const FIRST_LEN: usize = 37 + 30 + FIRST_PAGES;
+
+/// What a second run appends to it up to the frame of its put: the RESTART, the pages of the put that is
+/// replayed, and the put.
+const SECOND: [usize; 5] = [37, 4_125, 4_125, 4_125, 30];
+
+/// How long that is.
+const SECOND_LEN: usize = 37 + FIRST_PAGES + 30;
+
+/// Looks at the crash of the second run that keeps so many of its pending bytes: its put is there exactly where
+/// its frame is whole, and a restart goes on where the last frame ends that is.
+fn look_at_cut(
+    rt: &(impl Abort + AllocGlobal),
+    second: &Run,
+    pick: Pick,
+    count: usize,
+) -> Result<(), Fail> {
+    let disk = second.crashed(rt, pick)?;
+    let replayed = FIRST_LEN
+        .saturating_add(whole_within(&SECOND, count))
+        .saturating_add(37 + FIRST_PAGES);
+    if count < SECOND_LEN {
+        look_at_keys(rt, disk, b"value 1\nnone\n", replayed)
+    } else {
+        let both = replayed.saturating_add(FIRST_PAGES);
+        look_at_keys(rt, disk, b"value 1\nvalue 2\n", both)
     }
-    for kept in 67..80 {
-        let disk = second.crashed(rt, Pick::Cut(kept))?;
-        look_at_keys(rt, disk, b"value 1\nvalue 2\n", kept)?;
-    }
-    Ok(())
 }
 
-// The calls of the second run: the folder, the configuration and the shape; the log is read, cut and forced,
-// the RESTART written, the script read, the put written, and the force is the tenth.
+// Of the second run's bytes each 499th one is the first that isn't kept, and each one around the end of its
+// put's frame.
 #[test]
 fn a_put_over_an_older_log_is_there_once_its_frame_is_whole(rt: HostRuntime) -> Result<(), Fail> {
-    let first = run_over(&rt, b"put 0 a 1\n", MemDisk::empty(rt.alloc()))?;
-    assert_eq!(rt; lasting_len(&rt, &first)?, 67);
-    let second = stop_before_force(&rt, b"put 0 b 2\n", first.disk(&rt)?, 9)?;
-    assert_eq!(rt; log_left(&rt, &second, Pick::Kept)?.len(), 134);
-    assert_eq!(rt; lasting_len(&rt, &second)?, 67);
-    look_at_cuts(&rt, &second)
-}
-
-/// The log of three puts that weren't forced. The first one's frame is that of bytes 37 to 73.
-fn log_of_three(rt: &(impl Abort + AllocGlobal)) -> Result<Vec<u8>, Fail> {
-    let script = b"put 0 a 12345678\nput 0 b 2\nput 0 c 3\n";
-    let run = stop_before_force(rt, script, MemDisk::empty(rt.alloc()), 11)?;
-    log_left(rt, &run, Pick::Kept)
-}
-
-/// These bytes with zeros from the one offset up to the other.
-fn with_zeros(
-    rt: &impl AllocGlobal,
-    bytes: &[u8],
-    from: usize,
-    to: usize,
-) -> Result<Vec<u8>, Fail> {
-    let mut torn = Vec::new(rt.alloc());
-    for (at, byte) in bytes.iter().enumerate() {
-        torn.push(if from <= at && at < to { 0 } else { *byte })?;
+    let first = log_after(&rt, b"put 0 a 1\n")?;
+    assert_eq!(rt; first.len(), FIRST_LEN);
+    let second = stop_before_force(&rt, b"put 0 b 2\n", &first)?;
+    let kept = log_left(&rt, &second, Pick::Kept)?.len();
+    assert_eq!(rt; kept, FIRST_LEN + SECOND_LEN + FIRST_PAGES);
+    for pick in [Pick::Lost, Pick::Fill(0), Pick::Fill(5), Pick::Fill(238)] {
+        look_at_cut(&rt, &second, pick, 0)?;
     }
-    Ok(torn)
+    for count in 0..SECOND_LEN + 6 {
+        if count % 499 == 0 || count + 6 > SECOND_LEN {
+            look_at_cut(&rt, &second, Pick::Cut(count as u64), count)?;
+        }
+    }
+    Ok(())
 }
 
-/// The log of three puts, of which the first one's frame has zeros in place of its bytes.
+/// The log of three puts that weren't forced, of which the first one's frame has zeros in place of its bytes 37
+/// to 73.
 fn log_without_first(rt: &(impl Abort + AllocGlobal)) -> Result<Vec<u8>, Fail> {
-    let log = log_of_three(rt)?;
-    assert_eq!(rt; log.len(), 134);
-    with_zeros(rt, &log, 37, 74)
+    let script = b"put 0 a 12345678\nput 0 b 2\nput 0 c 3\n";
+    let run = stop_before_force(rt, script, b"")?;
+    let mut log = log_left(rt, &run, Pick::Kept)?;
+    assert_eq!(rt; log.len(), 37 + 37 + 30 + 30 + 3 * FIRST_PAGES);
+    for at in 37..74 {
+        if let Some(byte) = log.get_mut(at) {
+            *byte = 0;
+        }
+    }
+    Ok(log)
 }
 
 /// Restarts over what a crash left, and looks that neither of the later puts is there.
@@ -114,26 +127,31 @@ const PICKS: [Pick; 7] = [
     Pick::Cut(60),
 ];
 
-/// Restarts over the log, stopped at this call, and again over each crash of that. Answers whether it was done.
-fn restart_until(rt: &(impl Abort + AllocGlobal), log: &[u8], stop: u64) -> Result<bool, Fail> {
-    let stopped = run_until(rt, b"put 0 a 9\n", disk_of(rt, log)?, Some(stop))?;
+/// Restarts over the log, stopped at this call, and again over each crash of that.
+fn restart_until(
+    rt: &(impl Abort + AllocGlobal),
+    log: &[u8],
+    script: &[u8],
+    stop: u64,
+) -> Result<(), Fail> {
+    let stopped = run_until(rt, b"", script, disk_of(rt, log)?, Some(stop))?;
     for pick in PICKS {
         look_for_none(rt, &stopped, stop, pick)?;
     }
-    Ok(stopped.report.status == 0)
+    Ok(())
 }
 
 // The frame of the first put has 37 bytes, as a RESTART has: were the log not cut before one is written in its
-// place, the two later frames would follow it, whole and at their places.
+// place, the frames after it would follow it, whole and at their places.
 #[test]
 fn frames_after_a_torn_one_never_come_back(rt: HostRuntime) -> Result<(), Fail> {
     let log = log_without_first(&rt)?;
-    look_at_keys(&rt, disk_of(&rt, &log)?, b"none\nnone\n", 0)?;
-    for stop in 0..CALLS_MAX {
-        if restart_until(&rt, &log, stop)? {
-            assert_eq!(rt; stop, 13);
-            return Ok(());
-        }
+    look_at_keys(&rt, disk_of(&rt, &log)?, b"none\nnone\n", 74)?;
+    let script = b"put 0 a 9\n".as_slice();
+    let whole = run_over(&rt, script, disk_of(&rt, &log)?)?;
+    assert_eq!(rt; whole.report.status, 0);
+    for stop in 0..whole.calls().saturating_add(1) {
+        restart_until(&rt, &log, script, stop)?;
     }
-    panic!(rt; "no restart was done")
+    Ok(())
 }

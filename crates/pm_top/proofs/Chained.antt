@@ -1,92 +1,145 @@
 -- What a run or a crash leaves is a start for the next run.
-use Rattle.std.proofs.Common.{ℕ, ◌+◌, ◌*◌, ◌<◌, ◌≤◌, ◌^◌, length, ◌≡◌, ◌⊎◌, inl, inr, List, [], ◌∷◌, take, None, refl, sym, ◌∙◌, ap, subst, arith}
+use Rattle.std.proofs.Common.{ℕ, ◌+◌, ◌*◌, ◌<◌, ◌^◌, length, ◌≡◌, ◌⊎◌, inl, inr, List, [], ◌∷◌, take, refl, sym, ◌∙◌, ap, subst, arith}
 use Rattle.std.specs.FinMap.{empty}
+use Rattle.pm_types.specs.declared.limits.TheConstants.{OP_PAGES}
 use Rattle.pm_types.specs.declared.shape.Shape.{Shape}
-use Rattle.pm_disk.specs.Files.{File, bytes_of, content}
+use Rattle.pm_types.specs.Shapes.{IsShape}
+use Rattle.pm_types.proofs.PageSizeBounds.{page_size_bounds}
+use Rattle.pm_disk.specs.Files.{File, content}
 use Rattle.pm_disk.specs.Images.{Image, NothingPending}
-use Rattle.pm_disk.specs.Worlds.{World}
-use Rattle.pm_frame.specs.Frames.{Frame, frame_at, named_frame}
+use Rattle.pm_disk.specs.Worlds.{World, empty_world}
+use Rattle.pm_frame.specs.Frames.{Frame}
 use Rattle.pm_model.specs.declared.line.Line.{Line}
 use Rattle.pm_model.specs.Eval.{Pairs, after, after_all}
 use Rattle.pm_model.specs.Orders.{after_numbers, line_at}
 use Rattle.pm_model.proofs.Runs.{after_all-append}
-use Rattle.pm_records.specs.LogFiles.{contents}
-use Rattle.pm_records.proofs.Runs.{one_log}
 use Rattle.pm_records.specs.Logs.{all_frames, after_frames, place, IsLogFrom}
-use Rattle.pm_core.specs.LogAlone.{image_of, log_in, Holds, last_segment}
-use Rattle.pm_top.specs.Chains.{Follows, HasCrashed, IsFoundAfter, IsFresh, SameDisk, Stage, WasDone, found_last, lines_kept, lines_with}
-use Rattle.pm_top.specs.Promises.{IsLeft, IsStart}
+use Rattle.pm_records.proofs.FrameGrammar.{frame_laws}
+use Rattle.pm_records.proofs.Runs.{none_past, one_log}
+use Rattle.pm_marks.specs.InForce.{Checkpoint, NoStart, number_in, replay_of}
+use Rattle.pm_marks.proofs.SlotMarks.{mark_at-short}
+use Rattle.pm_core.specs.Held.{in_force}
+use Rattle.pm_core.specs.LogAlone.{image_of}
+use Rattle.pm_core.specs.Sound.{LogIsAlone, Sound, SoundImage}
+use Rattle.pm_core.proofs.NoFiles.{nothing_is_sound}
+use Rattle.pm_core.proofs.Ranges.{no_page}
+use Rattle.pm_core.proofs.WithoutStart.{none_in_force}
+use Rattle.pm_engine.specs.RunningLines.{SameDisk}
+use Rattle.pm_top.specs.Chains.{Follows, HasCrashed, IsFoundAfter, IsFresh, Stage, WasDone, found_last, lines_kept, lines_with}
+use Rattle.pm_top.specs.Crashes.{HasNumbers}
+use Rattle.pm_top.specs.Promises.{IsLeft, IsStart, last_after, number_after}
 use Rattle.pm_top.specs.Served.{script_of}
 
--- the segment in which the log ends
-abbrev last_seg : {wanted : Shape} {world : World} {shape : Shape} {pairs : Pairs} → IsStart wanted world shape pairs → ℕ
-last_seg start = last_segment start.holds
+-- ---- the same content
 
--- a start at which the log ends in this segment
-abbrev StartsIn : Shape → World → Shape → Pairs → ℕ → Type 0
-StartsIn wanted world shape pairs seg = (start : IsStart wanted world shape pairs) × (last_seg start ≡ seg)
+-- what a store's files hold is what a run begins over
+start_from : (wanted : Shape) (image : Image) (world : World) (shape : Shape) (pairs : Pairs) → image_of world ≡ image → (sound : SoundImage wanted image shape pairs) → HasNumbers wanted image shape pairs sound → NothingPending world → IsStart wanted world shape pairs
+start_from wanted image world shape pairs same sound numbers quiet =
+    let both : (s : SoundImage wanted (image_of world) shape pairs) × HasNumbers wanted (image_of world) shape pairs s =
+    subst (λ (held : Image). (s : SoundImage wanted held shape pairs) × HasNumbers wanted held shape pairs s) (sym same) (sound, numbers) in
+    record { sound = both.0; numbers = both.1; quiet = quiet }
 
--- the same bytes hold the same, with the same frames
-start_from : (wanted : Shape) (image : Image) (world : World) (shape : Shape) (pairs : Pairs) (holds : Holds wanted image shape pairs) → last_segment holds < 2 ^ 62 → log_in image ≡ contents world.log → NothingPending world → StartsIn wanted world shape pairs (last_segment holds)
-start_from wanted image world shape pairs holds few same quiet =
-    let frames = holds.log.frames in
-    let found : Holds wanted (image_of world) shape pairs = record {
-      log = record { frames = frames; log = subst (λ b. IsLogFrom all_frames b (place 1 0) frames) same holds.log.log; held = holds.log.held };
-      nothing_above = subst (λ (b : ℕ → List ℕ). (seg : ℕ) → (after_frames (place 1 0) frames).seg < seg → b seg ≡ []) same holds.nothing_above;
-    } in
-    (record { holds = found; numbers = few; quiet = quiet }, refl)
+-- the same, where the numbers are those of the world
+found_start : (wanted : Shape) (image : Image) (world : World) (shape : Shape) (pairs : Pairs) → image_of world ≡ image → SoundImage wanted image shape pairs → ((sound : Sound wanted world shape pairs) → HasNumbers wanted (image_of world) shape pairs sound) → NothingPending world
+    → IsStart wanted world shape pairs
+found_start wanted image world shape pairs same sound numbers quiet =
+    let here : Sound wanted world shape pairs = subst (λ (held : Image). SoundImage wanted held shape pairs) (sym same) sound in
+    record { sound = here; numbers = numbers here; quiet = quiet }
 
 -- ---- what a crash leaves
 
-crash_start : (wanted shape : Shape) (image : Image) (world : World) (pairs : Pairs) (holds : Holds wanted image shape pairs) → last_segment holds < 2 ^ 62 → IsFoundAfter image world → StartsIn wanted world shape pairs (last_segment holds)
-crash_start wanted shape image world pairs holds few found =
-    start_from wanted image world shape pairs holds few (λ i seg. sym (ap (λ (f : File). bytes_of (content f)) (found.log seg)) i)
-    record {
-      log = λ seg. ap (λ (f : File). f.since) (found.log seg);
-      pages = λ part. ap (λ (f : File). f.since) (found.pages part);
-      starts = ap (λ (f : File). f.since) found.starts;
-      ends = ap (λ (f : File). f.since) found.ends;
-    }
+found_image : (image : Image) (world : World) → IsFoundAfter image world → image_of world ≡ image
+found_image image world found = λ i. record {
+  log = λ seg. ap content (found.log seg) i;
+  pages = λ part. ap content (found.pages part) i;
+  starts = ap content found.starts i;
+  ends = ap content found.ends i;
+}
+
+found_quiet : (image : Image) (world : World) → IsFoundAfter image world → NothingPending world
+found_quiet image world found = record {
+  log = λ seg. ap (λ (f : File). f.since) (found.log seg);
+  pages = λ part. ap (λ (f : File). f.since) (found.pages part);
+  starts = ap (λ (f : File). f.since) found.starts;
+  ends = ap (λ (f : File). f.since) found.ends;
+}
+
+pub crash_law : (wanted shape : Shape) (image : Image) (world : World) (pairs : Pairs) (sound : SoundImage wanted image shape pairs) → HasNumbers wanted image shape pairs sound → IsFoundAfter image world → IsStart wanted world shape pairs
+crash_law wanted shape image world pairs sound numbers found = start_from wanted image world shape pairs (found_image image world found) sound numbers (found_quiet image world found)
 
 -- ---- what a done run leaves
 
-done_start : (wanted shape : Shape) (old new world : World) (pairs : Pairs) (start : IsStart wanted old shape pairs) → last_segment start.holds + 2 ^ 23 < 2 ^ 62 → (left : IsLeft wanted (last_segment start.holds) old new shape pairs) → SameDisk new world
-    → StartsIn wanted world shape (after_all shape (script_of old.input) pairs) (last_segment left.holds)
-done_start wanted shape old new world pairs start few left same =
-    start_from wanted (image_of new) world shape (after_all shape (script_of old.input) pairs) left.holds (omega (arith, left.rises, few)) (λ i seg. sym (ap (λ (f : File). bytes_of (content f)) (same.log seg)) i)
-    record {
-      log = λ seg. ap (λ (f : File). f.since) (same.log seg) ∙ left.quiet.log seg;
-      pages = λ part. ap (λ (f : File). f.since) (same.pages part) ∙ left.quiet.pages part;
-      starts = ap (λ (f : File). f.since) same.starts ∙ left.quiet.starts;
-      ends = ap (λ (f : File). f.since) same.ends ∙ left.quiet.ends;
-    }
+same_image : (new world : World) → SameDisk new world → image_of world ≡ image_of new
+same_image new world same = λ i. record {
+  log = λ seg. content (same.log i seg);
+  pages = λ part. content (same.pages i part);
+  starts = content (same.starts i);
+  ends = content (same.ends i);
+}
+
+same_quiet : (new world : World) → SameDisk new world → NothingPending new → NothingPending world
+same_quiet new world same quiet = record {
+  log = subst (λ (log : ℕ → File). (seg : ℕ) → (log seg).since ≡ []) (sym same.log) quiet.log;
+  pages = subst (λ (pages : ℕ → File). (part : ℕ) → (pages part).since ≡ []) (sym same.pages) quiet.pages;
+  starts = subst (λ (f : File). f.since ≡ []) (sym same.starts) quiet.starts;
+  ends = subst (λ (f : File). f.since ≡ []) (sym same.ends) quiet.ends;
+}
+
+pub done_law : (wanted shape : Shape) (old new world : World) (pairs : Pairs) (start : IsStart wanted old shape pairs) (left : IsLeft wanted (last_after start) (number_after start) old new shape pairs)
+    → HasNumbers wanted (image_of new) shape (after_all shape (script_of old.input) pairs) left.sound → SameDisk new world → IsStart wanted world shape (after_all shape (script_of old.input) pairs)
+done_law wanted shape old new world pairs start left numbers same =
+    start_from wanted (image_of new) world shape (after_all shape (script_of old.input) pairs) (same_image new world same) left.sound numbers (same_quiet new world same left.quiet)
 
 -- ---- a fresh folder
 
--- no frame stands in no bytes
-no_frame : all_frames.frame_at 1 0 [] ≡ None
-unfolding frame_at named_frame
-no_frame = refl
+module _ (wanted : Shape) (shaped : IsShape wanted) where
+  alone : LogIsAlone wanted.page_size (image_of empty_world)
+  alone = record {
+    starts = λ slot. mark_at-short slot [] (omega arith);
+    ends = λ slot. mark_at-short slot [] (omega arith);
+    bare = λ part index. no_page wanted.page_size index (let bounds = page_size_bounds wanted.page_size shaped.page_size in omega (arith, bounds.0));
+  }
 
-pub fresh_start : (wanted : Shape) (world : World) → IsFresh world → IsStart wanted world wanted empty
-fresh_start wanted world fresh =
-    let bytes : (seg : ℕ) → contents world.log seg ≡ [] = λ seg. ap (λ (f : File). bytes_of (content f)) (fresh.log seg) in
+  no_start : in_force (image_of empty_world) ≡ NoStart
+  no_start = none_in_force wanted.page_size (image_of empty_world) alone
+
+-- an empty log has no frames
+no_frames : (frames : List Frame) → IsLogFrom all_frames (λ seg. []) (place 1 0) frames → frames ≡ []
+no_frames frames is = one_log all_frames (λ seg. []) (place 1 0) frames [] is (record { run = tt; ends = λ still. none_past all_frames frame_laws 1 0 [] (omega arith) })
+
+few_frames : (checkpoint : Checkpoint) → checkpoint ≡ NoStart → (frames : List Frame) → IsLogFrom all_frames (λ seg. []) (replay_of checkpoint) frames → (after_frames (replay_of checkpoint) frames).seg + (1 + (OP_PAGES + 1) * length frames) < 2 ^ 62
+few_frames checkpoint none frames is =
+    subst (λ (c : Checkpoint). (fs : List Frame) → IsLogFrom all_frames (λ seg. []) (replay_of c) fs → (after_frames (replay_of c) fs).seg + (1 + (OP_PAGES + 1) * length fs) < 2 ^ 62) (sym none)
+    (λ fs its. subst (λ (gs : List Frame). (after_frames (place 1 0) gs).seg + (1 + (OP_PAGES + 1) * length gs) < 2 ^ 62) (sym (no_frames fs its)) (omega arith)) frames is
+
+few_checkpoints : (checkpoint : Checkpoint) → checkpoint ≡ NoStart → (frames : List Frame) → IsLogFrom all_frames (λ seg. []) (replay_of checkpoint) frames → number_in checkpoint + length frames < 2 ^ 62
+few_checkpoints checkpoint none frames is =
+    subst (λ (c : Checkpoint). (fs : List Frame) → IsLogFrom all_frames (λ seg. []) (replay_of c) fs → number_in c + length fs < 2 ^ 62) (sym none)
+    (λ fs its. subst (λ (gs : List Frame). number_in NoStart + length gs < 2 ^ 62) (sym (no_frames fs its)) (omega arith)) frames is
+
+fresh_numbers : (wanted : Shape) → IsShape wanted → (sound : Sound wanted empty_world wanted empty) → HasNumbers wanted (image_of empty_world) wanted empty sound
+fresh_numbers wanted shaped sound = record {
+  segments = few_frames (in_force (image_of empty_world)) (no_start wanted shaped) sound.holds.frames sound.holds.log;
+  checkpoints = few_checkpoints (in_force (image_of empty_world)) (no_start wanted shaped) sound.holds.frames sound.holds.log;
+}
+
+fresh_image : (world : World) → IsFresh world → image_of world ≡ image_of empty_world
+fresh_image world fresh = λ i. record {
+  log = λ seg. ap content (fresh.log seg) i;
+  pages = λ part. ap content (fresh.pages part) i;
+  starts = ap content fresh.starts i;
+  ends = ap content fresh.ends i;
+}
+
+pub fresh_start : (wanted : Shape) (world : World) → IsShape wanted → IsFresh world → IsStart wanted world wanted empty
+fresh_start wanted world shaped fresh =
+    let sound = nothing_is_sound wanted shaped in
+    start_from wanted (image_of empty_world) world wanted empty (fresh_image world fresh) sound (fresh_numbers wanted shaped sound)
     record {
-      holds = record {
-        log = record {
-          frames = [];
-          log = record { run = tt; ends = λ _. ap (all_frames.frame_at 1 0) (bytes 1) ∙ no_frame };
-          held = record { begins = refl; told = refl; map = refl };
-        };
-        nothing_above = λ seg _. bytes seg;
-      };
-      numbers = omega arith;
-      quiet = record {
-        log = λ seg. ap (λ (f : File). f.since) (fresh.log seg);
-        pages = λ part. ap (λ (f : File). f.since) (fresh.pages part);
-        starts = ap (λ (f : File). f.since) fresh.starts;
-        ends = ap (λ (f : File). f.since) fresh.ends;
-      };
+      log = λ seg. ap (λ (f : File). f.since) (fresh.log seg);
+      pages = λ part. ap (λ (f : File). f.since) (fresh.pages part);
+      starts = ap (λ (f : File). f.since) fresh.starts;
+      ends = ap (λ (f : File). f.since) fresh.ends;
     }
 
 -- ---- one after the other
@@ -96,48 +149,23 @@ numbers_leave : (shape : Shape) (numbers : List ℕ) (script : List Line) (pairs
 numbers_leave shape [] script pairs = refl
 numbers_leave shape (n ∷ numbers) script pairs = numbers_leave shape numbers script (after shape (line_at 1 script n) pairs)
 
--- two starts over one world have the same frames
-same_frames : (wanted : Shape) (world : World) (shape : Shape) (pairs : Pairs) (one other : IsStart wanted world shape pairs) → one.holds.log.frames ≡ other.holds.log.frames
-same_frames wanted world shape pairs one other = one_log all_frames (contents world.log) (place 1 0) one.holds.log.frames other.holds.log.frames one.holds.log.log other.holds.log.log
-
-same_seg : (wanted : Shape) (world : World) (shape : Shape) (pairs : Pairs) (one other : IsStart wanted world shape pairs) → last_seg one ≡ last_seg other
-same_seg wanted world shape pairs one other = ap (λ (fs : List Frame). (after_frames (place 1 0) fs).seg) (same_frames wanted world shape pairs one other)
-
--- the next run begins over a log that is at most so many segments longer
-abbrev NextStart : Shape → Shape → World → Pairs → ℕ → Type 0
-NextStart wanted shape next pairs most = (start : IsStart wanted next shape pairs) × (last_seg start ≤ most + 16777216)
-
-stage_start : (wanted shape : Shape) (start : World) (pairs : Pairs) (stage : Stage) (begins : IsStart wanted start shape pairs) → last_seg begins + 16777216 < 4611686018427387904 → WasDone wanted shape start pairs stage ⊎ HasCrashed wanted shape start pairs stage
-    → NextStart wanted shape stage.next (after_all shape stage.lines pairs) (last_seg begins)
-stage_start wanted shape start pairs stage begins few run = elim run [
+stage_start : (wanted shape : Shape) (start : World) (pairs : Pairs) (stage : Stage) → IsStart wanted start shape pairs → WasDone wanted shape start pairs stage ⊎ HasCrashed wanted shape start pairs stage → IsStart wanted stage.next shape (after_all shape stage.lines pairs)
+stage_start wanted shape start pairs stage begins run = elim run [
   | inl done ↦
-      let same = same_seg wanted start shape pairs done.begins begins in
-      let next = done_start wanted shape start done.new stage.next pairs done.begins (omega (arith, few, same)) done.left done.found in
-      let its : NextStart wanted shape stage.next (after_all shape (script_of start.input) pairs) (last_seg begins) = (next.0, omega (arith, next.1, done.left.rises, same)) in
-      subst (λ ls. NextStart wanted shape stage.next (after_all shape ls pairs) (last_seg begins)) (sym done.lines_are) its
+      let left = done.left begins in
+      found_start wanted (image_of done.new) stage.next shape (after_all shape stage.lines pairs) (same_image done.new stage.next done.found)
+      (subst (λ (ls : List Line). Sound wanted done.new shape (after_all shape ls pairs)) (sym done.lines_are) left.sound) done.numbers (same_quiet done.new stage.next done.found left.quiet)
   | inr crashed ↦
-      let same = same_seg wanted start shape pairs crashed.begins begins in
+      let kept = crashed.kept begins in
       let script = script_of start.input in
-      let numbers = take crashed.kept.count crashed.order in
-      let next = crash_start wanted shape crashed.image stage.next (after_numbers shape numbers 1 script pairs) crashed.kept.holds (omega (arith, crashed.kept.rises, few, same)) crashed.found in
-      let its : NextStart wanted shape stage.next (after_numbers shape numbers 1 script pairs) (last_seg begins) = (next.0, omega (arith, next.1, crashed.kept.rises, same)) in
-      subst (λ m. NextStart wanted shape stage.next m (last_seg begins)) (numbers_leave shape numbers script pairs ∙ ap (λ ls. after_all shape ls pairs) (sym crashed.lines_are)) its
+      let map : after_numbers shape (take kept.count crashed.order) 1 script pairs ≡ after_all shape stage.lines pairs =
+      numbers_leave shape (take kept.count crashed.order) script pairs ∙ ap (λ (ls : List Line). after_all shape ls pairs) (sym (crashed.lines_are begins)) in
+      found_start wanted crashed.image stage.next shape (after_all shape stage.lines pairs) (found_image crashed.image stage.next crashed.found)
+      (subst (SoundImage wanted crashed.image shape) map kept.holds.0) crashed.numbers (found_quiet crashed.image stage.next crashed.found)
 ]
 
-pub chain : (wanted shape : Shape) (start : World) (pairs : Pairs) (stages : List Stage) (begins : IsStart wanted start shape pairs) → last_seg begins + 16777216 * length stages < 4611686018427387904 → Follows wanted shape start pairs stages
-    → IsStart wanted (found_last start stages) shape (after_all shape (lines_kept stages) pairs)
-chain wanted shape start pairs [] begins few follows = begins
-chain wanted shape start pairs (stage ∷ stages) begins few follows =
-    let count : length (stage ∷ stages) ≡ length stages + 1 = omega arith in
-    let next = stage_start wanted shape start pairs stage begins (omega (arith, few, count)) follows.0 in
-    subst (λ m. IsStart wanted (found_last stage.next stages) shape m) (sym (after_all-append shape stage.lines (lines_kept stages) pairs))
-    (chain wanted shape stage.next (after_all shape stage.lines pairs) stages next.0 (omega (arith, few, count, next.1)) follows.1)
-
--- ---- the laws
-
-pub crash_law : (wanted shape : Shape) (image : Image) (world : World) (pairs : Pairs) (holds : Holds wanted image shape pairs) → last_segment holds < 2 ^ 62 → IsFoundAfter image world → IsStart wanted world shape pairs
-crash_law wanted shape image world pairs holds few found = (crash_start wanted shape image world pairs holds few found).0
-
-pub done_law : (wanted shape : Shape) (old new world : World) (pairs : Pairs) (start : IsStart wanted old shape pairs) → last_segment start.holds + 2 ^ 23 < 2 ^ 62 → IsLeft wanted (last_segment start.holds) old new shape pairs → SameDisk new world
-    → IsStart wanted world shape (after_all shape (script_of old.input) pairs)
-done_law wanted shape old new world pairs start few left same = (done_start wanted shape old new world pairs start few left same).0
+pub chain : (wanted shape : Shape) (start : World) (pairs : Pairs) (stages : List Stage) → IsStart wanted start shape pairs → Follows wanted shape start pairs stages → IsStart wanted (found_last start stages) shape (after_all shape (lines_kept stages) pairs)
+chain wanted shape start pairs [] begins follows = begins
+chain wanted shape start pairs (stage ∷ stages) begins follows =
+    subst (λ (m : Pairs). IsStart wanted (found_last stage.next stages) shape m) (sym (after_all-append shape stage.lines (lines_kept stages) pairs))
+    (chain wanted shape stage.next (after_all shape stage.lines pairs) stages (stage_start wanted shape start pairs stage begins follows.0) follows.1)

@@ -1,10 +1,10 @@
 -- What a command promises, by its name.
-use Rattle.std.proofs.Common.{◌≡◌, inl, ℕ, List, [], refl, sym, ap}
+use Rattle.std.proofs.Common.{◌≡◌, inl, ℕ, List, [], refl, ap}
 use Rattle.std.specs.Prelude.{Option, Some, None, is_some, true, false}
 use Rattle.pm_disk.specs.Moments.{History, AllMoments}
 use Rattle.pm_disk.specs.States.{DeviceState, Rose}
 use Rattle.pm_disk.specs.Worlds.{World}
-use Rattle.pm_engine.specs.Openings.{IsSame}
+use Rattle.pm_redo.specs.Rebuilding.{IsSame}
 use Rattle.pm_top.specs.declared.status.Status.{Status}
 use Rattle.pm_top.specs.declared.status.Status.TheVariants.{Failed, Usage}
 use Rattle.pm_top.specs.declared.words.CommandName.{CommandName}
@@ -13,7 +13,7 @@ use Rattle.pm_top.specs.Commands.{CommandCompletes, CommandHolds, CommandIsSafe}
 use Rattle.pm_top.proofs.Limits.{completes}
 use Rattle.pm_top.proofs.LogListing.{wal_completes, wal_from, wal_unbound}
 use Rattle.pm_top.proofs.Opened.{crash_from, kept_moments}
-use Rattle.pm_top.proofs.Refusing.{idle_run, run_from, same_log}
+use Rattle.pm_top.proofs.Refusing.{idle_run, run_from, same_disk}
 use Rattle.pm_top.proofs.StoreChecking.{check_completes, check_ends, check_from}
 
 -- after the folder is bound, which changed nothing
@@ -30,7 +30,7 @@ safe_from Verify old mid new order first same safe = tt
 
 -- the folder wasn't bound
 pub holds_unbound : (name : CommandName) (old mid : History) (status : Status) (lines : ℕ) (order : List ℕ) → AllMoments old mid (IsSame old.world) → mid.world ≡ old.world → status ≡ Failed → lines ≡ 0 → order ≡ [] → CommandHolds (Some name) old mid status lines order
-holds_unbound Run old mid status lines order kept same is none no_order = idle_run old mid status lines order (inl is) (ap (λ (w : World). w.said) same) none no_order (λ _. same_log old mid kept)
+holds_unbound Run old mid status lines order kept same is none no_order = idle_run old mid status lines order (inl is) (ap (λ (w : World). w.said) same) none no_order (λ _ _. same_disk old mid kept)
 holds_unbound Wal old mid status lines order kept same is none no_order = wal_unbound old mid status lines order kept is none no_order
 holds_unbound Verify old mid status lines order kept same is none no_order = check_ends old mid status lines order kept (inl is) none no_order
 

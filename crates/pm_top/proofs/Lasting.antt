@@ -10,16 +10,15 @@ use Rattle.pm_model.specs.Eval.{Pairs, replies_to, after_all, accepted}
 use Rattle.pm_model.proofs.Runs.{after_all-append, replies_to-append, length-replies_to, accepted-append}
 use Rattle.pm_script.specs.Reading.{OnlyTakes}
 use Rattle.pm_script.specs.Texts.{texts_of}
-use Rattle.pm_core.specs.LogAlone.{Holds}
-use Rattle.pm_engine.specs.Crashes.{CrashHoldsPrefix}
 use Rattle.pm_top.specs.declared.run.Run.{Run}
 use Rattle.pm_top.specs.ScriptOrder.{CrashHoldsAcknowledged, HoldsAfter, after_numbers, acknowledged_count}
-use Rattle.pm_top.specs.Crashes.{begun}
+use Rattle.pm_engine.specs.RunningLines.{HoldsPrefix}
+use Rattle.pm_top.specs.Crashes.{CrashKeeps, SoundUpTo, begun}
 use Rattle.pm_top.specs.Promises.{replies_of}
 use Rattle.pm_top.specs.ScriptOrder.{IsOrder}
 use Rattle.pm_top.specs.Runs.{Progress}
 use Rattle.pm_top.specs.Crashes.{acknowledged}
-use Rattle.pm_top.specs.ScriptOrder as one
+use Rattle.pm_top.specs.Crashes as whole
 use Rattle.pm_model.specs.Orders as orders
 use Rattle.std.specs.List.{All, Contains}
 use Rattle.pm_top.specs.Served.{script_of}
@@ -54,10 +53,10 @@ take_take (suc a) (suc b) (x ∷ xs) le = ap (λ ys. x ∷ ys) (take_take a b xs
 -- ---- images
 
 -- what holds the map after the first so many lines, where no more than these are acknowledged, and the order has at least these
-holds_after : (wanted : Shape) (start : World) (shape : Shape) (pairs : Pairs) (order : List ℕ) (w : World) (image : Image) (k d : ℕ) → k + d ≤ length (script_of start.input) → IsOrder shape start.input pairs (k + d) order
-    → acknowledged_count start shape pairs w ≤ length (accepted shape 1 (take k (script_of start.input)) pairs) → Holds wanted image shape (after_all shape (take k (script_of start.input)) pairs)
-    → HoldsAfter wanted start shape pairs order w image
-holds_after wanted start shape pairs order w image k d within is has holds =
+holds_after : (wanted : Shape) (last number : ℕ) (start : World) (shape : Shape) (pairs : Pairs) (order : List ℕ) (w : World) (image : Image) (k d : ℕ) → k + d ≤ length (script_of start.input) → IsOrder shape start.input pairs (k + d) order
+    → acknowledged_count start shape pairs w ≤ length (accepted shape 1 (take k (script_of start.input)) pairs) → SoundUpTo wanted last number image shape (after_all shape (take k (script_of start.input)) pairs)
+    → HoldsAfter wanted last number start shape pairs order w image
+holds_after wanted last number start shape pairs order w image k d within is has holds =
     let script = script_of start.input in
     let first = accepted shape 1 (take k script) pairs in
     let more = accepted shape (1 + length (take k script)) (take d (drop k script)) (after_all shape (take k script) pairs) in
@@ -69,33 +68,40 @@ holds_after wanted start shape pairs order w image k d within is has holds =
       count = length first;
       fits = omega (arith, ap length order_is, length-append first more);
       has = has;
-      holds = subst (Holds wanted image shape) (sym (ap (λ o. after_numbers shape o script pairs) front ∙ map)) holds;
+      holds = subst (SoundUpTo wanted last number image shape) (sym (ap (λ o. after_numbers shape o script pairs) front ∙ map)) holds;
     }
 
 -- a longer order keeps what a shorter one keeps
-pub order_longer : (wanted : Shape) (start : World) (shape : Shape) (pairs : Pairs) (order more : List ℕ) (w : World) → CrashHoldsAcknowledged wanted start shape pairs order w → CrashHoldsAcknowledged wanted start shape pairs (order ++ more) w
-order_longer wanted start shape pairs order more w keeps image leaves honest =
+pub order_longer : (wanted : Shape) (last number : ℕ) (start : World) (shape : Shape) (pairs : Pairs) (order more : List ℕ) (w : World) → CrashHoldsAcknowledged wanted last number start shape pairs order w → CrashHoldsAcknowledged wanted last number start shape pairs (order ++ more) w
+order_longer wanted last number start shape pairs order more w keeps image leaves honest =
     let h = keeps image leaves honest in
     record {
       count = h.count;
       fits = omega (arith, h.fits, length-append order more);
       has = h.has;
-      holds = subst (λ o. Holds wanted image shape (after_numbers shape o (script_of start.input) pairs)) (sym (take-append-le h.count order more h.fits)) h.holds;
+      holds = subst (λ o. SoundUpTo wanted last number image shape (after_numbers shape o (script_of start.input) pairs)) (sym (take-append-le h.count order more h.fits)) h.holds;
     }
 
 -- what was said is no file
-pub keeps_said : (wanted : Shape) (shape : Shape) (pairs : Pairs) (lines : List Line) (bytes : List ℕ) (w : World) → CrashHoldsPrefix wanted shape pairs lines w → CrashHoldsPrefix wanted shape pairs lines (with_said bytes w)
-keeps_said wanted shape pairs lines bytes w keeps image leaves honest =
-    keeps image (record { log = leaves.log; pages = leaves.pages; starts = leaves.starts; ends = leaves.ends }) honest
+pub keeps_said : (wanted : Shape) (last number : ℕ) (shape : Shape) (pairs : Pairs) (lines : List Line) (bytes : List ℕ) (w : World) → CrashKeeps wanted last number shape pairs lines w → CrashKeeps wanted last number shape pairs lines (with_said bytes w)
+keeps_said wanted last number shape pairs lines bytes w keeps image leaves honest =
+    keeps image (record { log = leaves.log; pages = leaves.pages; starts = leaves.starts; ends = leaves.ends })
+    (record { frames = honest.frames; starts = honest.starts; ends = honest.ends })
 
 -- nor is the input
-pub keeps_taken : (wanted : Shape) (shape : Shape) (pairs : Pairs) (lines : List Line) (old w : World) → OnlyTakes old w → CrashHoldsPrefix wanted shape pairs lines old → CrashHoldsPrefix wanted shape pairs lines w
-keeps_taken wanted shape pairs lines old w takes keeps = subst (CrashHoldsPrefix wanted shape pairs lines) (sym takes.1) (λ image leaves honest.
-    keeps image (record { log = leaves.log; pages = leaves.pages; starts = leaves.starts; ends = leaves.ends }) honest)
+pub keeps_taken : (wanted : Shape) (last number : ℕ) (shape : Shape) (pairs : Pairs) (lines : List Line) (old w : World) → OnlyTakes old w → CrashKeeps wanted last number shape pairs lines old → CrashKeeps wanted last number shape pairs lines w
+keeps_taken wanted last number shape pairs lines old w takes keeps = subst (CrashKeeps wanted last number shape pairs lines) (sym takes.1) (λ image leaves honest.
+    keeps image (record { log = leaves.log; pages = leaves.pages; starts = leaves.starts; ends = leaves.ends })
+    (record { frames = honest.frames; starts = honest.starts; ends = honest.ends }))
+
+-- what a prefix holds, with its bounds
+pub held_by : {last number : ℕ} {wanted shape : Shape} {start : Pairs} {lines : List Line} {image : Image} → HoldsPrefix last number wanted shape start lines image
+    → (count : ℕ) × (count ≤ length lines) × SoundUpTo wanted last number image shape (after_all shape (take count lines) start)
+held_by held = (held.count, held.within, (held.sound, held.up_to _ _ held.sound))
 
 -- the map of all lines, where it is the only one
-only_map : (wanted : Shape) (shape : Shape) (pairs : Pairs) (image : Image) → (count : ℕ) × (count ≤ 0) × Holds wanted image shape (after_all shape (take count []) pairs) → Holds wanted image shape pairs
-only_map wanted shape pairs image h = subst (Holds wanted image shape) (ap (λ ls. after_all shape ls pairs) (take_all h.0 [] (omega arith))) h.2
+pub only_map : (wanted : Shape) (last number : ℕ) (shape : Shape) (pairs : Pairs) (image : Image) → (count : ℕ) × (count ≤ 0) × SoundUpTo wanted last number image shape (after_all shape (take count []) pairs) → SoundUpTo wanted last number image shape pairs
+only_map wanted last number shape pairs image h = subst (SoundUpTo wanted last number image shape) (ap (λ ls. after_all shape ls pairs) (take_all h.0 [] (omega arith))) h.2
 
 -- ---- while no line is answered
 
@@ -117,11 +123,11 @@ none_refused start shape pairs c bytes n none_with =
     ∙ none_acknowledged shape 1 script pairs n c bytes none_with
 
 -- so a crash leaves the map of the start
-pub idle_keeps : (wanted : Shape) (start : World) (shape : Shape) (pairs : Pairs) (order : List ℕ) (w : World) → acknowledged start shape pairs w ≡ [] → CrashHoldsPrefix wanted shape pairs [] w → one.CrashHoldsSome wanted start shape pairs order w
-idle_keeps wanted start shape pairs order w none keeps image leaves honest = record {
+pub idle_keeps : (wanted : Shape) (last number : ℕ) (start : World) (shape : Shape) (pairs : Pairs) (order : List ℕ) (w : World) → acknowledged start shape pairs w ≡ [] → CrashKeeps wanted last number shape pairs [] w → whole.CrashHoldsAcknowledged wanted last number start shape pairs order w
+idle_keeps wanted last number start shape pairs order w none keeps image leaves honest = record {
   count = 0;
   has = subst (λ (ns : List ℕ). All (Contains (take 0 order)) ns) (sym none) (λ k d few. absurd (omega (arith, few)));
-  holds = subst (λ (o : List ℕ). Holds wanted image shape (orders.after_numbers shape o 1 (script_of start.input) pairs)) (sym (take_none order)) (only_map wanted shape pairs image (keeps image leaves honest));
+  holds = subst (λ (o : List ℕ). SoundUpTo wanted last number image shape (orders.after_numbers shape o 1 (script_of start.input) pairs)) (sym (take_none order)) (only_map wanted last number shape pairs image (held_by (keeps image leaves honest)));
 }
 
 -- ---- on the way
@@ -136,82 +142,82 @@ module _ {start now : World} {left : List Line} {shape : Shape} {pairs : Pairs} 
 
   -- how many replies began
   pub begun_since : (w : World) (tail : List ℕ) → w.said ≡ now.said ++ tail
-      → begun (replies_of shape start.input pairs) (drop (length start.said) w.said) ≡ run.lines + begun (replies_to shape left run.engine.map) tail
+      → begun (replies_of shape start.input pairs) (drop (length start.said) w.said) ≡ run.lines + begun (replies_to shape left run.engine.map.pairs) tail
   begun_since w tail is =
       let replies = replies_to shape progress.done pairs in
-      let more = replies_to shape left run.engine.map in
+      let more = replies_to shape left run.engine.map.pairs in
       ap (begun (replies_of shape start.input pairs)) (said_since w tail is)
       ∙ ap (λ r. begun r (texts_of replies ++ tail)) (parted progress)
       ∙ begun-texts replies more tail
       ∙ ap (λ n. n + begun more tail) (length-replies_to shape progress.done pairs ∙ progress.count)
 
   -- no more lines are acknowledged
-  acknowledged_within : (w : World) (tail : List ℕ) (k : ℕ) → w.said ≡ now.said ++ tail → run.lines + begun (replies_to shape left run.engine.map) tail ≤ k → k ≤ length (script_of start.input)
+  acknowledged_within : (w : World) (tail : List ℕ) (k : ℕ) → w.said ≡ now.said ++ tail → run.lines + begun (replies_to shape left run.engine.map.pairs) tail ≤ k → k ≤ length (script_of start.input)
       → acknowledged_count start shape pairs w ≤ length (accepted shape 1 (take k (script_of start.input)) pairs)
   acknowledged_within w tail k is le within =
       accepted_le shape (script_of start.input) pairs (begun (replies_of shape start.input pairs) (drop (length start.said) w.said)) k (omega (arith, le, begun_since w tail is)) within
 
   -- the map after so many more lines
-  map_more : (n : ℕ) → after_all shape (take (run.lines + n) (script_of start.input)) pairs ≡ after_all shape (take n left) run.engine.map
+  map_more : (n : ℕ) → after_all shape (take (run.lines + n) (script_of start.input)) pairs ≡ after_all shape (take n left) run.engine.map.pairs
   map_more n = ap (λ ls. after_all shape ls pairs) (take_more progress n) ∙ after_all-append shape progress.done (take n left) pairs ∙ ap (after_all shape (take n left)) (sym progress.map)
 
   -- between two batches
-  pub keeps_rest : (wanted : Shape) (w : World) → w.said ≡ now.said → CrashHoldsPrefix wanted run.engine.shape run.engine.map [] w → CrashHoldsAcknowledged wanted start shape pairs run.engine.order w
-  keeps_rest wanted w same keeps image leaves honest =
-      let map : after_all shape (take (run.lines + 0) (script_of start.input)) pairs ≡ run.engine.map = map_more 0 ∙ ap (λ ls. after_all shape ls run.engine.map) (take_none left) in
-      let holds = only_map wanted shape run.engine.map image (subst (λ s. (count : ℕ) × (count ≤ 0) × Holds wanted image s (after_all s (take count []) run.engine.map)) progress.shape_is (keeps image leaves honest)) in
+  pub keeps_rest : (wanted : Shape) (last number : ℕ) (w : World) → w.said ≡ now.said → CrashKeeps wanted last number run.engine.map.shape run.engine.map.pairs [] w → CrashHoldsAcknowledged wanted last number start shape pairs run.engine.order w
+  keeps_rest wanted last number w same keeps image leaves honest =
+      let map : after_all shape (take (run.lines + 0) (script_of start.input)) pairs ≡ run.engine.map.pairs = map_more 0 ∙ ap (λ ls. after_all shape ls run.engine.map.pairs) (take_none left) in
+      let holds = only_map wanted last number shape run.engine.map.pairs image (subst (λ s. (count : ℕ) × (count ≤ 0) × SoundUpTo wanted last number image s (after_all s (take count []) run.engine.map.pairs)) progress.shape_is (held_by (keeps image leaves honest))) in
       let here : run.lines + 0 ≡ run.lines = omega arith in
       let there : run.lines ≡ run.lines + 0 + 0 = omega arith in
-      holds_after wanted start shape pairs run.engine.order w image (run.lines + 0) 0 (omega (arith, script_len progress)) (subst (λ n. IsOrder shape start.input pairs n run.engine.order) there (order_so_far progress))
-      (acknowledged_within w [] (run.lines + 0) (same ∙ sym (append-nil now.said)) (omega (arith, begun_nothing (replies_to shape left run.engine.map))) (omega (arith, script_len progress)))
-      (subst (Holds wanted image shape) (sym map) holds)
+      holds_after wanted last number start shape pairs run.engine.order w image (run.lines + 0) 0 (omega (arith, script_len progress)) (subst (λ n. IsOrder shape start.input pairs n run.engine.order) there (order_so_far progress))
+      (acknowledged_within w [] (run.lines + 0) (same ∙ sym (append-nil now.said)) (omega (arith, begun_nothing (replies_to shape left run.engine.map.pairs))) (omega (arith, script_len progress)))
+      (subst (SoundUpTo wanted last number image shape) (sym map) holds)
 
 -- ---- while a batch is done
 
 module _ {start now : World} {shape : Shape} {pairs : Pairs} {run : Run} (lines left : List Line) (progress : Progress start now (lines ++ left) shape pairs run) (count : ℕ) (within : count ≤ length lines) (order : List ℕ)
-    (is : order ≡ run.engine.order ++ accepted run.engine.shape (run.lines + 1) (take count lines) run.engine.map) where
+    (is : order ≡ run.engine.order ++ accepted run.engine.map.shape (run.lines + 1) (take count lines) run.engine.map.pairs) where
   its_order : IsOrder shape start.input pairs (run.lines + count) order
   its_order = order_more progress count order
-      (is ∙ ap (λ o. run.engine.order ++ o) (accepted_are lines left progress (run.lines + 1) (take count lines) ∙ ap (λ ls. accepted shape (run.lines + 1) ls run.engine.map) (sym (first_ones lines left progress count within))))
+      (is ∙ ap (λ o. run.engine.order ++ o) (accepted_are lines left progress (run.lines + 1) (take count lines) ∙ ap (λ ls. accepted shape (run.lines + 1) ls run.engine.map.pairs) (sym (first_ones lines left progress count within))))
 
   long : run.lines + count ≤ length (script_of start.input)
   long = omega (arith, within, script_len progress, length-append lines left)
 
   -- before anything is said
-  pub keeps_doing : (wanted : Shape) (w : World) → w.said ≡ now.said → CrashHoldsPrefix wanted run.engine.shape run.engine.map (take count lines) w → CrashHoldsAcknowledged wanted start shape pairs order w
-  keeps_doing wanted w same keeps image leaves honest =
-      let h = subst (λ s. (m : ℕ) × (m ≤ length (take count lines)) × Holds wanted image s (after_all s (take m (take count lines)) run.engine.map)) progress.shape_is (keeps image leaves honest) in
+  pub keeps_doing : (wanted : Shape) (last number : ℕ) (w : World) → w.said ≡ now.said → CrashKeeps wanted last number run.engine.map.shape run.engine.map.pairs (take count lines) w → CrashHoldsAcknowledged wanted last number start shape pairs order w
+  keeps_doing wanted last number w same keeps image leaves honest =
+      let h = subst (λ s. (m : ℕ) × (m ≤ length (take count lines)) × SoundUpTo wanted last number image s (after_all s (take m (take count lines)) run.engine.map.pairs)) progress.shape_is (held_by (keeps image leaves honest)) in
       let m = h.0 in
       let few : m ≤ count = omega (arith, h.1, length-take count lines) in
       let nested : take m (take count lines) ≡ take m (lines ++ left) = take_take m count lines few ∙ sym (first_ones lines left progress m (omega (arith, few, within))) in
-      let map : after_all shape (take (run.lines + m) (script_of start.input)) pairs ≡ after_all shape (take m (take count lines)) run.engine.map = map_more progress m ∙ ap (λ ls. after_all shape ls run.engine.map) (sym nested) in
+      let map : after_all shape (take (run.lines + m) (script_of start.input)) pairs ≡ after_all shape (take m (take count lines)) run.engine.map.pairs = map_more progress m ∙ ap (λ ls. after_all shape ls run.engine.map.pairs) (sym nested) in
       let sum : run.lines + count ≡ run.lines + m + (count - m) = omega (arith, few) in
-      holds_after wanted start shape pairs order w image (run.lines + m) (count - m) (omega (arith, long, few)) (subst (λ n. IsOrder shape start.input pairs n order) sum its_order)
-      (acknowledged_within progress w [] (run.lines + m) (same ∙ sym (append-nil now.said)) (omega (arith, begun_nothing (replies_to shape (lines ++ left) run.engine.map))) (omega (arith, long, few)))
-      (subst (Holds wanted image shape) (sym map) h.2)
+      holds_after wanted last number start shape pairs order w image (run.lines + m) (count - m) (omega (arith, long, few)) (subst (λ n. IsOrder shape start.input pairs n order) sum its_order)
+      (acknowledged_within progress w [] (run.lines + m) (same ∙ sym (append-nil now.said)) (omega (arith, begun_nothing (replies_to shape (lines ++ left) run.engine.map.pairs))) (omega (arith, long, few)))
+      (subst (SoundUpTo wanted last number image shape) (sym map) h.2)
 
 -- ---- while its replies are said
 
 module _ {start now : World} {shape : Shape} {pairs : Pairs} {run : Run} (lines left : List Line) (progress : Progress start now (lines ++ left) shape pairs run) (order : List ℕ)
-    (is : order ≡ run.engine.order ++ accepted run.engine.shape (run.lines + 1) lines run.engine.map) where
+    (is : order ≡ run.engine.order ++ accepted run.engine.map.shape (run.lines + 1) lines run.engine.map.pairs) where
   all_order : IsOrder shape start.input pairs (run.lines + length lines) order
-  all_order = its_order lines left progress (length lines) (omega arith) order (is ∙ ap (λ ls. run.engine.order ++ accepted run.engine.shape (run.lines + 1) ls run.engine.map) (sym (take_all (length lines) lines (omega arith))))
+  all_order = its_order lines left progress (length lines) (omega arith) order (is ∙ ap (λ ls. run.engine.order ++ accepted run.engine.map.shape (run.lines + 1) ls run.engine.map.pairs) (sym (take_all (length lines) lines (omega arith))))
 
-  pub keeps_saying : (wanted : Shape) (w : World) (n : ℕ) → w.said ≡ now.said ++ take n (texts_of (replies_to run.engine.shape lines run.engine.map)) → CrashHoldsPrefix wanted run.engine.shape (after_all run.engine.shape lines run.engine.map) [] w
-      → CrashHoldsAcknowledged wanted start shape pairs order w
-  keeps_saying wanted w n said keeps image leaves honest =
+  pub keeps_saying : (wanted : Shape) (last number : ℕ) (w : World) (n : ℕ) → w.said ≡ now.said ++ take n (texts_of (replies_to run.engine.map.shape lines run.engine.map.pairs)) → CrashKeeps wanted last number run.engine.map.shape (after_all run.engine.map.shape lines run.engine.map.pairs) [] w
+      → CrashHoldsAcknowledged wanted last number start shape pairs order w
+  keeps_saying wanted last number w n said keeps image leaves honest =
       let k : ℕ = run.lines + length lines in
-      let map : after_all shape (take k (script_of start.input)) pairs ≡ after_all shape lines run.engine.map =
-      map_more progress (length lines) ∙ ap (λ ls. after_all shape ls run.engine.map) (first_ones lines left progress (length lines) (omega arith) ∙ take_all (length lines) lines (omega arith)) in
-      let holds = only_map wanted shape (after_all shape lines run.engine.map) image
-      (subst (λ s. (count : ℕ) × (count ≤ 0) × Holds wanted image s (after_all s (take count []) (after_all s lines run.engine.map))) progress.shape_is (keeps image leaves honest)) in
-      let own = replies_to shape lines run.engine.map in
-      let others = replies_to shape left (after_all shape lines run.engine.map) in
+      let map : after_all shape (take k (script_of start.input)) pairs ≡ after_all shape lines run.engine.map.pairs =
+      map_more progress (length lines) ∙ ap (λ ls. after_all shape ls run.engine.map.pairs) (first_ones lines left progress (length lines) (omega arith) ∙ take_all (length lines) lines (omega arith)) in
+      let holds = only_map wanted last number shape (after_all shape lines run.engine.map.pairs) image
+      (subst (λ s. (count : ℕ) × (count ≤ 0) × SoundUpTo wanted last number image s (after_all s (take count []) (after_all s lines run.engine.map.pairs))) progress.shape_is (held_by (keeps image leaves honest))) in
+      let own = replies_to shape lines run.engine.map.pairs in
+      let others = replies_to shape left (after_all shape lines run.engine.map.pairs) in
       let tail : List ℕ = take n (texts_of own) in
-      let few : begun (replies_to shape (lines ++ left) run.engine.map) tail ≤ length lines =
-      omega (arith, ap (λ rs. begun rs tail) (replies_to-append shape lines left run.engine.map), begun_within own others n, length-replies_to shape lines run.engine.map) in
+      let few : begun (replies_to shape (lines ++ left) run.engine.map.pairs) tail ≤ length lines =
+      omega (arith, ap (λ rs. begun rs tail) (replies_to-append shape lines left run.engine.map.pairs), begun_within own others n, length-replies_to shape lines run.engine.map.pairs) in
       let within : k ≤ length (script_of start.input) = omega (arith, script_len progress, length-append lines left) in
       let sum : k ≡ k + 0 = omega arith in
-      holds_after wanted start shape pairs order w image k 0 (omega (arith, within)) (subst (λ m. IsOrder shape start.input pairs m order) sum all_order)
+      holds_after wanted last number start shape pairs order w image k 0 (omega (arith, within)) (subst (λ m. IsOrder shape start.input pairs m order) sum all_order)
       (acknowledged_within progress w tail k (said ∙ ap (λ t. now.said ++ take n t) (texts_are lines left progress)) (omega (arith, few)) within)
-      (subst (Holds wanted image shape) (sym map) holds)
+      (subst (SoundUpTo wanted last number image shape) (sym map) holds)

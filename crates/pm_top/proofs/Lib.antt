@@ -1,10 +1,8 @@
 pub mod AnsweredBatch
 pub mod AnsweredLines
-pub mod Bounded
 pub mod Chained
 pub mod Configured
-pub mod KeptFiles
-pub mod KeptLogs
+pub mod KeptConfigs
 pub mod Lasting
 pub mod LaterStates
 pub mod Leaving
@@ -18,10 +16,13 @@ pub mod Progressing
 pub mod Refusing
 pub mod Says
 pub mod ScriptCauses
-pub mod ServedCaches
 pub mod ServedLines
 pub mod Serving
 pub mod TakenLines
 pub mod WrittenTexts
 pub mod Commanded
 pub mod StoreChecking
+pub mod PagedRests
+pub mod QuietStores
+pub mod ReplayedStores
+pub mod StartedStores

@@ -9,19 +9,22 @@ use Rattle.pm_disk.specs.Worlds.{World, with_said}
 use Rattle.pm_disk.specs.Moments.{History, AllMoments}
 use Rattle.pm_disk.specs.States.{DeviceState, Rose}
 use Rattle.pm_disk.proofs.Chain.{joined, weaker}
-use Rattle.pm_engine.specs.Crashes.{CrashHoldsPrefix}
-use Rattle.pm_engine.specs.Openings.{IsSame}
+use Rattle.pm_marks.specs.InForce.{number_in}
+use Rattle.pm_core.specs.Held.{in_force}
+use Rattle.pm_core.specs.LogAlone.{image_of}
+use Rattle.pm_engine.specs.PagedReplays.{CrashHoldsMap}
+use Rattle.pm_redo.specs.Rebuilding.{IsSame}
 use Rattle.pm_records.specs.LogFiles.{contents}
 use Rattle.pm_tools.specs.Listings.{list_place, IsListed, IsListedUpTo, IsSaid, SaysOfLog}
 use Rattle.pm_tools.proofs.Listed.{nothing_yet, never_both}
 use Rattle.pm_top.specs.declared.status.Status.{Status}
 use Rattle.pm_top.specs.declared.status.Status.TheVariants.{Done, Failed, Memory, Damaged}
 use Rattle.pm_top.specs.Configurations.{wanted_in}
-use Rattle.pm_top.specs.Promises.{IsStart, SaysPart, SameFiles, fault_record}
+use Rattle.pm_top.specs.Crashes.{opened_to}
+use Rattle.pm_top.specs.Promises.{IsStart, SameConfig, SaysPart, fault_record}
 use Rattle.pm_top.specs.LogListings.{IsCutShort, SaysOfWal, WalHolds, WalCompletes}
 use Rattle.pm_top.specs.Statuses.{code_of}
-use Rattle.pm_top.proofs.Lasting.{keeps_said}
-use Rattle.pm_top.proofs.Opened.{rest_keeps}
+use Rattle.pm_top.proofs.Opened.{start_said}
 
 -- ---- what is said
 
@@ -69,11 +72,12 @@ cut_short old mid now at up said = record {
 -- ---- what a crash leaves
 
 -- what was said is no file
-wal_crash : (old new : History) → AllMoments old new (SaysOfWal old.world) → (shape : Shape) (pairs : Pairs) → IsStart (wanted_in old.world) old.world shape pairs → AllMoments old new (CrashHoldsPrefix (wanted_in old.world) shape pairs [])
+wal_crash : (old new : History) → AllMoments old new (SaysOfWal old.world) → (shape : Shape) (pairs : Pairs) (start : IsStart (wanted_in old.world) old.world shape pairs)
+    → AllMoments old new (CrashHoldsMap (opened_to start.sound) (number_in (in_force (image_of old.world))) (wanted_in old.world) shape pairs)
 wal_crash old new says shape pairs start =
     let wanted = wanted_in old.world in
-    weaker old new (SaysOfWal old.world) (CrashHoldsPrefix wanted shape pairs [])
-    (λ w is. subst (CrashHoldsPrefix wanted shape pairs []) (sym is.part.1) (keeps_said wanted shape pairs [] (take is.part.0 is.text) old.world (rest_keeps wanted old.world shape pairs start))) says
+    let K : World → Type 0 = CrashHoldsMap (opened_to start.sound) (number_in (in_force (image_of old.world))) wanted shape pairs in
+    weaker old new (SaysOfWal old.world) K (λ w is. subst K (sym is.part.1) (start_said wanted old.world shape pairs start (take is.part.0 is.text))) says
 
 -- ---- what `wal` promises
 
@@ -144,10 +148,9 @@ wal_unbound old new status lines order same is none no_order = wal_ends old new 
 
 -- ---- what follows
 
--- no file is other than it was
-pub wal_files : (old new : History) → AllMoments old new (SaysOfWal old.world) → AllMoments old new (SameFiles old.world)
-wal_files old new =
-    weaker old new (SaysOfWal old.world) (SameFiles old.world) (λ w is. subst (SameFiles old.world) (sym is.part.1) (record { pages = refl; starts = refl; ends = refl; config = refl }))
+-- the configuration is as it was
+pub wal_config : (old new : History) → AllMoments old new (SaysOfWal old.world) → AllMoments old new (SameConfig old.world)
+wal_config old new = weaker old new (SaysOfWal old.world) (SameConfig old.world) (λ w is. subst (SameConfig old.world) (sym is.part.1) refl)
 
 pub wal_completes : (old new : History) (status : Status) (lines : ℕ) (order : List ℕ) (before now : DeviceState) → WalHolds old new status lines order → (status ≡ Failed → Rose before now) → WalCompletes status old.world before now
 wal_completes old new status lines order before now holds failed = record {

@@ -11,10 +11,9 @@ use Rattle.pm_model.specs.Eval.{Pairs, after, replies_to, accepted}
 use Rattle.pm_model.specs.Orders as orders
 use Rattle.pm_model.specs.Orders.{line_at, after_numbers}
 use Rattle.pm_model.proofs.OrderLaws.{script_tried, as_many_has}
-use Rattle.pm_core.specs.LogAlone.{Holds}
 use Rattle.pm_top.specs.declared.status.Status.{Status}
 use Rattle.pm_top.specs.declared.status.Status.TheVariants.{Done, Usage, Misconfigured, Failed, Memory, Damaged, Long}
-use Rattle.pm_top.specs.Crashes.{begun}
+use Rattle.pm_top.specs.Crashes.{CrashHoldsAcknowledged, SoundUpTo, begun}
 use Rattle.pm_top.specs.Promises.{IsOrder, OutcomeIs}
 use Rattle.pm_top.specs.ScriptOrder as one
 use Rattle.pm_top.specs.Served.{script_of}
@@ -68,8 +67,8 @@ same_after : (shape : Shape) (numbers : List ℕ) (script : List Line) (pairs : 
 same_after shape [] script pairs = refl
 same_after shape (number ∷ numbers) script pairs = same_after shape numbers script (after shape (line_at 1 script number) pairs)
 
-keeps : (wanted : Shape) (old now : World) (shape : Shape) (pairs : Pairs) (many : ℕ) (order : List ℕ) → one.IsOrder shape old.input pairs many order → one.CrashHoldsAcknowledged wanted old shape pairs order now → one.CrashHoldsSome wanted old shape pairs order now
-keeps wanted old now shape pairs many order is held image leaves honest =
+keeps : (wanted : Shape) (last number : ℕ) (old now : World) (shape : Shape) (pairs : Pairs) (many : ℕ) (order : List ℕ) → one.IsOrder shape old.input pairs many order → one.CrashHoldsAcknowledged wanted last number old shape pairs order now → CrashHoldsAcknowledged wanted last number old shape pairs order now
+keeps wanted last number old now shape pairs many order is held image leaves honest =
     let h = held image leaves honest in
     let script = script_of old.input in
     let told = begun (replies_to shape script pairs) (drop (length old.said) now.said) in
@@ -77,9 +76,10 @@ keeps wanted old now shape pairs many order is held image leaves honest =
     record {
       count = h.count;
       has = subst (λ (ns : List ℕ). All (Contains (take h.count ns)) (accepted shape 1 (take told script) pairs)) (sym is) (as_many_has shape 1 script pairs told many h.count fits h.has);
-      holds = subst (λ (m : Pairs). Holds wanted image shape m) (same_after shape (take h.count order) script pairs) h.holds;
+      holds = subst (λ (m : Pairs). SoundUpTo wanted last number image shape m) (same_after shape (take h.count order) script pairs) h.holds;
     }
 
-pub moments_keep : (wanted : Shape) (start : World) (old new : History) (shape : Shape) (pairs : Pairs) (many : ℕ) (order : List ℕ) → one.IsOrder shape start.input pairs many order → AllMoments old new (one.CrashHoldsAcknowledged wanted start shape pairs order) → AllMoments old new (one.CrashHoldsSome wanted start shape pairs order)
-moments_keep wanted start old new shape pairs many order is all =
-    weaker old new (one.CrashHoldsAcknowledged wanted start shape pairs order) (one.CrashHoldsSome wanted start shape pairs order) (λ w held. keeps wanted start w shape pairs many order is held) all
+pub moments_keep : (wanted : Shape) (last number : ℕ) (start : World) (old new : History) (shape : Shape) (pairs : Pairs) (many : ℕ) (order : List ℕ) → one.IsOrder shape start.input pairs many order
+    → AllMoments old new (one.CrashHoldsAcknowledged wanted last number start shape pairs order) → AllMoments old new (CrashHoldsAcknowledged wanted last number start shape pairs order)
+moments_keep wanted last number start old new shape pairs many order is all =
+    weaker old new (one.CrashHoldsAcknowledged wanted last number start shape pairs order) (CrashHoldsAcknowledged wanted last number start shape pairs order) (λ w held. keeps wanted last number start w shape pairs many order is held) all

@@ -91,9 +91,9 @@ module _ (old w : World) (shape : Shape) (pairs : Pairs) (lines : ℕ) (tail : L
       ∙ ap length (acknowledged_told shape first others pairs tail none)
 
 -- what a crash leaves while a limit is told
-told_keeps : (wanted : Shape) (old mid : World) (shape : Shape) (pairs : Pairs) (lines : ℕ) (order : List ℕ) (w : World) → HasAnswered old mid shape pairs lines [] → SaysPart (codes "fault long\n") mid w
-    → CrashHoldsAcknowledged wanted old shape pairs order mid → CrashHoldsAcknowledged wanted old shape pairs order w
-told_keeps wanted old mid shape pairs lines order w answers part keeps =
+told_keeps : (wanted : Shape) (last number : ℕ) (old mid : World) (shape : Shape) (pairs : Pairs) (lines : ℕ) (order : List ℕ) (w : World) → HasAnswered old mid shape pairs lines [] → SaysPart (codes "fault long\n") mid w
+    → CrashHoldsAcknowledged wanted last number old shape pairs order mid → CrashHoldsAcknowledged wanted last number old shape pairs order w
+told_keeps wanted last number old mid shape pairs lines order w answers part keeps =
     let tail = take part.0 (codes "fault long\n") in
     let now : World = with_said tail mid in
     let head = take lines (script_of old.input) in
@@ -104,18 +104,19 @@ told_keeps wanted old mid shape pairs lines order w answers part keeps =
     let after_text = acknowledged_is old now shape pairs lines tail (more_said old mid now shape pairs lines tail answers refl)
     (none_acknowledged shape (1 + length head) more map part.0 108 (codes "ong\n") none_with_l) in
     let same : acknowledged_count old shape pairs now ≡ acknowledged_count old shape pairs mid = after_text ∙ sym before in
-    subst (λ v. CrashHoldsAcknowledged wanted old shape pairs order v) (sym part.1) (λ image leaves honest.
-    let h = keeps image (record { log = leaves.log; pages = leaves.pages; starts = leaves.starts; ends = leaves.ends }) honest in
+    subst (λ v. CrashHoldsAcknowledged wanted last number old shape pairs order v) (sym part.1) (λ image leaves honest.
+    let h = keeps image (record { log = leaves.log; pages = leaves.pages; starts = leaves.starts; ends = leaves.ends })
+    (record { frames = honest.frames; starts = honest.starts; ends = honest.ends }) in
     record { count = h.count; fits = h.fits; has = omega (arith, h.has, same); holds = h.holds })
 
 -- the moments of a run that tells a limit
-pub limit_moments : (wanted : Shape) (old mid new : History) (start : World) (shape : Shape) (pairs : Pairs) (lines : ℕ) (order : List ℕ) → IsHistory mid → IsStopped start mid.world shape pairs lines order []
-    → AllMoments old mid (CrashHoldsAcknowledged wanted start shape pairs order) → AllMoments mid new (SaysPart (codes "fault long\n") mid.world) → AllMoments old new (CrashHoldsAcknowledged wanted start shape pairs order)
-limit_moments wanted old mid new start shape pairs lines order sound stopped first second =
-    let P : World → Type 0 = CrashHoldsAcknowledged wanted start shape pairs order in
+pub limit_moments : (wanted : Shape) (last number : ℕ) (old mid new : History) (start : World) (shape : Shape) (pairs : Pairs) (lines : ℕ) (order : List ℕ) → IsHistory mid → IsStopped start mid.world shape pairs lines order []
+    → AllMoments old mid (CrashHoldsAcknowledged wanted last number start shape pairs order) → AllMoments mid new (SaysPart (codes "fault long\n") mid.world) → AllMoments old new (CrashHoldsAcknowledged wanted last number start shape pairs order)
+limit_moments wanted last number old mid new start shape pairs lines order sound stopped first second =
+    let P : World → Type 0 = CrashHoldsAcknowledged wanted last number start shape pairs order in
     let here = at_last old mid P sound first in
     joined old mid new P first
-    (weaker mid new (SaysPart (codes "fault long\n") mid.world) P (λ w part. told_keeps wanted start mid.world shape pairs lines order w stopped.answers part here) second)
+    (weaker mid new (SaysPart (codes "fault long\n") mid.world) P (λ w part. told_keeps wanted last number start mid.world shape pairs lines order w stopped.answers part here) second)
 
 -- a limit was told, or the call that tells it failed
 pub ends_long : (status : Status) (start mid new : World) (shape : Shape) (pairs : Pairs) (lines : ℕ) (order : List ℕ) → IsStopped start mid shape pairs lines order [] → (status ≡ Long → new ≡ with_said (codes "fault long\n") mid)

@@ -1,5 +1,5 @@
 -- What follows from how far a run has come.
-use Rattle.std.proofs.Common.{◌≡◌, ◌⊎◌, inl, inr, ℕ, ◌+◌, ◌-◌, ◌<◌, ◌≤◌, List, [], ◌++◌, length, take, drop, refl, ap, sym, ◌∙◌, append_assoc, append-nil, arith, length-append}
+use Rattle.std.proofs.Common.{◌≡◌, ◌⊎◌, inl, inr, ℕ, ◌+◌, ◌-◌, ◌<◌, ◌≤◌, Bool, true, false, List, [], ◌∷◌, ◌++◌, length, take, drop, refl, ap, sym, ◌∙◌, append_assoc, append-nil, arith, length-append}
 use Rattle.std.proofs.lemmas.List.{length-map, take_at, drop_at, take_all, take-append-le}
 use Rattle.std.proofs.lemmas.List.Concat.{flat_map-append}
 use Rattle.std.proofs.Math.Seq.{take-append-add}
@@ -12,6 +12,8 @@ use Rattle.pm_model.specs.Eval.{Pairs, replies_to, after_all, accepted}
 use Rattle.pm_model.proofs.Runs.{replies_to-append, after_all-append, length-replies_to, accepted-append}
 use Rattle.pm_script.specs.Lines.{lines_of, after_line}
 use Rattle.pm_script.specs.Texts.{text_of, texts_of}
+use Rattle.pm_engine.specs.PagedBatches.{asked_last, is_checkpoint}
+use Rattle.pm_engine.specs.PagedEngines.{EndsAtReplay}
 use Rattle.pm_top.specs.declared.run.Run.{Run}
 use Rattle.pm_top.specs.Promises.{replies_of, HasAnswered}
 use Rattle.pm_top.specs.ScriptOrder.{IsOrder, HasTried, IsDone, HasFailed, HasNoMemory, IsStopped}
@@ -26,7 +28,7 @@ texts-append xs ys = flat_map-append text_of xs ys
 
 module _ {start now : World} {left : List Line} {shape : Shape} {pairs : Pairs} {run : Run} (progress : Progress start now left shape pairs run) where
   -- the whole script's replies: those of what is done, and those of the rest
-  pub parted : replies_of shape start.input pairs ≡ replies_to shape progress.done pairs ++ replies_to shape left run.engine.map
+  pub parted : replies_of shape start.input pairs ≡ replies_to shape progress.done pairs ++ replies_to shape left run.engine.map.pairs
   parted =
       ap (λ s. replies_to shape s pairs) progress.script ∙ replies_to-append shape progress.done left pairs
       ∙ ap (λ m. replies_to shape progress.done pairs ++ replies_to shape left m) (sym progress.map)
@@ -37,7 +39,7 @@ module _ {start now : World} {left : List Line} {shape : Shape} {pairs : Pairs} 
   told : take run.lines (replies_of shape start.input pairs) ≡ replies_to shape progress.done pairs
   told = ap (take run.lines) parted ∙ take_at _ _ run.lines counted
 
-  pub untold : drop run.lines (replies_of shape start.input pairs) ≡ replies_to shape left run.engine.map
+  pub untold : drop run.lines (replies_of shape start.input pairs) ≡ replies_to shape left run.engine.map.pairs
   untold = ap (drop run.lines) parted ∙ drop_at _ _ run.lines counted
 
   pub done_is : take run.lines (script_of start.input) ≡ progress.done
@@ -63,12 +65,12 @@ module _ {start now : World} {left : List Line} {shape : Shape} {pairs : Pairs} 
   take_more n = ap (take (run.lines + n)) progress.script ∙ ap (λ m. take (m + n) (progress.done ++ left)) (sym progress.count) ∙ take-append-add progress.done left n
 
   -- the order with so many more
-  pub order_more : (n : ℕ) (order : List ℕ) → order ≡ run.engine.order ++ accepted shape (run.lines + 1) (take n left) run.engine.map → IsOrder shape start.input pairs (run.lines + n) order
+  pub order_more : (n : ℕ) (order : List ℕ) → order ≡ run.engine.order ++ accepted shape (run.lines + 1) (take n left) run.engine.map.pairs → IsOrder shape start.input pairs (run.lines + n) order
   order_more n order is =
       let number : run.lines + 1 ≡ 1 + length progress.done = omega (arith, progress.count) in
       is
-      ∙ ap (λ o. o ++ accepted shape (run.lines + 1) (take n left) run.engine.map) progress.order
-      ∙ ap (λ k. accepted shape 1 progress.done pairs ++ accepted shape k (take n left) run.engine.map) number
+      ∙ ap (λ o. o ++ accepted shape (run.lines + 1) (take n left) run.engine.map.pairs) progress.order
+      ∙ ap (λ k. accepted shape 1 progress.done pairs ++ accepted shape k (take n left) run.engine.map.pairs) number
       ∙ ap (λ m. accepted shape 1 progress.done pairs ++ accepted shape (1 + length progress.done) (take n left) m) progress.map
       ∙ sym (accepted-append shape 1 progress.done (take n left) pairs)
       ∙ ap (λ ls. accepted shape 1 ls pairs) (sym (take_more n))
@@ -79,7 +81,7 @@ module _ {start now : World} {left : List Line} {shape : Shape} {pairs : Pairs} 
   pub tried_so_far : HasTried shape start.input pairs run.lines run.engine.order
   tried_so_far = record { many = run.lines; from = omega arith; to = omega arith; within = omega (arith, script_len); order_is = order_so_far }
 
-  pub tried_more : (n : ℕ) (order : List ℕ) → n ≤ BATCH_LINES_MAX → n ≤ length left → order ≡ run.engine.order ++ accepted shape (run.lines + 1) (take n left) run.engine.map
+  pub tried_more : (n : ℕ) (order : List ℕ) → n ≤ BATCH_LINES_MAX → n ≤ length left → order ≡ run.engine.order ++ accepted shape (run.lines + 1) (take n left) run.engine.map.pairs
       → HasTried shape start.input pairs run.lines order
   tried_more n order few within is = record { many = run.lines + n; from = omega arith; to = omega (arith, few); within = omega (arith, within, script_len); order_is = order_more n order is }
 
@@ -119,8 +121,16 @@ module _ {start now : World} {left : List Line} {shape : Shape} {pairs : Pairs} 
     };
   }
 
+no_false : {A : Type 0} → false ≡ true → A
+no_false is = absurd cc
+
+-- whether the last one of these lines and others asks for a checkpoint
+pub asked_append : (was : Bool) (lines more : List Line) → asked_last was (lines ++ more) ≡ asked_last (asked_last was lines) more
+asked_append was [] more = refl
+asked_append was (line ∷ lines) more = asked_append (is_checkpoint line) lines more
+
 -- before the first line
-pub begins : (start now : World) (run : Run) → SameConsole start now → run.lines ≡ 0 → run.engine.order ≡ [] → Progress start now (script_of start.input) run.engine.shape run.engine.map run
+pub begins : (start now : World) (run : Run) → SameConsole start now → run.lines ≡ 0 → run.engine.order ≡ [] → Progress start now (script_of start.input) run.engine.map.shape run.engine.map.pairs run
 begins start now run same none order = record {
   done = [];
   script = refl;
@@ -129,6 +139,7 @@ begins start now run same none order = record {
   shape_is = refl;
   map = refl;
   order = order;
+  replay = λ is. no_false is;
 }
 
 -- a progress is the same where nothing was said
@@ -141,19 +152,20 @@ progress_still progress new same = record {
   shape_is = progress.shape_is;
   map = progress.map;
   order = progress.order;
+  replay = progress.replay;
 }
 
 -- ---- one batch
 
 module _ {start now : World} {shape : Shape} {pairs : Pairs} {run : Run} (lines left : List Line) (progress : Progress start now (lines ++ left) shape pairs run) where
   abbrev texts : List ℕ
-  texts = texts_of (replies_to run.engine.shape lines run.engine.map)
+  texts = texts_of (replies_to run.engine.map.shape lines run.engine.map.pairs)
 
-  pub texts_are : texts ≡ texts_of (replies_to shape lines run.engine.map)
-  texts_are = ap (λ s. texts_of (replies_to s lines run.engine.map)) progress.shape_is
+  pub texts_are : texts ≡ texts_of (replies_to shape lines run.engine.map.pairs)
+  texts_are = ap (λ s. texts_of (replies_to s lines run.engine.map.pairs)) progress.shape_is
 
-  pub accepted_are : (number : ℕ) (ls : List Line) → accepted run.engine.shape number ls run.engine.map ≡ accepted shape number ls run.engine.map
-  accepted_are number ls = ap (λ s. accepted s number ls run.engine.map) progress.shape_is
+  pub accepted_are : (number : ℕ) (ls : List Line) → accepted run.engine.map.shape number ls run.engine.map.pairs ≡ accepted shape number ls run.engine.map.pairs
+  accepted_are number ls = ap (λ s. accepted s number ls run.engine.map.pairs) progress.shape_is
 
   pub first_ones : (n : ℕ) → n ≤ length lines → take n (lines ++ left) ≡ take n lines
   first_ones n le = take-append-le n lines left le
@@ -162,16 +174,17 @@ module _ {start now : World} {shape : Shape} {pairs : Pairs} {run : Run} (lines 
   all_lines = first_ones (length lines) (omega arith) ∙ take_all (length lines) lines (omega arith)
 
   -- so many were tried
-  pub tried_some : (n : ℕ) (order : List ℕ) → length lines ≤ BATCH_LINES_MAX → n ≤ length lines → order ≡ run.engine.order ++ accepted run.engine.shape (run.lines + 1) (take n lines) run.engine.map
+  pub tried_some : (n : ℕ) (order : List ℕ) → length lines ≤ BATCH_LINES_MAX → n ≤ length lines → order ≡ run.engine.order ++ accepted run.engine.map.shape (run.lines + 1) (take n lines) run.engine.map.pairs
       → HasTried shape start.input pairs run.lines order
   tried_some n order few within is =
       tried_more progress n order (omega (arith, few, within)) (omega (arith, within, length-append lines left))
-      (is ∙ ap (λ o. run.engine.order ++ o) (accepted_are (run.lines + 1) (take n lines) ∙ ap (λ ls. accepted shape (run.lines + 1) ls run.engine.map) (sym (first_ones n within))))
+      (is ∙ ap (λ o. run.engine.order ++ o) (accepted_are (run.lines + 1) (take n lines) ∙ ap (λ ls. accepted shape (run.lines + 1) ls run.engine.map.pairs) (sym (first_ones n within))))
 
   -- the batch was done, and its replies said
-  pub progress_more : (new : World) (later : Run) → new.said ≡ now.said ++ texts → later.lines ≡ run.lines + length lines → later.engine.shape ≡ run.engine.shape → later.engine.map ≡ after_all run.engine.shape lines run.engine.map
-      → later.engine.order ≡ run.engine.order ++ accepted run.engine.shape (run.lines + 1) lines run.engine.map → Progress start new left shape pairs later
-  progress_more new later said_is lines_is shape_is map_is order_is =
+  pub progress_more : (new : World) (later : Run) → new.said ≡ now.said ++ texts → later.lines ≡ run.lines + length lines → later.engine.map.shape ≡ run.engine.map.shape → later.engine.map.pairs ≡ after_all run.engine.map.shape lines run.engine.map.pairs
+      → later.engine.order ≡ run.engine.order ++ accepted run.engine.map.shape (run.lines + 1) lines run.engine.map.pairs
+      → ((was : Bool) → (was ≡ true → EndsAtReplay run.engine) → asked_last was lines ≡ true → EndsAtReplay later.engine) → Progress start new left shape pairs later
+  progress_more new later said_is lines_is shape_is map_is order_is asked =
       let number : run.lines + 1 ≡ 1 + length progress.done = omega (arith, progress.count) in
       record {
         done = progress.done ++ lines;
@@ -181,38 +194,39 @@ module _ {start now : World} {shape : Shape} {pairs : Pairs} {run : Run} (lines 
             ∙ ap (λ t. start.said ++ (texts_of (replies_to shape progress.done pairs) ++ t)) (texts_are ∙ ap (λ m. texts_of (replies_to shape lines m)) progress.map)
             ∙ ap (λ t. start.said ++ t) (sym (texts-append (replies_to shape progress.done pairs) (replies_to shape lines (after_all shape progress.done pairs))) ∙ ap texts_of (sym (replies_to-append shape progress.done lines pairs)));
         shape_is = shape_is ∙ progress.shape_is;
-        map = map_is ∙ ap (λ s. after_all s lines run.engine.map) progress.shape_is ∙ ap (after_all shape lines) progress.map ∙ sym (after_all-append shape progress.done lines pairs);
+        map = map_is ∙ ap (λ s. after_all s lines run.engine.map.pairs) progress.shape_is ∙ ap (after_all shape lines) progress.map ∙ sym (after_all-append shape progress.done lines pairs);
         order = order_is ∙ ap (λ o. run.engine.order ++ o) (accepted_are (run.lines + 1) lines)
-            ∙ ap (λ o. o ++ accepted shape (run.lines + 1) lines run.engine.map) progress.order
-            ∙ ap (λ k. accepted shape 1 progress.done pairs ++ accepted shape k lines run.engine.map) number
+            ∙ ap (λ o. o ++ accepted shape (run.lines + 1) lines run.engine.map.pairs) progress.order
+            ∙ ap (λ k. accepted shape 1 progress.done pairs ++ accepted shape k lines run.engine.map.pairs) number
             ∙ ap (λ m. accepted shape 1 progress.done pairs ++ accepted shape (1 + length progress.done) lines m) progress.map
             ∙ sym (accepted-append shape 1 progress.done lines pairs);
+        replay = λ is. asked (asked_last false progress.done) progress.replay (sym (asked_append false progress.done lines) ∙ is);
       }
 
   -- the batch was done, and its replies said in part
-  pub failed_saying : (new : World) (n : ℕ) (order : List ℕ) → length lines ≤ BATCH_LINES_MAX → new.said ≡ now.said ++ take n texts → order ≡ run.engine.order ++ accepted run.engine.shape (run.lines + 1) lines run.engine.map
+  pub failed_saying : (new : World) (n : ℕ) (order : List ℕ) → length lines ≤ BATCH_LINES_MAX → new.said ≡ now.said ++ take n texts → order ≡ run.engine.order ++ accepted run.engine.map.shape (run.lines + 1) lines run.engine.map.pairs
       → HasFailed start new shape pairs run.lines order
   unfolding tried_some tried_more
   failed_saying new n order few said_is order_is =
-      let own = replies_to shape lines run.engine.map in
-      let others = replies_to shape left (after_all shape lines run.engine.map) in
+      let own = replies_to shape lines run.engine.map.pairs in
+      let others = replies_to shape left (after_all shape lines run.engine.map.pairs) in
       let count : run.lines + length lines - run.lines ≡ length lines = omega arith in
       let next : texts_of (take (run.lines + length lines - run.lines) (drop run.lines (replies_of shape start.input pairs))) ≡ texts_of own =
       ap (λ k. texts_of (take k (drop run.lines (replies_of shape start.input pairs)))) count
-      ∙ ap (λ rs. texts_of (take (length lines) rs)) (untold progress ∙ replies_to-append shape lines left run.engine.map)
-      ∙ ap texts_of (take_at own others (length lines) (length-replies_to shape lines run.engine.map)) in
+      ∙ ap (λ rs. texts_of (take (length lines) rs)) (untold progress ∙ replies_to-append shape lines left run.engine.map.pairs)
+      ∙ ap texts_of (take_at own others (length lines) (length-replies_to shape lines run.engine.map.pairs)) in
       record {
         tail = take n texts;
         answers = answers_so_far progress new (take n texts) said_is;
-        tried = tried_some (length lines) order few (omega arith) (order_is ∙ ap (λ ls. run.engine.order ++ accepted run.engine.shape (run.lines + 1) ls run.engine.map) (sym (take_all (length lines) lines (omega arith))));
+        tried = tried_some (length lines) order few (omega arith) (order_is ∙ ap (λ ls. run.engine.order ++ accepted run.engine.map.shape (run.lines + 1) ls run.engine.map.pairs) (sym (take_all (length lines) lines (omega arith))));
         prefix = (n, inl (ap (take n) (texts_are ∙ sym next)));
       }
 
   -- a fault came before anything was said
-  pub failed_unsaid : (new : World) (n : ℕ) (order : List ℕ) → length lines ≤ BATCH_LINES_MAX → n ≤ length lines → new.said ≡ now.said → order ≡ run.engine.order ++ accepted run.engine.shape (run.lines + 1) (take n lines) run.engine.map
+  pub failed_unsaid : (new : World) (n : ℕ) (order : List ℕ) → length lines ≤ BATCH_LINES_MAX → n ≤ length lines → new.said ≡ now.said → order ≡ run.engine.order ++ accepted run.engine.map.shape (run.lines + 1) (take n lines) run.engine.map.pairs
       → HasFailed start new shape pairs run.lines order
   failed_unsaid new n order few within same is = record { tail = []; answers = same_answers progress new same; prefix = (0, inl refl); tried = tried_some n order few within is }
 
-  pub memory_unsaid : (new : World) (n : ℕ) (order : List ℕ) → length lines ≤ BATCH_LINES_MAX → n ≤ length lines → new.said ≡ now.said → order ≡ run.engine.order ++ accepted run.engine.shape (run.lines + 1) (take n lines) run.engine.map
+  pub memory_unsaid : (new : World) (n : ℕ) (order : List ℕ) → length lines ≤ BATCH_LINES_MAX → n ≤ length lines → new.said ≡ now.said → order ≡ run.engine.order ++ accepted run.engine.map.shape (run.lines + 1) (take n lines) run.engine.map.pairs
       → HasNoMemory start new shape pairs run.lines order
   memory_unsaid new n order few within same is = record { answers = same_answers progress new same; tried = tried_some n order few within is }

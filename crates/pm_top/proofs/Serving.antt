@@ -1,35 +1,33 @@
 -- How a run over a script goes on batch after batch, and how it ends.
-use Rattle.std.proofs.Common.{◌≡◌, inl, inr, ℕ, ◌+◌, ◌≤◌, ◌^◌, List, [], ◌∷◌, ◌++◌, length, take, refl, ap, sym, ◌∙◌, subst, arith, append-nil, length-append}
+use Rattle.std.proofs.Common.{◌≡◌, inl, inr, ℕ, ◌+◌, ◌≤◌, List, [], ◌∷◌, ◌++◌, length, refl, ap, sym, ◌∙◌, subst, arith, length-append}
 use Rattle.pm_types.specs.declared.limits.TheConstants.{SCRIPT_BYTES_MAX, LINES_MAX}
 use Rattle.pm_types.specs.declared.shape.Shape.{Shape}
 use Rattle.pm_disk.specs.Worlds.{World}
 use Rattle.pm_disk.specs.Moments.{History, AllMoments}
 use Rattle.pm_disk.proofs.Chain.{weaker}
 use Rattle.pm_model.specs.declared.line.Line.{Line}
-use Rattle.pm_model.specs.Eval.{Pairs, after_all}
+use Rattle.pm_model.specs.Eval.{Pairs}
 use Rattle.pm_script.specs.Reading.{Unread}
-use Rattle.pm_records.specs.LogFiles.{ChangesLog, LogGrowsBy}
-use Rattle.pm_records.proofs.Growing.{grows_twice}
-use Rattle.pm_engine.specs.Records.{logged}
-use Rattle.pm_engine.proofs.Batching.{logged-append}
-use Rattle.pm_engine.proofs.DoneLines.{rest_grows}
-use Rattle.std.proofs.lemmas.List.{take_at}
-use Rattle.pm_top.proofs.Orders.{take_none}
-use Rattle.pm_engine.specs.Crashes.{CrashHoldsPrefix}
-use Rattle.pm_engine.specs.Engines.{Running, IsAtRest, IsAtRestWithin, HasSegments}
+use Rattle.pm_core.specs.Calls.{ChangesDisk}
+use Rattle.pm_segments.specs.Ends.{LogEnd}
+use Rattle.pm_engine.specs.PagedEngines.{PagedRunning, number_of}
+use Rattle.pm_engine.specs.PagedEngines as engines
+use Rattle.pm_engine.specs.RunningLines.{CrashHoldsLines}
+use Rattle.pm_engine.proofs.RunningLines.{moments_further}
 use Rattle.pm_top.specs.declared.batch.Continuation.{Continuation}
 use Rattle.pm_top.specs.declared.batch.Continuation.TheVariants as then_comes
 use Rattle.pm_top.specs.declared.run.Run.{Run}
+use Rattle.pm_top.specs.Crashes.{CrashKeeps}
 use Rattle.pm_top.specs.ScriptOrder.{CrashHoldsAcknowledged}
 use Rattle.pm_top.specs.ScriptOrder.{IsStopped}
-use Rattle.pm_top.specs.Runs.{Progress, IsAtRestAfter, BatchIsAnswered, LeavesRun}
+use Rattle.pm_top.specs.Runs.{Progress, BatchIsAnswered, StaysWithin, TakesFor}
 use Rattle.pm_top.specs.Limits.{after_lines}
 use Rattle.pm_top.specs.Scripts.{ContinuationIs}
 use Rattle.pm_top.specs.Served.{script_of}
-use Rattle.pm_top.proofs.AnsweredLines.{both}
+use Rattle.pm_top.proofs.AnsweredLines.{both, within_fewer, within_left}
 use Rattle.pm_top.proofs.TakenLines.{after_lines-add}
 use Rattle.pm_top.proofs.Lasting.{keeps_rest}
-use Rattle.pm_top.proofs.Progressing.{done_is, stopped, take_more}
+use Rattle.pm_top.proofs.Progressing.{stopped}
 
 -- ---- what a batch leaves to be read
 
@@ -89,80 +87,69 @@ module _ (continuation : Continuation) {old new : Unread} {rest now_rest : List 
         | inr past ↦ inr (omega (arith, past, left_bytes bytes, long))
       ])
 
--- ---- what a batch logs
-
--- the engine is at rest after a batch
-pub batch_stands : (continuation : Continuation) {old new : Unread} {rest now_rest : List ℕ} {world now : World} {before later : Run} → BatchIsAnswered continuation old new rest now_rest world now before later → (wanted : Shape) → IsAtRest wanted before.engine world → HasSegments before.engine 2048 → IsAtRestAfter wanted before later now
-batch_stands continuation answered wanted stands segments =
-    let since = answered.stands wanted stands segments in
-    record { stands = since.stands; rises = omega (arith, since.rises, answered.count) }
-
--- the records of a batch stand after those of the lines before it
-pub batch_logs : (continuation : Continuation) {old new : Unread} {rest now_rest : List ℕ} {world now : World} {before later : Run} → BatchIsAnswered continuation old new rest now_rest world now before later → (wanted : Shape) → IsAtRest wanted before.engine world → HasSegments before.engine 2048
-    → (opened start : World) (shape : Shape) (pairs : Pairs) → Progress start world (script_of rest) shape pairs before → LogGrowsBy opened world (logged shape (take before.lines (script_of start.input)) pairs) → LogGrowsBy opened now (logged shape (take later.lines (script_of start.input)) pairs)
-batch_logs continuation {world = world} {now = now} {before = before} {later = later} answered wanted stands segments opened start shape pairs progress so_far =
-    let script = script_of start.input in
-    let lines = answered.lines in
-    let since = answered.stands wanted stands segments in
-    let all_are : take later.lines script ≡ progress.done ++ lines =
-    ap (λ n. take n script) answered.count ∙ take_more progress (length lines)
-    ∙ ap (λ l. progress.done ++ take (length lines) l) answered.taken.script
-    ∙ ap (λ l. progress.done ++ l) (take_at lines (script_of answered.left) (length lines) refl) in
-    let frames : logged shape (take before.lines script) pairs ++ logged before.engine.shape lines before.engine.map ≡ logged shape (take later.lines script) pairs =
-    (λ i. logged shape (done_is progress i) pairs ++ logged (progress.shape_is i) lines (progress.map i))
-    ∙ sym (logged-append shape progress.done lines pairs) ∙ ap (λ ls. logged shape ls pairs) (sym all_are) in
-    subst (LogGrowsBy opened now) frames (grows_twice opened world now (logged shape (take before.lines script) pairs) (logged before.engine.shape lines before.engine.map) so_far since.grows)
-
--- before the first batch
-pub none_logged : (wanted : Shape) (run : Run) (opened start : World) → run.lines ≡ 0 → IsAtRest wanted run.engine opened → LogGrowsBy opened opened (logged run.engine.shape (take run.lines (script_of start.input)) run.engine.map)
-none_logged wanted run opened start none stands =
-    subst (LogGrowsBy opened opened) (ap (λ ls. logged run.engine.shape ls run.engine.map) (sym (ap (λ n. take n (script_of start.input)) none ∙ take_none (script_of start.input)))) (rest_grows wanted run.engine.map [] run.engine opened stands)
-
 -- ---- the end
 
+-- it is as it was, but that it may be closed
+pub record KeepsEngineFor (before now : PagedRunning) : Type 0 where
+  pub shape : now.map.shape ≡ before.map.shape
+  pub pairs : now.map.pairs ≡ before.map.pairs
+  pub order : now.order ≡ before.order
+  pub log : now.log ≡ before.log
+  pub mark : now.mark ≡ before.mark
+
 -- the log was forced
-pub closed : {start now : World} {left : List Line} {shape : Shape} {pairs : Pairs} {run : Run} → Progress start now left shape pairs run → (later : Run) (new : World) → later.lines ≡ run.lines → later.engine ≡ run.engine → new.said ≡ now.said
+pub closed : {start now : World} {left : List Line} {shape : Shape} {pairs : Pairs} {run : Run} → Progress start now left shape pairs run → (later : Run) (new : World) → later.lines ≡ run.lines → KeepsEngineFor run.engine later.engine → new.said ≡ now.said
     → Progress start new left shape pairs later
 closed progress later new lines same said = record {
   done = progress.done;
   script = progress.script;
   count = progress.count ∙ sym lines;
   said = said ∙ progress.said;
-  shape_is = ap (λ (r : Running). r.shape) same ∙ progress.shape_is;
-  map = ap (λ (r : Running). r.map) same ∙ progress.map;
-  order = ap (λ (r : Running). r.order) same ∙ progress.order;
+  shape_is = same.shape ∙ progress.shape_is;
+  map = same.pairs ∙ progress.map;
+  order = same.order ∙ progress.order;
+  replay = λ is.
+      let ends = progress.replay is in
+      record { mark = ends.mark; is = same.mark ∙ ends.is; ends = ap (λ (l : LogEnd). l.end) same.log ∙ ends.ends };
 }
 
--- what is left when the script is done
-pub leaves : (wanted : Shape) {start now : World} {shape : Shape} {pairs : Pairs} (before run later : Run) (opened mid new : World) → Progress start now [] shape pairs later → IsAtRestAfter wanted before run mid → later.lines ≡ run.lines → IsAtRestWithin wanted 0 run.engine later.engine new
-    → LogGrowsBy opened mid (logged shape (take run.lines (script_of start.input)) pairs) → LogGrowsBy mid new [] → LeavesRun wanted start opened shape pairs before later new
-leaves wanted {start = start} {shape = shape} {pairs = pairs} before run later opened mid new progress over lines on grown closing = record {
-  over = record { stands = on.stands; rises = omega (arith, over.rises, on.rises, lines) };
-  lasting = on.lasting;
-  shape_is = progress.shape_is;
-  map = progress.map ∙ ap (λ ls. after_all shape ls pairs) (sym (progress.script ∙ append-nil progress.done));
-  grows =
-      let script = script_of start.input in
-      let all : take run.lines script ≡ script = ap (λ n. take n script) (sym lines) ∙ done_is progress ∙ sym (progress.script ∙ append-nil progress.done) in
-      subst (LogGrowsBy opened new) (append-nil (logged shape (take run.lines script) pairs) ∙ ap (λ ls. logged shape ls pairs) all)
-      (grows_twice opened mid new (logged shape (take run.lines script) pairs) [] grown closing);
+-- the engine is the same, or closed
+pub keeps_same : (before now : PagedRunning) → now ≡ before → KeepsEngineFor before now
+keeps_same before now is = record {
+  shape = ap (λ (e : PagedRunning). e.map.shape) is;
+  pairs = ap (λ (e : PagedRunning). e.map.pairs) is;
+  order = ap (λ (e : PagedRunning). e.order) is;
+  log = ap (λ (e : PagedRunning). e.log) is;
+  mark = ap (λ (e : PagedRunning). e.mark) is;
+}
+
+pub keeps_closed : (before now : PagedRunning) → now ≡ engines.closed before → KeepsEngineFor before now
+keeps_closed before now is = record {
+  shape = ap (λ (e : PagedRunning). e.map.shape) is;
+  pairs = ap (λ (e : PagedRunning). e.map.pairs) is;
+  order = ap (λ (e : PagedRunning). e.order) is;
+  log = ap (λ (e : PagedRunning). e.log) is;
+  mark = ap (λ (e : PagedRunning). e.mark) is;
 }
 
 -- while the log is forced at the end
-pub closing_moments : (wanted : Shape) (mid new : History) {start : World} {left : List Line} {shape : Shape} {pairs : Pairs} {run : Run} → Progress start mid.world left shape pairs run → AllMoments mid new (CrashHoldsPrefix wanted run.engine.shape run.engine.map [])
-    → AllMoments mid new (ChangesLog mid.world) → AllMoments mid new (CrashHoldsAcknowledged wanted start shape pairs run.engine.order)
-closing_moments wanted mid new {start = start} {shape = shape} {pairs = pairs} {run = run} progress keeps only =
-    let Q : World → Type 0 = CrashHoldsPrefix wanted run.engine.shape run.engine.map [] in
-    weaker mid new (λ w. Q w × ChangesLog mid.world w) (CrashHoldsAcknowledged wanted start shape pairs run.engine.order)
-    (λ w is. keeps_rest progress wanted w is.1.said is.0) (both mid new Q (ChangesLog mid.world) keeps only)
+pub closing_moments : (wanted : Shape) (last number : ℕ) (mid new : History) {start : World} {left : List Line} {shape : Shape} {pairs : Pairs} {run : Run} → Progress start mid.world left shape pairs run
+    → AllMoments mid new (CrashKeeps wanted last number run.engine.map.shape run.engine.map.pairs []) → AllMoments mid new (ChangesDisk mid.world) → AllMoments mid new (CrashHoldsAcknowledged wanted last number start shape pairs run.engine.order)
+closing_moments wanted last number mid new {start = start} {shape = shape} {pairs = pairs} {run = run} progress keeps only =
+    let Q : World → Type 0 = CrashKeeps wanted last number run.engine.map.shape run.engine.map.pairs [] in
+    weaker mid new (λ w. Q w × ChangesDisk mid.world w) (CrashHoldsAcknowledged wanted last number start shape pairs run.engine.order)
+    (λ w is. keeps_rest progress wanted last number w is.1.said is.0) (both mid new Q (ChangesDisk mid.world) keeps only)
 
--- one batch after others
-pub over_then : (wanted : Shape) (before mid later : Run) (world now : World) → IsAtRestAfter wanted before mid world → IsAtRestAfter wanted mid later now → IsAtRestAfter wanted before later now
-over_then wanted before mid later world now first second = record { stands = second.stands; rises = omega (arith, first.rises, second.rises) }
+-- what a crash leaves of a force, within the bounds of the run
+pub force_keeps : (wanted : Shape) (last number lines : ℕ) (engine : PagedRunning) (mid new : History) → StaysWithin last number lines engine
+    → AllMoments mid new (CrashHoldsLines (engine.log.end.seg + 1) (number_of engine.mark) wanted engine.map.shape engine.map.pairs []) → AllMoments mid new (CrashKeeps wanted last number engine.map.shape engine.map.pairs [])
+force_keeps wanted last number lines engine mid new within keeps =
+    moments_further (engine.log.end.seg + 1) (number_of engine.mark) last number wanted engine.map.shape engine.map.pairs [] mid new (omega (arith, within.segments)) (omega (arith, within.checkpoints)) keeps
 
--- there are segments for a batch
-pub room_left : (wanted : Shape) (before now : Run) (world : World) → before.lines ≡ 0 → now.lines ≤ LINES_MAX → HasSegments before.engine (2 ^ 24) → IsAtRestAfter wanted before now world → HasSegments now.engine 2048
-room_left wanted before now world none few room over = omega (arith, none, few, room, over.rises)
+-- there are numbers for a batch
+pub room_left : (last number : ℕ) (before now : Run) → now.lines ≤ LINES_MAX → StaysWithin last number (LINES_MAX + 2048) before.engine → TakesFor now.lines before.engine now.engine → StaysWithin last number 2048 now.engine
+room_left last number before now few within takes =
+    within_left last number now.lines 2048 before.engine now.engine (within_fewer last number (LINES_MAX + 2048) (now.lines + 2048) before.engine (omega (arith, few)) within) takes
 
 -- what stands after, where there is nothing
 pub append_right : (xs ys : List ℕ) → xs ++ ys ≡ [] → ys ≡ []

@@ -8,17 +8,20 @@ use Rattle.pm_disk.specs.States.{DeviceState, Rose}
 use Rattle.pm_disk.specs.Worlds.{World, with_said}
 use Rattle.pm_disk.proofs.Chain.{joined, weaker}
 use Rattle.pm_model.specs.Eval.{Pairs}
-use Rattle.pm_engine.specs.Crashes.{CrashHoldsPrefix}
-use Rattle.pm_engine.specs.Openings.{IsSame}
+use Rattle.pm_marks.specs.InForce.{number_in}
+use Rattle.pm_core.specs.Held.{in_force}
+use Rattle.pm_core.specs.LogAlone.{image_of}
+use Rattle.pm_engine.specs.PagedReplays.{CrashHoldsMap}
+use Rattle.pm_redo.specs.Rebuilding.{IsSame}
 use Rattle.pm_tools.specs.Verifying.{IsBadRecord, IsBadBasePage}
 use Rattle.pm_top.specs.declared.status.Status.{Status}
 use Rattle.pm_top.specs.declared.status.Status.TheVariants.{Done, Failed, Memory, Damaged}
 use Rattle.pm_top.specs.Configurations.{wanted_in}
-use Rattle.pm_top.specs.Promises.{IsStart, SaysPart, SameFiles}
+use Rattle.pm_top.specs.Crashes.{opened_to}
+use Rattle.pm_top.specs.Promises.{IsStart, SameConfig, SaysPart}
 use Rattle.pm_top.specs.StoreChecks.{MaySayOfCheck, NamesBad, SaysCounts, SaysLine, VerifyCompletes, VerifyHolds}
-use Rattle.pm_top.proofs.Lasting.{keeps_said}
 use Rattle.pm_top.proofs.LogListing.{isnt}
-use Rattle.pm_top.proofs.Opened.{rest_keeps}
+use Rattle.pm_top.proofs.Opened.{start_map, start_said}
 
 -- ---- what is said
 
@@ -32,22 +35,22 @@ line_says old mid new text is first same second =
     (weaker mid new (SaysPart text mid.world) (MaySayOfCheck old.world) (λ w part. inr (record { text = text; is_text = is; part = subst (λ (v : World). SaysPart text v w) same part })) second)
 
 -- what was said is no file
-check_crash : (old new : History) → AllMoments old new (MaySayOfCheck old.world) → (shape : Shape) (pairs : Pairs) → IsStart (wanted_in old.world) old.world shape pairs → AllMoments old new (CrashHoldsPrefix (wanted_in old.world) shape pairs [])
+check_crash : (old new : History) → AllMoments old new (MaySayOfCheck old.world) → (shape : Shape) (pairs : Pairs) (start : IsStart (wanted_in old.world) old.world shape pairs)
+    → AllMoments old new (CrashHoldsMap (opened_to start.sound) (number_in (in_force (image_of old.world))) (wanted_in old.world) shape pairs)
 check_crash old new says shape pairs start =
     let wanted = wanted_in old.world in
-    let rest = rest_keeps wanted old.world shape pairs start in
-    weaker old new (MaySayOfCheck old.world) (CrashHoldsPrefix wanted shape pairs [])
-    (λ w may. elim may [
-      | inl same ↦ subst (CrashHoldsPrefix wanted shape pairs []) (sym same) rest
-      | inr is ↦ subst (CrashHoldsPrefix wanted shape pairs []) (sym is.part.1) (keeps_said wanted shape pairs [] (take is.part.0 is.text) old.world rest)
+    let K : World → Type 0 = CrashHoldsMap (opened_to start.sound) (number_in (in_force (image_of old.world))) wanted shape pairs in
+    weaker old new (MaySayOfCheck old.world) K (λ w may. elim may [
+      | inl same ↦ subst K (sym same) (start_map wanted old.world shape pairs start)
+      | inr is ↦ subst K (sym is.part.1) (start_said wanted old.world shape pairs start (take is.part.0 is.text))
     ]) says
 
--- no file is other than it was
-pub check_files : (old new : History) → AllMoments old new (MaySayOfCheck old.world) → AllMoments old new (SameFiles old.world)
-check_files old new =
-    weaker old new (MaySayOfCheck old.world) (SameFiles old.world) (λ w may. elim may [
-      | inl same ↦ subst (SameFiles old.world) (sym same) (record { pages = refl; starts = refl; ends = refl; config = refl })
-      | inr is ↦ subst (SameFiles old.world) (sym is.part.1) (record { pages = refl; starts = refl; ends = refl; config = refl })
+-- the configuration is as it was
+pub check_config : (old new : History) → AllMoments old new (MaySayOfCheck old.world) → AllMoments old new (SameConfig old.world)
+check_config old new =
+    weaker old new (MaySayOfCheck old.world) (SameConfig old.world) (λ w may. elim may [
+      | inl same ↦ subst (SameConfig old.world) (sym same) refl
+      | inr is ↦ subst (SameConfig old.world) (sym is.part.1) refl
     ])
 
 -- ---- what `verify` promises

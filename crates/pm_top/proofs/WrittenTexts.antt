@@ -3,7 +3,7 @@ use Rattle.std.proofs.Common.{◌≡◌, ℕ, zero, suc, ◌+◌, List, [], ◌�
 use Rattle.std.specs.Prelude.{slice_get}
 use Rattle.pm_model.specs.declared.reply.Reply.{Reply}
 use Rattle.pm_script.specs.Texts.{text_of, texts_of}
-use Rattle.pm_engine.proofs.Batching.{take_none}
+use Rattle.pm_top.proofs.Orders.{take_none}
 
 same_reply : (a b : Reply) → Some a ≡ Some b → a ≡ b
 same_reply a b e = cc

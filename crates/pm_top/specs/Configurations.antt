@@ -8,7 +8,11 @@ use Rattle.pm_config.specs.declared.fault.ConfigFault.{ConfigFault}
 use Rattle.pm_config.specs.declared.fault.ConfigFault.TheVariants.{Bad, Memory}
 use Rattle.pm_config.specs.Configs.{config_of, default_config}
 use Rattle.pm_config.specs.Names.{name_of}
-use Rattle.pm_engine.specs.StoredShapes.{shape_fault}
+use Rattle.pm_records.specs.LogFiles.{contents}
+use Rattle.pm_core.specs.Held.{in_force}
+use Rattle.pm_core.specs.LogAlone.{image_of}
+use Rattle.pm_redo.specs.Differences.{difference_from}
+use Rattle.pm_redo.specs.Restoring.{found_shape}
 
 -- the shape that a configuration asks for; where it is refused, that of an empty one
 abbrev pub shape_asked : Result Config ConfigFault → Shape
@@ -18,6 +22,10 @@ shape_asked (Err fault) = default_config.shape
 -- the shape that the folder's configuration asks for
 unfoldable pub wanted_in : World → Shape
 wanted_in world = shape_asked (config_of world.config)
+
+-- the first field by which the shape that a store has differs from the wanted one; an empty store has none
+abbrev pub shape_fault : Shape → World → Option Field
+shape_fault wanted world = difference_from (found_shape (in_force (image_of world)) (contents world.log)) wanted
 
 -- the field of a configuration that is refused: that of its text, or the first one by which the
 -- store's shape differs

@@ -14,3 +14,4 @@ pub mod Statuses
 pub mod Words
 pub mod Commands
 pub mod StoreChecks
+pub mod PagedRests

@@ -6,12 +6,16 @@ use Rattle.pm_disk.specs.States.{DeviceState, Rose}
 use Rattle.pm_disk.specs.Worlds.{World}
 use Rattle.pm_types.specs.declared.shape.Shape.{Shape}
 use Rattle.pm_model.specs.Eval.{Pairs}
-use Rattle.pm_engine.specs.Crashes.{CrashHoldsPrefix}
+use Rattle.pm_marks.specs.InForce.{number_in}
+use Rattle.pm_core.specs.Held.{in_force}
+use Rattle.pm_core.specs.LogAlone.{image_of}
+use Rattle.pm_engine.specs.PagedReplays.{CrashHoldsMap}
 use Rattle.pm_records.specs.LogFiles.{contents}
 use Rattle.pm_tools.specs.Listings.{list_place, IsListed, IsSaid, ListsAll, ListsUpTo}
 use Rattle.pm_top.specs.declared.status.Status.{Status}
 use Rattle.pm_top.specs.declared.status.Status.TheVariants.{Done, Failed, Memory, Damaged}
 use Rattle.pm_top.specs.Configurations.{wanted_in}
+use Rattle.pm_top.specs.Crashes.{opened_to}
 use Rattle.pm_top.specs.Promises.{IsStart, SaysPart, fault_record}
 
 -- the log was listed up to the first frame that holds no record: its place was named, and nothing else happened
@@ -40,8 +44,9 @@ pub record WalHolds (old new : History) (status : Status) (lines : ℕ) (order :
   -- at each moment nothing has happened but that a prefix of its text was said
   pub moments : AllMoments old new (SaysOfWal old.world)
   -- at each moment a crash leaves a sound store with the map that there was, where a run may begin over it
-  pub crash : (shape : Shape) (pairs : Pairs) → IsStart (wanted_in old.world) old.world shape pairs
-      → AllMoments old new (CrashHoldsPrefix (wanted_in old.world) shape pairs [])
+  pub crash : (shape : Shape) (pairs : Pairs) (start : IsStart (wanted_in old.world) old.world shape pairs)
+      → AllMoments old new (CrashHoldsMap (opened_to start.sound) (number_in (in_force (image_of old.world)))
+      (wanted_in old.world) shape pairs)
   -- all of it was said
   pub done : status ≡ Done → IsListed (list_place old.world) old.world new.world
   pub damaged : status ≡ Damaged → IsCutShort old.world new.world

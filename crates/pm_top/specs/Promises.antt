@@ -1,8 +1,9 @@
 -- What a run promises.
-use Rattle.std.specs.Prelude.{◌<◌, ◌≡◌, ◌⊎◌, None, Some, ℕ, ◌+◌, ◌≤◌, ◌^◌, List, [], ◌∷◌, ◌++◌, take}
+use Rattle.std.specs.Prelude.{◌≡◌, ◌⊎◌, None, Some, true, false, ℕ, ◌+◌, ◌≤◌, ◌^◌, List, [], ◌++◌, take}
 use Rattle.std.specs.Prelude.{drop, length, codes, decimal}
 use Rattle.pm_types.specs.declared.limits.TheConstants.{BATCH_LINES_MAX}
 use Rattle.pm_types.specs.declared.fault.Field.{Field}
+use Rattle.pm_types.specs.declared.page_id.PageId.{PageId}
 use Rattle.pm_types.specs.declared.place.Place.{Place}
 use Rattle.pm_types.specs.declared.shape.Shape.{Shape}
 use Rattle.pm_disk.specs.Images.{NothingPending}
@@ -13,16 +14,21 @@ use Rattle.pm_model.specs.declared.reply.Reply.{Reply}
 use Rattle.pm_model.specs.Eval.{Pairs, replies_to, after_all}
 use Rattle.pm_model.specs.Orders.{HasAccepted, HasTried}
 use Rattle.pm_script.specs.Texts.{texts_of}
-use Rattle.pm_records.specs.FirstRecords.{restart_frame}
-use Rattle.pm_records.specs.LogFiles.{LogGrowsBy}
-use Rattle.pm_engine.specs.Records.{logged}
-use Rattle.pm_core.specs.LogAlone.{image_of, LogHolds, Holds, last_segment}
-use Rattle.pm_engine.specs.Openings.{IsBadRecord, LogHoldsNothing}
+use Rattle.pm_marks.specs.InForce.{number_in}
+use Rattle.pm_core.specs.Calls.{ChangesDisk}
+use Rattle.pm_core.specs.Held.{in_force}
+use Rattle.pm_core.specs.LogAlone.{image_of}
+use Rattle.pm_core.specs.Prefixes.{IsUpTo}
+use Rattle.pm_core.specs.Sound.{Sound}
+use Rattle.pm_engine.specs.PagedBatches.{asked_last}
+use Rattle.pm_engine.specs.PagedOpenings.{IsBadOpening, IsBadRestored, OpensMap}
+use Rattle.pm_engine.specs.RunningLines.{SameDisk}
+use Rattle.pm_tools.specs.Lines.{page_text}
 use Rattle.pm_top.specs.Configurations.{config_fault, fault_config, wanted_in}
 use Rattle.pm_top.specs.declared.status.Status.{Status}
 use Rattle.pm_top.specs.declared.status.Status.TheVariants.{Done, Usage, Misconfigured, Failed, Memory}
 use Rattle.pm_top.specs.declared.status.Status.TheVariants.{Damaged, Long}
-use Rattle.pm_top.specs.Crashes.{CrashHoldsAcknowledged}
+use Rattle.pm_top.specs.Crashes.{CrashHoldsAcknowledged, HasNumbers, opened_number, opened_to}
 use Rattle.pm_top.specs.Limits.{IsWithinLimits, PassesLimit, AreWithin}
 use Rattle.pm_top.specs.Served.{script_of}
 
@@ -30,16 +36,9 @@ use Rattle.pm_top.specs.Served.{script_of}
 abbrev pub replies_of : Shape → List ℕ → Pairs → List Reply
 replies_of shape input pairs = replies_to shape (script_of input) pairs
 
--- no file but the log is other than it was
-pub record SameFiles (old new : World) : Type 0 where
-  pub pages : new.pages ≡ old.pages
-  pub starts : new.starts ≡ old.starts
-  pub ends : new.ends ≡ old.ends
-  pub config : new.config ≡ old.config
-
--- no segment of the log is other than it was
-abbrev pub SameLog : World → World → Type 0
-SameLog old new = new.log ≡ old.log
+-- the configuration is as it was
+abbrev pub SameConfig : World → World → Type 0
+SameConfig old new = new.config ≡ old.config
 
 -- nothing happened but that a prefix of the bytes of a text were said
 abbrev pub SaysPart : List ℕ → World → World → Type 0
@@ -94,10 +93,28 @@ pub record IsStopped (old new : World) (shape : Shape) (pairs : Pairs) (lines : 
   pub passes : PassesLimit old.input
   pub within : AreWithin old.input lines
 
--- A run opens the store: no field of its configuration is refused, and the log holds this shape and this map.
+-- A run may begin: the store is sound and holds this map, there are numbers for its segments and checkpoints,
+-- and nothing is pending.
+pub record IsStart (wanted : Shape) (world : World) (shape : Shape) (pairs : Pairs) : Type 0 where
+  pub sound : Sound wanted world shape pairs
+  pub numbers : HasNumbers wanted (image_of world) shape pairs sound
+  pub quiet : NothingPending world
+
+-- A run opens the store: no field of its configuration is refused, so that the store has the wanted shape or
+-- none, and a run may begin over it.
 pub record CanOpen (world : World) (shape : Shape) (pairs : Pairs) : Type 0 where
   pub configured : config_fault world ≡ None
-  pub log : LogHolds (wanted_in world) (image_of world) shape pairs
+  pub start : IsStart (wanted_in world) world shape pairs
+
+-- the last segment that a run may begin, its opening counted
+abbrev pub last_after : {wanted : Shape} {world : World} {shape : Shape} {pairs : Pairs}
+    → IsStart wanted world shape pairs → ℕ
+last_after {wanted} {world} {shape} {pairs} start = opened_to start.sound + 2 ^ 28
+
+-- the highest number that a checkpoint of a run may have
+abbrev pub number_after : {wanted : Shape} {world : World} {shape : Shape} {pairs : Pairs}
+    → IsStart wanted world shape pairs → ℕ
+number_after {wanted} {world} {shape} {pairs} start = opened_number start.sound + 2 ^ 23
 
 -- what each status says of a `run` over a store that it opens
 abbrev pub OutcomeIs : Status → World → World → Shape → Pairs → ℕ → List ℕ → Type 0
@@ -107,25 +124,41 @@ OutcomeIs Memory old new shape pairs lines order = HasNoMemory old new shape pai
 OutcomeIs Long old new shape pairs lines order = IsStopped old new shape pairs lines order (codes "fault long\n")
 OutcomeIs status old new shape pairs lines order = ⊥
 
--- A run leaves a store that is sound and holds the map after its script, and of which nothing is pending. The
--- log, which ended in this segment, has the frames that it had, a RESTART and one record for each accepted
--- line, in order, besides SEALs, in at most 2^23 segments more.
-pub record IsLeft (wanted : Shape) (last : ℕ) (old new : World) (shape : Shape) (pairs : Pairs) : Type 0 where
-  pub holds : Holds wanted (image_of new) shape (after_all shape (script_of old.input) pairs)
-  pub quiet : NothingPending new
-  pub grows : LogGrowsBy old new (restart_frame shape ∷ logged shape (script_of old.input) pairs)
-  pub rises : last_segment holds ≤ last + 2 ^ 23
+-- A script was answered over a store, sound or not: no field of the configuration is refused, the store was opened
+-- with this map, and the outcome is over it.
+pub record AnswersOver (status : Status) (old new : World) (lines : ℕ) (order : List ℕ) : Type 0 where
+  pub configured : config_fault old ≡ None
+  pub pairs : Pairs
+  pub opens : OpensMap (wanted_in old) (in_force (image_of old)) old pairs
+  pub outcome : OutcomeIs status old new (wanted_in old) pairs lines order
 
--- A run may begin: the store is sound and holds this map, its log has numbers for more segments,
--- and nothing is pending.
-pub record IsStart (wanted : Shape) (world : World) (shape : Shape) (pairs : Pairs) : Type 0 where
-  pub holds : Holds wanted (image_of world) shape pairs
-  pub numbers : last_segment holds < 2 ^ 62
-  pub quiet : NothingPending world
+-- A run leaves a store that is sound and holds the map after its script, and of which nothing is pending. Its
+-- log ends in a segment up to this one, and the checkpoint in force has at most this number. Where the last line
+-- of the script asks for a checkpoint, no record is left to be replayed.
+pub record IsLeft (wanted : Shape) (last number : ℕ) (old new : World) (shape : Shape) (pairs : Pairs)
+    : Type 0 where
+  pub sound : Sound wanted new shape (after_all shape (script_of old.input) pairs)
+  pub up_to : IsUpTo last number wanted (image_of new) shape (after_all shape (script_of old.input) pairs) sound
+  pub quiet : NothingPending new
+  pub replayed : asked_last false (script_of old.input) ≡ true → sound.holds.frames ≡ []
 
 -- the line that names a record that is bad
 abbrev pub fault_record : Place → List ℕ
 fault_record at = codes "fault record " ++ decimal at.seg ++ codes ":" ++ decimal at.off ++ codes "\n"
+
+-- the line that names a page that is bad
+abbrev pub fault_page : PageId → List ℕ
+fault_page page = codes "fault page " ++ page_text page ++ codes "\n"
+
+-- Where this shape is wanted, the opening of a store found a bad record or a bad page, when it had restored the
+-- store so, and this line names it.
+abbrev pub NamesBadFor : Shape → World → World → List ℕ → Type 0
+NamesBadFor wanted old left text =
+    ((at : Place) × IsBadOpening wanted (in_force (image_of old)) old left at × (text ≡ fault_record at))
+    ⊎ ((id : PageId) × IsBadRestored wanted (in_force (image_of old)) old left id × (text ≡ fault_page id))
+
+abbrev pub NamesBadOpening : World → World → List ℕ → Type 0
+NamesBadOpening old left text = NamesBadFor (wanted_in old) old left text
 
 -- nothing was done but that this was said
 pub record OnlySays (text : List ℕ) (old new : World) (lines : ℕ) (order : List ℕ) : Type 0 where
@@ -139,13 +172,16 @@ pub record IsMisconfigured (old new : World) (lines : ℕ) (order : List ℕ) : 
   pub refused : config_fault old ≡ Some field
   pub says : OnlySays (fault_config field) old new lines order
 
--- a record of the log is bad, so that the store isn't sound: it was named, and nothing was changed
+-- A record or a page is bad, so that the store isn't sound: it was named. Nothing else was done but that the
+-- store's files were restored.
 pub record IsDamaged (old new : World) (lines : ℕ) (order : List ℕ) : Type 0 where
-  pub at : Place
   pub configured : config_fault old ≡ None
-  pub record_is : IsBadRecord (wanted_in old) old at
-  pub unsound : LogHoldsNothing (wanted_in old) old
-  pub says : OnlySays (fault_record at) old new lines order
+  pub unsound : (shape : Shape) (pairs : Pairs) → IsStart (wanted_in old) old shape pairs → ⊥
+  pub left : World
+  pub restored : ChangesDisk old left
+  pub text : List ℕ
+  pub bad : NamesBadOpening old left text
+  pub says : OnlySays text left new lines order
 
 -- what each status says where the words aren't a command: nothing was done but that this was said, or a prefix
 -- of it
@@ -159,26 +195,26 @@ pub record RunHolds (old new : History) (status : Status) (lines : ℕ) (order :
   -- over a store that it opens: which lines are answered, and with what
   pub outcome : (shape : Shape) (pairs : Pairs) → CanOpen old.world shape pairs
       → OutcomeIs status old.world new.world shape pairs lines order
-  -- a script is answered only over such a store, and no other one is changed
-  pub opened : (status ≡ Done) ⊎ (status ≡ Long)
-      → (shape : Shape) × (pairs : Pairs) × CanOpen old.world shape pairs
-  pub untouched : ((shape : Shape) (pairs : Pairs) → CanOpen old.world shape pairs → ⊥)
-      → AllMoments old new (SameLog old.world)
+  -- a script is answered over the map of a store that was opened, sound or not
+  pub opened : (status ≡ Done) ⊎ (status ≡ Long) → AnswersOver status old.world new.world lines order
+  -- where a field is refused no file of the store is changed
+  pub untouched : (field : Field) → config_fault old.world ≡ Some field
+      → AllMoments old new (SameDisk old.world)
   -- a script that is done leaves a sound store for the next run
   pub leaves : status ≡ Done
       → (shape : Shape) (pairs : Pairs) (start : IsStart (wanted_in old.world) old.world shape pairs)
-      → IsLeft (wanted_in old.world) (last_segment start.holds) old.world new.world shape pairs
-  -- a field that is refused is named so, and a bad record too: the store is left as it is
+      → IsLeft (wanted_in old.world) (last_after start) (number_after start) old.world new.world shape pairs
+  -- a field that is refused is named so, and a bad record or page too
   pub misconfigured : status ≡ Misconfigured → IsMisconfigured old.world new.world lines order
   pub damaged : status ≡ Damaged → IsDamaged old.world new.world lines order
 
--- at each moment a crash leaves a sound store, which holds what was acknowledged, its log in at
--- most 2^24 segments more
+-- At each moment a crash leaves a sound store, which holds what was acknowledged, and whose numbers are at most
+-- those that a run may take.
 abbrev pub HoldsAtEachMoment : History → History → List ℕ → Type 0
 HoldsAtEachMoment old new order =
     (shape : Shape) (pairs : Pairs) (start : IsStart (wanted_in old.world) old.world shape pairs)
-    → AllMoments old new (CrashHoldsAcknowledged (wanted_in old.world)
-    (last_segment start.holds + 2 ^ 24) old.world shape pairs order)
+    → AllMoments old new (CrashHoldsAcknowledged (wanted_in old.world) (last_after start) (number_after start)
+    old.world shape pairs order)
 
 -- Where no call fails: a field of the configuration that is refused is named, and a script over a
 -- store that is opened is answered whole, or the limit that it passes is reported, unless memory

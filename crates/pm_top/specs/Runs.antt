@@ -1,5 +1,6 @@
 -- How far a run has come.
-use Rattle.std.specs.Prelude.{◌≡◌, ◌+◌, ◌≤◌, ◌<◌, ◌^◌, ℕ, List, [], ◌++◌, length, Result, OnOk, IsErrOf}
+use Rattle.std.specs.Prelude.{◌≡◌, ◌+◌, ◌*◌, ◌≤◌, ◌<◌, ◌^◌, ℕ, List, ◌++◌, length, true, false, Result}
+use Rattle.std.specs.Prelude.{OnOk, IsErrOf}
 use Rattle.pm_types.specs.declared.limits.TheConstants.{LINES_MAX, BATCH_LINES_MAX}
 use Rattle.pm_types.specs.declared.fault.StoreFault.{StoreFault}
 use Rattle.pm_types.specs.declared.fault.StoreFault.TheVariants.{Failed, Memory}
@@ -12,14 +13,13 @@ use Rattle.pm_model.specs.ReplyLists.{ReplyList}
 use Rattle.pm_script.specs.Reading.{Unread, KnowsEnd}
 use Rattle.pm_script.specs.Texts.{texts_of}
 use Rattle.pm_segments.specs.Ends.{LogEnd, EndsThere}
-use Rattle.pm_engine.specs.Engines.{Running, IsAtRest, HasSegments, SameAbove}
-use Rattle.pm_records.specs.LogFiles.{LogGrowsBy}
-use Rattle.pm_engine.specs.Records.{logged}
-use Rattle.pm_core.specs.LogAlone.{image_of, Holds, last_segment}
+use Rattle.pm_engine.specs.PagedBatches.{TakesNumbers, asked_last}
+use Rattle.pm_engine.specs.PagedEngines.{PagedRunning, EndsAtReplay, number_of}
+use Rattle.pm_top.specs.PagedRests.{PagedAtRest}
 use Rattle.pm_top.specs.declared.batch.Continuation.{Continuation}
 use Rattle.pm_top.specs.declared.batch.Continuation.TheVariants as then_comes
 use Rattle.pm_top.specs.declared.run.Run.{Run}
-use Rattle.pm_top.specs.Promises.{SameFiles}
+use Rattle.pm_top.specs.Promises.{SameConfig}
 use Rattle.pm_top.specs.ScriptOrder.{HasFailed, HasNoMemory}
 use Rattle.pm_top.specs.Scripts.{LinesAreTaken, ContinuationIs}
 use Rattle.pm_top.specs.Served.{script_of}
@@ -29,30 +29,37 @@ pub record SameConsole (start now : World) : Type 0 where
   pub said : now.said ≡ start.said
   pub input : now.input ≡ start.input
 
--- no file but the log is other than it was, nor a segment above this one
-pub record KeepsFiles (most : ℕ) (old new : World) : Type 0 where
-  pub files : SameFiles old new
-  pub above : SameAbove most old new
-
--- the same, and no input was taken
-pub record OnlyAnswers (most : ℕ) (old new : World) : Type 0 where
-  pub kept : KeepsFiles most old new
+-- the configuration is as it was, and no input was taken
+pub record OnlyAnswers (old new : World) : Type 0 where
+  pub config : SameConfig old new
   pub input : new.input ≡ old.input
+
+-- the most segments and checkpoints that so many lines take, in batches of their own at worst
+abbrev pub segments_for : ℕ → ℕ
+segments_for lines = 35 * lines
+
+abbrev pub checkpoints_for : ℕ → ℕ
+checkpoints_for lines = 2 * lines
+
+-- so many lines took no more numbers than they may
+abbrev pub TakesFor : ℕ → PagedRunning → PagedRunning → Type 0
+TakesFor lines before now = TakesNumbers before now (segments_for lines) (checkpoints_for lines)
 
 -- once it is cleared the list has room for the replies to a batch
 abbrev pub HasBatchRoom : ReplyList → Type 0
 HasBatchRoom list = BATCH_LINES_MAX ≤ length list.replies + list.spare
 
--- So many lines more are counted, and the log entered at most a segment for each. The list of their replies
--- has room for those of a batch again.
+-- So many lines more are counted, the engine is open and took no more numbers than they may. The list of their
+-- replies has room for those of a batch again.
 pub record CountsLines (old new : Run) (replies : ReplyList) (count : ℕ) : Type 0 where
   pub counted : new.lines ≡ old.lines + count
-  pub rises : new.engine.log.end.seg ≤ old.engine.log.end.seg + count
+  pub is_open : new.engine.is_open ≡ true
+  pub numbers : TakesFor count old.engine new.engine
   pub room : HasBatchRoom replies
 
 -- A run goes on with a store of the same shape, and its order has what it had.
 pub record KeepsRun (before now : Run) : Type 0 where
-  pub shape : now.engine.shape ≡ before.engine.shape
+  pub shape : now.engine.map.shape ≡ before.engine.map.shape
   pub more : List ℕ
   pub order : now.engine.order ≡ before.engine.order ++ more
 
@@ -64,9 +71,10 @@ pub record Progress (start now : World) (left : List Line) (shape : Shape) (pair
   pub script : script_of start.input ≡ done ++ left
   pub count : length done ≡ run.lines
   pub said : now.said ≡ start.said ++ texts_of (replies_to shape done pairs)
-  pub shape_is : run.engine.shape ≡ shape
-  pub map : run.engine.map ≡ after_all shape done pairs
+  pub shape_is : run.engine.map.shape ≡ shape
+  pub map : run.engine.map.pairs ≡ after_all shape done pairs
   pub order : run.engine.order ≡ accepted shape 1 done pairs
+  pub replay : asked_last false done ≡ true → EndsAtReplay run.engine
 
 -- A fault came after the replies to the lines that are counted: a call failed, or memory ran out.
 pub record FaultIs {T : Type 0} (start now : World) (shape : Shape) (pairs : Pairs) (run : Run)
@@ -87,31 +95,32 @@ pub record CountsBatch (continuation : Continuation) (input : Unread) (replies :
   pub few : now.lines ≤ LINES_MAX
   pub same : continuation ≡ then_comes.More → now.lines ≡ input.lines
   pub some : continuation ≡ then_comes.More → before.lines < now.lines
-  pub rises : now.engine.log.end.seg + before.lines ≤ before.engine.log.end.seg + now.lines
+  pub is_open : now.engine.is_open ≡ true
+  pub more : ℕ
+  pub lines : now.lines ≡ before.lines + more
+  pub numbers : TakesFor more before.engine now.engine
   pub room : HasBatchRoom replies
 
--- At no moment was another file than the log changed, nor a segment above this one. Where no fault
--- came, the log ends there, and what is known of the input's end holds.
-pub record IsOpenAfter {T : Type 0} (most : ℕ) (old new : History) (log : LogEnd) (input : Unread)
+-- At no moment was the configuration changed. Where no fault came, the log ends there, and what is known of the
+-- input's end holds.
+pub record IsOpenAfter {T : Type 0} (old new : History) (log : LogEnd) (input : Unread)
     (result : Result T StoreFault) : Type 0 where
-  pub files : AllMoments old new (KeepsFiles most old.world)
+  pub config : AllMoments old new (SameConfig old.world)
   pub end : OnOk result (EndsThere log new.world)
   pub input_end : OnOk result (KnowsEnd input new.world)
 
--- The engine of a run is at rest after these lines: it has the map that they leave, and its log a
--- record for each accepted one.
-pub record IsAtRestSince (wanted : Shape) (before now : Run) (lines : List Line)
-    (old new : World) : Type 0 where
-  pub stands : IsAtRest wanted now.engine new
-  pub rises : now.engine.log.end.seg ≤ before.engine.log.end.seg + length lines
-  pub map : now.engine.map ≡ after_all before.engine.shape lines before.engine.map
-  pub grows : LogGrowsBy old new (logged before.engine.shape lines before.engine.map)
+-- with so many lines more the log's last segment and the checkpoint in force have numbers up to these, and a
+-- crash leaves no higher ones
+pub record StaysWithin (last number lines : ℕ) (engine : PagedRunning) : Type 0 where
+  pub segments : engine.log.end.seg + segments_for lines + 2 ≤ last
+  pub checkpoints : number_of engine.mark + checkpoints_for lines ≤ number
+  pub last_fits : last < 2 ^ 64
+  pub number_fits : number < 2 ^ 64
 
--- A run over a whole script may begin: the engine stands, and there are numbers for as many
--- segments as it may need.
-pub record CanRun (wanted : Shape) (engine : Running) (world : World) : Type 0 where
-  pub stands : IsAtRest wanted engine world
-  pub segments : HasSegments engine (2 ^ 24)
+-- a run over a whole script may begin: the engine is at rest, and there are numbers for all lines
+pub record CanRun (wanted : Shape) (last number : ℕ) (engine : PagedRunning) (world : World) : Type 0 where
+  pub stands : PagedAtRest wanted engine world
+  pub within : StaysWithin last number (LINES_MAX + 2048) engine
 
 -- How a run went on by some lines of its script, which goes on so after them.
 pub record BatchIsAnswered (continuation : Continuation) (old new : Unread) (rest now_rest : List ℕ)
@@ -125,30 +134,5 @@ pub record BatchIsAnswered (continuation : Continuation) (old new : Unread) (res
   pub progress : (start : World) (shape : Shape) (pairs : Pairs)
       → Progress start world (script_of rest) shape pairs before
       → Progress start now (script_of left) shape pairs later
-  pub stands : (wanted : Shape) → IsAtRest wanted before.engine world → HasSegments before.engine 2048
-      → IsAtRestSince wanted before later lines world now
-
--- the engine of a run stands, its log by at most as many segments further as lines were done
-pub record IsAtRestAfter (wanted : Shape) (before later : Run) (world : World) : Type 0 where
-  pub stands : IsAtRest wanted later.engine world
-  pub rises : later.engine.log.end.seg + before.lines ≤ before.engine.log.end.seg + later.lines
-
--- The script is done: the engine has the map that its lines leave, nothing of its log is pending,
--- and since it was opened its log has one record more for each accepted line.
-pub record LeavesRun (wanted : Shape) (start opened : World) (shape : Shape) (pairs : Pairs)
-    (before later : Run) (world : World) : Type 0 where
-  pub over : IsAtRestAfter wanted before later world
-  pub lasting : (seg : ℕ) → (world.log seg).since ≡ []
-  pub shape_is : later.engine.shape ≡ shape
-  pub map : later.engine.map ≡ after_all shape (script_of start.input) pairs
-  pub grows : LogGrowsBy opened world (logged shape (script_of start.input) pairs)
-
--- A script is done whole over an engine's store: this is sound, holds the map that the lines leave,
--- nothing of its log is pending, and since it was opened its log has one record more for each
--- accepted line.
-pub record LeavesStore (wanted : Shape) (start opened world : World) (engine : Running) : Type 0 where
-  pub holds : Holds wanted (image_of world) engine.shape
-      (after_all engine.shape (script_of start.input) engine.map)
-  pub lasting : (seg : ℕ) → (world.log seg).since ≡ []
-  pub rises : last_segment holds ≤ engine.log.end.seg + LINES_MAX
-  pub grows : LogGrowsBy opened world (logged engine.shape (script_of start.input) engine.map)
+  pub stands : (wanted : Shape) (last number : ℕ) → PagedAtRest wanted before.engine world
+      → StaysWithin last number 2048 before.engine → PagedAtRest wanted later.engine now

@@ -8,15 +8,13 @@ use Rattle.pm_disk.specs.Worlds.{World}
 use Rattle.pm_model.specs.declared.line.Line.{Line}
 use Rattle.pm_model.specs.declared.line.Line.TheVariants.{Bad}
 use Rattle.pm_model.specs.Eval.{Pairs, after, replies_to, accepted}
-use Rattle.pm_core.specs.LogAlone.{Holds, HasTrueFrames}
+use Rattle.pm_core.specs.Sound.{IsTrueImage}
 use Rattle.pm_top.specs.declared.run.Stop.{Stop}
 use Rattle.pm_top.specs.declared.run.Stop.TheVariants as stop
 use Rattle.pm_top.specs.declared.status.Status.{Status}
 use Rattle.pm_top.specs.declared.status.Status.TheVariants.{Done, Usage, Misconfigured, Failed, Memory}
 use Rattle.pm_top.specs.declared.status.Status.TheVariants.{Damaged, Long}
-use Rattle.pm_model.specs.Orders as orders
-use Rattle.std.specs.List.{All, Contains}
-use Rattle.pm_top.specs.Crashes.{acknowledged, begun}
+use Rattle.pm_top.specs.Crashes.{SoundUpTo, begun}
 use Rattle.pm_top.specs.Limits.{AreWithin, IsWithinLimits, PassesLimit}
 use Rattle.pm_top.specs.Promises.{HasAnswered, IsTail, replies_of}
 use Rattle.pm_top.specs.Served.{script_of}
@@ -95,28 +93,16 @@ acknowledged_count old shape pairs now =
 
 -- What a crash left is sound, and holds the map of the start after the first of the lines in the
 -- order, with each one that was acknowledged.
-pub record HoldsAfter (wanted : Shape) (old : World) (shape : Shape) (pairs : Pairs) (order : List ℕ)
-    (now : World) (image : Image) : Type 0 where
+pub record HoldsAfter (wanted : Shape) (last number : ℕ) (old : World) (shape : Shape) (pairs : Pairs)
+    (order : List ℕ) (now : World) (image : Image) : Type 0 where
   pub count : ℕ
   pub fits : count ≤ length order
   pub has : acknowledged_count old shape pairs now ≤ count
-  pub holds : Holds wanted image shape (after_numbers shape (take count order) (script_of old.input) pairs)
+  pub holds : SoundUpTo wanted last number image shape
+      (after_numbers shape (take count order) (script_of old.input) pairs)
 
 -- whatever a crash at this moment leaves, as long as no sum is right by chance, keeps what was acknowledged
-abbrev pub CrashHoldsAcknowledged : Shape → World → Shape → Pairs → List ℕ → World → Type 0
-CrashHoldsAcknowledged wanted old shape pairs order now =
-    (image : Image) → LeavesAll now image → HasTrueFrames now image
-    → HoldsAfter wanted old shape pairs order now image
-
--- the same by the numbers of any order, without a bound on the log
-pub record HoldsSome (wanted : Shape) (old : World) (shape : Shape) (pairs : Pairs) (order : List ℕ)
-    (now : World) (image : Image) : Type 0 where
-  pub count : ℕ
-  pub has : All (Contains (take count order)) (acknowledged old shape pairs now)
-  pub holds : Holds wanted image shape
-      (orders.after_numbers shape (take count order) 1 (script_of old.input) pairs)
-
-abbrev pub CrashHoldsSome : Shape → World → Shape → Pairs → List ℕ → World → Type 0
-CrashHoldsSome wanted old shape pairs order now =
-    (image : Image) → LeavesAll now image → HasTrueFrames now image
-    → HoldsSome wanted old shape pairs order now image
+abbrev pub CrashHoldsAcknowledged : Shape → ℕ → ℕ → World → Shape → Pairs → List ℕ → World → Type 0
+CrashHoldsAcknowledged wanted last number old shape pairs order now =
+    (image : Image) → LeavesAll now image → IsTrueImage now image
+    → HoldsAfter wanted last number old shape pairs order now image

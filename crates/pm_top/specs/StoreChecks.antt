@@ -7,24 +7,23 @@ use Rattle.pm_disk.specs.Moments.{History, AllMoments}
 use Rattle.pm_disk.specs.States.{DeviceState, Rose}
 use Rattle.pm_disk.specs.Worlds.{World, with_said}
 use Rattle.pm_model.specs.Eval.{Pairs}
-use Rattle.pm_engine.specs.Crashes.{CrashHoldsPrefix}
+use Rattle.pm_marks.specs.InForce.{number_in}
+use Rattle.pm_core.specs.Held.{in_force}
+use Rattle.pm_core.specs.LogAlone.{image_of}
+use Rattle.pm_engine.specs.PagedReplays.{CrashHoldsMap}
 use Rattle.pm_tools.specs.declared.verifying.Counts.{Counts}
-use Rattle.pm_tools.specs.Lines.{page_text}
 use Rattle.pm_tools.specs.Verifying.{IsVerified, IsBadRecord, IsBadBasePage}
 use Rattle.pm_top.specs.declared.status.Status.{Status}
 use Rattle.pm_top.specs.declared.status.Status.TheVariants.{Done, Failed, Memory, Damaged}
 use Rattle.pm_top.specs.Configurations.{wanted_in}
-use Rattle.pm_top.specs.Promises.{IsStart, SaysPart, fault_record}
+use Rattle.pm_top.specs.Crashes.{opened_to}
+use Rattle.pm_top.specs.Promises.{IsStart, SaysPart, fault_page, fault_record}
 
 -- the line that says what a store has
 abbrev pub counts_line : Counts → List ℕ
 counts_line counts =
     codes "pages " ++ decimal counts.pages ++ codes " rows " ++ decimal counts.rows
     ++ codes " records " ++ decimal counts.records ++ codes "\n"
-
--- the line that names a page that is bad
-abbrev pub fault_page : PageId → List ℕ
-fault_page page = codes "fault page " ++ page_text page ++ codes "\n"
 
 -- the store is whole, and this line says what it has
 abbrev pub SaysCounts : World → List ℕ → Type 0
@@ -54,8 +53,9 @@ pub record VerifyHolds (old new : History) (status : Status) (lines : ℕ) (orde
   -- at each moment nothing has happened but that a prefix of its line was said
   pub moments : AllMoments old new (MaySayOfCheck old.world)
   -- at each moment a crash leaves a sound store with the map that there was, where a run may begin over it
-  pub crash : (shape : Shape) (pairs : Pairs) → IsStart (wanted_in old.world) old.world shape pairs
-      → AllMoments old new (CrashHoldsPrefix (wanted_in old.world) shape pairs [])
+  pub crash : (shape : Shape) (pairs : Pairs) (start : IsStart (wanted_in old.world) old.world shape pairs)
+      → AllMoments old new (CrashHoldsMap (opened_to start.sound) (number_in (in_force (image_of old.world)))
+      (wanted_in old.world) shape pairs)
   pub done : status ≡ Done → SaysLine (SaysCounts old.world) old.world new.world
   pub damaged : status ≡ Damaged → SaysLine (NamesBad old.world) old.world new.world
   pub statuses : (status ≡ Done) ⊎ (status ≡ Damaged) ⊎ (status ≡ Failed) ⊎ (status ≡ Memory)

@@ -31,7 +31,7 @@ pub enum Continuation {
 pub struct Batch {
     /// At most `BATCH_LINES_MAX` lines, which are done together.
     pub lines: Vec<Line>,
-    /// The line after these, where it is a batch by itself: one that scans a cache.
+    /// The line after these, where it is a batch by itself: one that scans a cache, or asks for a checkpoint.
     pub alone: Vec<Line>,
     /// What comes then.
     pub continuation: Continuation,
@@ -110,7 +110,7 @@ fn takes_more(count: usize, input: &Lines) -> bool
 
 // Whether the line is a batch by itself.
 fn is_alone(line: &Line) -> bool {
-    matches!(line, Line::Good(Cmd::Scan { .. }))
+    matches!(line, Line::Good(Cmd::Scan { .. } | Cmd::Checkpoint))
 }
 
 // A list of one line.

@@ -1,6 +1,6 @@
 //! The top call.
 
-ghost use Rattle.std.specs.Prelude.{◌≡◌, ◌+◌, ◌^◌, [], map, false, Some, string_bytes};
+ghost use Rattle.std.specs.Prelude.{◌≡◌, ℕ, [], map, true, false, Some, string_bytes};
 ghost use Rattle.pm_types.specs.declared.shape.Shape.{Shape};
 ghost use Rattle.pm_types.specs.Shapes.{IsShape};
 ghost use Rattle.pm_disk.specs.Moments.{AllMoments};
@@ -12,9 +12,9 @@ ghost use Rattle.pm_top.specs.Commands.{CommandCompletes, CommandHolds, CommandI
 ghost use Rattle.pm_top.specs.RunCauses.{HasRunCause, HasScriptCause};
 ghost use Rattle.pm_top.specs.Configurations.{AsksFor};
 ghost use Rattle.pm_top.specs.LogListings.{WalHolds};
-ghost use Rattle.pm_top.specs.Promises.{HoldsAtEachMoment, RunHolds, SameFiles};
+ghost use Rattle.pm_top.specs.Promises.{HoldsAtEachMoment, IsLeft, RunHolds, SameConfig};
 ghost use Rattle.pm_top.specs.ScriptOrder.{OutcomeIs};
-ghost use Rattle.pm_top.specs.Runs.{CanRun, KeepsFiles, SameConsole, LeavesStore};
+ghost use Rattle.pm_top.specs.Runs.{CanRun, SameConsole};
 ghost use Rattle.pm_top.specs.ScriptOrder.{CrashHoldsAcknowledged};
 ghost use Rattle.pm_top.specs.Statuses.{status_of, code_of};
 ghost use Rattle.pm_top.specs.StoreChecks.{VerifyHolds};
@@ -31,7 +31,7 @@ use crate::status::Status;
 use crate::words::{CommandName, command_of};
 use pm_config::Config;
 use pm_disk::Host;
-use pm_engine::Engine;
+use pm_engine::PagedEngine;
 use pm_tools::{verify, wal};
 use pm_types::{OpenFault, StoreFault};
 use std::alloc::Global;
@@ -42,10 +42,11 @@ use std::alloc::Global;
 /// empty and doesn't begin with `-`. The folder is bound, and made where it isn't there.
 ///
 /// `run` reads the folder's configuration: one that is refused, or that asks for another shape than
-/// the store has, is named by its field, and nothing is changed. Then the script on the host's input
-/// is answered, batch by batch, over the map that the folder's log holds. The records of a batch are
-/// in the log, and forced, before any of its replies is printed. A store whose log has a bad record
-/// is refused: the record is named, and nothing is changed.
+/// the store has, is named by its field, and nothing is changed. Then the store is opened: it is restored
+/// to what its checkpoint and its log hold, and the script on the host's input is answered over it, batch
+/// by batch. The records of a batch are in the log, and forced, before any of its replies is printed. A
+/// checkpoint is made where a line asks for it, and where one is due. A store with a bad record or a bad
+/// page is refused: the record or the page is named.
 ///
 /// `wal` prints a line for each record of the log, from the replay place of the checkpoint in force
 /// on, or from the log's begin, and then the place at which the log ends. The first record that is
@@ -69,8 +70,8 @@ pub fn top<Q: AllocGlobal, H: Host>(rt: &Q, words: &[String], host: &mut H) -> R
     ensures crash { H.tells → CommandIsSafe (command_in (map string_bytes words.now))
         (H.history host.old) (H.history host.new) result.order.items }
 
-    // At no moment is another file than the log changed.
-    ensures files { H.tells → AllMoments (H.history host.old) (H.history host.new) (SameFiles
+    // At no moment is the configuration changed.
+    ensures config { H.tells → AllMoments (H.history host.old) (H.history host.new) (SameConfig
         (H.history host.old).world) }
 
     // Which folder is bound.
@@ -121,7 +122,7 @@ fn command<H: Host>(alloc: Global, words: &[String], host: &mut H) -> Outcome
         (H.history host.old) (H.history host.new) result.status result.lines result.order.items }
     ensures crash { H.tells → CommandIsSafe (command_in (map string_bytes words.now))
         (H.history host.old) (H.history host.new) result.order.items }
-    ensures files { H.tells → AllMoments (H.history host.old) (H.history host.new) (SameFiles
+    ensures config { H.tells → AllMoments (H.history host.old) (H.history host.new) (SameConfig
         (H.history host.old).world) }
     ensures folder { BindsFolder (map string_bytes words.now) result.status
         (H.state host.old) (H.state host.new) }
@@ -144,7 +145,7 @@ fn do_command<H: Host>(alloc: Global, host: &mut H, name: CommandName) -> Outcom
         result.status result.lines result.order.items }
     ensures crash { H.tells → CommandIsSafe (Some name) (H.history host.old) (H.history host.new)
         result.order.items }
-    ensures files { H.tells → AllMoments (H.history host.old) (H.history host.new) (SameFiles
+    ensures config { H.tells → AllMoments (H.history host.old) (H.history host.new) (SameConfig
         (H.history host.old).world) }
     ensures cause { HasRunCause result.status (H.state host.old) (H.state host.new) }
 {
@@ -206,7 +207,7 @@ fn run_configured<H: Host>(alloc: Global, host: &mut H) -> Outcome
         RunHolds (H.history host.old) (H.history host.new) result.status result.lines result.order.items }
     ensures crash { H.tells →
         HoldsAtEachMoment (H.history host.old) (H.history host.new) result.order.items }
-    ensures files { H.tells → AllMoments (H.history host.old) (H.history host.new) (SameFiles
+    ensures config { H.tells → AllMoments (H.history host.old) (H.history host.new) (SameConfig
         (H.history host.old).world) }
     ensures cause { HasRunCause result.status (H.state host.old) (H.state host.new) }
 {
@@ -221,7 +222,7 @@ fn run_configured<H: Host>(alloc: Global, host: &mut H) -> Outcome
 }
 
 // Opens the store and answers the script of the input, or names the field that differs or the
-// record that is bad.
+// record or page that is bad.
 fn run<H: Host>(alloc: Global, host: &mut H, config: &Config) -> Outcome
     requires usable { IsUsable (H.state host.old) }
     requires within_limits { IsShape config.now.shape }
@@ -230,12 +231,12 @@ fn run<H: Host>(alloc: Global, host: &mut H, config: &Config) -> Outcome
         RunHolds (H.history host.old) (H.history host.new) result.status result.lines result.order.items }
     ensures crash { H.tells →
         HoldsAtEachMoment (H.history host.old) (H.history host.new) result.order.items }
-    ensures files { H.tells → AllMoments (H.history host.old) (H.history host.new) (SameFiles
+    ensures config { H.tells → AllMoments (H.history host.old) (H.history host.new) (SameConfig
         (H.history host.old).world) }
     ensures cause { HasRunCause result.status (H.state host.old) (H.state host.new) }
 {
-    match Engine::open_store(alloc, host, config) {
-        Ok(engine) => answer_script(alloc, host, engine),
+    match PagedEngine::open_store(alloc, host, config) {
+        Ok(engine) => answer_script(alloc, host, config, engine),
         Err(OpenFault::Shape(field)) => {
             Outcome::without(alloc, print_config_fault(alloc, host, field))
         }
@@ -244,33 +245,41 @@ fn run<H: Host>(alloc: Global, host: &mut H, config: &Config) -> Outcome
         Err(OpenFault::Store(StoreFault::BadRecord(at))) => {
             Outcome::without(alloc, print_record_fault(alloc, host, at))
         }
-        Err(OpenFault::Store(StoreFault::BadPage(_))) => unreachable!(),
+        Err(OpenFault::Store(StoreFault::BadPage(page))) => {
+            Outcome::without(alloc, print_page_fault(alloc, host, page))
+        }
     }
 }
 
 // Answers the script of the input over an open store, and says where it passes a limit.
-fn answer_script<H: Host>(alloc: Global, host: &mut H, engine: Engine) -> Outcome
+fn answer_script<H: Host>(
+    alloc: Global,
+    host: &mut H,
+    config: &Config,
+    engine: PagedEngine,
+) -> Outcome
     requires usable { IsUsable (H.state host.old) }
     requires order { engine.order ≡ [] }
+    requires is_open { engine.is_open ≡ true }
     requires end { H.tells → EndsThere engine.log (H.history host.old).world }
-    ensures files { H.tells → AllMoments (H.history host.old) (H.history host.new)
-        (KeepsFiles (engine.log.end.seg + 2 ^ 23) (H.history host.old).world) }
+    ensures config { H.tells → AllMoments (H.history host.old) (H.history host.new) (SameConfig
+        (H.history host.old).world) }
     ensures outcome { H.tells → (start : World) → SameConsole start (H.history host.old).world →
-        OutcomeIs result.status start (H.history host.new).world engine.shape engine.map
+        OutcomeIs result.status start (H.history host.new).world engine.map.shape engine.map.pairs
         result.lines result.order.items }
-    ensures moments { H.tells → (wanted : Shape) (start : World)
+    ensures moments { H.tells → (wanted : Shape) (last number : ℕ) (start : World)
         → SameConsole start (H.history host.old).world →
-        CanRun wanted engine (H.history host.old).world →
-        AllMoments (H.history host.old) (H.history host.new)
-        (CrashHoldsAcknowledged wanted start engine.shape engine.map result.order.items) }
-    ensures leaves { H.tells → result.status ≡ Status.Done → (wanted : Shape) (start : World) →
-        SameConsole start (H.history host.old).world →
-        CanRun wanted engine (H.history host.old).world →
-        LeavesStore wanted start (H.history host.old).world (H.history host.new).world engine }
+        CanRun wanted last number engine (H.history host.old).world →
+        AllMoments (H.history host.old) (H.history host.new) (CrashHoldsAcknowledged wanted last number
+        start engine.map.shape engine.map.pairs result.order.items) }
+    ensures leaves { H.tells → result.status ≡ Status.Done → (wanted : Shape) (last number : ℕ) (start : World)
+        → SameConsole start (H.history host.old).world →
+        CanRun wanted last number engine (H.history host.old).world →
+        IsLeft wanted last number start (H.history host.new).world engine.map.shape engine.map.pairs }
     ensures cause { HasScriptCause result.status (H.state host.old) (H.state host.new) }
 {
     let mut run = Run::new(alloc, engine);
-    let status = match run.serve(alloc, host) {
+    let status = match run.serve(alloc, host, config) {
         Ok(Stop::Done) => Status::Done,
         Ok(Stop::Limit) => print_limit_fault(host),
         Err(StoreFault::Failed) => Status::Failed,

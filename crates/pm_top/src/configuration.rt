@@ -7,7 +7,7 @@ ghost use Rattle.pm_disk.specs.States.{IsUsable};
 ghost use Rattle.pm_config.specs.declared.limits.TheConstants.{CONFIG_BYTES_MAX as most_bytes};
 ghost use Rattle.pm_config.specs.Limits.{IsConfig};
 ghost use Rattle.pm_engine.specs.Batches.{HasPlainFault};
-ghost use Rattle.pm_engine.specs.Openings.{IsSame};
+ghost use Rattle.pm_redo.specs.Rebuilding.{IsSame};
 ghost use Rattle.pm_top.specs.RunCauses.{HasConfigCause};
 ghost use Rattle.pm_top.specs.Configurations.{AsksFor, config_fault};
 

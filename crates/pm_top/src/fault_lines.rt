@@ -5,8 +5,7 @@ ghost use Rattle.pm_disk.specs.States.{IsLaterState, Rose};
 ghost use Rattle.pm_disk.specs.Moments.{AllMoments};
 ghost use Rattle.pm_disk.specs.Worlds.{with_said};
 ghost use Rattle.pm_top.specs.Configurations.{fault_config};
-ghost use Rattle.pm_top.specs.Promises.{SaysPart, fault_record};
-ghost use Rattle.pm_top.specs.StoreChecks.{fault_page};
+ghost use Rattle.pm_top.specs.Promises.{SaysPart, fault_page, fault_record};
 
 use crate::status::Status;
 use itoa::Buffer;

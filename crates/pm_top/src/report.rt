@@ -4,7 +4,7 @@
 #[derive(Debug, Drop)]
 pub struct Report {
     /// How the call ended, as the process tells it: 0 done, 1 usage, 2 configuration, 3 disk or console,
-    /// 4 memory, 5 a store with a bad record, 6 a script that is too long.
+    /// 4 memory, 5 a store with a bad record or page, 6 a script that is too long.
     pub status: u8,
     /// The number of lines whose reply was printed whole.
     pub lines: u64,

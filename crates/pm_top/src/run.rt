@@ -1,7 +1,7 @@
 //! A run over a script, a batch at a time.
 
 ghost use Rattle.pm_disk.specs.States.{HasCause, IsUsable};
-ghost use Rattle.std.specs.Prelude.{◌≡◌, ◌≤◌, ◌<◌, ◌+◌, ◌^◌, ℕ, List, [], ◌++◌, length, IfOk, OnOk};
+ghost use Rattle.std.specs.Prelude.{◌≡◌, ◌≤◌, ◌<◌, ◌+◌, ℕ, List, [], ◌++◌, length, true, IfOk, OnOk};
 ghost use Rattle.std.specs.Prelude.{OnErr, IsErrOf};
 ghost use Rattle.std.specs.List.{All};
 ghost use Rattle.pm_types.specs.declared.limits.TheConstants.{LINES_MAX as most_lines};
@@ -16,17 +16,19 @@ ghost use Rattle.pm_script.specs.Reading.{rest_of, KnowsEnd};
 ghost use Rattle.pm_script.specs.Texts.{texts_of};
 ghost use Rattle.pm_segments.specs.Ends.{EndsThere};
 ghost use Rattle.pm_engine.specs.Batches.{HasPlainFault};
-ghost use Rattle.pm_engine.specs.Engines.{IsAtRest, HasSegments, LastIsForced};
+ghost use Rattle.pm_top.specs.PagedRests.{PagedAtRest};
 ghost use Rattle.pm_top.specs.ScriptOrder.{CrashHoldsAcknowledged};
 ghost use Rattle.pm_top.specs.ScriptOrder.{HasFailed, HasNoMemory, StopIs};
-ghost use Rattle.pm_top.specs.Runs.{CanRun, KeepsFiles, Progress, SameConsole, OnlyAnswers, KeepsRun};
-ghost use Rattle.pm_top.specs.Runs.{CountsBatch, CountsLines, IsOpenAfter, LinesAreAnswered, FaultIs, IsAtRestSince};
-ghost use Rattle.pm_top.specs.Runs.{BatchIsAnswered, LeavesRun, HasBatchRoom};
+ghost use Rattle.pm_top.specs.Promises.{IsLeft, SameConfig};
+ghost use Rattle.pm_top.specs.Runs.{CanRun, Progress, SameConsole, OnlyAnswers, KeepsRun, StaysWithin};
+ghost use Rattle.pm_top.specs.Runs.{CountsBatch, CountsLines, IsOpenAfter, LinesAreAnswered, FaultIs};
+ghost use Rattle.pm_top.specs.Runs.{BatchIsAnswered, HasBatchRoom};
 ghost use Rattle.pm_top.specs.Served.{script_of};
 
 use crate::batch::{Continuation, next_batch};
+use pm_config::Config;
 use pm_disk::{Failed, Host};
-use pm_engine::Engine;
+use pm_engine::PagedEngine;
 use pm_model::{Line, Replies};
 use pm_script::{Lines, print_reply};
 use pm_types::{BATCH_LINES_MAX, StoreFault};
@@ -45,7 +47,7 @@ pub enum Stop {
 #[derive(Drop)]
 pub struct Run {
     /// The store.
-    pub engine: Engine,
+    pub engine: PagedEngine,
     /// The number of lines whose reply was printed.
     pub lines: u64,
     // The texts of the replies at hand: their memory serves all batches.
@@ -54,7 +56,7 @@ pub struct Run {
 
 impl Run {
     /// A run that has done nothing.
-    pub fn new(alloc: Global, engine: Engine) -> Run
+    pub fn new(alloc: Global, engine: PagedEngine) -> Run
         ensures engine { result.engine ≡ engine }
         ensures lines { result.lines ≡ 0 }
     {
@@ -67,43 +69,49 @@ impl Run {
 
     /// Answers the script of the input, batch after batch, up to its end or to a limit. At its end
     /// the log is forced.
-    pub fn serve<H: Host>(&mut self, alloc: Global, host: &mut H) -> Result<Stop, StoreFault>
+    pub fn serve<H: Host>(
+        &mut self,
+        alloc: Global,
+        host: &mut H,
+        config: &Config,
+    ) -> Result<Stop, StoreFault>
         requires usable { IsUsable (H.state host.old) }
         requires lines { self.old.lines ≡ 0 }
         requires order { self.old.engine.order ≡ [] }
+        requires is_open { self.old.engine.is_open ≡ true }
         requires end { H.tells → EndsThere self.old.engine.log (H.history host.old).world }
-        ensures files { H.tells → AllMoments (H.history host.old) (H.history host.new)
-            (KeepsFiles (self.old.engine.log.end.seg + 2 ^ 23) (H.history host.old).world) }
+        ensures config { H.tells → AllMoments (H.history host.old) (H.history host.new)
+            (SameConfig (H.history host.old).world) }
 
         // What was answered.
         ensures stop { H.tells → (start : World) → SameConsole start (H.history host.old).world →
             IfOk result (λ stop. StopIs stop start (H.history host.new).world
-            self.old.engine.shape self.old.engine.map self.new.lines self.new.engine.order) }
+            self.old.engine.map.shape self.old.engine.map.pairs self.new.lines self.new.engine.order) }
         ensures fault { H.tells → (start : World) → SameConsole start (H.history host.old).world →
-            FaultIs start (H.history host.new).world self.old.engine.shape self.old.engine.map
+            FaultIs start (H.history host.new).world self.old.engine.map.shape self.old.engine.map.pairs
             self.new result }
 
         // What a crash leaves, meanwhile and from then on.
-        ensures moments { H.tells → (wanted : Shape) (start : World)
+        ensures moments { H.tells → (wanted : Shape) (last number : ℕ) (start : World)
             → SameConsole start (H.history host.old).world →
-            CanRun wanted self.old.engine (H.history host.old).world →
-            AllMoments (H.history host.old) (H.history host.new) (CrashHoldsAcknowledged wanted start
-            self.old.engine.shape self.old.engine.map self.new.engine.order) }
-        ensures leaves { H.tells → (wanted : Shape) (start : World)
+            CanRun wanted last number self.old.engine (H.history host.old).world →
+            AllMoments (H.history host.old) (H.history host.new) (CrashHoldsAcknowledged wanted last number
+            start self.old.engine.map.shape self.old.engine.map.pairs self.new.engine.order) }
+        ensures leaves { H.tells → (wanted : Shape) (last number : ℕ) (start : World)
             → SameConsole start (H.history host.old).world →
-            CanRun wanted self.old.engine (H.history host.old).world →
-            IfOk result (λ stop. stop ≡ Stop.Done → LeavesRun wanted start (H.history host.old).world
-            self.old.engine.shape self.old.engine.map self.old self.new (H.history host.new).world) }
+            CanRun wanted last number self.old.engine (H.history host.old).world →
+            IfOk result (λ stop. stop ≡ Stop.Done → IsLeft wanted last number start
+            (H.history host.new).world self.old.engine.map.shape self.old.engine.map.pairs) }
         ensures cause { HasPlainFault (H.state host.old) (H.state host.new) result }
     {
         let mut input = Lines::new(alloc)?;
         // Its memory serves all batches, so that a batch that has begun takes none for its replies.
         let mut replies = Replies::with_room(alloc, BATCH_LINES_MAX)?;
         'batches: loop {
-            match self.answer_batch(alloc, host, &mut input, &mut replies)? {
+            match self.answer_batch(alloc, host, config, &mut input, &mut replies)? {
                 Continuation::More => {}
                 Continuation::End => {
-                    self.engine.close(host)?;
+                    self.engine.force(host)?;
                     return Ok(Stop::Done);
                 }
                 Continuation::Over => return Ok(Stop::Limit),
@@ -116,10 +124,12 @@ impl Run {
         &mut self,
         alloc: Global,
         host: &mut H,
+        config: &Config,
         input: &mut Lines,
         replies: &mut Replies,
     ) -> Result<Continuation, StoreFault>
         requires usable { IsUsable (H.state host.old) }
+        requires is_open { self.old.engine.is_open ≡ true }
         requires counted { self.old.lines ≡ input.old.lines }
         requires few { self.old.lines ≤ most_lines }
         requires room { HasBatchRoom replies.old }
@@ -128,8 +138,8 @@ impl Run {
         ensures keeps { KeepsRun self.old self.new }
         ensures counted { IfOk result
             (λ continuation. CountsBatch continuation input.new replies.new self.old self.new) }
-        ensures open { H.tells → IsOpenAfter (self.old.engine.log.end.seg + 2048)
-            (H.history host.old) (H.history host.new) self.new.engine.log input.new result }
+        ensures open { H.tells → IsOpenAfter (H.history host.old) (H.history host.new)
+            self.new.engine.log input.new result }
 
         // What was answered.
         ensures answered { H.tells → IfOk result (λ continuation. BatchIsAnswered continuation
@@ -142,18 +152,18 @@ impl Run {
             FaultIs start (H.history host.new).world shape pairs self.new result }
 
         // What a crash leaves.
-        ensures moments { H.tells → (wanted : Shape) (start : World) (shape : Shape) (pairs : Pairs) →
-            Progress start (H.history host.old).world
+        ensures moments { H.tells → (wanted : Shape) (last number : ℕ) (start : World) (shape : Shape)
+            (pairs : Pairs) → Progress start (H.history host.old).world
             (script_of (rest_of input.old (H.history host.old).world)) shape pairs self.old →
-            IsAtRest wanted self.old.engine (H.history host.old).world →
-            HasSegments self.old.engine 2048 →
+            PagedAtRest wanted self.old.engine (H.history host.old).world →
+            StaysWithin last number 2048 self.old.engine →
             AllMoments (H.history host.old) (H.history host.new)
-            (CrashHoldsAcknowledged wanted start shape pairs self.new.engine.order) }
+            (CrashHoldsAcknowledged wanted last number start shape pairs self.new.engine.order) }
         ensures cause { HasPlainFault (H.state host.old) (H.state host.new) result }
     {
         let batch = next_batch(alloc, host, input)?;
-        self.answer_lines(alloc, host, &batch.lines, replies)?;
-        self.answer_lines(alloc, host, &batch.alone, replies)?;
+        self.answer_lines(alloc, host, config, &batch.lines, replies)?;
+        self.answer_lines(alloc, host, config, &batch.alone, replies)?;
         Ok(batch.continuation)
     }
 
@@ -162,10 +172,12 @@ impl Run {
         &mut self,
         alloc: Global,
         host: &mut H,
+        config: &Config,
         lines: &[Line],
         replies: &mut Replies,
     ) -> Result<(), StoreFault>
         requires usable { IsUsable (H.state host.old) }
+        requires is_open { self.old.engine.is_open ≡ true }
         requires caches { All HasCache lines.now }
         requires few { length lines.now ≤ most_batch }
         requires room { HasBatchRoom replies.old }
@@ -175,7 +187,7 @@ impl Run {
         ensures counts { OnOk result (CountsLines self.old self.new replies.new (length lines.now)) }
         ensures end { H.tells → OnOk result (EndsThere self.new.engine.log (H.history host.new).world) }
         ensures only_answers { H.tells → AllMoments (H.history host.old) (H.history host.new)
-            (OnlyAnswers (self.old.engine.log.end.seg + length lines.now) (H.history host.old).world) }
+            (OnlyAnswers (H.history host.old).world) }
 
         // What was answered.
         ensures answered { H.tells → (start : World) (left : List Line) (shape : Shape) (pairs : Pairs) →
@@ -183,18 +195,17 @@ impl Run {
             LinesAreAnswered start (H.history host.new).world left shape pairs self.new result }
 
         // What a crash leaves.
-        ensures stands { H.tells → (wanted : Shape)
-            → IsAtRest wanted self.old.engine (H.history host.old).world →
-            HasSegments self.old.engine (length lines.now) → OnOk result
-            (IsAtRestSince wanted self.old self.new lines.now (H.history host.old).world
-            (H.history host.new).world) }
-        ensures moments { H.tells
-            → (wanted : Shape) (start : World) (left : List Line) (shape : Shape) (pairs : Pairs) →
+        ensures stands { H.tells → (wanted : Shape) (last number : ℕ)
+            → PagedAtRest wanted self.old.engine (H.history host.old).world →
+            StaysWithin last number (length lines.now) self.old.engine →
+            OnOk result (PagedAtRest wanted self.new.engine (H.history host.new).world) }
+        ensures moments { H.tells → (wanted : Shape) (last number : ℕ) (start : World) (left : List Line)
+            (shape : Shape) (pairs : Pairs) →
             Progress start (H.history host.old).world (lines.now ++ left) shape pairs self.old →
-            IsAtRest wanted self.old.engine (H.history host.old).world →
-            HasSegments self.old.engine (length lines.now) →
+            PagedAtRest wanted self.old.engine (H.history host.old).world →
+            StaysWithin last number (length lines.now) self.old.engine →
             AllMoments (H.history host.old) (H.history host.new)
-            (CrashHoldsAcknowledged wanted start shape pairs self.new.engine.order) }
+            (CrashHoldsAcknowledged wanted last number start shape pairs self.new.engine.order) }
         ensures cause { HasPlainFault (H.state host.old) (H.state host.new) result }
     {
         if lines.is_empty() {
@@ -202,17 +213,17 @@ impl Run {
         }
         replies.clear(alloc)?;
         self.engine
-            .batch(alloc, host, lines, self.lines as u32 + 1, replies)?;
+            .batch(alloc, host, config, lines, self.lines as u32 + 1, replies)?;
         write_replies(replies, &mut self.text)?;
-        print_replies(&self.engine, host, &self.text)?;
+        print_replies(host, &self.text)?;
         self.lines += lines.len() as u64;
         Ok(())
     }
 }
 
-// Prints the texts of replies, once the segment in which the engine's log ends is forced.
-fn print_replies<H: Host>(engine: &Engine, host: &mut H, text: &[u8]) -> Result<(), Failed>
-    requires forced { H.tells → LastIsForced engine.now.log (H.history host.old).world }
+// Prints the texts of replies.
+fn print_replies<H: Host>(host: &mut H, text: &[u8]) -> Result<(), Failed>
+    requires usable { IsUsable (H.state host.old) }
     ensures says { H.tells →
         Says (H.history host.old) (H.history host.new) result text.now }
     ensures cause { HasCause (H.state host.old) (H.state host.new) result }

@@ -1,15 +1,14 @@
-//! The lines of a script, as they are served.
+//! The lines of a script.
 
 ghost use Rattle.pm_disk.specs.States.{IsUsable};
-ghost use Rattle.std.specs.Prelude.{◌≡◌, IfOk, OnOk};
+ghost use Rattle.std.specs.Prelude.{IfOk, OnOk};
 ghost use Rattle.pm_disk.specs.Moments.{AllMoments};
 ghost use Rattle.pm_script.specs.Reading.{rest_of, KnowsEnd, OnlyTakes};
 ghost use Rattle.pm_engine.specs.Batches.{HasPlainFault};
-ghost use Rattle.pm_top.specs.Served.{served};
 ghost use Rattle.pm_top.specs.Scripts.{GivesNextLine, CountsNextLine, NextLineHasCache};
 
 use pm_disk::Host;
-use pm_model::{Cmd, Line};
+use pm_model::Line;
 use pm_script::{Item, Lines, read_line};
 use pm_types::StoreFault;
 use std::alloc::Global;
@@ -44,19 +43,9 @@ pub fn next_line<H: Host>(
     ensures cause { HasPlainFault (H.state host.old) (H.state host.new) result }
 {
     match input.next(host)? {
-        Item::Text(bytes) => Ok(NextLine::Line(served(read_line(alloc, bytes)?))),
+        Item::Text(bytes) => Ok(NextLine::Line(read_line(alloc, bytes)?)),
         Item::Long => Ok(NextLine::Line(Line::Long)),
         Item::End => Ok(NextLine::End),
         Item::Over => Ok(NextLine::Over),
-    }
-}
-
-// The line as it is served: there are no checkpoints yet, so one that asks for one is bad.
-fn served(line: Line) -> Line
-    ensures { result ≡ served line }
-{
-    match line {
-        Line::Good(Cmd::Checkpoint) => Line::Bad,
-        other => other,
     }
 }

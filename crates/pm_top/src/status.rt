@@ -16,7 +16,7 @@ pub enum Status {
     Failed,
     /// Memory ran out.
     Memory,
-    /// A record of the store's log is bad.
+    /// A record of the store's log, or a page, is bad.
     Damaged,
     /// The script passes a limit.
     Long,

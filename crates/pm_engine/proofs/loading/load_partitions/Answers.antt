@@ -7,7 +7,7 @@ use Rattle.pm_disk.specs.Worlds.{World}
 use Rattle.pm_pages.specs.Plain.{plain_seen}
 use Rattle.pm_redo.specs.Loading.{BaseIs, AreCounted}
 use Rattle.pm_engine.specs.PagedMaps.{IsPlainPartition}
-use Rattle.pm_engine.specs.Openings.{IsSame}
+use Rattle.pm_redo.specs.Rebuilding.{IsSame}
 use Rattle.pm_engine.proofs.LoadedPages.{HoldFirst, more_loaded, more_hold}
 use Rattle.pm_engine.proofs.loading.load_partitions.Goals as goal
 

@@ -6,7 +6,7 @@ use Rattle.pm_pages.specs.declared.plain.PlainPages.{PlainPages}
 use Rattle.pm_core.specs.BasePages.{Partitions}
 use Rattle.pm_redo.specs.Loading.{BaseIs}
 use Rattle.pm_engine.specs.PagedMaps.{IsPlainPartition}
-use Rattle.pm_engine.specs.Openings.{IsSame}
+use Rattle.pm_redo.specs.Rebuilding.{IsSame}
 use Rattle.pm_engine.proofs.LoadedPages.{HoldFirst}
 use Rattle.pm_engine.proofs.loading.load_partitions.Given as goal
 

@@ -3,7 +3,7 @@ use Rattle.std.proofs.lemmas.List.{length-take, take_all}
 use Rattle.pm_types.specs.declared.fault.StoreFault.{StoreFault}
 use Rattle.pm_engine.specs.Batches.{HasReplied}
 use Rattle.pm_engine.specs.PagedBatches.{StaysOpen, RunsBatch, MakesAsked}
-use Rattle.pm_engine.proofs.Batching.{take_none, take_one_more}
+use Rattle.pm_engine.proofs.TakenLines.{take_none, take_one_more}
 use Rattle.pm_engine.proofs.PagedBatching.{batch_none, batch_more, batch_part, batch_wider, replied_then, replied_part, all_replied, room_for_one}
 use Rattle.pm_engine.proofs.PagedBatchCalls.{passed_on}
 use Rattle.pm_engine.proofs.PagedNumbers.{asked_nothing, asked_more, asked_wider, numbers_none, numbers_more}

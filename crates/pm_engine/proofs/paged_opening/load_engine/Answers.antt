@@ -7,7 +7,7 @@ use Rattle.pm_pages.specs.declared.plain.PlainPages.{PlainPages}
 use Rattle.pm_records.specs.FirstRecords.{restart_frame}
 use Rattle.pm_segments.specs.Ends.{LogEnd, EndsThere}
 use Rattle.pm_engine.specs.AppendRuns.{append_all_steps}
-use Rattle.pm_engine.specs.Openings.{IsSame}
+use Rattle.pm_redo.specs.Rebuilding.{IsSame}
 use Rattle.pm_engine.specs.PagedMaps.{pages_of_lists}
 use Rattle.pm_engine.specs.PagedOpenings.{IsLoadedEngine, HasPages, loaded_base}
 use Rattle.pm_engine.proofs.LoadedPages.{counted_is}

@@ -2,7 +2,7 @@ use Rattle.std.proofs.Common.{false, Ok, refl, sym, subst}
 use Rattle.pm_disk.specs.Worlds.{World}
 use Rattle.pm_disk.proofs.Chain.{started, does}
 use Rattle.pm_segments.specs.Ends.{EndsThere}
-use Rattle.pm_engine.specs.Openings.{IsSame}
+use Rattle.pm_redo.specs.Rebuilding.{IsSame}
 use Rattle.pm_engine.proofs.PagedReplays.{goes_on_still}
 use Rattle.pm_engine.proofs.ReplayedLog.{goes_on_read, goes_on_unread}
 use Rattle.pm_engine.proofs.replay_log.apply_next.Goals as goal

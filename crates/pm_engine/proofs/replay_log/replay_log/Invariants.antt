@@ -8,8 +8,8 @@ use Rattle.pm_segments.specs.Ends.{EndsThere}
 use Rattle.pm_segments.specs.Scans.{IsAhead}
 use Rattle.pm_core.specs.Calls.{ChangesDisk}
 use Rattle.pm_core.specs.States.{State}
-use Rattle.pm_engine.specs.PagedEngines.{number_of}
-use Rattle.pm_engine.specs.PagedReplays.{CrashHoldsMap, KeepsReplaying, HasRecordsFor, IsReplaying, CanReplay}
+use Rattle.pm_engine.specs.PagedBatches.{HasFrames}
+use Rattle.pm_engine.specs.PagedReplays.{CrashHoldsMap, KeepsReplaying, CanReplay}
 use Rattle.pm_engine.proofs.ReplayedLog.{ReadsSoFar}
 use Rattle.pm_engine.proofs.replay_log.replay_log.Given as goal
 
@@ -21,17 +21,17 @@ invariant-frames g l =
     record {
       state : IsLaterState (state l.fn.host) (state l.host);
       bound : l.scan.next.off ≤ SEGMENT_END_MAX;
+      from_one : 1 ≤ l.scan.next.seg;
       keeps : KeepsReplaying l.fn.engine l.engine;
       is_open : l.engine.is_open ≡ true;
+      frames : HasFrames l.fn.config l.fn.engine → HasFrames l.fn.config l.engine;
       there : g.H.Device.tells → EndsThere l.engine.log now.world;
       disk : g.H.Device.tells → AllMoments old now (ChangesDisk old.world);
-      pages : g.H.Device.tells → now.world.pages ≡ old.world.pages;
       ahead : g.H.Device.tells → IsAhead l.scan now.world;
       reads : g.H.Device.tells → ReadsSoFar l.fn.from l.fn.engine.map.pairs l.scan l.engine.map.shape l.engine.map.pairs;
-      makes : g.H.Device.tells → (last : ℕ) (pairs : Pairs) → HasRecordsFor last pairs l.fn.from l.fn.end l.fn.engine old.world
-          → HasRecordsFor last pairs l.scan.next l.fn.end l.engine now.world × (l.scan.is_over ≡ false);
-      sound : g.H.Device.tells → (last : ℕ) (wanted : Shape) (told : List ℕ → ℕ) (pairs : Pairs) (s : State) → CanReplay last wanted told pairs l.fn.from l.fn.end l.fn.engine s old.world
-          → (state : State) × IsReplaying wanted told pairs l.engine state now.world × AllMoments old now (CrashHoldsMap (last + 1) (number_of l.fn.engine.mark) wanted l.fn.engine.map.shape pairs);
+      sound : g.H.Device.tells → (last highest : ℕ) (wanted : Shape) (told : List ℕ → ℕ) (pairs : Pairs) (s : State) → CanReplay last highest wanted told pairs l.fn.from l.fn.end l.fn.engine s old.world
+          → (state : State) × CanReplay last highest wanted told pairs l.scan.next l.fn.end l.engine state now.world × (l.scan.is_over ≡ false)
+          × AllMoments old now (CrashHoldsMap (last + 1) highest wanted l.fn.engine.map.shape pairs);
     }
 
 -- the place rises, and there is a last segment

@@ -6,7 +6,8 @@ use Rattle.pm_marks.specs.InForce.{Checkpoint, NoStart, Ended}
 use Rattle.pm_core.specs.Held.{in_force}
 use Rattle.pm_core.specs.LogAlone.{image_of}
 use Rattle.pm_redo.specs.Rebuilding.{IsSame}
-use Rattle.pm_redo.specs.Restoring.{IsLeft, IsBadLog, Restores}
+use Rattle.pm_redo.specs.Restoring.{IsLeft, IsBadLog, KeepsBase, Restores, RestoresFiles}
+use Rattle.pm_redo.proofs.KeptBase.{cut_pages, ended_kept, none_kept}
 use Rattle.pm_redo.proofs.Restored.{is_ended, no_start}
 use Rattle.pm_redo.proofs.RestoringSteps.{begins_cut, cut_world, cut_restores}
 use Rattle.pm_redo.proofs.StartMarks.{is_started}
@@ -33,6 +34,36 @@ returns-then-marks-clause-restored g c t wanted told s left =
     on_ok_weaker c.cut_log.result
     (λ is. subst (λ (checkpoint : Checkpoint). Restores told checkpoint s old new) (sym ended) (cut_restores wanted told (Ended mark) s old there old new c.cut_log.result refl first steps refl there.rebuilt is))
     (cut_world wanted told (Ended mark) s old there old new c.cut_log.result refl first steps)
+
+pub returns-then-marks-clause-files : goal.returns-then-marks-clause-files
+returns-then-marks-clause-files g c t =
+    let old = g.H.Device.history c.args.host.now in
+    let new = g.H.Device.history c.cut_log.new.host in
+    let mark = c.in-Some.mark in
+    let ended = is_ended (in_force (image_of old.world)) c.args.marks.now mark (c.requires.marks t) c.in-Some.is c.if-marks.true in
+    record {
+      disk = c.cut_log.ensures.disk t;
+      base = on_ok_weaker c.cut_log.result (λ same. subst (λ (checkpoint : Checkpoint). KeepsBase checkpoint old.world new.world) (sym ended) (ended_kept mark old.world new.world same))
+          (cut_pages c.cut_log.result old new _ _ (c.cut_log.ensures.log t) (c.cut_log.ensures.steps t));
+    }
+
+pub returns-else-marks-clause-files : goal.returns-else-marks-clause-files
+returns-else-marks-clause-files g c t =
+    let old = g.H.Device.history c.args.host.now in
+    let new = g.H.Device.history c.restore_started.new.host in
+    let begun = is_started (in_force (image_of old.world)) c.args.marks.now c.in-Some.mark (c.requires.marks t) c.in-Some.is c.if-marks.false in
+    subst (λ (checkpoint : Checkpoint). RestoresFiles checkpoint old new c.restore_started.result) (sym begun) (c.restore_started.ensures.files t)
+
+pub returns-in-None-clause-files : goal.returns-in-None-clause-files
+returns-in-None-clause-files g c t =
+    let old = g.H.Device.history c.args.host.now in
+    let new = g.H.Device.history c.cut_log-in-None.new.host in
+    let none = no_start (in_force (image_of old.world)) c.args.marks.now (c.requires.marks t) c.in-None.is in
+    record {
+      disk = c.cut_log-in-None.ensures.disk t;
+      base = on_ok_weaker c.cut_log-in-None.result (λ same. subst (λ (checkpoint : Checkpoint). KeepsBase checkpoint old.world new.world) (sym none) (none_kept old.world new.world same))
+          (cut_pages c.cut_log-in-None.result old new _ _ (c.cut_log-in-None.ensures.log t) (c.cut_log-in-None.ensures.steps t));
+    }
 
 pub returns-else-marks-clause-bad : goal.returns-else-marks-clause-bad
 returns-else-marks-clause-bad g c t at is =

@@ -1,15 +1,19 @@
-use Rattle.std.proofs.Common.{ℕ, length, rules, inl, inr, refl, sym, ◌∙◌, ap, subst}
+use Rattle.std.proofs.Common.{rules, inl, inr, refl, sym, ◌∙◌, ap, subst}
 use Rattle.std.specs.Prelude.{IsErrOf}
 use Rattle.pm_types.specs.declared.fault.StoreFault.TheVariants.{BadRecord}
 use Rattle.pm_disk.specs.Files.{File, bytes_of, content}
+use Rattle.pm_disk.specs.Moments.{AllMoments}
 use Rattle.pm_disk.specs.Worlds.{World}
 use Rattle.pm_disk.proofs.Chain.{at_last}
 use Rattle.pm_records.specs.LogFiles.{contents}
 use Rattle.pm_marks.specs.InForce.{Started}
+use Rattle.pm_core.specs.Calls.{ChangesDisk}
 use Rattle.pm_core.proofs.OnlyDisk.{same_disk, then_disk}
 use Rattle.pm_redo.specs.LogEnds.{LogEndsAt}
 use Rattle.pm_redo.specs.Rebuilding.{IsSame}
-use Rattle.pm_redo.specs.Restoring.{CutsLog, IsPastEnd}
+use Rattle.pm_redo.specs.Restoring.{CutsLog, HasSegments, IsPastEnd}
+use Rattle.pm_redo.proofs.LowestKept.{segments_stay}
+use Rattle.pm_redo.proofs.KeptBase.{failed_files, started_kept}
 use Rattle.pm_redo.proofs.RestoringSteps.{begins_none, begins_cut, begins_then, restores_then, cut_world, cut_state, may_end}
 use Rattle.pm_redo.proofs.cutting.restore_started.Goals as goal
 
@@ -58,8 +62,7 @@ returns-clause-log g c t =
     let read = g.H.Device.history c.rebuild.new.host in
     let mark = c.args.mark.now in
     let same = at_last old read (IsSame old.world) (g.H.Device.sound c.rebuild.new.host t) (c.rebuild.ensures.same t) in
-    let cut = subst (λ (w : World). CutsLog (contents w.log) mark.replay c.first_kept.result mark.shape.segment_bytes c.in_ok-log.log) same (c.in_ok-log.ensures.log t) in
-    subst (λ n. CutsLog (contents old.world.log) mark.replay n mark.shape.segment_bytes c.in_ok-log.log) c.first_kept.ensures cut
+    subst (λ (w : World). CutsLog (contents w.log) mark.replay mark.shape.segment_bytes c.in_ok-log.log) same (c.in_ok-log.ensures.log t)
 
 pub returns-clause-begun : goal.returns-clause-begun
 returns-clause-begun g c t wanted told s left =
@@ -94,7 +97,9 @@ pub returns-clause-there : goal.returns-clause-there
 returns-clause-there g c t =
     let there = c.in_ok-log.ensures.there t in
     let same = c.in_ok-end_checkpoint.ensures.log t in
-    record { kept = there.kept; ends = ap (λ (files : ℕ → File). length (bytes_of (content (files c.in_ok-log.log.end.seg)))) same ∙ there.ends }
+    let cut = (g.H.Device.history c.cut_log.new.host).world in
+    let new = (g.H.Device.history c.end_checkpoint.new.host).world in
+    subst (λ n. HasSegments n new c.in_ok-log.log) c.first_kept.ensures (segments_stay cut new c.first_kept.result c.in_ok-log.log same there)
 
 pub returns-in_err-rebuilt-clause-bad : goal.returns-in_err-rebuilt-clause-bad
 returns-in_err-rebuilt-clause-bad g c t at is =
@@ -103,30 +108,45 @@ returns-in_err-rebuilt-clause-bad g c t at is =
     let its : IsErrOf c.rebuild.result (BadRecord at) = search rules in
     (inl (c.rebuild.ensures.bad t at its), at_last old read (IsSame old.world) (g.H.Device.sound c.rebuild.new.host t) (c.rebuild.ensures.same t))
 
-pub returns-in_err-rebuilt-clause-disk : goal.returns-in_err-rebuilt-clause-disk
-returns-in_err-rebuilt-clause-disk g c t = same_disk (g.H.Device.history c.args.host.now) (g.H.Device.history c.rebuild.new.host) (c.rebuild.ensures.same t)
+pub returns-in_err-rebuilt-clause-files : goal.returns-in_err-rebuilt-clause-files
+returns-in_err-rebuilt-clause-files g c t =
+    failed_files (Started c.args.mark.now) (g.H.Device.history c.args.host.now) (g.H.Device.history c.rebuild.new.host) c.from_residual.result c.from_residual.ensures.0
+    (same_disk (g.H.Device.history c.args.host.now) (g.H.Device.history c.rebuild.new.host) (c.rebuild.ensures.same t))
 
-pub returns-in_err-pages-clause-disk : goal.returns-in_err-pages-clause-disk
-returns-in_err-pages-clause-disk g c t = same_disk (g.H.Device.history c.args.host.now) (g.H.Device.history c.rebuild.new.host) (c.rebuild.ensures.same t)
+pub returns-in_err-pages-clause-files : goal.returns-in_err-pages-clause-files
+returns-in_err-pages-clause-files g c t =
+    failed_files (Started c.args.mark.now) (g.H.Device.history c.args.host.now) (g.H.Device.history c.rebuild.new.host) c.from_residual-in_err-pages.result c.from_residual-in_err-pages.ensures.0
+    (same_disk (g.H.Device.history c.args.host.now) (g.H.Device.history c.rebuild.new.host) (c.rebuild.ensures.same t))
 
-pub returns-in_err-log-clause-disk : goal.returns-in_err-log-clause-disk
-returns-in_err-log-clause-disk g c t =
+pub returns-in_err-log-clause-files : goal.returns-in_err-log-clause-files
+returns-in_err-log-clause-files g c t =
+    let disk : AllMoments (g.H.Device.history c.args.host.now) (g.H.Device.history c.cut_log.new.host) (ChangesDisk (g.H.Device.history c.args.host.now).world) =
     let old = g.H.Device.history c.args.host.now in
     let read = g.H.Device.history c.rebuild.new.host in
-    then_disk old read (g.H.Device.history c.cut_log.new.host) (g.H.Device.sound c.rebuild.new.host t) (same_disk old read (c.rebuild.ensures.same t)) (c.cut_log.ensures.disk t)
+    then_disk old read (g.H.Device.history c.cut_log.new.host) (g.H.Device.sound c.rebuild.new.host t) (same_disk old read (c.rebuild.ensures.same t)) (c.cut_log.ensures.disk t) in
+    failed_files (Started c.args.mark.now) (g.H.Device.history c.args.host.now) (g.H.Device.history c.cut_log.new.host) c.from_residual-in_err-log.result c.from_residual-in_err-log.ensures.0 disk
 
-pub returns-in_err-end_checkpoint-clause-disk : goal.returns-in_err-end_checkpoint-clause-disk
-returns-in_err-end_checkpoint-clause-disk g c t =
+pub returns-in_err-end_checkpoint-clause-files : goal.returns-in_err-end_checkpoint-clause-files
+returns-in_err-end_checkpoint-clause-files g c t =
+    let disk : AllMoments (g.H.Device.history c.args.host.now) (g.H.Device.history c.end_checkpoint.new.host) (ChangesDisk (g.H.Device.history c.args.host.now).world) =
     let old = g.H.Device.history c.args.host.now in
     let read = g.H.Device.history c.rebuild.new.host in
     let cut = g.H.Device.history c.cut_log.new.host in
     then_disk old cut (g.H.Device.history c.end_checkpoint.new.host) (g.H.Device.sound c.cut_log.new.host t)
-    (then_disk old read cut (g.H.Device.sound c.rebuild.new.host t) (same_disk old read (c.rebuild.ensures.same t)) (c.cut_log.ensures.disk t)) (c.end_checkpoint.ensures.disk t)
+    (then_disk old read cut (g.H.Device.sound c.rebuild.new.host t) (same_disk old read (c.rebuild.ensures.same t)) (c.cut_log.ensures.disk t)) (c.end_checkpoint.ensures.disk t) in
+    failed_files (Started c.args.mark.now) (g.H.Device.history c.args.host.now) (g.H.Device.history c.end_checkpoint.new.host) c.from_residual-in_err-end_checkpoint.result c.from_residual-in_err-end_checkpoint.ensures.0 disk
 
-pub returns-clause-disk : goal.returns-clause-disk
-returns-clause-disk g c t =
+pub returns-clause-files : goal.returns-clause-files
+returns-clause-files g c t =
     let old = g.H.Device.history c.args.host.now in
     let read = g.H.Device.history c.rebuild.new.host in
     let cut = g.H.Device.history c.cut_log.new.host in
-    then_disk old cut (g.H.Device.history c.end_checkpoint.new.host) (g.H.Device.sound c.cut_log.new.host t)
-    (then_disk old read cut (g.H.Device.sound c.rebuild.new.host t) (same_disk old read (c.rebuild.ensures.same t)) (c.cut_log.ensures.disk t)) (c.end_checkpoint.ensures.disk t)
+    let new = g.H.Device.history c.end_checkpoint.new.host in
+    let same = at_last old read (IsSame old.world) (g.H.Device.sound c.rebuild.new.host t) (c.rebuild.ensures.same t) in
+    let pages = ap (λ (w : World). w.pages) (c.in_ok-log.ensures.steps t c.in_ok-log.log.end (c.in_ok-log.ensures.log t).ends).all in
+    record {
+      disk = then_disk old cut (g.H.Device.history c.end_checkpoint.new.host) (g.H.Device.sound c.cut_log.new.host t)
+          (then_disk old read cut (g.H.Device.sound c.rebuild.new.host t) (same_disk old read (c.rebuild.ensures.same t)) (c.cut_log.ensures.disk t)) (c.end_checkpoint.ensures.disk t);
+      base = started_kept c.args.mark.now c.in_ok-rebuilt.rebuilt old.world cut.world new.world c.in_ok-rebuilt.ensures.shape (c.in_ok-rebuilt.ensures.rebuilds t)
+          (pages ∙ ap (λ (w : World). w.pages) same) (c.in_ok-end_checkpoint.ensures.pages t c.in_ok-pages.ensures);
+    }

@@ -1,6 +1,7 @@
 use Rattle.std.proofs.Common.{List, [], drop, ◌+◌, subst, refl, sym, ◌∙◌, ap, arith}
 use Rattle.std.proofs.lemmas.List.{drop_all}
 use Rattle.pm_types.specs.declared.page_id.PageId.{PageId}
+use Rattle.pm_core.specs.Prefixes.{last_number}
 use Rattle.pm_core.specs.Starts.{appended}
 use Rattle.pm_core.proofs.OnlyDisk.{none_disk, then_disk}
 use Rattle.pm_core.proofs.Sets.{drop_next}
@@ -53,7 +54,7 @@ returns-in_err-write_one-clause-begun g c t told mark s unended =
 pub returns-clause-begun : goal.returns-clause-begun
 returns-clause-begun g c t told mark s unended =
     let all = c.each.invariant.written t told mark s unended in
-    record { steps = all.steps; can = all.can; moments = all.moments; added = ap appended all.still }
+    record { steps = all.steps; can = all.can; moments = all.moments; added = ap appended all.still; number = ap last_number all.still }
 
 pub returns-clause-written : goal.returns-clause-written
 returns-clause-written g c t told mark s unended =

@@ -1,4 +1,4 @@
-use Rattle.std.proofs.Common.{rules, ◌≡◌, inr, refl, sym, ◌∙◌, subst}
+use Rattle.std.proofs.Common.{rules, ◌≡◌, inr, refl, sym, ◌∙◌, ap, subst}
 use Rattle.std.specs.Prelude.{IsErrOf}
 use Rattle.std.proofs.lemmas.Result.{err_from_is_err_and}
 use Rattle.pm_types.specs.declared.fault.StoreFault.TheVariants.{BadRecord, BadPage}
@@ -10,12 +10,13 @@ use Rattle.pm_core.specs.Held.{in_force}
 use Rattle.pm_core.specs.LogAlone.{image_of}
 use Rattle.pm_core.proofs.OnlyDisk.{same_disk, then_disk}
 use Rattle.pm_redo.specs.declared.opening.Base.{Base}
+use Rattle.pm_redo.specs.Differences.{difference_from}
 use Rattle.pm_redo.specs.LogEnds.{LogEndsAt}
 use Rattle.pm_redo.specs.Rebuilding.{IsSame}
-use Rattle.pm_redo.specs.Restoring.{IsLeft, IsBadLog, CutsLog, IsBase, IsFit, Restores, first_of, segment_bytes_of, left_state}
+use Rattle.pm_redo.specs.Restoring.{IsLeft, IsBadLog, CutsLog, HasSegments, IsBase, IsFit, Restores, first_of, segment_bytes_of, left_state, KeepsBase}
 use Rattle.pm_redo.proofs.Restored.{left_of, restores_within, restores_all, begins_after, restores_after, start_marks, replay_marks, leaves_store, fault_is}
 use Rattle.pm_redo.proofs.FitMarks.{fit_mark}
-use Rattle.pm_redo.proofs.RestoringSteps.{begins_none}
+use Rattle.pm_redo.proofs.RestoringSteps.{begins_none, on_err}
 use Rattle.pm_redo.proofs.opening.restore.Goals as goal
 
 pub returns-in_err-found-clause-within : goal.returns-in_err-found-clause-within
@@ -58,15 +59,22 @@ returns-in_err-found-clause-only g c t =
     let fault = c.in_err-found.field-0.0 in
     record {
       disk = same_disk old read (c.find.ensures.same t);
+      base = on_err c.from_residual.result (KeepsBase (in_force (image_of old.world)) old.world read.world) c.from_residual.ensures.0;
       untouched = leaves_store old.world read.world c.from_residual.result fault out.0 out.1 out.2 (λ at is. same)
           (λ page is. c.find.ensures.cause.no_page page (fault_is c.find.result fault (BadPage page) c.in_err-found.was is));
+      differing = λ field is. c.find.ensures.same t;
     }
 
 pub returns-in-Some-clause-only : goal.returns-in-Some-clause-only
 returns-in-Some-clause-only g c t =
     let old = g.H.Device.history c.args.host.now in
     let read = g.H.Device.history c.find.new.host in
-    record { disk = same_disk old read (c.find.ensures.same t); untouched = at_last old read (IsSame old.world) (g.H.Device.sound c.find.new.host t) (c.find.ensures.same t) }
+    record {
+      disk = same_disk old read (c.find.ensures.same t);
+      base = tt;
+      untouched = at_last old read (IsSame old.world) (g.H.Device.sound c.find.new.host t) (c.find.ensures.same t);
+      differing = λ field is. c.find.ensures.same t;
+    }
 
 pub returns-in_err-log-clause-only : goal.returns-in_err-log-clause-only
 returns-in_err-log-clause-only g c t =
@@ -77,10 +85,12 @@ returns-in_err-log-clause-only g c t =
     let out = err_from_is_err_and c.from_residual-in_err-log.result c.from_residual-in_err-log.ensures.1 in
     let fault = c.in_err-log.field-0.0 in
     record {
-      disk = then_disk old read new (g.H.Device.sound c.find.new.host t) (same_disk old read (c.find.ensures.same t)) (c.restore_log.ensures.disk t);
+      disk = then_disk old read new (g.H.Device.sound c.find.new.host t) (same_disk old read (c.find.ensures.same t)) (c.restore_log.ensures.files t).disk;
+      base = on_err c.from_residual-in_err-log.result (KeepsBase (in_force (image_of old.world)) old.world new.world) c.from_residual-in_err-log.ensures.0;
       untouched = leaves_store old.world new.world c.from_residual-in_err-log.result fault out.0 out.1 out.2
           (λ at is. (c.restore_log.ensures.bad t at (fault_is c.restore_log.result fault (BadRecord at) c.in_err-log.was is)).1 ∙ same)
           (λ page is. c.restore_log.ensures.cause.no_page page (fault_is c.restore_log.result fault (BadPage page) c.in_err-log.was is));
+      differing = λ field is. absurd (c.in_default.not-Some field (c.difference_from.ensures ∙ ap (λ f. difference_from f c.args.wanted.now) (c.in_ok-found.ensures.shape t) ∙ is));
     }
 
 pub returns-clause-only : goal.returns-clause-only
@@ -88,7 +98,13 @@ returns-clause-only g c t =
     let old = g.H.Device.history c.args.host.now in
     let read = g.H.Device.history c.find.new.host in
     let new = g.H.Device.history c.restore_log.new.host in
-    record { disk = then_disk old read new (g.H.Device.sound c.find.new.host t) (same_disk old read (c.find.ensures.same t)) (c.restore_log.ensures.disk t); untouched = tt }
+    let same = at_last old read (IsSame old.world) (g.H.Device.sound c.find.new.host t) (c.find.ensures.same t) in
+    record {
+      disk = then_disk old read new (g.H.Device.sound c.find.new.host t) (same_disk old read (c.find.ensures.same t)) (c.restore_log.ensures.files t).disk;
+      base = subst (λ (w : World). KeepsBase (in_force (image_of w)) w new.world) same (c.in_ok-log.ensures.files t).base;
+      untouched = tt;
+      differing = λ field is. absurd (c.in_default.not-Some field (c.difference_from.ensures ∙ ap (λ f. difference_from f c.args.wanted.now) (c.in_ok-found.ensures.shape t) ∙ is));
+    }
 
 pub returns-in_err-log-clause-within : goal.returns-in_err-log-clause-within
 returns-in_err-log-clause-within g c t told shape pairs can =
@@ -143,13 +159,15 @@ returns-clause-base g c =
       λ t.
           let same = at_last old read (IsSame old.world) (g.H.Device.sound c.find.new.host t) (c.find.ensures.same t) in
           let is = c.in_ok-found.ensures.marks t in
-          let cut = subst (λ (w : World). CutsLog (contents w.log) (replay_of (in_force (image_of w))) (first_of (in_force (image_of w))) (segment_bytes_of (in_force (image_of w)) wanted.segment_bytes) c.in_ok-log.log) same (c.in_ok-log.ensures.log t) in
+          let cut = subst (λ (w : World). CutsLog (contents w.log) (replay_of (in_force (image_of w))) (segment_bytes_of (in_force (image_of w)) wanted.segment_bytes) c.in_ok-log.log) same (c.in_ok-log.ensures.log t) in
+          let has = subst (λ (w : World). HasSegments (first_of (in_force (image_of w))) now c.in_ok-log.log) same (c.in_ok-log.ensures.there t) in
           record {
             shape = c.in_ok-found.ensures.shape t;
             mark = start_marks checkpoint marks is;
             replay = replay_marks checkpoint marks is;
             ends = subst (λ p. LogEndsAt (contents old.world.log) p c.in_ok-log.log.end) (sym (replay_marks checkpoint marks is)) cut.ends;
             cut = cut.is;
-            there = c.in_ok-log.ensures.there t;
+            there = has.ends;
+            lowest = has.lowest;
           },
     )

@@ -1,23 +1,18 @@
-use Rattle.std.proofs.Common.{◌≡◌, inl, inr, ℕ, ◌+◌, ◌≤◌, List, [], Err, ap, sym, ◌∙◌, subst, arith}
+use Rattle.std.proofs.Common.{◌≡◌, inl, inr, ℕ, List, [], Err, ap, sym, ◌∙◌, subst, arith}
 use Rattle.std.specs.Prelude.{codes}
-use Rattle.std.proofs.lemmas.List.{length-map}
-use Rattle.pm_types.specs.declared.limits.TheConstants.{LINES_MAX}
 use Rattle.pm_disk.specs.Moments.{AllMoments}
 use Rattle.pm_disk.specs.States.{IsLaterState}
 use Rattle.pm_disk.specs.Worlds.{World}
 use Rattle.pm_disk.proofs.Chain.{at_last}
-use Rattle.pm_script.specs.Lines.{lines_of}
-use Rattle.pm_engine.specs.Engines.{Running}
+use Rattle.pm_engine.specs.PagedEngines.{PagedRunning}
 use Rattle.pm_top.specs.declared.status.Status.{Status}
 use Rattle.pm_top.specs.ScriptOrder.{CrashHoldsAcknowledged}
 use Rattle.pm_top.specs.ScriptOrder.{OutcomeIs, StopIs, IsDone, IsStopped}
-use Rattle.pm_top.specs.Promises.{SaysPart}
+use Rattle.pm_top.specs.Promises.{IsLeft, SameConfig, SaysPart}
 use Rattle.pm_top.specs.RunCauses.{HasScriptCause}
-use Rattle.pm_top.specs.Runs.{CanRun, KeepsFiles, LeavesStore}
-use Rattle.pm_top.specs.Served.{line_of}
+use Rattle.pm_top.specs.Runs.{CanRun}
 use Rattle.pm_top.specs.Statuses.{code_of}
-use Rattle.pm_top.proofs.KeptLogs.{keep_say, keep_then}
-use Rattle.pm_top.proofs.Leaving.{leaves_store}
+use Rattle.pm_top.proofs.KeptConfigs.{config_say, config_then}
 use Rattle.pm_top.proofs.PrintedLimit.{ends_long, limit_moments}
 use Rattle.pm_top.proofs.ScriptCauses.{ends_done, ends_failed, ends_limit, ends_memory}
 use Rattle.pm_top.proofs.call.answer_script.Goals.{in-Ok-Done, in-Ok-Limit, in-Err-Failed, in-Err-Memory}
@@ -30,68 +25,61 @@ returns-clause-outcome g c t start same =
     let order = c.serve.new.self.engine.order in
     let mid = (g.H.Device.history c.serve.new.host).world in
     let new = (g.H.Device.history c.match-serve.host).world in
-    let ended : OutcomeIs c.match-serve.status start new engine.shape engine.map lines order = elim c.match-serve.branch [
+    let ended : OutcomeIs c.match-serve.status start new engine.map.shape engine.map.pairs lines order = elim c.match-serve.branch [
       | in-Ok-Done w ↦
-          let done : IsDone start mid engine.shape engine.map lines order = subst (λ s. StopIs s start mid engine.shape engine.map lines order) w.in-Ok-Done.field-0-is (w.in-Ok-Done.ensures.stop t start same) in
-          subst (λ s. OutcomeIs s start new engine.shape engine.map lines order) (sym w.status-is)
-          (subst (λ h. IsDone start (g.H.Device.history h).world engine.shape engine.map lines order) (sym w.host-is) done)
+          let done : IsDone start mid engine.map.shape engine.map.pairs lines order = subst (λ s. StopIs s start mid engine.map.shape engine.map.pairs lines order) w.in-Ok-Done.field-0-is (w.in-Ok-Done.ensures.stop t start same) in
+          subst (λ s. OutcomeIs s start new engine.map.shape engine.map.pairs lines order) (sym w.status-is)
+          (subst (λ h. IsDone start (g.H.Device.history h).world engine.map.shape engine.map.pairs lines order) (sym w.host-is) done)
       | in-Ok-Limit w ↦
-          let stopped : IsStopped start mid engine.shape engine.map lines order [] = subst (λ s. StopIs s start mid engine.shape engine.map lines order) w.in-Ok-Limit.field-0-is (w.in-Ok-Limit.ensures.stop t start same) in
+          let stopped : IsStopped start mid engine.map.shape engine.map.pairs lines order [] = subst (λ s. StopIs s start mid engine.map.shape engine.map.pairs lines order) w.in-Ok-Limit.field-0-is (w.in-Ok-Limit.ensures.stop t start same) in
           let told = w.print_limit_fault-status in
-          subst (λ s. OutcomeIs s start new engine.shape engine.map lines order) (sym w.status-is)
-          (subst (λ h. OutcomeIs told.result start (g.H.Device.history h).world engine.shape engine.map lines order) (sym w.host-is)
-          (ends_long told.result start mid (g.H.Device.history told.new.host).world engine.shape engine.map lines order stopped (told.ensures.long t) (λ failed. at_last (g.H.Device.history c.serve.new.host) (g.H.Device.history told.new.host) (SaysPart (codes "fault long\n") mid) (g.H.Device.sound told.new.host t) (told.ensures.moments t)) told.ensures.cases))
+          subst (λ s. OutcomeIs s start new engine.map.shape engine.map.pairs lines order) (sym w.status-is)
+          (subst (λ h. OutcomeIs told.result start (g.H.Device.history h).world engine.map.shape engine.map.pairs lines order) (sym w.host-is)
+          (ends_long told.result start mid (g.H.Device.history told.new.host).world engine.map.shape engine.map.pairs lines order stopped (told.ensures.long t) (λ failed. at_last (g.H.Device.history c.serve.new.host) (g.H.Device.history told.new.host) (SaysPart (codes "fault long\n") mid) (g.H.Device.sound told.new.host t) (told.ensures.moments t)) told.ensures.cases))
       | in-Err-Failed w ↦
-          subst (λ s. OutcomeIs s start new engine.shape engine.map lines order) (sym w.status-is)
-          (subst (λ h. OutcomeIs Status.Failed start (g.H.Device.history h).world engine.shape engine.map lines order) (sym w.host-is) ((w.in-Err-Failed.ensures.fault t start same).failed (ap Err w.in-Err-Failed.field-0-is)))
+          subst (λ s. OutcomeIs s start new engine.map.shape engine.map.pairs lines order) (sym w.status-is)
+          (subst (λ h. OutcomeIs Status.Failed start (g.H.Device.history h).world engine.map.shape engine.map.pairs lines order) (sym w.host-is) ((w.in-Err-Failed.ensures.fault t start same).failed (ap Err w.in-Err-Failed.field-0-is)))
       | in-Err-Memory w ↦
-          subst (λ s. OutcomeIs s start new engine.shape engine.map lines order) (sym w.status-is)
-          (subst (λ h. OutcomeIs Status.Memory start (g.H.Device.history h).world engine.shape engine.map lines order) (sym w.host-is) ((w.in-Err-Memory.ensures.fault t start same).memory (ap Err w.in-Err-Memory.field-0-is)))
+          subst (λ s. OutcomeIs s start new engine.map.shape engine.map.pairs lines order) (sym w.status-is)
+          (subst (λ h. OutcomeIs Status.Memory start (g.H.Device.history h).world engine.map.shape engine.map.pairs lines order) (sym w.host-is) ((w.in-Err-Memory.ensures.fault t start same).memory (ap Err w.in-Err-Memory.field-0-is)))
     ] in
-    subst (λ (e : Running). OutcomeIs c.match-serve.status start new e.shape e.map lines c.into_order.result.items) c.new-run.ensures.engine
-    (subst (λ (o : List ℕ). OutcomeIs c.match-serve.status start new engine.shape engine.map lines o) (sym c.into_order.ensures) ended)
+    subst (λ (e : PagedRunning). OutcomeIs c.match-serve.status start new e.map.shape e.map.pairs lines c.into_order.result.items) c.new-run.ensures.engine
+    (subst (λ (o : List ℕ). OutcomeIs c.match-serve.status start new engine.map.shape engine.map.pairs lines o) (sym c.into_order.ensures) ended)
 
 pub returns-clause-moments : goal.returns-clause-moments
-returns-clause-moments g c t wanted start same can =
+returns-clause-moments g c t wanted last number start same can =
     let engine = c.new-run.result.engine in
     let lines = c.serve.new.self.lines in
     let order = c.serve.new.self.engine.order in
     let old = g.H.Device.history c.args.host.now in
     let mid = g.H.Device.history c.serve.new.host in
     let new = g.H.Device.history c.match-serve.host in
-    let K : World → Type 0 = CrashHoldsAcknowledged wanted start engine.shape engine.map order in
-    let can_here : CanRun wanted engine old.world = subst (λ (e : Running). CanRun wanted e old.world) (sym c.new-run.ensures.engine) can in
-    let served : AllMoments old mid K = c.serve.ensures.moments t wanted start same can_here in
+    let K : World → Type 0 = CrashHoldsAcknowledged wanted last number start engine.map.shape engine.map.pairs order in
+    let can_here : CanRun wanted last number engine old.world = subst (λ (e : PagedRunning). CanRun wanted last number e old.world) (sym c.new-run.ensures.engine) can in
+    let served : AllMoments old mid K = c.serve.ensures.moments t wanted last number start same can_here in
     let all : AllMoments old new K = elim c.match-serve.branch [
       | in-Ok-Done w ↦ subst (λ h. AllMoments old (g.H.Device.history h) K) (sym w.host-is) served
       | in-Ok-Limit w ↦
-          let stopped : IsStopped start mid.world engine.shape engine.map lines order [] = subst (λ s. StopIs s start mid.world engine.shape engine.map lines order) w.in-Ok-Limit.field-0-is (w.in-Ok-Limit.ensures.stop t start same) in
+          let stopped : IsStopped start mid.world engine.map.shape engine.map.pairs lines order [] = subst (λ s. StopIs s start mid.world engine.map.shape engine.map.pairs lines order) w.in-Ok-Limit.field-0-is (w.in-Ok-Limit.ensures.stop t start same) in
           let told = w.print_limit_fault-status in
           subst (λ h. AllMoments old (g.H.Device.history h) K) (sym w.host-is)
-          (limit_moments wanted old mid (g.H.Device.history told.new.host) start engine.shape engine.map lines order (g.H.Device.sound c.serve.new.host t) stopped served (told.ensures.moments t))
+          (limit_moments wanted last number old mid (g.H.Device.history told.new.host) start engine.map.shape engine.map.pairs lines order (g.H.Device.sound c.serve.new.host t) stopped served (told.ensures.moments t))
       | in-Err-Failed w ↦ subst (λ h. AllMoments old (g.H.Device.history h) K) (sym w.host-is) served
       | in-Err-Memory w ↦ subst (λ h. AllMoments old (g.H.Device.history h) K) (sym w.host-is) served
     ] in
-    subst (λ (e : Running). AllMoments old new (CrashHoldsAcknowledged wanted start e.shape e.map c.into_order.result.items)) c.new-run.ensures.engine
-    (subst (λ (o : List ℕ). AllMoments old new (CrashHoldsAcknowledged wanted start engine.shape engine.map o)) (sym c.into_order.ensures) all)
+    subst (λ (e : PagedRunning). AllMoments old new (CrashHoldsAcknowledged wanted last number start e.map.shape e.map.pairs c.into_order.result.items)) c.new-run.ensures.engine
+    (subst (λ (o : List ℕ). AllMoments old new (CrashHoldsAcknowledged wanted last number start engine.map.shape engine.map.pairs o)) (sym c.into_order.ensures) all)
 
 pub returns-clause-leaves : goal.returns-clause-leaves
-returns-clause-leaves g c t is wanted start same can =
-    let run = c.new-run.result in
-    let engine = run.engine in
-    let later = c.serve.new.self in
-    let lines = later.lines in
-    let order = later.engine.order in
+returns-clause-leaves g c t is wanted last number start same can =
+    let engine = c.new-run.result.engine in
     let old = g.H.Device.history c.args.host.now in
-    let mid = (g.H.Device.history c.serve.new.host).world in
     let new = (g.H.Device.history c.match-serve.host).world in
-    let can_here : CanRun wanted engine old.world = subst (λ (e : Running). CanRun wanted e old.world) (sym c.new-run.ensures.engine) can in
-    let left : LeavesStore wanted start old.world new engine = elim c.match-serve.branch [
+    let can_here : CanRun wanted last number engine old.world = subst (λ (e : PagedRunning). CanRun wanted last number e old.world) (sym c.new-run.ensures.engine) can in
+    let left : IsLeft wanted last number start new engine.map.shape engine.map.pairs = elim c.match-serve.branch [
       | in-Ok-Done w ↦
-          let done : IsDone start mid engine.shape engine.map lines order = subst (λ s. StopIs s start mid engine.shape engine.map lines order) w.in-Ok-Done.field-0-is (w.in-Ok-Done.ensures.stop t start same) in
-          let few : lines ≤ LINES_MAX = omega (arith, done.all, done.limits.lines, length-map (lines_of start.input) line_of) in
-          subst (λ h. LeavesStore wanted start old.world (g.H.Device.history h).world engine) (sym w.host-is)
-          (leaves_store wanted start old.world mid run later c.new-run.ensures.lines few (w.in-Ok-Done.ensures.leaves t wanted start same can_here w.in-Ok-Done.field-0-is))
+          subst (λ h. IsLeft wanted last number start (g.H.Device.history h).world engine.map.shape engine.map.pairs) (sym w.host-is)
+          (w.in-Ok-Done.ensures.leaves t wanted last number start same can_here w.in-Ok-Done.field-0-is)
       | in-Ok-Limit w ↦ absurd (elim w.print_limit_fault-status.ensures.cases [
         | inl long ↦ (let clash : 0 ≡ 6 = ap code_of (sym is ∙ w.status-is ∙ long) in omega (arith, clash))
         | inr failed ↦ (let clash : 0 ≡ 3 = ap code_of (sym is ∙ w.status-is ∙ failed) in omega (arith, clash))
@@ -99,26 +87,25 @@ returns-clause-leaves g c t is wanted start same can =
       | in-Err-Failed w ↦ absurd (let clash : 0 ≡ 3 = ap code_of (sym is ∙ w.status-is) in omega (arith, clash))
       | in-Err-Memory w ↦ absurd (let clash : 0 ≡ 4 = ap code_of (sym is ∙ w.status-is) in omega (arith, clash))
     ] in
-    subst (λ (e : Running). LeavesStore wanted start old.world new e) c.new-run.ensures.engine left
+    subst (λ (e : PagedRunning). IsLeft wanted last number start new e.map.shape e.map.pairs) c.new-run.ensures.engine left
 
-pub returns-clause-files : goal.returns-clause-files
-returns-clause-files g c t =
+pub returns-clause-config : goal.returns-clause-config
+returns-clause-config g c t =
     let old = g.H.Device.history c.args.host.now in
     let mid = g.H.Device.history c.serve.new.host in
-    let most : ℕ = c.new-run.result.engine.log.end.seg + 8388608 in
-    let K : World → Type 0 = KeepsFiles most old.world in
-    let served : AllMoments old mid K = c.serve.ensures.files t in
+    let K : World → Type 0 = SameConfig old.world in
+    let served : AllMoments old mid K = c.serve.ensures.config t in
     let all : AllMoments old (g.H.Device.history c.match-serve.host) K = elim c.match-serve.branch [
       | in-Ok-Done w ↦ subst (λ h. AllMoments old (g.H.Device.history h) K) (sym w.host-is) served
       | in-Ok-Limit w ↦
           let printed = w.print_limit_fault-status in
           let new = g.H.Device.history printed.new.host in
           subst (λ h. AllMoments old (g.H.Device.history h) K) (sym w.host-is)
-          (keep_then most most most old mid new (omega arith) (omega arith) (g.H.Device.sound c.serve.new.host t) served (keep_say most (codes "fault long\n") mid new (printed.ensures.moments t)))
+          (config_then old mid new (g.H.Device.sound c.serve.new.host t) served (config_say (codes "fault long\n") mid new (printed.ensures.moments t)))
       | in-Err-Failed w ↦ subst (λ h. AllMoments old (g.H.Device.history h) K) (sym w.host-is) served
       | in-Err-Memory w ↦ subst (λ h. AllMoments old (g.H.Device.history h) K) (sym w.host-is) served
     ] in
-    subst (λ (e : Running). AllMoments old (g.H.Device.history c.match-serve.host) (KeepsFiles (e.log.end.seg + 8388608) old.world)) c.new-run.ensures.engine all
+    all
 
 pub returns-clause-cause : goal.returns-clause-cause
 returns-clause-cause g c =

@@ -1,9 +1,8 @@
 use Rattle.std.proofs.Common.{◌≡◌, ◌⊎◌, inl, inr, Err, ap, refl, sym, ◌∙◌, subst}
-use Rattle.pm_disk.specs.Worlds.{World}
 use Rattle.pm_disk.proofs.Chain.{at_last}
-use Rattle.pm_engine.specs.Openings.{IsSame}
-use Rattle.pm_top.specs.Promises.{fault_record}
-use Rattle.pm_top.specs.StoreChecks.{counts_line, fault_page}
+use Rattle.pm_redo.specs.Rebuilding.{IsSame}
+use Rattle.pm_top.specs.Promises.{fault_page, fault_record}
+use Rattle.pm_top.specs.StoreChecks.{counts_line}
 use Rattle.pm_top.specs.declared.status.Status.TheVariants.{Done, Failed, Memory, Damaged}
 use Rattle.pm_top.proofs.StoreChecking.{check_bad, check_done, check_ends}
 use Rattle.pm_top.proofs.call.check_store.Goals as goal

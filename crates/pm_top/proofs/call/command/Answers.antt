@@ -1,16 +1,15 @@
 use Rattle.std.proofs.Common.{◌≡◌, ◌∙◌, ap, subst, sym, Option}
-use Rattle.std.specs.Prelude.{codes, map, string_bytes, Some, None}
+use Rattle.std.specs.Prelude.{codes, map, string_bytes, None}
 use Rattle.std.specs.Option.{option_map}
-use Rattle.pm_disk.specs.Worlds.{World}
 use Rattle.pm_disk.proofs.Chain.{at_last}
-use Rattle.pm_engine.specs.Openings.{IsSame}
+use Rattle.pm_redo.specs.Rebuilding.{IsSame}
 use Rattle.pm_top.specs.Commands.{CommandHolds, CommandIsSafe}
 use Rattle.pm_top.specs.Promises.{RefusalIs, SaysPart}
 use Rattle.pm_top.specs.declared.words.CommandName.{CommandName}
 use Rattle.pm_top.specs.declared.words.Command.{Command}
 use Rattle.pm_top.specs.Words.{command_in}
 use Rattle.pm_top.proofs.Commanded.{holds_from, holds_unbound, safe_from, safe_unbound}
-use Rattle.pm_top.proofs.KeptFiles.{bind_call, say_calls, then_calls}
+use Rattle.pm_top.proofs.KeptConfigs.{config_bind, config_say, config_then}
 use Rattle.pm_top.proofs.Opened.{refused_moments, refusal, same_moments}
 use Rattle.pm_top.proofs.Orders.{none_with_u}
 use Rattle.pm_top.proofs.call.command.Goals as goal
@@ -73,16 +72,16 @@ returns-in-Err-clause-crash g c t =
     subst (λ (name : Option CommandName). CommandIsSafe name old mid order) c.in-Some.ensures.name
     (safe_unbound c.in-Some.asked.name old mid order (same_moments old mid c.bind.result (g.H.Device.sound c.args.host.now t) (c.bind.ensures.does t)))
 
-pub returns-in_default-clause-files : goal.returns-in_default-clause-files
-returns-in_default-clause-files g c t =
-    say_calls (codes "fault usage\n") (g.H.Device.history c.args.host.now) (g.H.Device.history c.print_usage_fault.new.host) (c.print_usage_fault.ensures.moments t)
+pub returns-in_default-clause-config : goal.returns-in_default-clause-config
+returns-in_default-clause-config g c t =
+    config_say (codes "fault usage\n") (g.H.Device.history c.args.host.now) (g.H.Device.history c.print_usage_fault.new.host) (c.print_usage_fault.ensures.moments t)
 
-pub returns-in-Ok-clause-files : goal.returns-in-Ok-clause-files
-returns-in-Ok-clause-files g c t =
+pub returns-in-Ok-clause-config : goal.returns-in-Ok-clause-config
+returns-in-Ok-clause-config g c t =
     let old = g.H.Device.history c.args.host.now in
     let mid = g.H.Device.history c.bind.new.self in
-    then_calls old mid (g.H.Device.history c.do_command.new.host) (g.H.Device.sound c.bind.new.self t) (bind_call old mid c.bind.result (g.H.Device.sound c.args.host.now t) (c.bind.ensures.does t)) (c.do_command.ensures.files t)
+    config_then old mid (g.H.Device.history c.do_command.new.host) (g.H.Device.sound c.bind.new.self t) (config_bind old mid c.bind.result (g.H.Device.sound c.args.host.now t) (c.bind.ensures.does t)) (c.do_command.ensures.config t)
 
-pub returns-in-Err-clause-files : goal.returns-in-Err-clause-files
-returns-in-Err-clause-files g c t =
-    bind_call (g.H.Device.history c.args.host.now) (g.H.Device.history c.bind.new.self) c.bind.result (g.H.Device.sound c.args.host.now t) (c.bind.ensures.does t)
+pub returns-in-Err-clause-config : goal.returns-in-Err-clause-config
+returns-in-Err-clause-config g c t =
+    config_bind (g.H.Device.history c.args.host.now) (g.H.Device.history c.bind.new.self) c.bind.result (g.H.Device.sound c.args.host.now t) (c.bind.ensures.does t)

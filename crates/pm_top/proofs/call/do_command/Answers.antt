@@ -2,8 +2,8 @@ use Rattle.std.proofs.Common.{sym, subst}
 use Rattle.std.specs.Prelude.{Some}
 use Rattle.pm_top.specs.Commands.{CommandHolds, CommandIsSafe}
 use Rattle.pm_top.specs.declared.words.CommandName.{CommandName}
-use Rattle.pm_top.proofs.LogListing.{wal_files}
-use Rattle.pm_top.proofs.StoreChecking.{check_files}
+use Rattle.pm_top.proofs.LogListing.{wal_config}
+use Rattle.pm_top.proofs.StoreChecking.{check_config}
 use Rattle.pm_top.proofs.call.do_command.Goals as goal
 
 pub returns-in-Run-clause-holds : goal.returns-in-Run-clause-holds
@@ -27,9 +27,9 @@ pub returns-in-Wal-clause-crash : goal.returns-in-Wal-clause-crash
 returns-in-Wal-clause-crash g c t =
     subst (λ (name : CommandName). CommandIsSafe (Some name) (g.H.Device.history c.args.host.now) (g.H.Device.history c.list_log.new.host) c.list_log.result.order.items) (sym c.in-Wal.is) tt
 
-pub returns-in-Wal-clause-files : goal.returns-in-Wal-clause-files
-returns-in-Wal-clause-files g c t =
-    wal_files (g.H.Device.history c.args.host.now) (g.H.Device.history c.list_log.new.host) (c.list_log.ensures.wal t).moments
+pub returns-in-Wal-clause-config : goal.returns-in-Wal-clause-config
+returns-in-Wal-clause-config g c t =
+    wal_config (g.H.Device.history c.args.host.now) (g.H.Device.history c.list_log.new.host) (c.list_log.ensures.wal t).moments
 
 pub returns-in-Verify-clause-holds : goal.returns-in-Verify-clause-holds
 returns-in-Verify-clause-holds g c t =
@@ -41,6 +41,6 @@ pub returns-in-Verify-clause-crash : goal.returns-in-Verify-clause-crash
 returns-in-Verify-clause-crash g c t =
     subst (λ (name : CommandName). CommandIsSafe (Some name) (g.H.Device.history c.args.host.now) (g.H.Device.history c.check_store.new.host) c.check_store.result.order.items) (sym c.in-Verify.is) tt
 
-pub returns-in-Verify-clause-files : goal.returns-in-Verify-clause-files
-returns-in-Verify-clause-files g c t =
-    check_files (g.H.Device.history c.args.host.now) (g.H.Device.history c.check_store.new.host) (c.check_store.ensures.holds t).moments
+pub returns-in-Verify-clause-config : goal.returns-in-Verify-clause-config
+returns-in-Verify-clause-config g c t =
+    check_config (g.H.Device.history c.args.host.now) (g.H.Device.history c.check_store.new.host) (c.check_store.ensures.holds t).moments

@@ -1,35 +1,42 @@
-use Rattle.std.proofs.Common.{ℕ, ◌+◌, ◌≡◌, ◌⊎◌, inl, inr, Some, None, Err, ap, sym, ◌∙◌, subst, arith}
+use Rattle.std.proofs.Common.{ℕ, ◌≡◌, ◌⊎◌, inl, inr, Some, None, ap, refl, sym, ◌∙◌, subst}
 use Rattle.std.specs.Prelude.{codes, ◌++◌}
-use Rattle.pm_types.specs.declared.fault.OpenFault.TheVariants.{Store}
+use Rattle.pm_types.specs.declared.fault.OpenFault.TheVariants as opening
 use Rattle.pm_types.specs.declared.shape.Shape.{Shape}
 use Rattle.pm_disk.specs.Moments.{AllMoments}
 use Rattle.pm_disk.specs.Worlds.{World}
-use Rattle.pm_disk.proofs.Chain.{at_last, joined, weaker}
+use Rattle.pm_disk.proofs.Chain.{at_last, joined}
 use Rattle.pm_config.specs.Names.{name_of}
+use Rattle.pm_marks.specs.InForce.{number_in}
 use Rattle.pm_model.specs.Eval.{Pairs}
-use Rattle.pm_records.specs.LogFiles.{ChangesLog}
-use Rattle.pm_core.specs.LogAlone.{image_of, LogHolds, last_segment}
-use Rattle.pm_engine.specs.Openings.{IsBadRecord, IsSame, LogHoldsNothing}
-use Rattle.pm_engine.specs.StoredShapes.{ComparesShape, shape_fault}
-use Rattle.pm_engine.specs.Engines.{SameAbove}
-use Rattle.pm_engine.proofs.Opening.{opens_hold, opens_map}
-use Rattle.pm_engine.proofs.Batching.{above_joined}
+use Rattle.pm_core.specs.Calls.{ChangesDisk}
+use Rattle.pm_core.specs.Held.{in_force}
+use Rattle.pm_core.specs.LogAlone.{image_of}
+use Rattle.pm_redo.specs.Restoring.{ComparesShape}
+use Rattle.pm_engine.specs.PagedOpenings.{HasOpenCause, IsPlainOpen, OpensMap, OpensRunning}
+use Rattle.pm_engine.specs.RunningLines.{says_nothing}
 use Rattle.pm_top.specs.declared.status.Status.TheVariants.{Failed, Memory, Damaged}
-use Rattle.pm_top.specs.Configurations.{AsksFor, config_fault, fault_config}
-use Rattle.pm_top.specs.Crashes.{CrashHoldsAcknowledged}
-use Rattle.pm_top.specs.Promises.{CanOpen, OutcomeIs, fault_record, IsStart, IsLeft}
-use Rattle.pm_top.specs.Runs.{CanRun, KeepsFiles}
-use Rattle.pm_top.specs.Promises.{SameFiles}
-use Rattle.pm_top.specs.ScriptOrder.{CrashHoldsSome}
-use Rattle.pm_top.proofs.Bounded.{bounded_moments}
-use Rattle.pm_top.proofs.KeptFiles.{log_calls, same_calls, say_calls, then_calls}
-use Rattle.pm_top.proofs.KeptLogs.{keep_files}
-use Rattle.pm_top.proofs.Leaving.{is_left}
-use Rattle.pm_top.proofs.Opened.{crash_from, opening_moments, refused_moments, same_console}
+use Rattle.pm_top.specs.Configurations.{config_fault, fault_config, shape_fault, wanted_in}
+use Rattle.pm_top.specs.Crashes.{CrashHoldsAcknowledged, opened_number, opened_to}
+use Rattle.pm_top.specs.Promises.{HoldsAtEachMoment, IsLeft, IsStart, NamesBadFor, NamesBadOpening, OutcomeIs, fault_page, fault_record, last_after, number_after}
+use Rattle.pm_top.proofs.KeptConfigs.{config_disk, config_say, config_then}
+use Rattle.pm_top.proofs.Opened.{can_run, crash_then, opening_moments, refused_moments, same_console}
 use Rattle.pm_top.proofs.Ordered.{moments_keep, outcome_is, outcome_order}
 use Rattle.pm_top.proofs.Orders.{none_with_c}
-use Rattle.pm_top.proofs.Refusing.{AnswersNone, can_not_open, damaged_run, field_refused_run, idle_run, opens_log, run_from, same_log}
+use Rattle.pm_top.proofs.Refusing.{AnswersNone, damaged_run, field_refused_run, idle_run, run_from, same_disk}
+use Rattle.pm_top.proofs.StartedStores.{can_begin, few_numbers}
 use Rattle.pm_top.proofs.call.run.Goals as goal
+
+pub answer_script-requires-clause-order : goal.answer_script-requires-clause-order
+answer_script-requires-clause-order g c _ _ =
+    c.in-Ok.ensures.fresh.0.order
+
+pub answer_script-requires-clause-is_open : goal.answer_script-requires-clause-is_open
+answer_script-requires-clause-is_open g c _ _ =
+    c.in-Ok.ensures.fresh.0.is_open
+
+pub answer_script-requires-clause-end : goal.answer_script-requires-clause-end
+answer_script-requires-clause-end g c _ _ t =
+    (c.in-Ok.ensures.fresh.2 t).ends
 
 pub returns-in-Ok-clause-run : goal.returns-in-Ok-clause-run
 returns-in-Ok-clause-run g c t =
@@ -37,27 +44,33 @@ returns-in-Ok-clause-run g c t =
     let mid = g.H.Device.history c.open_store.new.host in
     let wanted = c.args.config.now.shape in
     let asks = c.requires.asked t in
-    let only = at_last old mid (ChangesLog old.world) (g.H.Device.sound c.open_store.new.host t) ((c.open_store.ensures.meanwhile t).log_only) in
+    let only = at_last old mid (ChangesDisk old.world) (g.H.Device.sound c.open_store.new.host t) (c.open_store.ensures.disk t) in
     let new = g.H.Device.history c.answer_script.new.host in
     let outcome = c.answer_script.result in
     let engine = c.in-Ok.engine in
-    let opens = c.in-Ok.ensures.opens t in
-    let can : CanOpen old.world engine.shape engine.map = record { configured = asks.fault_is ∙ c.in-Ok.ensures.alike t; log = subst (λ s. LogHolds s (image_of old.world) engine.shape engine.map) (sym asks.wanted_is) (opens_hold wanted old.world mid.world engine opens) } in
-    let ordered = c.answer_script.ensures.outcome t old.world (same_console old.world mid.world only) in
-    let answered : OutcomeIs outcome.status old.world new.world engine.shape engine.map outcome.lines outcome.order.items = outcome_is outcome.status old.world new.world engine.shape engine.map outcome.lines outcome.order.items ordered in
+    let same = same_console old.world mid.world only in
+    let opens : (shape : Shape) (pairs : Pairs) (start : IsStart wanted old.world shape pairs) → OpensRunning (opened_to start.sound) (opened_number start.sound) wanted says_nothing shape pairs engine mid.world = λ shape pairs start.
+    c.in-Ok.ensures.opened t says_nothing shape pairs (can_begin wanted old.world shape pairs start) (few_numbers wanted old.world shape pairs start) in
+    let answered : OutcomeIs outcome.status old.world new.world engine.map.shape engine.map.pairs outcome.lines outcome.order.items =
+    outcome_is outcome.status old.world new.world engine.map.shape engine.map.pairs outcome.lines outcome.order.items (c.answer_script.ensures.outcome t old.world same) in
+    let alike : config_fault old.world ≡ None = asks.fault_is ∙ (c.in-Ok.ensures.compared t).alike in
     record {
-      outcome = λ shape pairs it.
-          let maps = opens_map wanted old.world mid.world engine shape pairs opens (opens_log old.world wanted shape pairs asks it) in
-          subst (λ (x : Shape × Pairs). OutcomeIs outcome.status old.world new.world x.0 x.1 outcome.lines outcome.order.items) (λ i. (maps.0 i, maps.1 i)) answered;
-      opened = λ _. (engine.shape, engine.map, can);
-      untouched = λ none. absurd (none engine.shape engine.map can);
-      leaves = λ is. subst (λ (s : Shape). (shape : Shape) (pairs : Pairs) (start : IsStart s old.world shape pairs) → IsLeft s (last_segment start.holds) old.world new.world shape pairs) (sym asks.wanted_is)
+      outcome = λ shape pairs can.
+          let opened = opens shape pairs (subst (λ (s : Shape). IsStart s old.world shape pairs) asks.wanted_is can.start) in
+          subst (λ (x : Shape × Pairs). OutcomeIs outcome.status old.world new.world x.0 x.1 outcome.lines outcome.order.items) (λ i. (opened.shape_is i, opened.map i)) answered;
+      opened = λ _. record {
+        configured = alike;
+        pairs = engine.map.pairs;
+        opens = subst (λ (s : Shape). OpensMap s (in_force (image_of old.world)) old.world engine.map.pairs) (sym asks.wanted_is) (c.in-Ok.ensures.fresh.2 t).opens;
+        outcome = subst (λ (s : Shape). OutcomeIs outcome.status old.world new.world s engine.map.pairs outcome.lines outcome.order.items) (c.in-Ok.ensures.fresh.0.shape_is ∙ sym asks.wanted_is) answered;
+      };
+      untouched = λ field differs. absurd (let both : Some field ≡ None = sym differs ∙ alike in cc);
+      leaves = λ is.
+          subst (λ (s : Shape). (shape : Shape) (pairs : Pairs) (start : IsStart s old.world shape pairs) → IsLeft s (last_after start) (number_after start) old.world new.world shape pairs) (sym asks.wanted_is)
           (λ shape pairs start.
-          let stands = c.in-Ok.ensures.at_rest t shape pairs start.holds start.numbers start.quiet in
-          let runs : CanRun wanted engine mid.world = record { stands = stands.at_rest; segments = omega (arith, stands.rises, start.numbers) } in
-          let maps = opens_map wanted old.world mid.world engine shape pairs opens start.holds.log in
-          is_left wanted (last_segment start.holds) old.world mid.world new.world engine shape pairs maps stands start.quiet (at_last old mid (SameFiles old.world) (g.H.Device.sound c.open_store.new.host t) (log_calls old mid ((c.open_store.ensures.meanwhile t).log_only))) (at_last mid new (SameFiles mid.world) (g.H.Device.sound c.answer_script.new.host t) (keep_files (engine.log.end.seg + 8388608) mid new (c.answer_script.ensures.files t)))
-          (c.answer_script.ensures.leaves t is wanted old.world (same_console old.world mid.world only) runs));
+          let opened = opens shape pairs start in
+          let left = c.answer_script.ensures.leaves t is wanted (last_after start) (number_after start) old.world same (can_run wanted old.world shape pairs start engine mid.world opened) in
+          subst (λ (x : Shape × Pairs). IsLeft wanted (last_after start) (number_after start) old.world new.world x.0 x.1) (λ i. (opened.shape_is i, opened.map i)) left);
       misconfigured = λ is. absurd (c.answer_script.ensures.cause.configured is);
       damaged = λ is. absurd (c.answer_script.ensures.cause.sound is);
     }
@@ -68,41 +81,40 @@ returns-in-Ok-clause-crash g c t =
     let mid = g.H.Device.history c.open_store.new.host in
     let wanted = c.args.config.now.shape in
     let asks = c.requires.asked t in
-    let only = at_last old mid (ChangesLog old.world) (g.H.Device.sound c.open_store.new.host t) ((c.open_store.ensures.meanwhile t).log_only) in
+    let only = at_last old mid (ChangesDisk old.world) (g.H.Device.sound c.open_store.new.host t) (c.open_store.ensures.disk t) in
     let new = g.H.Device.history c.answer_script.new.host in
     let outcome = c.answer_script.result in
     let engine = c.in-Ok.engine in
-    let opens = c.in-Ok.ensures.opens t in
+    let same = same_console old.world mid.world only in
+    let opens : (shape : Shape) (pairs : Pairs) (start : IsStart wanted old.world shape pairs) → OpensRunning (opened_to start.sound) (opened_number start.sound) wanted says_nothing shape pairs engine mid.world = λ shape pairs start.
+    c.in-Ok.ensures.opened t says_nothing shape pairs (can_begin wanted old.world shape pairs start) (few_numbers wanted old.world shape pairs start) in
     let order = outcome.order.items in
-    let keeps : (shape : Shape) (pairs : Pairs) (start : IsStart wanted old.world shape pairs) → AllMoments old new (CrashHoldsAcknowledged wanted (last_segment start.holds + 16777216) old.world shape pairs order) = λ shape pairs start.
-    let maps = opens_map wanted old.world mid.world engine shape pairs opens start.holds.log in
-    let K : World → Type 0 = CrashHoldsSome wanted old.world shape pairs order in
-    let end : ℕ = last_segment start.holds in
-    let stands = c.in-Ok.ensures.at_rest t shape pairs start.holds start.numbers start.quiet in
-    let runs : CanRun wanted engine mid.world = record { stands = stands.at_rest; segments = omega (arith, stands.rises, start.numbers) } in
-    let its = outcome_order outcome.status old.world new.world engine.shape engine.map outcome.lines order (c.answer_script.ensures.outcome t old.world (same_console old.world mid.world only)) in
-    let second : AllMoments mid new K = subst (λ (x : Shape × Pairs). AllMoments mid new (CrashHoldsSome wanted old.world x.0 x.1 order)) (λ i. (maps.0 i, maps.1 i))
-    (moments_keep wanted old.world mid new engine.shape engine.map its.0 order its.1 (c.answer_script.ensures.moments t wanted old.world (same_console old.world mid.world only) runs)) in
-    let opened = (c.open_store.ensures.meanwhile t).above start.holds.log.frames start.holds.log.log in
-    let above : AllMoments old new (SameAbove (end + 8388609) old.world) = above_joined (end + 1) (engine.log.end.seg + 8388608) (end + 8388609) old mid new (omega arith) (omega (arith, stands.rises)) (g.H.Device.sound c.open_store.new.host t) opened
-    (weaker mid new (KeepsFiles (engine.log.end.seg + 8388608) mid.world) (SameAbove (engine.log.end.seg + 8388608) mid.world) (λ w is. is.above) (c.answer_script.ensures.files t)) in
-    bounded_moments wanted old.world shape pairs start (end + 8388609) (end + 16777216) order old new (omega arith) (omega arith) above
-    (joined old mid new K (opening_moments wanted old mid shape pairs order ((c.open_store.ensures.meanwhile t).crash shape pairs start.holds start.numbers start.quiet) ((c.open_store.ensures.meanwhile t).log_only)) second)
+    let keeps : (shape : Shape) (pairs : Pairs) (start : IsStart wanted old.world shape pairs) → AllMoments old new (CrashHoldsAcknowledged wanted (last_after start) (number_after start) old.world shape pairs order) = λ shape pairs start.
+    let last : ℕ = last_after start in
+    let number : ℕ = number_after start in
+    let K : World → Type 0 = CrashHoldsAcknowledged wanted last number old.world shape pairs order in
+    let opened = opens shape pairs start in
+    let runs = can_run wanted old.world shape pairs start engine mid.world opened in
+    let its = outcome_order outcome.status old.world new.world engine.map.shape engine.map.pairs outcome.lines order (c.answer_script.ensures.outcome t old.world same) in
+    let second : AllMoments mid new K = subst (λ (x : Shape × Pairs). AllMoments mid new (CrashHoldsAcknowledged wanted last number old.world x.0 x.1 order)) (λ i. (opened.shape_is i, opened.map i))
+    (moments_keep wanted last number old.world mid new engine.map.shape engine.map.pairs its.0 order its.1 (c.answer_script.ensures.moments t wanted last number old.world same runs)) in
+    joined old mid new K (opening_moments wanted old mid shape pairs start order (c.open_store.ensures.within t says_nothing shape pairs (can_begin wanted old.world shape pairs start) (few_numbers wanted old.world shape pairs start)) (c.open_store.ensures.disk t)) second
     in
-    subst (λ (s : Shape). (shape : Shape) (pairs : Pairs) (start : IsStart s old.world shape pairs) → AllMoments old new (CrashHoldsAcknowledged s (last_segment start.holds + 16777216) old.world shape pairs order)) (sym asks.wanted_is) keeps
+    subst (λ (s : Shape). (shape : Shape) (pairs : Pairs) (start : IsStart s old.world shape pairs) → AllMoments old new (CrashHoldsAcknowledged s (last_after start) (number_after start) old.world shape pairs order)) (sym asks.wanted_is)
+    keeps
 
-pub returns-in-Ok-clause-files : goal.returns-in-Ok-clause-files
-returns-in-Ok-clause-files g c t =
+pub returns-in-Ok-clause-config : goal.returns-in-Ok-clause-config
+returns-in-Ok-clause-config g c t =
     let old = g.H.Device.history c.args.host.now in
     let mid = g.H.Device.history c.open_store.new.host in
     let wanted = c.args.config.now.shape in
     let asks = c.requires.asked t in
-    let only = at_last old mid (ChangesLog old.world) (g.H.Device.sound c.open_store.new.host t) ((c.open_store.ensures.meanwhile t).log_only) in
+    let only = at_last old mid (ChangesDisk old.world) (g.H.Device.sound c.open_store.new.host t) (c.open_store.ensures.disk t) in
     let new = g.H.Device.history c.answer_script.new.host in
     let outcome = c.answer_script.result in
     let engine = c.in-Ok.engine in
-    let opens = c.in-Ok.ensures.opens t in
-    then_calls old mid new (g.H.Device.sound c.open_store.new.host t) (log_calls old mid ((c.open_store.ensures.meanwhile t).log_only)) (keep_files (engine.log.end.seg + 8388608) mid new (c.answer_script.ensures.files t))
+    let same = same_console old.world mid.world only in
+    config_then old mid new (g.H.Device.sound c.open_store.new.host t) (config_disk old mid (c.open_store.ensures.disk t)) (c.answer_script.ensures.config t)
 
 pub returns-in-Err-Shape-clause-run : goal.returns-in-Err-Shape-clause-run
 returns-in-Err-Shape-clause-run g c t =
@@ -110,16 +122,16 @@ returns-in-Err-Shape-clause-run g c t =
     let mid = g.H.Device.history c.open_store.new.host in
     let wanted = c.args.config.now.shape in
     let asks = c.requires.asked t in
-    let only = at_last old mid (ChangesLog old.world) (g.H.Device.sound c.open_store.new.host t) ((c.open_store.ensures.meanwhile t).log_only) in
+    let only = at_last old mid (ChangesDisk old.world) (g.H.Device.sound c.open_store.new.host t) (c.open_store.ensures.disk t) in
     let printed = c.print_config_fault in
     let new = g.H.Device.history printed.new.host in
     let outcome = c.without.result in
-    let differs = subst (ComparesShape wanted old.world) c.in-Err-Shape.field-0-is (c.in-Err-Shape.ensures.compared t) in
-    let first = (c.open_store.ensures.meanwhile t).untouched (inl (c.in-Err-Shape.field, differs)) in
-    let same : mid.world ≡ old.world = at_last old mid (IsSame old.world) (g.H.Device.sound c.open_store.new.host t) first in
-    let is : config_fault mid.world ≡ Some c.in-Err-Shape.field = ap config_fault same ∙ asks.fault_is ∙ differs in
-    run_from old mid new outcome.status outcome.lines outcome.order.items first same
-    (field_refused_run mid new outcome.status outcome.lines outcome.order.items c.in-Err-Shape.field is (subst AnswersNone (sym c.without.ensures.status) printed.ensures.cases) (λ e. printed.ensures.misconfigured t (sym c.without.ensures.status ∙ e)) (printed.ensures.moments t) c.without.ensures.lines c.without.ensures.order)
+    let field = c.in-Err-Shape.field in
+    let differs : shape_fault wanted old.world ≡ Some field = subst (ComparesShape (shape_fault wanted old.world)) c.in-Err-Shape.field-0-is (c.in-Err-Shape.ensures.compared t).fault in
+    let same : mid.world ≡ old.world = subst (HasOpenCause wanted (in_force (image_of old.world)) old.world mid.world) c.in-Err-Shape.field-0-is (c.in-Err-Shape.ensures.bad t) in
+    let is : config_fault mid.world ≡ Some field = ap config_fault same ∙ asks.fault_is ∙ differs in
+    run_from old mid new outcome.status outcome.lines outcome.order.items ((c.in-Err-Shape.ensures.compared t).differing field differs) same
+    (field_refused_run mid new outcome.status outcome.lines outcome.order.items field is (subst AnswersNone (sym c.without.ensures.status) printed.ensures.cases) (λ e. printed.ensures.misconfigured t (sym c.without.ensures.status ∙ e)) (printed.ensures.moments t) c.without.ensures.lines c.without.ensures.order)
 
 pub returns-in-Err-Shape-clause-crash : goal.returns-in-Err-Shape-clause-crash
 returns-in-Err-Shape-clause-crash g c t =
@@ -127,29 +139,33 @@ returns-in-Err-Shape-clause-crash g c t =
     let mid = g.H.Device.history c.open_store.new.host in
     let wanted = c.args.config.now.shape in
     let asks = c.requires.asked t in
-    let only = at_last old mid (ChangesLog old.world) (g.H.Device.sound c.open_store.new.host t) ((c.open_store.ensures.meanwhile t).log_only) in
+    let only = at_last old mid (ChangesDisk old.world) (g.H.Device.sound c.open_store.new.host t) (c.open_store.ensures.disk t) in
     let printed = c.print_config_fault in
     let new = g.H.Device.history printed.new.host in
     let outcome = c.without.result in
-    let differs = subst (ComparesShape wanted old.world) c.in-Err-Shape.field-0-is (c.in-Err-Shape.ensures.compared t) in
-    let first = (c.open_store.ensures.meanwhile t).untouched (inl (c.in-Err-Shape.field, differs)) in
-    let same : mid.world ≡ old.world = at_last old mid (IsSame old.world) (g.H.Device.sound c.open_store.new.host t) first in
-    crash_from old mid new outcome.order.items first same (refused_moments mid new outcome.order.items 99 (codes "onfig " ++ name_of c.in-Err-Shape.field ++ codes "\n") none_with_c (printed.ensures.moments t))
+    let field = c.in-Err-Shape.field in
+    let differs : shape_fault wanted old.world ≡ Some field = subst (ComparesShape (shape_fault wanted old.world)) c.in-Err-Shape.field-0-is (c.in-Err-Shape.ensures.compared t).fault in
+    let same : mid.world ≡ old.world = subst (HasOpenCause wanted (in_force (image_of old.world)) old.world mid.world) c.in-Err-Shape.field-0-is (c.in-Err-Shape.ensures.bad t) in
+    let order = outcome.order.items in
+    let keeps : HoldsAtEachMoment old mid order =
+    subst (λ (s : Shape). (shape : Shape) (pairs : Pairs) (start : IsStart s old.world shape pairs) → AllMoments old mid (CrashHoldsAcknowledged s (last_after start) (number_after start) old.world shape pairs order)) (sym asks.wanted_is)
+    (λ shape pairs start. opening_moments wanted old mid shape pairs start order (c.open_store.ensures.within t says_nothing shape pairs (can_begin wanted old.world shape pairs start) (few_numbers wanted old.world shape pairs start)) (c.open_store.ensures.disk t)) in
+    crash_then old mid new order keeps same (refused_moments mid new order 99 (codes "onfig " ++ name_of field ++ codes "\n") none_with_c (printed.ensures.moments t))
 
-pub returns-in-Err-Shape-clause-files : goal.returns-in-Err-Shape-clause-files
-returns-in-Err-Shape-clause-files g c t =
+pub returns-in-Err-Shape-clause-config : goal.returns-in-Err-Shape-clause-config
+returns-in-Err-Shape-clause-config g c t =
     let old = g.H.Device.history c.args.host.now in
     let mid = g.H.Device.history c.open_store.new.host in
     let wanted = c.args.config.now.shape in
     let asks = c.requires.asked t in
-    let only = at_last old mid (ChangesLog old.world) (g.H.Device.sound c.open_store.new.host t) ((c.open_store.ensures.meanwhile t).log_only) in
+    let only = at_last old mid (ChangesDisk old.world) (g.H.Device.sound c.open_store.new.host t) (c.open_store.ensures.disk t) in
     let printed = c.print_config_fault in
     let new = g.H.Device.history printed.new.host in
     let outcome = c.without.result in
-    let differs = subst (ComparesShape wanted old.world) c.in-Err-Shape.field-0-is (c.in-Err-Shape.ensures.compared t) in
-    let first = (c.open_store.ensures.meanwhile t).untouched (inl (c.in-Err-Shape.field, differs)) in
-    let same : mid.world ≡ old.world = at_last old mid (IsSame old.world) (g.H.Device.sound c.open_store.new.host t) first in
-    then_calls old mid new (g.H.Device.sound c.open_store.new.host t) (same_calls old mid first) (say_calls (fault_config c.in-Err-Shape.field) mid new (printed.ensures.moments t))
+    let field = c.in-Err-Shape.field in
+    let differs : shape_fault wanted old.world ≡ Some field = subst (ComparesShape (shape_fault wanted old.world)) c.in-Err-Shape.field-0-is (c.in-Err-Shape.ensures.compared t).fault in
+    let same : mid.world ≡ old.world = subst (HasOpenCause wanted (in_force (image_of old.world)) old.world mid.world) c.in-Err-Shape.field-0-is (c.in-Err-Shape.ensures.bad t) in
+    config_then old mid new (g.H.Device.sound c.open_store.new.host t) (config_disk old mid (c.open_store.ensures.disk t)) (config_say (fault_config field) mid new (printed.ensures.moments t))
 
 pub returns-in-Err-Store-Failed-clause-run : goal.returns-in-Err-Store-Failed-clause-run
 returns-in-Err-Store-Failed-clause-run g c t =
@@ -157,10 +173,10 @@ returns-in-Err-Store-Failed-clause-run g c t =
     let mid = g.H.Device.history c.open_store.new.host in
     let wanted = c.args.config.now.shape in
     let asks = c.requires.asked t in
-    let only = at_last old mid (ChangesLog old.world) (g.H.Device.sound c.open_store.new.host t) ((c.open_store.ensures.meanwhile t).log_only) in
+    let only = at_last old mid (ChangesDisk old.world) (g.H.Device.sound c.open_store.new.host t) (c.open_store.ensures.disk t) in
     let outcome = c.without-in-Err-Store-Failed.result in
     idle_run old mid outcome.status outcome.lines outcome.order.items (inl c.without-in-Err-Store-Failed.ensures.status) only.said c.without-in-Err-Store-Failed.ensures.lines c.without-in-Err-Store-Failed.ensures.order
-    (λ none. same_log old mid ((c.open_store.ensures.meanwhile t).untouched (can_not_open old.world wanted asks none)))
+    (λ field differs. same_disk old mid ((c.in-Err-Store-Failed.ensures.compared t).differing field (sym asks.fault_is ∙ differs)))
 
 pub returns-in-Err-Store-Failed-clause-crash : goal.returns-in-Err-Store-Failed-clause-crash
 returns-in-Err-Store-Failed-clause-crash g c t =
@@ -168,23 +184,21 @@ returns-in-Err-Store-Failed-clause-crash g c t =
     let mid = g.H.Device.history c.open_store.new.host in
     let wanted = c.args.config.now.shape in
     let asks = c.requires.asked t in
-    let only = at_last old mid (ChangesLog old.world) (g.H.Device.sound c.open_store.new.host t) ((c.open_store.ensures.meanwhile t).log_only) in
+    let only = at_last old mid (ChangesDisk old.world) (g.H.Device.sound c.open_store.new.host t) (c.open_store.ensures.disk t) in
     let order = c.without-in-Err-Store-Failed.result.order.items in
-    let keeps : (shape : Shape) (pairs : Pairs) (start : IsStart wanted old.world shape pairs) → AllMoments old mid (CrashHoldsAcknowledged wanted (last_segment start.holds + 16777216) old.world shape pairs order) = λ shape pairs start.
-    let end : ℕ = last_segment start.holds in
-    bounded_moments wanted old.world shape pairs start (end + 1) (end + 16777216) order old mid (omega arith) (omega arith) ((c.open_store.ensures.meanwhile t).above start.holds.log.frames start.holds.log.log)
-    (opening_moments wanted old mid shape pairs order ((c.open_store.ensures.meanwhile t).crash shape pairs start.holds start.numbers start.quiet) ((c.open_store.ensures.meanwhile t).log_only))
-    in
-    subst (λ (s : Shape). (shape : Shape) (pairs : Pairs) (start : IsStart s old.world shape pairs) → AllMoments old mid (CrashHoldsAcknowledged s (last_segment start.holds + 16777216) old.world shape pairs order)) (sym asks.wanted_is) keeps
+    let keeps : HoldsAtEachMoment old mid order =
+    subst (λ (s : Shape). (shape : Shape) (pairs : Pairs) (start : IsStart s old.world shape pairs) → AllMoments old mid (CrashHoldsAcknowledged s (last_after start) (number_after start) old.world shape pairs order)) (sym asks.wanted_is)
+    (λ shape pairs start. opening_moments wanted old mid shape pairs start order (c.open_store.ensures.within t says_nothing shape pairs (can_begin wanted old.world shape pairs start) (few_numbers wanted old.world shape pairs start)) (c.open_store.ensures.disk t)) in
+    keeps
 
-pub returns-in-Err-Store-Failed-clause-files : goal.returns-in-Err-Store-Failed-clause-files
-returns-in-Err-Store-Failed-clause-files g c t =
+pub returns-in-Err-Store-Failed-clause-config : goal.returns-in-Err-Store-Failed-clause-config
+returns-in-Err-Store-Failed-clause-config g c t =
     let old = g.H.Device.history c.args.host.now in
     let mid = g.H.Device.history c.open_store.new.host in
     let wanted = c.args.config.now.shape in
     let asks = c.requires.asked t in
-    let only = at_last old mid (ChangesLog old.world) (g.H.Device.sound c.open_store.new.host t) ((c.open_store.ensures.meanwhile t).log_only) in
-    log_calls old mid ((c.open_store.ensures.meanwhile t).log_only)
+    let only = at_last old mid (ChangesDisk old.world) (g.H.Device.sound c.open_store.new.host t) (c.open_store.ensures.disk t) in
+    config_disk old mid (c.open_store.ensures.disk t)
 
 pub returns-in-Err-Store-Memory-clause-run : goal.returns-in-Err-Store-Memory-clause-run
 returns-in-Err-Store-Memory-clause-run g c t =
@@ -192,10 +206,10 @@ returns-in-Err-Store-Memory-clause-run g c t =
     let mid = g.H.Device.history c.open_store.new.host in
     let wanted = c.args.config.now.shape in
     let asks = c.requires.asked t in
-    let only = at_last old mid (ChangesLog old.world) (g.H.Device.sound c.open_store.new.host t) ((c.open_store.ensures.meanwhile t).log_only) in
+    let only = at_last old mid (ChangesDisk old.world) (g.H.Device.sound c.open_store.new.host t) (c.open_store.ensures.disk t) in
     let outcome = c.without-in-Err-Store-Memory.result in
     idle_run old mid outcome.status outcome.lines outcome.order.items (inr c.without-in-Err-Store-Memory.ensures.status) only.said c.without-in-Err-Store-Memory.ensures.lines c.without-in-Err-Store-Memory.ensures.order
-    (λ none. same_log old mid ((c.open_store.ensures.meanwhile t).untouched (can_not_open old.world wanted asks none)))
+    (λ field differs. same_disk old mid ((c.in-Err-Store-Memory.ensures.compared t).differing field (sym asks.fault_is ∙ differs)))
 
 pub returns-in-Err-Store-Memory-clause-crash : goal.returns-in-Err-Store-Memory-clause-crash
 returns-in-Err-Store-Memory-clause-crash g c t =
@@ -203,23 +217,21 @@ returns-in-Err-Store-Memory-clause-crash g c t =
     let mid = g.H.Device.history c.open_store.new.host in
     let wanted = c.args.config.now.shape in
     let asks = c.requires.asked t in
-    let only = at_last old mid (ChangesLog old.world) (g.H.Device.sound c.open_store.new.host t) ((c.open_store.ensures.meanwhile t).log_only) in
+    let only = at_last old mid (ChangesDisk old.world) (g.H.Device.sound c.open_store.new.host t) (c.open_store.ensures.disk t) in
     let order = c.without-in-Err-Store-Memory.result.order.items in
-    let keeps : (shape : Shape) (pairs : Pairs) (start : IsStart wanted old.world shape pairs) → AllMoments old mid (CrashHoldsAcknowledged wanted (last_segment start.holds + 16777216) old.world shape pairs order) = λ shape pairs start.
-    let end : ℕ = last_segment start.holds in
-    bounded_moments wanted old.world shape pairs start (end + 1) (end + 16777216) order old mid (omega arith) (omega arith) ((c.open_store.ensures.meanwhile t).above start.holds.log.frames start.holds.log.log)
-    (opening_moments wanted old mid shape pairs order ((c.open_store.ensures.meanwhile t).crash shape pairs start.holds start.numbers start.quiet) ((c.open_store.ensures.meanwhile t).log_only))
-    in
-    subst (λ (s : Shape). (shape : Shape) (pairs : Pairs) (start : IsStart s old.world shape pairs) → AllMoments old mid (CrashHoldsAcknowledged s (last_segment start.holds + 16777216) old.world shape pairs order)) (sym asks.wanted_is) keeps
+    let keeps : HoldsAtEachMoment old mid order =
+    subst (λ (s : Shape). (shape : Shape) (pairs : Pairs) (start : IsStart s old.world shape pairs) → AllMoments old mid (CrashHoldsAcknowledged s (last_after start) (number_after start) old.world shape pairs order)) (sym asks.wanted_is)
+    (λ shape pairs start. opening_moments wanted old mid shape pairs start order (c.open_store.ensures.within t says_nothing shape pairs (can_begin wanted old.world shape pairs start) (few_numbers wanted old.world shape pairs start)) (c.open_store.ensures.disk t)) in
+    keeps
 
-pub returns-in-Err-Store-Memory-clause-files : goal.returns-in-Err-Store-Memory-clause-files
-returns-in-Err-Store-Memory-clause-files g c t =
+pub returns-in-Err-Store-Memory-clause-config : goal.returns-in-Err-Store-Memory-clause-config
+returns-in-Err-Store-Memory-clause-config g c t =
     let old = g.H.Device.history c.args.host.now in
     let mid = g.H.Device.history c.open_store.new.host in
     let wanted = c.args.config.now.shape in
     let asks = c.requires.asked t in
-    let only = at_last old mid (ChangesLog old.world) (g.H.Device.sound c.open_store.new.host t) ((c.open_store.ensures.meanwhile t).log_only) in
-    log_calls old mid ((c.open_store.ensures.meanwhile t).log_only)
+    let only = at_last old mid (ChangesDisk old.world) (g.H.Device.sound c.open_store.new.host t) (c.open_store.ensures.disk t) in
+    config_disk old mid (c.open_store.ensures.disk t)
 
 pub returns-in-Err-Store-BadRecord-clause-run : goal.returns-in-Err-Store-BadRecord-clause-run
 returns-in-Err-Store-BadRecord-clause-run g c t =
@@ -227,19 +239,21 @@ returns-in-Err-Store-BadRecord-clause-run g c t =
     let mid = g.H.Device.history c.open_store.new.host in
     let wanted = c.args.config.now.shape in
     let asks = c.requires.asked t in
-    let only = at_last old mid (ChangesLog old.world) (g.H.Device.sound c.open_store.new.host t) ((c.open_store.ensures.meanwhile t).log_only) in
+    let only = at_last old mid (ChangesDisk old.world) (g.H.Device.sound c.open_store.new.host t) (c.open_store.ensures.disk t) in
     let printed = c.print_record_fault in
     let new = g.H.Device.history printed.new.host in
     let outcome = c.without-in-Err-Store-BadRecord.result in
     let at = c.in-Err-Store-BadRecord.at in
-    let err = c.in-Err-Store-BadRecord.field-0-is ∙ ap Store c.in-Err-Store-BadRecord.field-0-0-is in
-    let bad = c.in-Err-Store-BadRecord.ensures.bad t at (ap Err err) in
-    let first = (c.open_store.ensures.meanwhile t).untouched (inr bad.unsound) in
-    let same : mid.world ≡ old.world = at_last old mid (IsSame old.world) (g.H.Device.sound c.open_store.new.host t) first in
-    let alike : shape_fault wanted old.world ≡ None = subst (ComparesShape wanted old.world) err (c.in-Err-Store-BadRecord.ensures.compared t) in
-    run_from old mid new outcome.status outcome.lines outcome.order.items first same
-    (damaged_run mid new outcome.status outcome.lines outcome.order.items wanted at (subst (λ w. AsksFor w wanted) (sym same) asks) (subst (λ w. IsBadRecord wanted w at) (sym same) bad.record_is) (subst (LogHoldsNothing wanted) (sym same) bad.unsound) (ap (shape_fault wanted) same ∙ alike)
-    (subst (λ s. (s ≡ Damaged) ⊎ (s ≡ Failed) ⊎ (s ≡ Memory)) (sym c.without-in-Err-Store-BadRecord.ensures.status) printed.ensures.cases) (λ e. printed.ensures.damaged t (sym c.without-in-Err-Store-BadRecord.ensures.status ∙ e)) (printed.ensures.moments t) c.without-in-Err-Store-BadRecord.ensures.lines c.without-in-Err-Store-BadRecord.ensures.order)
+    let err = c.in-Err-Store-BadRecord.field-0-is ∙ ap opening.Store c.in-Err-Store-BadRecord.field-0-0-is in
+    let alike : shape_fault wanted old.world ≡ None = subst (ComparesShape (shape_fault wanted old.world)) err (c.in-Err-Store-BadRecord.ensures.compared t).fault in
+    let unsound : (shape : Shape) (pairs : Pairs) → IsStart (wanted_in old.world) old.world shape pairs → ⊥ = λ shape pairs start.
+    let here = subst (λ (s : Shape). IsStart s old.world shape pairs) asks.wanted_is start in
+    subst IsPlainOpen err (c.in-Err-Store-BadRecord.ensures.refused t says_nothing shape pairs (can_begin wanted old.world shape pairs here) (few_numbers wanted old.world shape pairs here) alike) in
+    let cause = subst (HasOpenCause wanted (in_force (image_of old.world)) old.world mid.world) err (c.in-Err-Store-BadRecord.ensures.bad t) in
+    let bad : NamesBadOpening old.world mid.world (fault_record at) =
+    subst (λ (s : Shape). NamesBadFor s old.world mid.world (fault_record at)) (sym asks.wanted_is) (inl (at, cause, refl)) in
+    damaged_run old mid new outcome.status outcome.lines outcome.order.items (fault_record at) (asks.fault_is ∙ alike) unsound only bad
+    (subst (λ s. (s ≡ Damaged) ⊎ (s ≡ Failed) ⊎ (s ≡ Memory)) (sym c.without-in-Err-Store-BadRecord.ensures.status) printed.ensures.cases) (λ e. printed.ensures.damaged t (sym c.without-in-Err-Store-BadRecord.ensures.status ∙ e)) c.without-in-Err-Store-BadRecord.ensures.lines c.without-in-Err-Store-BadRecord.ensures.order
 
 pub returns-in-Err-Store-BadRecord-clause-crash : goal.returns-in-Err-Store-BadRecord-clause-crash
 returns-in-Err-Store-BadRecord-clause-crash g c t shape pairs start =
@@ -247,30 +261,76 @@ returns-in-Err-Store-BadRecord-clause-crash g c t shape pairs start =
     let mid = g.H.Device.history c.open_store.new.host in
     let wanted = c.args.config.now.shape in
     let asks = c.requires.asked t in
-    let only = at_last old mid (ChangesLog old.world) (g.H.Device.sound c.open_store.new.host t) ((c.open_store.ensures.meanwhile t).log_only) in
+    let only = at_last old mid (ChangesDisk old.world) (g.H.Device.sound c.open_store.new.host t) (c.open_store.ensures.disk t) in
     let printed = c.print_record_fault in
     let new = g.H.Device.history printed.new.host in
     let outcome = c.without-in-Err-Store-BadRecord.result in
     let at = c.in-Err-Store-BadRecord.at in
-    let err = c.in-Err-Store-BadRecord.field-0-is ∙ ap Store c.in-Err-Store-BadRecord.field-0-0-is in
-    let bad = c.in-Err-Store-BadRecord.ensures.bad t at (ap Err err) in
-    let first = (c.open_store.ensures.meanwhile t).untouched (inr bad.unsound) in
-    let same : mid.world ≡ old.world = at_last old mid (IsSame old.world) (g.H.Device.sound c.open_store.new.host t) first in
-    absurd (bad.unsound shape pairs (subst (λ s. IsStart s old.world shape pairs) asks.wanted_is start).holds.log)
+    let err = c.in-Err-Store-BadRecord.field-0-is ∙ ap opening.Store c.in-Err-Store-BadRecord.field-0-0-is in
+    let alike : shape_fault wanted old.world ≡ None = subst (ComparesShape (shape_fault wanted old.world)) err (c.in-Err-Store-BadRecord.ensures.compared t).fault in
+    let unsound : (shape : Shape) (pairs : Pairs) → IsStart (wanted_in old.world) old.world shape pairs → ⊥ = λ shape pairs start.
+    let here = subst (λ (s : Shape). IsStart s old.world shape pairs) asks.wanted_is start in
+    subst IsPlainOpen err (c.in-Err-Store-BadRecord.ensures.refused t says_nothing shape pairs (can_begin wanted old.world shape pairs here) (few_numbers wanted old.world shape pairs here) alike) in
+    absurd (unsound shape pairs start)
 
-pub returns-in-Err-Store-BadRecord-clause-files : goal.returns-in-Err-Store-BadRecord-clause-files
-returns-in-Err-Store-BadRecord-clause-files g c t =
+pub returns-in-Err-Store-BadRecord-clause-config : goal.returns-in-Err-Store-BadRecord-clause-config
+returns-in-Err-Store-BadRecord-clause-config g c t =
     let old = g.H.Device.history c.args.host.now in
     let mid = g.H.Device.history c.open_store.new.host in
     let wanted = c.args.config.now.shape in
     let asks = c.requires.asked t in
-    let only = at_last old mid (ChangesLog old.world) (g.H.Device.sound c.open_store.new.host t) ((c.open_store.ensures.meanwhile t).log_only) in
+    let only = at_last old mid (ChangesDisk old.world) (g.H.Device.sound c.open_store.new.host t) (c.open_store.ensures.disk t) in
     let printed = c.print_record_fault in
     let new = g.H.Device.history printed.new.host in
-    let outcome = c.without-in-Err-Store-BadRecord.result in
-    let at = c.in-Err-Store-BadRecord.at in
-    let err = c.in-Err-Store-BadRecord.field-0-is ∙ ap Store c.in-Err-Store-BadRecord.field-0-0-is in
-    let bad = c.in-Err-Store-BadRecord.ensures.bad t at (ap Err err) in
-    let first = (c.open_store.ensures.meanwhile t).untouched (inr bad.unsound) in
-    let same : mid.world ≡ old.world = at_last old mid (IsSame old.world) (g.H.Device.sound c.open_store.new.host t) first in
-    then_calls old mid new (g.H.Device.sound c.open_store.new.host t) (same_calls old mid first) (say_calls (fault_record at) mid new (printed.ensures.moments t))
+    config_then old mid new (g.H.Device.sound c.open_store.new.host t) (config_disk old mid (c.open_store.ensures.disk t)) (config_say (fault_record c.in-Err-Store-BadRecord.at) mid new (printed.ensures.moments t))
+
+pub returns-in-Err-Store-BadPage-clause-run : goal.returns-in-Err-Store-BadPage-clause-run
+returns-in-Err-Store-BadPage-clause-run g c t =
+    let old = g.H.Device.history c.args.host.now in
+    let mid = g.H.Device.history c.open_store.new.host in
+    let wanted = c.args.config.now.shape in
+    let asks = c.requires.asked t in
+    let only = at_last old mid (ChangesDisk old.world) (g.H.Device.sound c.open_store.new.host t) (c.open_store.ensures.disk t) in
+    let printed = c.print_page_fault in
+    let new = g.H.Device.history printed.new.host in
+    let outcome = c.without-in-Err-Store-BadPage.result in
+    let page = c.in-Err-Store-BadPage.page in
+    let err = c.in-Err-Store-BadPage.field-0-is ∙ ap opening.Store c.in-Err-Store-BadPage.field-0-0-is in
+    let alike : shape_fault wanted old.world ≡ None = subst (ComparesShape (shape_fault wanted old.world)) err (c.in-Err-Store-BadPage.ensures.compared t).fault in
+    let unsound : (shape : Shape) (pairs : Pairs) → IsStart (wanted_in old.world) old.world shape pairs → ⊥ = λ shape pairs start.
+    let here = subst (λ (s : Shape). IsStart s old.world shape pairs) asks.wanted_is start in
+    subst IsPlainOpen err (c.in-Err-Store-BadPage.ensures.refused t says_nothing shape pairs (can_begin wanted old.world shape pairs here) (few_numbers wanted old.world shape pairs here) alike) in
+    let cause = subst (HasOpenCause wanted (in_force (image_of old.world)) old.world mid.world) err (c.in-Err-Store-BadPage.ensures.bad t) in
+    let bad : NamesBadOpening old.world mid.world (fault_page page) =
+    subst (λ (s : Shape). NamesBadFor s old.world mid.world (fault_page page)) (sym asks.wanted_is) (inr (page, cause, refl)) in
+    damaged_run old mid new outcome.status outcome.lines outcome.order.items (fault_page page) (asks.fault_is ∙ alike) unsound only bad
+    (subst (λ s. (s ≡ Damaged) ⊎ (s ≡ Failed) ⊎ (s ≡ Memory)) (sym c.without-in-Err-Store-BadPage.ensures.status) printed.ensures.cases) (λ e. printed.ensures.damaged t (sym c.without-in-Err-Store-BadPage.ensures.status ∙ e)) c.without-in-Err-Store-BadPage.ensures.lines c.without-in-Err-Store-BadPage.ensures.order
+
+pub returns-in-Err-Store-BadPage-clause-crash : goal.returns-in-Err-Store-BadPage-clause-crash
+returns-in-Err-Store-BadPage-clause-crash g c t shape pairs start =
+    let old = g.H.Device.history c.args.host.now in
+    let mid = g.H.Device.history c.open_store.new.host in
+    let wanted = c.args.config.now.shape in
+    let asks = c.requires.asked t in
+    let only = at_last old mid (ChangesDisk old.world) (g.H.Device.sound c.open_store.new.host t) (c.open_store.ensures.disk t) in
+    let printed = c.print_page_fault in
+    let new = g.H.Device.history printed.new.host in
+    let outcome = c.without-in-Err-Store-BadPage.result in
+    let page = c.in-Err-Store-BadPage.page in
+    let err = c.in-Err-Store-BadPage.field-0-is ∙ ap opening.Store c.in-Err-Store-BadPage.field-0-0-is in
+    let alike : shape_fault wanted old.world ≡ None = subst (ComparesShape (shape_fault wanted old.world)) err (c.in-Err-Store-BadPage.ensures.compared t).fault in
+    let unsound : (shape : Shape) (pairs : Pairs) → IsStart (wanted_in old.world) old.world shape pairs → ⊥ = λ shape pairs start.
+    let here = subst (λ (s : Shape). IsStart s old.world shape pairs) asks.wanted_is start in
+    subst IsPlainOpen err (c.in-Err-Store-BadPage.ensures.refused t says_nothing shape pairs (can_begin wanted old.world shape pairs here) (few_numbers wanted old.world shape pairs here) alike) in
+    absurd (unsound shape pairs start)
+
+pub returns-in-Err-Store-BadPage-clause-config : goal.returns-in-Err-Store-BadPage-clause-config
+returns-in-Err-Store-BadPage-clause-config g c t =
+    let old = g.H.Device.history c.args.host.now in
+    let mid = g.H.Device.history c.open_store.new.host in
+    let wanted = c.args.config.now.shape in
+    let asks = c.requires.asked t in
+    let only = at_last old mid (ChangesDisk old.world) (g.H.Device.sound c.open_store.new.host t) (c.open_store.ensures.disk t) in
+    let printed = c.print_page_fault in
+    let new = g.H.Device.history printed.new.host in
+    config_then old mid new (g.H.Device.sound c.open_store.new.host t) (config_disk old mid (c.open_store.ensures.disk t)) (config_say (fault_page c.in-Err-Store-BadPage.page) mid new (printed.ensures.moments t))

@@ -3,12 +3,12 @@ use Rattle.std.specs.Prelude.{codes, ◌++◌}
 use Rattle.pm_disk.specs.Worlds.{World}
 use Rattle.pm_disk.proofs.Chain.{at_last}
 use Rattle.pm_config.specs.Names.{name_of}
-use Rattle.pm_engine.specs.Openings.{IsSame}
+use Rattle.pm_redo.specs.Rebuilding.{IsSame}
 use Rattle.pm_top.specs.Configurations.{AsksFor, config_fault, fault_config}
-use Rattle.pm_top.proofs.KeptFiles.{same_calls, say_calls, then_calls}
+use Rattle.pm_top.proofs.KeptConfigs.{config_same, config_say, config_then}
 use Rattle.pm_top.proofs.Opened.{crash_from, kept_moments, refused_moments}
 use Rattle.pm_top.proofs.Orders.{none_with_c}
-use Rattle.pm_top.proofs.Refusing.{AnswersNone, field_refused_run, idle_run, run_from, same_log}
+use Rattle.pm_top.proofs.Refusing.{AnswersNone, field_refused_run, idle_run, run_from, same_disk}
 use Rattle.pm_top.proofs.call.run_configured.Goals as goal
 
 pub run-requires-clause-asked : goal.run-requires-clause-asked
@@ -36,13 +36,13 @@ returns-in-Ok-clause-crash g c t =
     let same : mid.world ≡ old.world = at_last old mid (IsSame old.world) (g.H.Device.sound c.read_config.new.host t) first in
     crash_from old mid (g.H.Device.history c.run.new.host) c.run.result.order.items first same (c.run.ensures.crash t)
 
-pub returns-in-Ok-clause-files : goal.returns-in-Ok-clause-files
-returns-in-Ok-clause-files g c t =
+pub returns-in-Ok-clause-config : goal.returns-in-Ok-clause-config
+returns-in-Ok-clause-config g c t =
     let old = g.H.Device.history c.args.host.now in
     let mid = g.H.Device.history c.read_config.new.host in
     let first = c.read_config.ensures.same t in
     let same : mid.world ≡ old.world = at_last old mid (IsSame old.world) (g.H.Device.sound c.read_config.new.host t) first in
-    then_calls old mid (g.H.Device.history c.run.new.host) (g.H.Device.sound c.read_config.new.host t) (same_calls old mid first) (c.run.ensures.files t)
+    config_then old mid (g.H.Device.history c.run.new.host) (g.H.Device.sound c.read_config.new.host t) (config_same old mid first) (c.run.ensures.config t)
 
 pub returns-in-Err-Failed-clause-run : goal.returns-in-Err-Failed-clause-run
 returns-in-Err-Failed-clause-run g c t =
@@ -51,7 +51,7 @@ returns-in-Err-Failed-clause-run g c t =
     let first = c.read_config.ensures.same t in
     let same : mid.world ≡ old.world = at_last old mid (IsSame old.world) (g.H.Device.sound c.read_config.new.host t) first in
     let outcome = c.without.result in
-    idle_run old mid outcome.status outcome.lines outcome.order.items (inl c.without.ensures.status) (ap (λ (w : World). w.said) same) c.without.ensures.lines c.without.ensures.order (λ _. same_log old mid first)
+    idle_run old mid outcome.status outcome.lines outcome.order.items (inl c.without.ensures.status) (ap (λ (w : World). w.said) same) c.without.ensures.lines c.without.ensures.order (λ _ _. same_disk old mid first)
 
 pub returns-in-Err-Failed-clause-crash : goal.returns-in-Err-Failed-clause-crash
 returns-in-Err-Failed-clause-crash g c t =
@@ -61,13 +61,13 @@ returns-in-Err-Failed-clause-crash g c t =
     let same : mid.world ≡ old.world = at_last old mid (IsSame old.world) (g.H.Device.sound c.read_config.new.host t) first in
     kept_moments old mid c.without.result.order.items first
 
-pub returns-in-Err-Failed-clause-files : goal.returns-in-Err-Failed-clause-files
-returns-in-Err-Failed-clause-files g c t =
+pub returns-in-Err-Failed-clause-config : goal.returns-in-Err-Failed-clause-config
+returns-in-Err-Failed-clause-config g c t =
     let old = g.H.Device.history c.args.host.now in
     let mid = g.H.Device.history c.read_config.new.host in
     let first = c.read_config.ensures.same t in
     let same : mid.world ≡ old.world = at_last old mid (IsSame old.world) (g.H.Device.sound c.read_config.new.host t) first in
-    same_calls old mid first
+    config_same old mid first
 
 pub returns-in-Err-Memory-clause-run : goal.returns-in-Err-Memory-clause-run
 returns-in-Err-Memory-clause-run g c t =
@@ -76,7 +76,7 @@ returns-in-Err-Memory-clause-run g c t =
     let first = c.read_config.ensures.same t in
     let same : mid.world ≡ old.world = at_last old mid (IsSame old.world) (g.H.Device.sound c.read_config.new.host t) first in
     let outcome = c.without-in-Err-Memory.result in
-    idle_run old mid outcome.status outcome.lines outcome.order.items (inr c.without-in-Err-Memory.ensures.status) (ap (λ (w : World). w.said) same) c.without-in-Err-Memory.ensures.lines c.without-in-Err-Memory.ensures.order (λ _. same_log old mid first)
+    idle_run old mid outcome.status outcome.lines outcome.order.items (inr c.without-in-Err-Memory.ensures.status) (ap (λ (w : World). w.said) same) c.without-in-Err-Memory.ensures.lines c.without-in-Err-Memory.ensures.order (λ _ _. same_disk old mid first)
 
 pub returns-in-Err-Memory-clause-crash : goal.returns-in-Err-Memory-clause-crash
 returns-in-Err-Memory-clause-crash g c t =
@@ -86,13 +86,13 @@ returns-in-Err-Memory-clause-crash g c t =
     let same : mid.world ≡ old.world = at_last old mid (IsSame old.world) (g.H.Device.sound c.read_config.new.host t) first in
     kept_moments old mid c.without-in-Err-Memory.result.order.items first
 
-pub returns-in-Err-Memory-clause-files : goal.returns-in-Err-Memory-clause-files
-returns-in-Err-Memory-clause-files g c t =
+pub returns-in-Err-Memory-clause-config : goal.returns-in-Err-Memory-clause-config
+returns-in-Err-Memory-clause-config g c t =
     let old = g.H.Device.history c.args.host.now in
     let mid = g.H.Device.history c.read_config.new.host in
     let first = c.read_config.ensures.same t in
     let same : mid.world ≡ old.world = at_last old mid (IsSame old.world) (g.H.Device.sound c.read_config.new.host t) first in
-    same_calls old mid first
+    config_same old mid first
 
 pub returns-in-Err-Refused-clause-run : goal.returns-in-Err-Refused-clause-run
 returns-in-Err-Refused-clause-run g c t =
@@ -118,8 +118,8 @@ returns-in-Err-Refused-clause-crash g c t =
     let outcome = c.without-in-Err-Refused.result in
     crash_from old mid new outcome.order.items first same (refused_moments mid new outcome.order.items 99 (codes "onfig " ++ name_of c.in-Err-Refused.field ++ codes "\n") none_with_c (printed.ensures.moments t))
 
-pub returns-in-Err-Refused-clause-files : goal.returns-in-Err-Refused-clause-files
-returns-in-Err-Refused-clause-files g c t =
+pub returns-in-Err-Refused-clause-config : goal.returns-in-Err-Refused-clause-config
+returns-in-Err-Refused-clause-config g c t =
     let old = g.H.Device.history c.args.host.now in
     let mid = g.H.Device.history c.read_config.new.host in
     let first = c.read_config.ensures.same t in
@@ -127,4 +127,4 @@ returns-in-Err-Refused-clause-files g c t =
     let printed = c.print_config_fault in
     let new = g.H.Device.history printed.new.host in
     let outcome = c.without-in-Err-Refused.result in
-    then_calls old mid new (g.H.Device.sound c.read_config.new.host t) (same_calls old mid first) (say_calls (fault_config c.in-Err-Refused.field) mid new (printed.ensures.moments t))
+    config_then old mid new (g.H.Device.sound c.read_config.new.host t) (config_same old mid first) (config_say (fault_config c.in-Err-Refused.field) mid new (printed.ensures.moments t))

@@ -1,4 +1,4 @@
-use Rattle.std.proofs.Common.{◌≡◌, sym, subst}
+use Rattle.std.proofs.Common.{sym, subst}
 use Rattle.std.specs.Prelude.{map, string_bytes}
 use Rattle.pm_top.specs.Commands.{CommandCompletes}
 use Rattle.pm_top.specs.Words.{command_in}

@@ -1,4 +1,4 @@
-use Rattle.std.proofs.Common.{rules, ◌≡◌, ◌+◌, ◌∙◌, ℕ, Err, None, Some, inr, sym, ap, subst}
+use Rattle.std.proofs.Common.{rules, ◌≡◌, ◌+◌, ◌∙◌, Err, None, Some, inr, sym, ap, subst}
 use Rattle.std.specs.Prelude.{IsErrOf, IfErr, IfOk}
 use Rattle.pm_types.specs.declared.fault.OpenFault.TheVariants as opening
 use Rattle.pm_types.specs.declared.fault.StoreFault.TheVariants.{BadPage, BadRecord}
@@ -6,20 +6,38 @@ use Rattle.pm_types.specs.declared.place.Place.{Place}
 use Rattle.pm_types.specs.declared.shape.Shape.{Shape}
 use Rattle.pm_disk.specs.Moments.{AllMoments}
 use Rattle.pm_disk.specs.Worlds.{World}
-use Rattle.pm_disk.proofs.Chain.{joined}
+use Rattle.pm_disk.proofs.Chain.{at_last, joined}
 use Rattle.pm_records.specs.LogFiles.{contents}
-use Rattle.pm_marks.specs.InForce.{number_in, replay_of}
+use Rattle.pm_marks.specs.InForce.{replay_of}
 use Rattle.pm_core.proofs.OnlyDisk.{then_disk}
 use Rattle.pm_core.specs.BasePages.{Partitions}
+use Rattle.pm_core.specs.Calls.{ChangesDisk}
 use Rattle.pm_core.specs.Held.{in_force}
 use Rattle.pm_core.specs.LogAlone.{image_of}
 use Rattle.pm_redo.specs.Loading.{IsBadBase}
 use Rattle.pm_redo.specs.LogEnds.{LogEndsAt}
-use Rattle.pm_engine.specs.PagedEngines.{PagedRunning, number_of}
-use Rattle.pm_engine.specs.PagedOpenings.{loaded_base, restored_base, IsBadOver, IsPlainOpen, OpensRunning, CrashHoldsWithin, opened_last}
-use Rattle.pm_engine.proofs.PagedOpened.{restore_cause, leaves_passed, compares_failed, open_cause, compared_store, plain_open, field_named, restored_is, never_bad_record, holding, shape_is, number_mark, restore_moments, within_moments}
-use Rattle.pm_engine.proofs.ReplayStarts.{holds_map}
+use Rattle.pm_redo.specs.Restoring.{KeepsBase}
+use Rattle.pm_engine.specs.PagedEngines.{PagedRunning}
+use Rattle.pm_engine.specs.PagedOpenings.{loaded_base, restored_base, IsBadOver, IsPlainOpen, OpensRunning, opened_last, opened_number}
+use Rattle.pm_engine.specs.PagedReplays.{CrashHoldsMap}
+use Rattle.pm_engine.proofs.PagedOpened.{restore_cause, leaves_passed, compares_failed, none_differs, open_cause, compared_store, plain_open, field_named, restored_is, never_bad_record, opens_map, holding, shape_is, restore_moments}
 use Rattle.pm_engine.proofs.paged_engine.PagedEngine.open_store.Goals as goal
+
+pub returns-in-Ok-clause-fresh : goal.returns-in-Ok-clause-fresh
+returns-in-Ok-clause-fresh g c =
+    let old = g.H.Device.history c.args.host.now in
+    let mid = g.H.Device.history c.restore.new.host in
+    let fresh = c.in-Ok.ensures.fresh in (
+      fresh.0,
+      fresh.1,
+      λ t.
+          let made = fresh.2 t in
+          let only = c.in_ok-base.ensures.only t in
+          record {
+            ends = made.0;
+            opens = opens_map c.args.config.now.shape (in_force (image_of old.world)) old.world mid.world c.in_ok-base.base c.in-Ok.engine.map.pairs (c.in_ok-base.ensures.base.1 t) (at_last old mid (ChangesDisk old.world) (g.H.Device.sound c.restore.new.host t) only.disk) only.base made.1;
+          },
+    )
 
 pub returns-in_err-base-clause-bad : goal.returns-in_err-base-clause-bad
 returns-in_err-base-clause-bad g c t =
@@ -58,12 +76,21 @@ returns-in_err-base-clause-within g c t told shape pairs can few =
 pub returns-in_err-base-clause-compared : goal.returns-in_err-base-clause-compared
 returns-in_err-base-clause-compared g c t =
     compares_failed _ c.restore.result c.from_residual.result _ c.in_err-base.was c.from_residual.ensures.0 (search rules) (c.restore.ensures.compared t)
+    (g.H.Device.history c.args.host.now) (g.H.Device.history c.restore.new.host) (c.restore.ensures.only t).differing
 
 pub returns-in-Err-clause-compared : goal.returns-in-Err-clause-compared
-returns-in-Err-clause-compared g c t = record { fault = compared_store c.args.config.now.shape _ c.in-Err.fault (c.in_ok-base.ensures.alike t); alike = tt }
+returns-in-Err-clause-compared g c t = record {
+  fault = compared_store c.args.config.now.shape _ c.in-Err.fault (c.in_ok-base.ensures.alike t);
+  alike = tt;
+  differing = none_differs _ (g.H.Device.history c.args.host.now) (g.H.Device.history c.open_base.new.host) (c.in_ok-base.ensures.alike t);
+}
 
 pub returns-in-Ok-clause-compared : goal.returns-in-Ok-clause-compared
-returns-in-Ok-clause-compared g c t = record { fault = tt; alike = c.in_ok-base.ensures.alike t }
+returns-in-Ok-clause-compared g c t = record {
+  fault = tt;
+  alike = c.in_ok-base.ensures.alike t;
+  differing = none_differs _ (g.H.Device.history c.args.host.now) (g.H.Device.history c.open_base.new.host) (c.in_ok-base.ensures.alike t);
+}
 
 pub returns-in_err-base-clause-disk : goal.returns-in_err-base-clause-disk
 returns-in_err-base-clause-disk g c t = (c.restore.ensures.only t).disk
@@ -85,16 +112,22 @@ returns-in-Err-clause-bad g c t =
     let base = c.in_ok-base.base in
     let checkpoint = in_force (image_of old.world) in
     let is_base = c.in_ok-base.ensures.base.1 t in
+    let keeps = (c.in_ok-base.ensures.only t).base in
     open_cause wanted checkpoint old.world new.world c.in-Err.fault
     (λ id is.
     let load = c.open_base.ensures.bad_page t id (c.in-Err.is ∙ ap Err is) in
-    subst (λ (p : Partitions). IsBadBase wanted p id) (ap (λ (w : World). loaded_base base.mark w) (sym load.same) ∙ restored_is checkpoint base.mark new.world is_base.mark) load.bad)
+    record {
+      keeps = subst (λ (w : World). KeepsBase checkpoint old.world w) (sym load.same) keeps;
+      bad = subst (λ (p : Partitions). IsBadBase wanted p id) (ap (λ (w : World). loaded_base base.mark w) (sym load.same) ∙ restored_is checkpoint base.mark new.world is_base.mark) load.bad;
+    })
     (λ at is.
     let over = c.open_base.ensures.bad_record t at (c.in-Err.is ∙ ap Err is) in
     inr (
       base.log_end,
       subst (λ (p : Place). LogEndsAt (contents old.world.log) p base.log_end) is_base.replay is_base.ends,
-      subst (λ (q : Partitions × Place). IsBadOver wanted q.0 q.1 base.log_end new.world at) {x = (loaded_base base.mark new.world, base.replay)} {y = (restored_base checkpoint new.world, replay_of checkpoint)} (λ i. (restored_is checkpoint base.mark new.world is_base.mark i, is_base.replay i)) over,
+      mid.world,
+      keeps,
+      subst (λ (q : Partitions × Place). IsBadOver wanted q.0 q.1 base.log_end new.world at) {x = (loaded_base base.mark mid.world, base.replay)} {y = (restored_base checkpoint mid.world, replay_of checkpoint)} (λ i. (restored_is checkpoint base.mark mid.world is_base.mark i, is_base.replay i)) over,
     ))
 
 pub returns-in-Err-clause-refused : goal.returns-in-Err-clause-refused
@@ -104,7 +137,7 @@ returns-in-Err-clause-refused g c t told shape pairs can few same =
     let wanted = c.args.config.now.shape in
     let base = c.in_ok-base.ensures.base in
     let held = holding wanted told shape pairs old mid can few c.requires.wanted c.in_ok-base.base base.0 (base.1 t) (c.in_ok-base.ensures.alike t) (c.in_ok-base.ensures.restored t told shape pairs can) in
-    subst (λ r. IfErr r (λ fault. IsPlainOpen (opening.Store fault))) c.in-Err.is (c.open_base.ensures.holds t (opened_last can) pairs (holds_map (opened_last can) wanted told wanted pairs c.in_ok-base.base.log c.in_ok-base.base.mark held.0 mid.world held.1 base.0.marked c.in_ok-base.base.replay c.in_ok-base.base.log_end base.0.replay base.0.ends)).plain
+    subst (λ r. IfErr r (λ fault. IsPlainOpen (opening.Store fault))) c.in-Err.is (c.open_base.ensures.plain t (opened_last can) (opened_number can) wanted told pairs held.0 held.1)
 
 pub returns-in-Err-clause-within : goal.returns-in-Err-clause-within
 returns-in-Err-clause-within g c t told shape pairs can few =
@@ -116,9 +149,9 @@ returns-in-Err-clause-within g c t told shape pairs can few =
     let alike = c.in_ok-base.ensures.alike t in
     let held = holding wanted told shape pairs old mid can few c.requires.wanted c.in_ok-base.base base.0 (base.1 t) alike (c.in_ok-base.ensures.restored t told shape pairs can) in
     let its = shape_is wanted told shape pairs old mid can few c.requires.wanted c.in_ok-base.base base.0 (base.1 t) alike in
-    joined old mid new (CrashHoldsWithin (opened_last can + 1) wanted shape pairs) (restore_moments wanted told shape pairs old mid can few c.requires.wanted (c.restore.ensures.within t told shape pairs can))
-    (subst (λ (k : Shape). AllMoments mid new (CrashHoldsWithin (opened_last can + 1) wanted k pairs)) (sym its)
-    (within_moments (opened_last can + 1) (number_of c.in_ok-base.base.mark) wanted wanted pairs mid new (c.open_base.ensures.within t (opened_last can) wanted told pairs held.0 held.1)))
+    joined old mid new (CrashHoldsMap (opened_last can + 1) (opened_number can) wanted shape pairs) (restore_moments wanted told shape pairs old mid can few c.requires.wanted (c.restore.ensures.within t told shape pairs can))
+    (subst (λ (k : Shape). AllMoments mid new (CrashHoldsMap (opened_last can + 1) (opened_number can) wanted k pairs)) (sym its)
+    (c.open_base.ensures.within t (opened_last can) (opened_number can) wanted told pairs held.0 held.1))
 
 pub returns-in-Ok-clause-within : goal.returns-in-Ok-clause-within
 returns-in-Ok-clause-within g c t told shape pairs can few =
@@ -130,9 +163,9 @@ returns-in-Ok-clause-within g c t told shape pairs can few =
     let alike = c.in_ok-base.ensures.alike t in
     let held = holding wanted told shape pairs old mid can few c.requires.wanted c.in_ok-base.base base.0 (base.1 t) alike (c.in_ok-base.ensures.restored t told shape pairs can) in
     let its = shape_is wanted told shape pairs old mid can few c.requires.wanted c.in_ok-base.base base.0 (base.1 t) alike in
-    joined old mid new (CrashHoldsWithin (opened_last can + 1) wanted shape pairs) (restore_moments wanted told shape pairs old mid can few c.requires.wanted (c.restore.ensures.within t told shape pairs can))
-    (subst (λ (k : Shape). AllMoments mid new (CrashHoldsWithin (opened_last can + 1) wanted k pairs)) (sym its)
-    (within_moments (opened_last can + 1) (number_of c.in_ok-base.base.mark) wanted wanted pairs mid new (c.open_base.ensures.within t (opened_last can) wanted told pairs held.0 held.1)))
+    joined old mid new (CrashHoldsMap (opened_last can + 1) (opened_number can) wanted shape pairs) (restore_moments wanted told shape pairs old mid can few c.requires.wanted (c.restore.ensures.within t told shape pairs can))
+    (subst (λ (k : Shape). AllMoments mid new (CrashHoldsMap (opened_last can + 1) (opened_number can) wanted k pairs)) (sym its)
+    (c.open_base.ensures.within t (opened_last can) (opened_number can) wanted told pairs held.0 held.1))
 
 pub returns-in-Ok-clause-opened : goal.returns-in-Ok-clause-opened
 returns-in-Ok-clause-opened g c t told shape pairs can few =
@@ -144,9 +177,6 @@ returns-in-Ok-clause-opened g c t told shape pairs can few =
     let alike = c.in_ok-base.ensures.alike t in
     let held = holding wanted told shape pairs old mid can few c.requires.wanted c.in_ok-base.base base.0 (base.1 t) alike (c.in_ok-base.ensures.restored t told shape pairs can) in
     let its = shape_is wanted told shape pairs old mid can few c.requires.wanted c.in_ok-base.base base.0 (base.1 t) alike in
-    let checkpoint = in_force (image_of old.world) in
-    let mark = c.in_ok-base.base.mark in
-    let number : number_of mark ≡ number_in checkpoint = ap number_of (base.1 t).mark ∙ number_mark checkpoint in
-    subst (λ (q : Shape × ℕ). OpensRunning (opened_last can) q.1 wanted told q.0 pairs c.in-Ok.engine new.world) {x = (wanted, number_of mark)} {y = (shape, number_in checkpoint)} (λ i. (sym its i, number i))
-    (subst (λ r. IfOk r (λ (engine : PagedRunning). OpensRunning (opened_last can) (number_of mark) wanted told wanted pairs engine new.world)) c.in-Ok.is
-    (c.open_base.ensures.opened t (opened_last can) wanted told pairs held.0 held.1))
+    subst (λ (k : Shape). OpensRunning (opened_last can) (opened_number can) wanted told k pairs c.in-Ok.engine new.world) (sym its)
+    (subst (λ r. IfOk r (λ (engine : PagedRunning). OpensRunning (opened_last can) (opened_number can) wanted told wanted pairs engine new.world)) c.in-Ok.is
+    (c.open_base.ensures.opened t (opened_last can) (opened_number can) wanted told pairs held.0 held.1))

@@ -14,7 +14,7 @@ use Rattle.pm_engine.specs.PagedMaps.{PagedStore, pages_of_lists}
 use Rattle.pm_engine.specs.Records.{record_of_line, IsPayloadOf}
 use Rattle.pm_engine.specs.RunningLines.{HasRun, CrashHoldsLines}
 use Rattle.pm_engine.specs.RunningStores.{HasSegmentsFor}
-use Rattle.pm_engine.proofs.DoneLines.{logs_line}
+use Rattle.pm_engine.proofs.LoggedLines.{logs_line}
 use Rattle.pm_engine.proofs.PagedCalls.{fault_is, room_kept, call_crash, call_goes_on, call_rises, call_names, call_lines}
 use Rattle.pm_engine.proofs.PagedCalls.{does_accepted, does_refused, does_failed, does_nothing, goes_on_same, same_store}
 use Rattle.pm_engine.proofs.PagedCalls.{refused_lines, refused_crash, nothing_crash}

@@ -1,4 +1,4 @@
-use Rattle.std.proofs.Common.{rules, ◌≡◌, ℕ, ◌+◌, ◌≤◌, ◌++◌, List, [], length, refl, sym, ap, ◌∙◌, subst, arith, append_assoc, append-nil, length-append}
+use Rattle.std.proofs.Common.{rules, ◌≡◌, ◌+◌, ◌≤◌, ◌++◌, List, [], length, refl, sym, ap, ◌∙◌, subst, arith, append_assoc, append-nil, length-append}
 use Rattle.std.specs.Prelude.{IsErrOf}
 use Rattle.pm_types.specs.declared.fault.StoreFault.TheVariants.{Failed, Memory}
 use Rattle.pm_disk.proofs.Chain.{at_last}
@@ -6,14 +6,13 @@ use Rattle.pm_disk.specs.Worlds.{World}
 use Rattle.pm_model.specs.declared.line.Line.{Line}
 use Rattle.pm_segments.specs.Ends.{EndsThere}
 use Rattle.pm_script.specs.Reading.{rest_of, OnlyTakes}
-use Rattle.pm_engine.specs.Engines.{HasSegments}
-use Rattle.pm_top.specs.Runs.{IsAtRestSince, Progress, OnlyAnswers}
+use Rattle.pm_top.specs.Runs.{Progress, OnlyAnswers}
 use Rattle.pm_top.specs.Scripts.{ContinuationIs}
 use Rattle.pm_top.specs.Served.{script_of}
-use Rattle.pm_top.proofs.AnsweredLines.{taken_stands}
-use Rattle.pm_top.proofs.KeptLogs.{keep_answers, keep_take, keep_then}
+use Rattle.pm_top.proofs.AnsweredLines.{taken_stands, takes_both, within_fewer, within_left}
+use Rattle.pm_top.proofs.KeptConfigs.{config_answers, config_take, config_then}
 use Rattle.pm_top.proofs.Progressing.{failed_still, memory_still, progress_still}
-use Rattle.pm_top.proofs.AnsweredBatch.{keeps_both, taken_said, taken_moments, then_moments, since_both, since_taken}
+use Rattle.pm_top.proofs.AnsweredBatch.{keeps_both, taken_said, taken_moments, then_moments}
 use Rattle.pm_top.proofs.run.Run.answer_batch.Goals as goal
 
 pub answer_lines-requires-clause-end : goal.answer_lines-requires-clause-end
@@ -37,8 +36,8 @@ returns-in_err-batch-clause-fault g c t start shape pairs progress =
     record { failed = λ _. failed_still progress mid.world same; memory = λ _. memory_still progress mid.world same }
 
 pub returns-in_err-batch-clause-moments : goal.returns-in_err-batch-clause-moments
-returns-in_err-batch-clause-moments g c t wanted start shape pairs progress stands segments =
-    taken_moments wanted (g.H.Device.history c.args.host.now) (g.H.Device.history c.next_batch.new.host) progress stands (c.next_batch.ensures.takes t)
+returns-in_err-batch-clause-moments g c t wanted last number start shape pairs progress rest within =
+    taken_moments wanted last number 2048 (g.H.Device.history c.args.host.now) (g.H.Device.history c.next_batch.new.host) progress within rest (c.next_batch.ensures.takes t)
 
 pub returns-in_err-answer_lines-clause-keeps : goal.returns-in_err-answer_lines-clause-keeps
 returns-in_err-answer_lines-clause-keeps g c =
@@ -63,7 +62,7 @@ returns-in_err-answer_lines-clause-fault g c t start shape pairs progress =
     }
 
 pub returns-in_err-answer_lines-clause-moments : goal.returns-in_err-answer_lines-clause-moments
-returns-in_err-answer_lines-clause-moments g c t wanted start shape pairs progress stands segments =
+returns-in_err-answer_lines-clause-moments g c t wanted last number start shape pairs progress rest within =
     let old = g.H.Device.history c.args.host.now in
     let mid = g.H.Device.history c.next_batch.new.host in
     let takes = at_last old mid (OnlyTakes old.world) (g.H.Device.sound c.next_batch.new.host t) (c.next_batch.ensures.takes t) in
@@ -75,10 +74,10 @@ returns-in_err-answer_lines-clause-moments g c t wanted start shape pairs progre
     let first : Progress start mid.world (c.deref.result.now ++ (batch.alone.items ++ left)) shape pairs c.args.self.now =
     progress_still (subst (λ ls. Progress start old.world ls shape pairs c.args.self.now) parted progress) mid.world (taken_said old.world mid.world takes) in
     let lines_few : length c.deref.result.now ≤ 1024 = omega (arith, c.in_ok-batch.ensures.batch.few, ap (λ (l : List Line). length l) c.deref.ensures.value) in
-    let stands_taken = taken_stands wanted c.args.self.now.engine old.world mid.world takes stands in
-    let one : HasSegments c.args.self.now.engine (length c.deref.result.now) = omega (arith, lines_few, segments) in
-    let so_far = then_moments wanted start shape pairs old mid (g.H.Device.history c.answer_lines.new.host) c.args.self.now.engine.order c.answer_lines.ensures.keeps.more c.answer_lines.new.self.engine.order c.answer_lines.ensures.keeps.order
-    (taken_moments wanted old mid progress stands (c.next_batch.ensures.takes t)) (c.answer_lines.ensures.moments t wanted start (batch.alone.items ++ left) shape pairs first stands_taken one) in
+    let stands_taken = taken_stands wanted c.args.self.now.engine old.world mid.world takes rest in
+    let one = within_fewer last number 2048 (length c.deref.result.now) c.args.self.now.engine (omega (arith, lines_few)) within in
+    let so_far = then_moments wanted last number start shape pairs old mid (g.H.Device.history c.answer_lines.new.host) c.args.self.now.engine.order c.answer_lines.ensures.keeps.more c.answer_lines.new.self.engine.order c.answer_lines.ensures.keeps.order
+    (taken_moments wanted last number 2048 old mid progress within rest (c.next_batch.ensures.takes t)) (c.answer_lines.ensures.moments t wanted last number start (batch.alone.items ++ left) shape pairs first stands_taken one) in
     so_far
 
 pub returns-in_err-answer_lines-2-clause-keeps : goal.returns-in_err-answer_lines-2-clause-keeps
@@ -107,7 +106,7 @@ returns-in_err-answer_lines-2-clause-fault g c t start shape pairs progress =
     }
 
 pub returns-in_err-answer_lines-2-clause-moments : goal.returns-in_err-answer_lines-2-clause-moments
-returns-in_err-answer_lines-2-clause-moments g c t wanted start shape pairs progress stands segments =
+returns-in_err-answer_lines-2-clause-moments g c t wanted last number start shape pairs progress rest within =
     let old = g.H.Device.history c.args.host.now in
     let mid = g.H.Device.history c.next_batch.new.host in
     let takes = at_last old mid (OnlyTakes old.world) (g.H.Device.sound c.next_batch.new.host t) (c.next_batch.ensures.takes t) in
@@ -119,18 +118,19 @@ returns-in_err-answer_lines-2-clause-moments g c t wanted start shape pairs prog
     let first : Progress start mid.world (c.deref.result.now ++ (batch.alone.items ++ left)) shape pairs c.args.self.now =
     progress_still (subst (λ ls. Progress start old.world ls shape pairs c.args.self.now) parted progress) mid.world (taken_said old.world mid.world takes) in
     let lines_few : length c.deref.result.now ≤ 1024 = omega (arith, c.in_ok-batch.ensures.batch.few, ap (λ (l : List Line). length l) c.deref.ensures.value) in
-    let stands_taken = taken_stands wanted c.args.self.now.engine old.world mid.world takes stands in
-    let one : HasSegments c.args.self.now.engine (length c.deref.result.now) = omega (arith, lines_few, segments) in
-    let so_far = then_moments wanted start shape pairs old mid (g.H.Device.history c.answer_lines.new.host) c.args.self.now.engine.order c.answer_lines.ensures.keeps.more c.answer_lines.new.self.engine.order c.answer_lines.ensures.keeps.order
-    (taken_moments wanted old mid progress stands (c.next_batch.ensures.takes t)) (c.answer_lines.ensures.moments t wanted start (batch.alone.items ++ left) shape pairs first stands_taken one) in
+    let stands_taken = taken_stands wanted c.args.self.now.engine old.world mid.world takes rest in
+    let one = within_fewer last number 2048 (length c.deref.result.now) c.args.self.now.engine (omega (arith, lines_few)) within in
+    let so_far = then_moments wanted last number start shape pairs old mid (g.H.Device.history c.answer_lines.new.host) c.args.self.now.engine.order c.answer_lines.ensures.keeps.more c.answer_lines.new.self.engine.order c.answer_lines.ensures.keeps.order
+    (taken_moments wanted last number 2048 old mid progress within rest (c.next_batch.ensures.takes t)) (c.answer_lines.ensures.moments t wanted last number start (batch.alone.items ++ left) shape pairs first stands_taken one) in
     let done = g.H.Device.history c.answer_lines.new.host in
     let second : Progress start done.world (c.deref-2.result.now ++ left) shape pairs c.answer_lines.new.self =
     subst (λ ls. Progress start done.world (ls ++ left) shape pairs c.answer_lines.new.self) (sym c.deref-2.ensures.value) (c.in_ok-answer_lines.ensures.answered t start (batch.alone.items ++ left) shape pairs first).done in
     let alone_few : length c.deref-2.result.now ≤ 1 = omega (arith, c.in_ok-batch.ensures.batch.one, ap (λ (l : List Line). length l) c.deref-2.ensures.value) in
-    let since = c.in_ok-answer_lines.ensures.stands t wanted stands_taken one in
-    let two : HasSegments c.answer_lines.new.self.engine (length c.deref-2.result.now) = omega (arith, alone_few, lines_few, segments, since.rises) in
-    then_moments wanted start shape pairs old done (g.H.Device.history c.answer_lines-2.new.host) c.answer_lines.new.self.engine.order c.answer_lines-2.ensures.keeps.more c.answer_lines-2.new.self.engine.order c.answer_lines-2.ensures.keeps.order
-    so_far (c.answer_lines-2.ensures.moments t wanted start left shape pairs second since.stands two)
+    let since = c.in_ok-answer_lines.ensures.stands t wanted last number stands_taken one in
+    let two = within_left last number (length c.deref.result.now) (length c.deref-2.result.now) c.args.self.now.engine c.answer_lines.new.self.engine
+    (within_fewer last number 2048 (length c.deref.result.now + length c.deref-2.result.now) c.args.self.now.engine (omega (arith, alone_few, lines_few)) within) c.in_ok-answer_lines.ensures.counts.numbers in
+    then_moments wanted last number start shape pairs old done (g.H.Device.history c.answer_lines-2.new.host) c.answer_lines.new.self.engine.order c.answer_lines-2.ensures.keeps.more c.answer_lines-2.new.self.engine.order c.answer_lines-2.ensures.keeps.order
+    so_far (c.answer_lines-2.ensures.moments t wanted last number start left shape pairs second since two)
 
 pub returns-clause-keeps : goal.returns-clause-keeps
 returns-clause-keeps g c =
@@ -147,8 +147,8 @@ returns-clause-answered g c t =
     let all = length-append batch.lines.items batch.alone.items in
     let its = c.in_ok-batch.ensures.taken t in
     let input : (g.H.Device.history c.answer_lines-2.new.host).world.input ≡ mid.world.input =
-    (at_last (g.H.Device.history c.answer_lines.new.host) (g.H.Device.history c.answer_lines-2.new.host) (OnlyAnswers (c.answer_lines.new.self.engine.log.end.seg + length c.deref-2.result.now) (g.H.Device.history c.answer_lines.new.host).world) (g.H.Device.sound c.answer_lines-2.new.host t) (c.answer_lines-2.ensures.only_answers t)).input
-    ∙ (at_last mid (g.H.Device.history c.answer_lines.new.host) (OnlyAnswers (c.args.self.now.engine.log.end.seg + length c.deref.result.now) mid.world) (g.H.Device.sound c.answer_lines.new.host t) (c.answer_lines.ensures.only_answers t)).input in
+    (at_last (g.H.Device.history c.answer_lines.new.host) (g.H.Device.history c.answer_lines-2.new.host) (OnlyAnswers (g.H.Device.history c.answer_lines.new.host).world) (g.H.Device.sound c.answer_lines-2.new.host t) (c.answer_lines-2.ensures.only_answers t)).input
+    ∙ (at_last mid (g.H.Device.history c.answer_lines.new.host) (OnlyAnswers mid.world) (g.H.Device.sound c.answer_lines.new.host t) (c.answer_lines.ensures.only_answers t)).input in
     record {
       lines = batch.lines.items ++ batch.alone.items;
       at = its.at;
@@ -166,18 +166,15 @@ returns-clause-answered g c t =
           let second : Progress start done.world (c.deref-2.result.now ++ left) shape pairs c.answer_lines.new.self =
           subst (λ ls. Progress start done.world (ls ++ left) shape pairs c.answer_lines.new.self) (sym c.deref-2.ensures.value) (c.in_ok-answer_lines.ensures.answered t start (batch.alone.items ++ left) shape pairs first).done in
           (c.in_ok-answer_lines-2.ensures.answered t start left shape pairs second).done;
-      stands = λ wanted stands segments.
+      stands = λ wanted last number rest within.
           let lines_few : length c.deref.result.now ≤ 1024 = omega (arith, c.in_ok-batch.ensures.batch.few, one) in
-          let stands_taken = taken_stands wanted c.args.self.now.engine old.world mid.world takes stands in
-          let first_room : HasSegments c.args.self.now.engine (length c.deref.result.now) = omega (arith, lines_few, segments) in
-          let done = (g.H.Device.history c.answer_lines.new.host).world in
-          let new = (g.H.Device.history c.answer_lines-2.new.host).world in
-          let since = c.in_ok-answer_lines.ensures.stands t wanted stands_taken first_room in
-          let second_room : HasSegments c.answer_lines.new.self.engine (length c.deref-2.result.now) = omega (arith, c.in_ok-batch.ensures.batch.one, two, lines_few, segments, since.rises) in
-          let more = c.in_ok-answer_lines-2.ensures.stands t wanted since.stands second_room in
-          subst (λ (x : List Line × List Line). IsAtRestSince wanted c.args.self.now c.answer_lines-2.new.self (x.0 ++ x.1) old.world new) (λ i. (c.deref.ensures.value i, c.deref-2.ensures.value i))
-          (since_both wanted c.args.self.now c.answer_lines.new.self c.answer_lines-2.new.self c.deref.result.now c.deref-2.result.now old.world done new c.answer_lines.ensures.keeps.shape
-          (since_taken wanted c.args.self.now c.answer_lines.new.self c.deref.result.now old.world mid.world done takes since) more);
+          let alone_few : length c.deref-2.result.now ≤ 1 = omega (arith, c.in_ok-batch.ensures.batch.one, two) in
+          let stands_taken = taken_stands wanted c.args.self.now.engine old.world mid.world takes rest in
+          let first_room = within_fewer last number 2048 (length c.deref.result.now) c.args.self.now.engine (omega (arith, lines_few)) within in
+          let since = c.in_ok-answer_lines.ensures.stands t wanted last number stands_taken first_room in
+          let second_room = within_left last number (length c.deref.result.now) (length c.deref-2.result.now) c.args.self.now.engine c.answer_lines.new.self.engine
+          (within_fewer last number 2048 (length c.deref.result.now + length c.deref-2.result.now) c.args.self.now.engine (omega (arith, alone_few, lines_few)) within) c.in_ok-answer_lines.ensures.counts.numbers in
+          c.in_ok-answer_lines-2.ensures.stands t wanted last number since second_room;
     }
 
 pub returns-clause-fault : goal.returns-clause-fault
@@ -200,7 +197,7 @@ returns-clause-fault g c t start shape pairs progress =
     record { failed = λ _. failed_still third new.world refl; memory = λ _. memory_still third new.world refl }
 
 pub returns-clause-moments : goal.returns-clause-moments
-returns-clause-moments g c t wanted start shape pairs progress stands segments =
+returns-clause-moments g c t wanted last number start shape pairs progress rest within =
     let old = g.H.Device.history c.args.host.now in
     let mid = g.H.Device.history c.next_batch.new.host in
     let takes = at_last old mid (OnlyTakes old.world) (g.H.Device.sound c.next_batch.new.host t) (c.next_batch.ensures.takes t) in
@@ -212,18 +209,19 @@ returns-clause-moments g c t wanted start shape pairs progress stands segments =
     let first : Progress start mid.world (c.deref.result.now ++ (batch.alone.items ++ left)) shape pairs c.args.self.now =
     progress_still (subst (λ ls. Progress start old.world ls shape pairs c.args.self.now) parted progress) mid.world (taken_said old.world mid.world takes) in
     let lines_few : length c.deref.result.now ≤ 1024 = omega (arith, c.in_ok-batch.ensures.batch.few, ap (λ (l : List Line). length l) c.deref.ensures.value) in
-    let stands_taken = taken_stands wanted c.args.self.now.engine old.world mid.world takes stands in
-    let one : HasSegments c.args.self.now.engine (length c.deref.result.now) = omega (arith, lines_few, segments) in
-    let so_far = then_moments wanted start shape pairs old mid (g.H.Device.history c.answer_lines.new.host) c.args.self.now.engine.order c.answer_lines.ensures.keeps.more c.answer_lines.new.self.engine.order c.answer_lines.ensures.keeps.order
-    (taken_moments wanted old mid progress stands (c.next_batch.ensures.takes t)) (c.answer_lines.ensures.moments t wanted start (batch.alone.items ++ left) shape pairs first stands_taken one) in
+    let stands_taken = taken_stands wanted c.args.self.now.engine old.world mid.world takes rest in
+    let one = within_fewer last number 2048 (length c.deref.result.now) c.args.self.now.engine (omega (arith, lines_few)) within in
+    let so_far = then_moments wanted last number start shape pairs old mid (g.H.Device.history c.answer_lines.new.host) c.args.self.now.engine.order c.answer_lines.ensures.keeps.more c.answer_lines.new.self.engine.order c.answer_lines.ensures.keeps.order
+    (taken_moments wanted last number 2048 old mid progress within rest (c.next_batch.ensures.takes t)) (c.answer_lines.ensures.moments t wanted last number start (batch.alone.items ++ left) shape pairs first stands_taken one) in
     let done = g.H.Device.history c.answer_lines.new.host in
     let second : Progress start done.world (c.deref-2.result.now ++ left) shape pairs c.answer_lines.new.self =
     subst (λ ls. Progress start done.world (ls ++ left) shape pairs c.answer_lines.new.self) (sym c.deref-2.ensures.value) (c.in_ok-answer_lines.ensures.answered t start (batch.alone.items ++ left) shape pairs first).done in
     let alone_few : length c.deref-2.result.now ≤ 1 = omega (arith, c.in_ok-batch.ensures.batch.one, ap (λ (l : List Line). length l) c.deref-2.ensures.value) in
-    let since = c.in_ok-answer_lines.ensures.stands t wanted stands_taken one in
-    let two : HasSegments c.answer_lines.new.self.engine (length c.deref-2.result.now) = omega (arith, alone_few, lines_few, segments, since.rises) in
-    then_moments wanted start shape pairs old done (g.H.Device.history c.answer_lines-2.new.host) c.answer_lines.new.self.engine.order c.answer_lines-2.ensures.keeps.more c.answer_lines-2.new.self.engine.order c.answer_lines-2.ensures.keeps.order
-    so_far (c.answer_lines-2.ensures.moments t wanted start left shape pairs second since.stands two)
+    let since = c.in_ok-answer_lines.ensures.stands t wanted last number stands_taken one in
+    let two = within_left last number (length c.deref.result.now) (length c.deref-2.result.now) c.args.self.now.engine c.answer_lines.new.self.engine
+    (within_fewer last number 2048 (length c.deref.result.now + length c.deref-2.result.now) c.args.self.now.engine (omega (arith, alone_few, lines_few)) within) c.in_ok-answer_lines.ensures.counts.numbers in
+    then_moments wanted last number start shape pairs old done (g.H.Device.history c.answer_lines-2.new.host) c.answer_lines.new.self.engine.order c.answer_lines-2.ensures.keeps.more c.answer_lines-2.new.self.engine.order c.answer_lines-2.ensures.keeps.order
+    so_far (c.answer_lines-2.ensures.moments t wanted last number start left shape pairs second since two)
 
 pub returns-clause-counted : goal.returns-clause-counted
 returns-clause-counted g c =
@@ -236,63 +234,49 @@ returns-clause-counted g c =
       few = omega (arith, counts.few (omega (arith, c.requires.counted, c.requires.few)), c.requires.counted, c.in_ok-answer_lines.ensures.counts.counted, c.in_ok-answer_lines-2.ensures.counts.counted, one, two, all);
       same = λ is. omega (arith, counts.lines is, c.requires.counted, c.in_ok-answer_lines.ensures.counts.counted, c.in_ok-answer_lines-2.ensures.counts.counted, one, two, all);
       some = λ is. omega (arith, c.in_ok-batch.ensures.batch.some is, c.in_ok-answer_lines.ensures.counts.counted, c.in_ok-answer_lines-2.ensures.counts.counted, one, two, all);
-      rises = omega (arith, c.in_ok-answer_lines.ensures.counts.counted, c.in_ok-answer_lines-2.ensures.counts.counted, c.in_ok-answer_lines.ensures.counts.rises, c.in_ok-answer_lines-2.ensures.counts.rises);
+      is_open = c.in_ok-answer_lines-2.ensures.counts.is_open;
+      more = length c.deref.result.now + length c.deref-2.result.now;
+      lines = omega (arith, c.in_ok-answer_lines.ensures.counts.counted, c.in_ok-answer_lines-2.ensures.counts.counted);
+      numbers = takes_both (length c.deref.result.now) (length c.deref-2.result.now) c.args.self.now.engine c.answer_lines.new.self.engine c.answer_lines-2.new.self.engine
+          c.in_ok-answer_lines.ensures.counts.numbers c.in_ok-answer_lines-2.ensures.counts.numbers;
       room = c.in_ok-answer_lines-2.ensures.counts.room;
     }
 
 pub returns-in_err-batch-clause-open : goal.returns-in_err-batch-clause-open
 returns-in_err-batch-clause-open g c t =
-    let old = g.H.Device.history c.args.host.now in
-    let mid = g.H.Device.history c.next_batch.new.host in
-    record { files = keep_take (c.args.self.now.engine.log.end.seg + 2048) old mid (c.next_batch.ensures.takes t); end = search rules; input_end = search rules }
+    record { config = config_take (g.H.Device.history c.args.host.now) (g.H.Device.history c.next_batch.new.host) (c.next_batch.ensures.takes t); end = search rules; input_end = search rules }
 
 pub returns-in_err-answer_lines-clause-open : goal.returns-in_err-answer_lines-clause-open
 returns-in_err-answer_lines-clause-open g c t =
     let old = g.H.Device.history c.args.host.now in
     let mid = g.H.Device.history c.next_batch.new.host in
     let done = g.H.Device.history c.answer_lines.new.host in
-    let run = c.args.self.now in
-    let most : ℕ = run.engine.log.end.seg + 2048 in
-    let one : ℕ = run.engine.log.end.seg + length c.deref.result.now in
-    let lines_few : length c.deref.result.now ≤ 1024 = omega (arith, c.in_ok-batch.ensures.batch.few, ap (λ (l : List Line). length l) c.deref.ensures.value) in
-    let first = keep_then most most one old mid done (omega arith) (omega (arith, lines_few)) (g.H.Device.sound c.next_batch.new.host t) (keep_take most old mid (c.next_batch.ensures.takes t)) (keep_answers one mid done (c.answer_lines.ensures.only_answers t)) in
-    record { files = first; end = search rules; input_end = search rules }
+    let first = config_then old mid done (g.H.Device.sound c.next_batch.new.host t) (config_take old mid (c.next_batch.ensures.takes t)) (config_answers mid done (c.answer_lines.ensures.only_answers t)) in
+    record { config = first; end = search rules; input_end = search rules }
 
 pub returns-in_err-answer_lines-2-clause-open : goal.returns-in_err-answer_lines-2-clause-open
 returns-in_err-answer_lines-2-clause-open g c t =
     let old = g.H.Device.history c.args.host.now in
     let mid = g.H.Device.history c.next_batch.new.host in
     let done = g.H.Device.history c.answer_lines.new.host in
-    let run = c.args.self.now in
-    let most : ℕ = run.engine.log.end.seg + 2048 in
-    let one : ℕ = run.engine.log.end.seg + length c.deref.result.now in
-    let lines_few : length c.deref.result.now ≤ 1024 = omega (arith, c.in_ok-batch.ensures.batch.few, ap (λ (l : List Line). length l) c.deref.ensures.value) in
-    let first = keep_then most most one old mid done (omega arith) (omega (arith, lines_few)) (g.H.Device.sound c.next_batch.new.host t) (keep_take most old mid (c.next_batch.ensures.takes t)) (keep_answers one mid done (c.answer_lines.ensures.only_answers t)) in
     let new = g.H.Device.history c.answer_lines-2.new.host in
-    let alone_few : length c.deref-2.result.now ≤ 1 = omega (arith, c.in_ok-batch.ensures.batch.one, ap (λ (l : List Line). length l) c.deref-2.ensures.value) in
-    let two : ℕ = c.answer_lines.new.self.engine.log.end.seg + length c.deref-2.result.now in
-    let both = keep_then most most two old done new (omega arith) (omega (arith, lines_few, alone_few, c.in_ok-answer_lines.ensures.counts.rises)) (g.H.Device.sound c.answer_lines.new.host t) first (keep_answers two done new (c.answer_lines-2.ensures.only_answers t)) in
-    record { files = both; end = search rules; input_end = search rules }
+    let first = config_then old mid done (g.H.Device.sound c.next_batch.new.host t) (config_take old mid (c.next_batch.ensures.takes t)) (config_answers mid done (c.answer_lines.ensures.only_answers t)) in
+    let both = config_then old done new (g.H.Device.sound c.answer_lines.new.host t) first (config_answers done new (c.answer_lines-2.ensures.only_answers t)) in
+    record { config = both; end = search rules; input_end = search rules }
 
 pub returns-clause-open : goal.returns-clause-open
 returns-clause-open g c t =
     let old = g.H.Device.history c.args.host.now in
     let mid = g.H.Device.history c.next_batch.new.host in
     let done = g.H.Device.history c.answer_lines.new.host in
-    let run = c.args.self.now in
-    let most : ℕ = run.engine.log.end.seg + 2048 in
-    let one : ℕ = run.engine.log.end.seg + length c.deref.result.now in
-    let lines_few : length c.deref.result.now ≤ 1024 = omega (arith, c.in_ok-batch.ensures.batch.few, ap (λ (l : List Line). length l) c.deref.ensures.value) in
-    let first = keep_then most most one old mid done (omega arith) (omega (arith, lines_few)) (g.H.Device.sound c.next_batch.new.host t) (keep_take most old mid (c.next_batch.ensures.takes t)) (keep_answers one mid done (c.answer_lines.ensures.only_answers t)) in
     let new = g.H.Device.history c.answer_lines-2.new.host in
-    let alone_few : length c.deref-2.result.now ≤ 1 = omega (arith, c.in_ok-batch.ensures.batch.one, ap (λ (l : List Line). length l) c.deref-2.ensures.value) in
-    let two : ℕ = c.answer_lines.new.self.engine.log.end.seg + length c.deref-2.result.now in
-    let both = keep_then most most two old done new (omega arith) (omega (arith, lines_few, alone_few, c.in_ok-answer_lines.ensures.counts.rises)) (g.H.Device.sound c.answer_lines.new.host t) first (keep_answers two done new (c.answer_lines-2.ensures.only_answers t)) in
+    let first = config_then old mid done (g.H.Device.sound c.next_batch.new.host t) (config_take old mid (c.next_batch.ensures.takes t)) (config_answers mid done (c.answer_lines.ensures.only_answers t)) in
+    let both = config_then old done new (g.H.Device.sound c.answer_lines.new.host t) first (config_answers done new (c.answer_lines-2.ensures.only_answers t)) in
     let input : (g.H.Device.history c.answer_lines-2.new.host).world.input ≡ mid.world.input =
-    (at_last (g.H.Device.history c.answer_lines.new.host) (g.H.Device.history c.answer_lines-2.new.host) (OnlyAnswers (c.answer_lines.new.self.engine.log.end.seg + length c.deref-2.result.now) (g.H.Device.history c.answer_lines.new.host).world) (g.H.Device.sound c.answer_lines-2.new.host t) (c.answer_lines-2.ensures.only_answers t)).input
-    ∙ (at_last mid (g.H.Device.history c.answer_lines.new.host) (OnlyAnswers (c.args.self.now.engine.log.end.seg + length c.deref.result.now) mid.world) (g.H.Device.sound c.answer_lines.new.host t) (c.answer_lines.ensures.only_answers t)).input in
+    (at_last (g.H.Device.history c.answer_lines.new.host) (g.H.Device.history c.answer_lines-2.new.host) (OnlyAnswers (g.H.Device.history c.answer_lines.new.host).world) (g.H.Device.sound c.answer_lines-2.new.host t) (c.answer_lines-2.ensures.only_answers t)).input
+    ∙ (at_last mid (g.H.Device.history c.answer_lines.new.host) (OnlyAnswers mid.world) (g.H.Device.sound c.answer_lines.new.host t) (c.answer_lines.ensures.only_answers t)).input in
     record {
-      files = both;
+      config = both;
       end = c.in_ok-answer_lines-2.ensures.end t;
       input_end = λ ended. input ∙ c.in_ok-batch.ensures.input_end t ended;
     }

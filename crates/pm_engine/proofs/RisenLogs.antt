@@ -1,0 +1,28 @@
+-- How far a log goes on by a frame.
+use Rattle.std.proofs.Common.{◌≡◌, ◌≢◌, ℕ, zero, suc, ◌+◌, ◌≤◌, List, [], ◌∷◌, ◌++◌, length, take, Bool, true, false, refl, sym, ◌∙◌, subst, arith}
+use Rattle.std.specs.Prelude.{if◌then◌else◌}
+use Rattle.pm_types.specs.declared.place.Place.{Place}
+use Rattle.pm_disk.specs.Files.{Write, Cut, Drop, with_change, all_forced}
+use Rattle.pm_disk.specs.Worlds.{World}
+use Rattle.pm_disk.proofs.Families.{file_there}
+use Rattle.pm_frame.specs.Frames.{Frame, frame_bytes}
+use Rattle.pm_records.specs.Logs.{is_last, seal_frame}
+use Rattle.pm_records.specs.LogSteps.{Step, CutTail, Append, Force, NextSegment, DropSegment, ForceSegment, next_segment, step_end, step_world, world_after, DoesPrefix, cut_steps}
+use Rattle.pm_segments.specs.Appends.{can_seal, enter_steps, grown, steps_of}
+use Rattle.pm_segments.specs.Ends.{LogEnd, has_room, moved}
+use Rattle.pm_segments.specs.Appends.{rolled}
+
+next_le : (seg : ℕ) → next_segment seg ≤ seg + 1
+next_le seg = by (is_last seg)
+  where
+    by : (b : Bool) → (if b then 1 else seg + 1) ≤ seg + 1
+    by true = omega arith
+    by false = omega arith
+
+-- it ends in the same segment or in the next one
+pub grown_rises : (log : LogEnd) (frame : Frame) → (grown log frame).end.seg ≤ log.end.seg + 1
+grown_rises log frame = by (has_room log (length frame.payload))
+  where
+    by : (b : Bool) → (moved (if b then log else rolled log) frame).end.seg ≤ log.end.seg + 1
+    by true = omega arith
+    by false = next_le log.end.seg
