@@ -66,7 +66,8 @@ fn reason(status: u8) -> Option<&'static str> {
     match status {
         0 => None,
         USAGE => Some(
-            "call it as `pagemem run DIR < SCRIPT`, `pagemem wal DIR` or `pagemem verify DIR`",
+            "call it as `pagemem run DIR < SCRIPT`, `pagemem wal DIR`, `pagemem verify DIR` or \
+             `pagemem gen DIR SEED COUNT`",
         ),
         2 => Some("the folder's configuration is refused: the field is named on standard output"),
         FAILED => Some("a call on the disk, the input or the output failed"),

@@ -214,12 +214,7 @@ fn a_checkpoint_without_its_end_is_ended_with_its_page(rt: HostRuntime) -> Resul
         (Logged::Page, None, Some(7), "the page"),
         (Logged::Changes, None, Some(9), "a change of the page"),
         (Logged::Restart, None, None, "a restart after the page"),
-        (
-            Logged::NoPage,
-            Some(first_bad),
-            None,
-            "a change of no page",
-        ),
+        (Logged::NoPage, Some(first_bad), None, "a change of no page"),
         (
             Logged::LargePage,
             Some(first_bad),

@@ -59,30 +59,34 @@ fn run_until_dropped(
     panic!(rt; "a segment is gone")
 }
 
-// The first checkpoint begins in segment 2, the second one in segment 3, and the third one in segment 4: its start
-// marker doesn't name segment 2. The last two are stopped before they remove a segment.
+/// The same, where it leaves these of the first segments.
+fn run_stopped(
+    rt: &(impl Abort + AllocGlobal),
+    before: &Run,
+    script: &[u8],
+    there: [bool; 5],
+) -> Result<Run, Fail> {
+    let run = run_until_dropped(rt, before, script)?;
+    assert_eq!(rt; segments_there(rt, &run)?, there);
+    Ok(run)
+}
+
+/// A whole checkpoint, and two that are stopped before they remove a segment. The first begins in segment 2, the
+/// second one in segment 3, and the third one in segment 4: its start marker doesn't name segment 2.
+fn run_twice_stopped(rt: &(impl Abort + AllocGlobal)) -> Result<Run, Fail> {
+    let first = b"put 0 a 1\nput 0 b 1\nput 0 c 1\ncheckpoint\n";
+    let second = b"put 0 d 1\nput 0 e 1\nput 0 f 1\ncheckpoint\n";
+    let third = b"put 0 g 1\nput 0 h 1\nput 0 i 1\ncheckpoint\n";
+    let whole = run_until(rt, CONFIG, first, MemDisk::empty(rt.alloc()), None)?;
+    let stopped = run_stopped(rt, &whole, second, [false, true, true, false, false])?;
+    run_stopped(rt, &stopped, third, [false, true, true, true, false])
+}
+
 #[test]
 fn a_checkpoint_removes_the_segments_that_crashes_left(rt: HostRuntime) -> Result<(), Fail> {
-    let first = b"put 0 a 1\nput 0 b 1\nput 0 c 1\ncheckpoint\n";
-    let whole = run_until(&rt, CONFIG, first, MemDisk::empty(rt.alloc()), None)?;
-    assert_eq!(rt;
-        segments_there(&rt, &whole)?,
-        [false, true, false, false, false]
-    );
-    let second = b"put 0 d 1\nput 0 e 1\nput 0 f 1\ncheckpoint\n";
-    let one_crash = run_until_dropped(&rt, &whole, second)?;
-    assert_eq!(rt;
-        segments_there(&rt, &one_crash)?,
-        [false, true, true, false, false]
-    );
-    let third = b"put 0 g 1\nput 0 h 1\nput 0 i 1\ncheckpoint\n";
-    let two_crashes = run_until_dropped(&rt, &one_crash, third)?;
-    assert_eq!(rt;
-        segments_there(&rt, &two_crashes)?,
-        [false, true, true, true, false]
-    );
+    let stopped = run_twice_stopped(&rt)?;
     let last = b"put 0 j 1\nput 0 k 1\ncheckpoint\n";
-    let ended = run_after(&rt, &two_crashes, last, None)?;
+    let ended = run_after(&rt, &stopped, last, None)?;
     assert_eq!(rt; ended.report.status, 0);
     assert_eq!(rt;
         segments_there(&rt, &ended)?,

@@ -15,6 +15,8 @@ mod consoles;
 #[cfg(test)]
 mod crashes;
 #[cfg(test)]
+mod drawn;
+#[cfg(test)]
 mod folders;
 #[cfg(test)]
 mod forces;

@@ -8,8 +8,10 @@ use Rattle.pm_redo.specs.Rebuilding.{IsSame}
 use Rattle.pm_top.specs.declared.status.Status.{Status}
 use Rattle.pm_top.specs.declared.status.Status.TheVariants.{Failed, Usage}
 use Rattle.pm_top.specs.declared.words.CommandName.{CommandName}
-use Rattle.pm_top.specs.declared.words.CommandName.TheVariants.{Run, Wal, Verify}
+use Rattle.pm_top.specs.declared.words.CommandName.TheVariants.{Run, Wal, Verify, Gen}
 use Rattle.pm_top.specs.Commands.{CommandCompletes, CommandHolds, CommandIsSafe}
+use Rattle.pm_tools.specs.DrawnLines.{drawn_lines}
+use Rattle.pm_top.proofs.DrawnRefusing.{gen_completes, gen_crash_from, gen_from, idle_gen, kept_gen}
 use Rattle.pm_top.proofs.Limits.{completes}
 use Rattle.pm_top.proofs.LogListing.{wal_completes, wal_from, wal_unbound}
 use Rattle.pm_top.proofs.Opened.{crash_from, kept_moments}
@@ -22,22 +24,27 @@ pub holds_from : (name : CommandName) (old mid new : History) (status : Status) 
 holds_from Run old mid new status lines order first same holds = run_from old mid new status lines order first same holds
 holds_from Wal old mid new status lines order first same holds = wal_from old mid new status lines order first same holds
 holds_from Verify old mid new status lines order first same holds = check_from old mid new status lines order first same holds
+holds_from (Gen seed count) old mid new status lines order first same holds = gen_from (drawn_lines seed 1 count) old mid new status lines order first same holds
 
 pub safe_from : (name : CommandName) (old mid new : History) (order : List ℕ) → AllMoments old mid (IsSame old.world) → mid.world ≡ old.world → CommandIsSafe (Some name) mid new order → CommandIsSafe (Some name) old new order
 safe_from Run old mid new order first same safe = crash_from old mid new order first same safe
 safe_from Wal old mid new order first same safe = tt
 safe_from Verify old mid new order first same safe = tt
+safe_from (Gen seed count) old mid new order first same safe = gen_crash_from (drawn_lines seed 1 count) old mid new order first same safe
 
 -- the folder wasn't bound
 pub holds_unbound : (name : CommandName) (old mid : History) (status : Status) (lines : ℕ) (order : List ℕ) → AllMoments old mid (IsSame old.world) → mid.world ≡ old.world → status ≡ Failed → lines ≡ 0 → order ≡ [] → CommandHolds (Some name) old mid status lines order
 holds_unbound Run old mid status lines order kept same is none no_order = idle_run old mid status lines order (inl is) (ap (λ (w : World). w.said) same) none no_order (λ _ _. same_disk old mid kept)
 holds_unbound Wal old mid status lines order kept same is none no_order = wal_unbound old mid status lines order kept is none no_order
 holds_unbound Verify old mid status lines order kept same is none no_order = check_ends old mid status lines order kept (inl is) none no_order
+holds_unbound (Gen seed count) old mid status lines order kept same is none no_order =
+    idle_gen (drawn_lines seed 1 count) old mid status lines order (inl is) (ap (λ (w : World). w.said) same) (ap (λ (w : World). w.input) same) none no_order (λ _ _. same_disk old mid kept)
 
 pub safe_unbound : (name : CommandName) (old mid : History) (order : List ℕ) → AllMoments old mid (IsSame old.world) → CommandIsSafe (Some name) old mid order
 safe_unbound Run old mid order kept = kept_moments old mid order kept
 safe_unbound Wal old mid order kept = tt
 safe_unbound Verify old mid order kept = tt
+safe_unbound (Gen seed count) old mid order kept = kept_gen (drawn_lines seed 1 count) old mid order kept
 
 -- words that aren't a command
 pub is_no_command : (name : Option CommandName) → is_some name ≡ false → name ≡ None
@@ -51,3 +58,5 @@ command_completes None old new status lines order before now holds usage failed 
 command_completes (Some Run) old new status lines order before now holds usage failed = completes old new status lines order before now holds (λ is. (let both : Some Run ≡ None = usage is in cc)) failed
 command_completes (Some Wal) old new status lines order before now holds usage failed = wal_completes old new status lines order before now holds failed
 command_completes (Some Verify) old new status lines order before now holds usage failed = check_completes old new status lines order before now holds failed
+command_completes (Some (Gen seed count)) old new status lines order before now holds usage failed =
+    gen_completes (drawn_lines seed 1 count) old new status lines order before now holds (λ is. (let both : Some (Gen seed count) ≡ None = usage is in cc)) failed

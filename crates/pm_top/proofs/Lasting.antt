@@ -33,7 +33,7 @@ parts script k d le =
     let count : length (take k script) ≡ k = omega (arith, length-take k script, le) in
     ap (take (k + d)) (sym (take-append-drop k script)) ∙ ap (λ n. take (n + d) (take k script ++ drop k script)) (sym count) ∙ take-append-add (take k script) (drop k script) d
 
-accepted_parts : (shape : Shape) (script : List Line) (pairs : Pairs) (k d : ℕ) → k ≤ length script
+pub accepted_parts : (shape : Shape) (script : List Line) (pairs : Pairs) (k d : ℕ) → k ≤ length script
     → accepted shape 1 (take (k + d) script) pairs ≡ accepted shape 1 (take k script) pairs ++ accepted shape (1 + length (take k script)) (take d (drop k script)) (after_all shape (take k script) pairs)
 accepted_parts shape script pairs k d le = ap (λ ls. accepted shape 1 ls pairs) (parts script k d le) ∙ accepted-append shape 1 (take k script) (take d (drop k script)) pairs
 
@@ -44,7 +44,7 @@ accepted_le shape script pairs b k le within =
     omega (arith, same, length-append (accepted shape 1 (take b script) pairs) (accepted shape (1 + length (take b script)) (take (k - b) (drop b script)) (after_all shape (take b script) pairs)))
 
 -- a prefix of the ones of the first ones
-take_take : (a b : ℕ) (xs : List Line) → a ≤ b → take a (take b xs) ≡ take a xs
+pub take_take : (a b : ℕ) (xs : List Line) → a ≤ b → take a (take b xs) ≡ take a xs
 take_take zero b xs le = take_none (take b xs) ∙ sym (take_none xs)
 take_take (suc a) zero xs le = absurd (omega (arith, le))
 take_take (suc a) (suc b) [] le = refl

@@ -26,3 +26,9 @@ pub mod PagedRests
 pub mod QuietStores
 pub mod ReplayedStores
 pub mod StartedStores
+pub mod CountedReplies
+pub mod WordNumbers
+pub mod DrawnScripts
+pub mod DrawnRunning
+pub mod DrawnOutcomes
+pub mod DrawnRefusing

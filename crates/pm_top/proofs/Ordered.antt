@@ -63,7 +63,7 @@ outcome_order Long old new shape pairs lines order it = (lines, it.order_is)
 
 -- ---- what a crash leaves
 
-same_after : (shape : Shape) (numbers : List ℕ) (script : List Line) (pairs : Pairs) → one.after_numbers shape numbers script pairs ≡ after_numbers shape numbers 1 script pairs
+pub same_after : (shape : Shape) (numbers : List ℕ) (script : List Line) (pairs : Pairs) → one.after_numbers shape numbers script pairs ≡ after_numbers shape numbers 1 script pairs
 same_after shape [] script pairs = refl
 same_after shape (number ∷ numbers) script pairs = same_after shape numbers script (after shape (line_at 1 script number) pairs)
 

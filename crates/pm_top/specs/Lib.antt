@@ -15,3 +15,6 @@ pub mod Words
 pub mod Commands
 pub mod StoreChecks
 pub mod PagedRests
+pub mod ReplyCounts
+pub mod DrawnRuns
+pub mod DrawnSteps

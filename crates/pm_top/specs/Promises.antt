@@ -14,7 +14,6 @@ use Rattle.pm_model.specs.declared.reply.Reply.{Reply}
 use Rattle.pm_model.specs.Eval.{Pairs, replies_to, after_all}
 use Rattle.pm_model.specs.Orders.{HasAccepted, HasTried}
 use Rattle.pm_script.specs.Texts.{texts_of}
-use Rattle.pm_marks.specs.InForce.{number_in}
 use Rattle.pm_core.specs.Calls.{ChangesDisk}
 use Rattle.pm_core.specs.Held.{in_force}
 use Rattle.pm_core.specs.LogAlone.{image_of}

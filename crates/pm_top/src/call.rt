@@ -18,13 +18,15 @@ ghost use Rattle.pm_top.specs.Runs.{CanRun, SameConsole};
 ghost use Rattle.pm_top.specs.ScriptOrder.{CrashHoldsAcknowledged};
 ghost use Rattle.pm_top.specs.Statuses.{status_of, code_of};
 ghost use Rattle.pm_top.specs.StoreChecks.{VerifyHolds};
-ghost use Rattle.pm_top.specs.Words.{command_in};
+ghost use Rattle.pm_top.specs.Words.{command_in, DrawsFew};
 
 use crate::configuration::{ConfigError, read_config};
 use crate::counts_line::print_counts;
 use crate::fault_lines::{
     print_config_fault, print_limit_fault, print_page_fault, print_record_fault, print_usage_fault,
 };
+use crate::generate::gen_configured;
+use crate::outcome::Outcome;
 use crate::report::Report;
 use crate::run::{Run, Stop};
 use crate::status::Status;
@@ -38,8 +40,9 @@ use std::alloc::Global;
 
 /// Does what the words of a command line ask for.
 ///
-/// The words are those after the program's name: `run`, `wal` or `verify`, and a folder, which isn't
-/// empty and doesn't begin with `-`. The folder is bound, and made where it isn't there.
+/// The words are those after the program's name: `run`, `wal`, `verify` or `gen`, and a folder, which isn't
+/// empty and doesn't begin with `-`. After `gen` and its folder two numbers stand. The folder is bound, and
+/// made where it isn't there.
 ///
 /// `run` reads the folder's configuration: one that is refused, or that asks for another shape than
 /// the store has, is named by its field, and nothing is changed. Then the store is opened: it is restored
@@ -47,6 +50,10 @@ use std::alloc::Global;
 /// by batch. The records of a batch are in the log, and forced, before any of its replies is printed. A
 /// checkpoint is made where a line asks for it, and where one is due. A store with a bad record or a bad
 /// page is refused: the record or the page is named.
+///
+/// `gen` does the same with lines that it draws: the second number says how many, and the first from which
+/// number. It reads no input, and its one line says how many lines were run and how many replies of each kind
+/// they had. Before that line is printed the records of all of them are in the log, and forced.
 ///
 /// `wal` prints a line for each record of the log, from the replay place of the checkpoint in force
 /// on, or from the log's begin, and then the place at which the log ends. The first record that is
@@ -92,29 +99,6 @@ pub fn top<Q: AllocGlobal, H: Host>(rt: &Q, words: &[String], host: &mut H) -> R
     }
 }
 
-// What a call did.
-#[derive(Drop)]
-struct Outcome {
-    status: Status,
-    lines: u64,
-    order: Vec<u32>,
-}
-
-impl Outcome {
-    // No line was done.
-    fn without(alloc: Global, status: Status) -> Outcome
-        ensures status { result.status ≡ status }
-        ensures lines { result.lines ≡ 0 }
-        ensures order { result.order.items ≡ [] }
-    {
-        Outcome {
-            status,
-            lines: 0,
-            order: Vec::new(alloc),
-        }
-    }
-}
-
 // Does what the words ask for, or says that they aren't a command.
 fn command<H: Host>(alloc: Global, words: &[String], host: &mut H) -> Outcome
     requires whole { (H.state host.old).access.is_lent ≡ false }
@@ -141,6 +125,7 @@ fn command<H: Host>(alloc: Global, words: &[String], host: &mut H) -> Outcome
 // Does what a command asks for, over the folder that is bound.
 fn do_command<H: Host>(alloc: Global, host: &mut H, name: CommandName) -> Outcome
     requires usable { IsUsable (H.state host.old) }
+    requires few { DrawsFew name }
     ensures holds { H.tells → CommandHolds (Some name) (H.history host.old) (H.history host.new)
         result.status result.lines result.order.items }
     ensures crash { H.tells → CommandIsSafe (Some name) (H.history host.old) (H.history host.new)
@@ -153,6 +138,7 @@ fn do_command<H: Host>(alloc: Global, host: &mut H, name: CommandName) -> Outcom
         CommandName::Run => run_configured(alloc, host),
         CommandName::Wal => list_log(alloc, host),
         CommandName::Verify => check_store(alloc, host),
+        CommandName::Gen { seed, count } => gen_configured(alloc, host, seed, count),
     }
 }
 

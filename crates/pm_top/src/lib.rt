@@ -4,9 +4,14 @@
 mod batch;
 mod call;
 mod configuration;
+mod counting;
 mod counts_line;
+mod drawing;
 mod fault_lines;
+mod gen_run;
+mod generate;
 mod laws;
+mod outcome;
 mod report;
 mod run;
 mod script;

@@ -1,6 +1,7 @@
 use Rattle.std.proofs.Common.{sym, subst}
 use Rattle.std.specs.Prelude.{Some}
 use Rattle.pm_top.specs.Commands.{CommandHolds, CommandIsSafe}
+use Rattle.pm_top.specs.Words.{DrawsFew}
 use Rattle.pm_top.specs.declared.words.CommandName.{CommandName}
 use Rattle.pm_top.proofs.LogListing.{wal_config}
 use Rattle.pm_top.proofs.StoreChecking.{check_config}
@@ -44,3 +45,18 @@ returns-in-Verify-clause-crash g c t =
 pub returns-in-Verify-clause-config : goal.returns-in-Verify-clause-config
 returns-in-Verify-clause-config g c t =
     check_config (g.H.Device.history c.args.host.now) (g.H.Device.history c.check_store.new.host) (c.check_store.ensures.holds t).moments
+
+pub gen_configured-requires-clause-few : goal.gen_configured-requires-clause-few
+gen_configured-requires-clause-few g c _ _ =
+    subst DrawsFew c.in-Gen.is c.requires.few
+
+pub returns-in-Gen-clause-holds : goal.returns-in-Gen-clause-holds
+returns-in-Gen-clause-holds g c t =
+    let done = c.gen_configured.result in
+    subst (λ (name : CommandName). CommandHolds (Some name) (g.H.Device.history c.args.host.now) (g.H.Device.history c.gen_configured.new.host) done.status done.lines done.order.items) (sym c.in-Gen.is)
+    (c.gen_configured.ensures.holds t)
+
+pub returns-in-Gen-clause-crash : goal.returns-in-Gen-clause-crash
+returns-in-Gen-clause-crash g c t =
+    subst (λ (name : CommandName). CommandIsSafe (Some name) (g.H.Device.history c.args.host.now) (g.H.Device.history c.gen_configured.new.host) c.gen_configured.result.order.items) (sym c.in-Gen.is)
+    (c.gen_configured.ensures.crash t)

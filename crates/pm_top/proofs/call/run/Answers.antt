@@ -6,7 +6,6 @@ use Rattle.pm_disk.specs.Moments.{AllMoments}
 use Rattle.pm_disk.specs.Worlds.{World}
 use Rattle.pm_disk.proofs.Chain.{at_last, joined}
 use Rattle.pm_config.specs.Names.{name_of}
-use Rattle.pm_marks.specs.InForce.{number_in}
 use Rattle.pm_model.specs.Eval.{Pairs}
 use Rattle.pm_core.specs.Calls.{ChangesDisk}
 use Rattle.pm_core.specs.Held.{in_force}

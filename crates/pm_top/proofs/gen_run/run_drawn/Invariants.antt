@@ -1,0 +1,34 @@
+use Rattle.std.proofs.Common.{◌≡◌, ◌-◌, ◌≤◌, true}
+use Rattle.pm_disk.specs.States.{IsLaterState}
+use Rattle.pm_model.specs.Eval.{replies_to}
+use Rattle.pm_segments.specs.Ends.{EndsThere}
+use Rattle.pm_tools.specs.DrawnLines.{drawn_lines}
+use Rattle.pm_top.specs.DrawnSteps.{HasRunDrawn}
+use Rattle.pm_top.specs.ReplyCounts.{counted_in, counts_of}
+use Rattle.pm_top.specs.Runs.{HasBatchRoom, TakesFor}
+use Rattle.pm_top.proofs.DrawnScripts.{DrawnFirst}
+use Rattle.pm_top.proofs.gen_run.run_drawn.Given as goal
+
+abbrev pub invariant-batches : goal.invariant-batches
+invariant-batches g l =
+    let tells = g.H.Device.tells in
+    let state = g.H.Device.state in
+    let old = g.H.Device.history l.fn.host in
+    let now = g.H.Device.history l.host in
+    let first = l.fn.engine in
+    let lines = drawn_lines l.fn.seed 1 l.many in
+    record {
+      within : l.many ≤ l.count;
+      drawn : DrawnFirst l.fn.seed 1 l.many lines l.drawing;
+      state : IsLaterState (state l.fn.host) (state l.host);
+      room : HasBatchRoom l.replies;
+      is_open : l.engine.is_open ≡ true;
+      end : tells → EndsThere l.engine.log now.world;
+      numbers : TakesFor l.many first l.engine;
+      few : counted_in l.counts ≤ l.many;
+      counts : l.counts ≡ counts_of (replies_to first.map.shape lines first.map.pairs);
+      ran : HasRunDrawn tells old now first l.engine lines;
+    }
+
+abbrev pub decreases-batches : goal.decreases-batches
+decreases-batches g l = l.count - l.many

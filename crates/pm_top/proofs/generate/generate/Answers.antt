@@ -1,0 +1,337 @@
+use Rattle.std.proofs.Common.{ℕ, ◌≡◌, ◌⊎◌, inl, inr, Some, None, ap, refl, sym, ◌∙◌, subst}
+use Rattle.std.specs.Prelude.{codes, ◌++◌}
+use Rattle.pm_types.specs.declared.fault.OpenFault.TheVariants as opening
+use Rattle.pm_types.specs.declared.shape.Shape.{Shape}
+use Rattle.pm_disk.specs.Moments.{AllMoments}
+use Rattle.pm_disk.specs.Worlds.{World}
+use Rattle.pm_disk.proofs.Chain.{at_last, joined}
+use Rattle.pm_config.specs.Names.{name_of}
+use Rattle.pm_model.specs.Eval.{Pairs}
+use Rattle.pm_core.specs.Calls.{ChangesDisk}
+use Rattle.pm_core.specs.Held.{in_force}
+use Rattle.pm_core.specs.LogAlone.{image_of}
+use Rattle.pm_redo.specs.Restoring.{ComparesShape}
+use Rattle.pm_engine.specs.PagedOpenings.{HasOpenCause, IsPlainOpen, OpensMap, OpensRunning}
+use Rattle.pm_engine.specs.RunningLines.{says_nothing}
+use Rattle.pm_top.specs.declared.status.Status.TheVariants.{Failed, Memory, Damaged}
+use Rattle.pm_top.specs.Configurations.{config_fault, fault_config, shape_fault, wanted_in}
+use Rattle.pm_tools.specs.DrawnLines.{drawn_lines}
+use Rattle.pm_top.specs.Crashes.{opened_number, opened_to}
+use Rattle.pm_top.specs.DrawnRuns.{CrashHoldsDrawn, DrawnIsLeft, DrawnOutcomeIs, GenIsSafe}
+use Rattle.pm_top.specs.Promises.{IsStart, NamesBadFor, NamesBadOpening, fault_page, fault_record, last_after, number_after}
+use Rattle.pm_top.proofs.KeptConfigs.{config_disk, config_say, config_then}
+use Rattle.pm_top.proofs.DrawnRefusing.{damaged_gen, field_refused_gen, gen_from, gen_then, idle_gen, opening_gen, refused_gen}
+use Rattle.pm_top.proofs.Opened.{can_run, same_console}
+use Rattle.pm_top.proofs.Refusing.{AnswersNone, same_disk}
+use Rattle.pm_top.proofs.StartedStores.{can_begin, few_numbers}
+use Rattle.pm_top.proofs.generate.generate.Goals as goal
+
+pub answer_drawn-requires-clause-order : goal.answer_drawn-requires-clause-order
+answer_drawn-requires-clause-order g c _ _ =
+    c.in-Ok.ensures.fresh.0.order
+
+pub answer_drawn-requires-clause-is_open : goal.answer_drawn-requires-clause-is_open
+answer_drawn-requires-clause-is_open g c _ _ =
+    c.in-Ok.ensures.fresh.0.is_open
+
+pub answer_drawn-requires-clause-end : goal.answer_drawn-requires-clause-end
+answer_drawn-requires-clause-end g c _ _ t =
+    (c.in-Ok.ensures.fresh.2 t).ends
+
+pub returns-in-Ok-clause-holds : goal.returns-in-Ok-clause-holds
+returns-in-Ok-clause-holds g c t =
+    let old = g.H.Device.history c.args.host.now in
+    let mid = g.H.Device.history c.open_store.new.host in
+    let wanted = c.args.config.now.shape in
+    let asks = c.requires.asked t in
+    let only = at_last old mid (ChangesDisk old.world) (g.H.Device.sound c.open_store.new.host t) (c.open_store.ensures.disk t) in
+    let new = g.H.Device.history c.answer_drawn.new.host in
+    let outcome = c.answer_drawn.result in
+    let engine = c.in-Ok.engine in
+    let same = same_console old.world mid.world only in
+    let script = drawn_lines c.args.seed 1 c.args.count in
+    let opens : (shape : Shape) (pairs : Pairs) (start : IsStart wanted old.world shape pairs) → OpensRunning (opened_to start.sound) (opened_number start.sound) wanted says_nothing shape pairs engine mid.world = λ shape pairs start.
+    c.in-Ok.ensures.opened t says_nothing shape pairs (can_begin wanted old.world shape pairs start) (few_numbers wanted old.world shape pairs start) in
+    let answered : DrawnOutcomeIs script outcome.status old.world new.world engine.map.shape engine.map.pairs outcome.lines outcome.order.items = c.answer_drawn.ensures.outcome t old.world same in
+    let alike : config_fault old.world ≡ None = asks.fault_is ∙ (c.in-Ok.ensures.compared t).alike in
+    record {
+      outcome = λ shape pairs can.
+          let opened = opens shape pairs (subst (λ (s : Shape). IsStart s old.world shape pairs) asks.wanted_is can.start) in
+          subst (λ (x : Shape × Pairs). DrawnOutcomeIs script outcome.status old.world new.world x.0 x.1 outcome.lines outcome.order.items) (λ i. (opened.shape_is i, opened.map i)) answered;
+      opened = λ _. record {
+        configured = alike;
+        pairs = engine.map.pairs;
+        opens = subst (λ (s : Shape). OpensMap s (in_force (image_of old.world)) old.world engine.map.pairs) (sym asks.wanted_is) (c.in-Ok.ensures.fresh.2 t).opens;
+        outcome = subst (λ (s : Shape). DrawnOutcomeIs script outcome.status old.world new.world s engine.map.pairs outcome.lines outcome.order.items) (c.in-Ok.ensures.fresh.0.shape_is ∙ sym asks.wanted_is) answered;
+      };
+      untouched = λ field differs. absurd (let both : Some field ≡ None = sym differs ∙ alike in cc);
+      leaves = λ is.
+          subst (λ (s : Shape). (shape : Shape) (pairs : Pairs) (start : IsStart s old.world shape pairs) → DrawnIsLeft s (last_after start) (number_after start) script new.world shape pairs) (sym asks.wanted_is)
+          (λ shape pairs start.
+          let opened = opens shape pairs start in
+          let left = c.answer_drawn.ensures.leaves t is wanted (last_after start) (number_after start) (can_run wanted old.world shape pairs start engine mid.world opened) in
+          subst (λ (x : Shape × Pairs). DrawnIsLeft wanted (last_after start) (number_after start) script new.world x.0 x.1) (λ i. (opened.shape_is i, opened.map i)) left);
+      misconfigured = λ is. absurd (c.answer_drawn.ensures.cause.configured is);
+      damaged = λ is. absurd (c.answer_drawn.ensures.cause.sound is);
+      within = λ is. subst (λ s. DrawnOutcomeIs script s old.world new.world engine.map.shape engine.map.pairs outcome.lines outcome.order.items) is answered;
+    }
+
+pub returns-in-Ok-clause-crash : goal.returns-in-Ok-clause-crash
+returns-in-Ok-clause-crash g c t =
+    let old = g.H.Device.history c.args.host.now in
+    let mid = g.H.Device.history c.open_store.new.host in
+    let wanted = c.args.config.now.shape in
+    let asks = c.requires.asked t in
+    let only = at_last old mid (ChangesDisk old.world) (g.H.Device.sound c.open_store.new.host t) (c.open_store.ensures.disk t) in
+    let new = g.H.Device.history c.answer_drawn.new.host in
+    let outcome = c.answer_drawn.result in
+    let engine = c.in-Ok.engine in
+    let same = same_console old.world mid.world only in
+    let script = drawn_lines c.args.seed 1 c.args.count in
+    let opens : (shape : Shape) (pairs : Pairs) (start : IsStart wanted old.world shape pairs) → OpensRunning (opened_to start.sound) (opened_number start.sound) wanted says_nothing shape pairs engine mid.world = λ shape pairs start.
+    c.in-Ok.ensures.opened t says_nothing shape pairs (can_begin wanted old.world shape pairs start) (few_numbers wanted old.world shape pairs start) in
+    let order = outcome.order.items in
+    let keeps : (shape : Shape) (pairs : Pairs) (start : IsStart wanted old.world shape pairs) → AllMoments old new (CrashHoldsDrawn wanted (last_after start) (number_after start) script old.world shape pairs order) = λ shape pairs start.
+    let last : ℕ = last_after start in
+    let number : ℕ = number_after start in
+    let K : World → Type 0 = CrashHoldsDrawn wanted last number script old.world shape pairs order in
+    let opened = opens shape pairs start in
+    let runs = can_run wanted old.world shape pairs start engine mid.world opened in
+    let second : AllMoments mid new K = subst (λ (x : Shape × Pairs). AllMoments mid new (CrashHoldsDrawn wanted last number script old.world x.0 x.1 order)) (λ i. (opened.shape_is i, opened.map i))
+    (c.answer_drawn.ensures.moments t wanted last number old.world same runs) in
+    joined old mid new K (opening_gen script wanted old mid shape pairs start order (c.open_store.ensures.within t says_nothing shape pairs (can_begin wanted old.world shape pairs start) (few_numbers wanted old.world shape pairs start)) (c.open_store.ensures.disk t)) second
+    in
+    subst (λ (s : Shape). (shape : Shape) (pairs : Pairs) (start : IsStart s old.world shape pairs) → AllMoments old new (CrashHoldsDrawn s (last_after start) (number_after start) script old.world shape pairs order)) (sym asks.wanted_is)
+    keeps
+
+pub returns-in-Ok-clause-config : goal.returns-in-Ok-clause-config
+returns-in-Ok-clause-config g c t =
+    let old = g.H.Device.history c.args.host.now in
+    let mid = g.H.Device.history c.open_store.new.host in
+    let wanted = c.args.config.now.shape in
+    let asks = c.requires.asked t in
+    let only = at_last old mid (ChangesDisk old.world) (g.H.Device.sound c.open_store.new.host t) (c.open_store.ensures.disk t) in
+    let new = g.H.Device.history c.answer_drawn.new.host in
+    let outcome = c.answer_drawn.result in
+    let engine = c.in-Ok.engine in
+    let same = same_console old.world mid.world only in
+    config_then old mid new (g.H.Device.sound c.open_store.new.host t) (config_disk old mid (c.open_store.ensures.disk t)) (c.answer_drawn.ensures.config t)
+
+pub returns-in-Err-Shape-clause-holds : goal.returns-in-Err-Shape-clause-holds
+returns-in-Err-Shape-clause-holds g c t =
+    let old = g.H.Device.history c.args.host.now in
+    let mid = g.H.Device.history c.open_store.new.host in
+    let wanted = c.args.config.now.shape in
+    let asks = c.requires.asked t in
+    let only = at_last old mid (ChangesDisk old.world) (g.H.Device.sound c.open_store.new.host t) (c.open_store.ensures.disk t) in
+    let printed = c.print_config_fault in
+    let new = g.H.Device.history printed.new.host in
+    let outcome = c.without.result in
+    let field = c.in-Err-Shape.field in
+    let differs : shape_fault wanted old.world ≡ Some field = subst (ComparesShape (shape_fault wanted old.world)) c.in-Err-Shape.field-0-is (c.in-Err-Shape.ensures.compared t).fault in
+    let same : mid.world ≡ old.world = subst (HasOpenCause wanted (in_force (image_of old.world)) old.world mid.world) c.in-Err-Shape.field-0-is (c.in-Err-Shape.ensures.bad t) in
+    let is : config_fault mid.world ≡ Some field = ap config_fault same ∙ asks.fault_is ∙ differs in
+    gen_from (drawn_lines c.args.seed 1 c.args.count) old mid new outcome.status outcome.lines outcome.order.items ((c.in-Err-Shape.ensures.compared t).differing field differs) same
+    (field_refused_gen (drawn_lines c.args.seed 1 c.args.count) mid new outcome.status outcome.lines outcome.order.items field is (subst AnswersNone (sym c.without.ensures.status) printed.ensures.cases) (λ e. printed.ensures.misconfigured t (sym c.without.ensures.status ∙ e)) (printed.ensures.moments t) c.without.ensures.lines c.without.ensures.order)
+
+pub returns-in-Err-Shape-clause-crash : goal.returns-in-Err-Shape-clause-crash
+returns-in-Err-Shape-clause-crash g c t =
+    let old = g.H.Device.history c.args.host.now in
+    let mid = g.H.Device.history c.open_store.new.host in
+    let wanted = c.args.config.now.shape in
+    let asks = c.requires.asked t in
+    let only = at_last old mid (ChangesDisk old.world) (g.H.Device.sound c.open_store.new.host t) (c.open_store.ensures.disk t) in
+    let printed = c.print_config_fault in
+    let new = g.H.Device.history printed.new.host in
+    let outcome = c.without.result in
+    let field = c.in-Err-Shape.field in
+    let differs : shape_fault wanted old.world ≡ Some field = subst (ComparesShape (shape_fault wanted old.world)) c.in-Err-Shape.field-0-is (c.in-Err-Shape.ensures.compared t).fault in
+    let same : mid.world ≡ old.world = subst (HasOpenCause wanted (in_force (image_of old.world)) old.world mid.world) c.in-Err-Shape.field-0-is (c.in-Err-Shape.ensures.bad t) in
+    let order = outcome.order.items in
+    let keeps : GenIsSafe (drawn_lines c.args.seed 1 c.args.count) old mid order =
+    subst (λ (s : Shape). (shape : Shape) (pairs : Pairs) (start : IsStart s old.world shape pairs) → AllMoments old mid (CrashHoldsDrawn s (last_after start) (number_after start) (drawn_lines c.args.seed 1 c.args.count) old.world shape pairs order)) (sym asks.wanted_is)
+    (λ shape pairs start. opening_gen (drawn_lines c.args.seed 1 c.args.count) wanted old mid shape pairs start order (c.open_store.ensures.within t says_nothing shape pairs (can_begin wanted old.world shape pairs start) (few_numbers wanted old.world shape pairs start)) (c.open_store.ensures.disk t)) in
+    gen_then (drawn_lines c.args.seed 1 c.args.count) old mid new order keeps same (refused_gen (drawn_lines c.args.seed 1 c.args.count) mid new order 99 (codes "onfig " ++ name_of field ++ codes "\n") (printed.ensures.moments t))
+
+pub returns-in-Err-Shape-clause-config : goal.returns-in-Err-Shape-clause-config
+returns-in-Err-Shape-clause-config g c t =
+    let old = g.H.Device.history c.args.host.now in
+    let mid = g.H.Device.history c.open_store.new.host in
+    let wanted = c.args.config.now.shape in
+    let asks = c.requires.asked t in
+    let only = at_last old mid (ChangesDisk old.world) (g.H.Device.sound c.open_store.new.host t) (c.open_store.ensures.disk t) in
+    let printed = c.print_config_fault in
+    let new = g.H.Device.history printed.new.host in
+    let outcome = c.without.result in
+    let field = c.in-Err-Shape.field in
+    let differs : shape_fault wanted old.world ≡ Some field = subst (ComparesShape (shape_fault wanted old.world)) c.in-Err-Shape.field-0-is (c.in-Err-Shape.ensures.compared t).fault in
+    let same : mid.world ≡ old.world = subst (HasOpenCause wanted (in_force (image_of old.world)) old.world mid.world) c.in-Err-Shape.field-0-is (c.in-Err-Shape.ensures.bad t) in
+    config_then old mid new (g.H.Device.sound c.open_store.new.host t) (config_disk old mid (c.open_store.ensures.disk t)) (config_say (fault_config field) mid new (printed.ensures.moments t))
+
+pub returns-in-Err-Store-Failed-clause-holds : goal.returns-in-Err-Store-Failed-clause-holds
+returns-in-Err-Store-Failed-clause-holds g c t =
+    let old = g.H.Device.history c.args.host.now in
+    let mid = g.H.Device.history c.open_store.new.host in
+    let wanted = c.args.config.now.shape in
+    let asks = c.requires.asked t in
+    let only = at_last old mid (ChangesDisk old.world) (g.H.Device.sound c.open_store.new.host t) (c.open_store.ensures.disk t) in
+    let outcome = c.without-in-Err-Store-Failed.result in
+    idle_gen (drawn_lines c.args.seed 1 c.args.count) old mid outcome.status outcome.lines outcome.order.items (inl c.without-in-Err-Store-Failed.ensures.status) only.said only.input c.without-in-Err-Store-Failed.ensures.lines c.without-in-Err-Store-Failed.ensures.order
+    (λ field differs. same_disk old mid ((c.in-Err-Store-Failed.ensures.compared t).differing field (sym asks.fault_is ∙ differs)))
+
+pub returns-in-Err-Store-Failed-clause-crash : goal.returns-in-Err-Store-Failed-clause-crash
+returns-in-Err-Store-Failed-clause-crash g c t =
+    let old = g.H.Device.history c.args.host.now in
+    let mid = g.H.Device.history c.open_store.new.host in
+    let wanted = c.args.config.now.shape in
+    let asks = c.requires.asked t in
+    let only = at_last old mid (ChangesDisk old.world) (g.H.Device.sound c.open_store.new.host t) (c.open_store.ensures.disk t) in
+    let order = c.without-in-Err-Store-Failed.result.order.items in
+    let keeps : GenIsSafe (drawn_lines c.args.seed 1 c.args.count) old mid order =
+    subst (λ (s : Shape). (shape : Shape) (pairs : Pairs) (start : IsStart s old.world shape pairs) → AllMoments old mid (CrashHoldsDrawn s (last_after start) (number_after start) (drawn_lines c.args.seed 1 c.args.count) old.world shape pairs order)) (sym asks.wanted_is)
+    (λ shape pairs start. opening_gen (drawn_lines c.args.seed 1 c.args.count) wanted old mid shape pairs start order (c.open_store.ensures.within t says_nothing shape pairs (can_begin wanted old.world shape pairs start) (few_numbers wanted old.world shape pairs start)) (c.open_store.ensures.disk t)) in
+    keeps
+
+pub returns-in-Err-Store-Failed-clause-config : goal.returns-in-Err-Store-Failed-clause-config
+returns-in-Err-Store-Failed-clause-config g c t =
+    let old = g.H.Device.history c.args.host.now in
+    let mid = g.H.Device.history c.open_store.new.host in
+    let wanted = c.args.config.now.shape in
+    let asks = c.requires.asked t in
+    let only = at_last old mid (ChangesDisk old.world) (g.H.Device.sound c.open_store.new.host t) (c.open_store.ensures.disk t) in
+    config_disk old mid (c.open_store.ensures.disk t)
+
+pub returns-in-Err-Store-Memory-clause-holds : goal.returns-in-Err-Store-Memory-clause-holds
+returns-in-Err-Store-Memory-clause-holds g c t =
+    let old = g.H.Device.history c.args.host.now in
+    let mid = g.H.Device.history c.open_store.new.host in
+    let wanted = c.args.config.now.shape in
+    let asks = c.requires.asked t in
+    let only = at_last old mid (ChangesDisk old.world) (g.H.Device.sound c.open_store.new.host t) (c.open_store.ensures.disk t) in
+    let outcome = c.without-in-Err-Store-Memory.result in
+    idle_gen (drawn_lines c.args.seed 1 c.args.count) old mid outcome.status outcome.lines outcome.order.items (inr c.without-in-Err-Store-Memory.ensures.status) only.said only.input c.without-in-Err-Store-Memory.ensures.lines c.without-in-Err-Store-Memory.ensures.order
+    (λ field differs. same_disk old mid ((c.in-Err-Store-Memory.ensures.compared t).differing field (sym asks.fault_is ∙ differs)))
+
+pub returns-in-Err-Store-Memory-clause-crash : goal.returns-in-Err-Store-Memory-clause-crash
+returns-in-Err-Store-Memory-clause-crash g c t =
+    let old = g.H.Device.history c.args.host.now in
+    let mid = g.H.Device.history c.open_store.new.host in
+    let wanted = c.args.config.now.shape in
+    let asks = c.requires.asked t in
+    let only = at_last old mid (ChangesDisk old.world) (g.H.Device.sound c.open_store.new.host t) (c.open_store.ensures.disk t) in
+    let order = c.without-in-Err-Store-Memory.result.order.items in
+    let keeps : GenIsSafe (drawn_lines c.args.seed 1 c.args.count) old mid order =
+    subst (λ (s : Shape). (shape : Shape) (pairs : Pairs) (start : IsStart s old.world shape pairs) → AllMoments old mid (CrashHoldsDrawn s (last_after start) (number_after start) (drawn_lines c.args.seed 1 c.args.count) old.world shape pairs order)) (sym asks.wanted_is)
+    (λ shape pairs start. opening_gen (drawn_lines c.args.seed 1 c.args.count) wanted old mid shape pairs start order (c.open_store.ensures.within t says_nothing shape pairs (can_begin wanted old.world shape pairs start) (few_numbers wanted old.world shape pairs start)) (c.open_store.ensures.disk t)) in
+    keeps
+
+pub returns-in-Err-Store-Memory-clause-config : goal.returns-in-Err-Store-Memory-clause-config
+returns-in-Err-Store-Memory-clause-config g c t =
+    let old = g.H.Device.history c.args.host.now in
+    let mid = g.H.Device.history c.open_store.new.host in
+    let wanted = c.args.config.now.shape in
+    let asks = c.requires.asked t in
+    let only = at_last old mid (ChangesDisk old.world) (g.H.Device.sound c.open_store.new.host t) (c.open_store.ensures.disk t) in
+    config_disk old mid (c.open_store.ensures.disk t)
+
+pub returns-in-Err-Store-BadRecord-clause-holds : goal.returns-in-Err-Store-BadRecord-clause-holds
+returns-in-Err-Store-BadRecord-clause-holds g c t =
+    let old = g.H.Device.history c.args.host.now in
+    let mid = g.H.Device.history c.open_store.new.host in
+    let wanted = c.args.config.now.shape in
+    let asks = c.requires.asked t in
+    let only = at_last old mid (ChangesDisk old.world) (g.H.Device.sound c.open_store.new.host t) (c.open_store.ensures.disk t) in
+    let printed = c.print_record_fault in
+    let new = g.H.Device.history printed.new.host in
+    let outcome = c.without-in-Err-Store-BadRecord.result in
+    let at = c.in-Err-Store-BadRecord.at in
+    let err = c.in-Err-Store-BadRecord.field-0-is ∙ ap opening.Store c.in-Err-Store-BadRecord.field-0-0-is in
+    let alike : shape_fault wanted old.world ≡ None = subst (ComparesShape (shape_fault wanted old.world)) err (c.in-Err-Store-BadRecord.ensures.compared t).fault in
+    let unsound : (shape : Shape) (pairs : Pairs) → IsStart (wanted_in old.world) old.world shape pairs → ⊥ = λ shape pairs start.
+    let here = subst (λ (s : Shape). IsStart s old.world shape pairs) asks.wanted_is start in
+    subst IsPlainOpen err (c.in-Err-Store-BadRecord.ensures.refused t says_nothing shape pairs (can_begin wanted old.world shape pairs here) (few_numbers wanted old.world shape pairs here) alike) in
+    let cause = subst (HasOpenCause wanted (in_force (image_of old.world)) old.world mid.world) err (c.in-Err-Store-BadRecord.ensures.bad t) in
+    let bad : NamesBadOpening old.world mid.world (fault_record at) =
+    subst (λ (s : Shape). NamesBadFor s old.world mid.world (fault_record at)) (sym asks.wanted_is) (inl (at, cause, refl)) in
+    damaged_gen (drawn_lines c.args.seed 1 c.args.count) old mid new outcome.status outcome.lines outcome.order.items (fault_record at) (asks.fault_is ∙ alike) unsound only bad
+    (subst (λ s. (s ≡ Damaged) ⊎ (s ≡ Failed) ⊎ (s ≡ Memory)) (sym c.without-in-Err-Store-BadRecord.ensures.status) printed.ensures.cases) (λ e. printed.ensures.damaged t (sym c.without-in-Err-Store-BadRecord.ensures.status ∙ e)) c.without-in-Err-Store-BadRecord.ensures.lines c.without-in-Err-Store-BadRecord.ensures.order
+
+pub returns-in-Err-Store-BadRecord-clause-crash : goal.returns-in-Err-Store-BadRecord-clause-crash
+returns-in-Err-Store-BadRecord-clause-crash g c t shape pairs start =
+    let old = g.H.Device.history c.args.host.now in
+    let mid = g.H.Device.history c.open_store.new.host in
+    let wanted = c.args.config.now.shape in
+    let asks = c.requires.asked t in
+    let only = at_last old mid (ChangesDisk old.world) (g.H.Device.sound c.open_store.new.host t) (c.open_store.ensures.disk t) in
+    let printed = c.print_record_fault in
+    let new = g.H.Device.history printed.new.host in
+    let outcome = c.without-in-Err-Store-BadRecord.result in
+    let at = c.in-Err-Store-BadRecord.at in
+    let err = c.in-Err-Store-BadRecord.field-0-is ∙ ap opening.Store c.in-Err-Store-BadRecord.field-0-0-is in
+    let alike : shape_fault wanted old.world ≡ None = subst (ComparesShape (shape_fault wanted old.world)) err (c.in-Err-Store-BadRecord.ensures.compared t).fault in
+    let unsound : (shape : Shape) (pairs : Pairs) → IsStart (wanted_in old.world) old.world shape pairs → ⊥ = λ shape pairs start.
+    let here = subst (λ (s : Shape). IsStart s old.world shape pairs) asks.wanted_is start in
+    subst IsPlainOpen err (c.in-Err-Store-BadRecord.ensures.refused t says_nothing shape pairs (can_begin wanted old.world shape pairs here) (few_numbers wanted old.world shape pairs here) alike) in
+    absurd (unsound shape pairs start)
+
+pub returns-in-Err-Store-BadRecord-clause-config : goal.returns-in-Err-Store-BadRecord-clause-config
+returns-in-Err-Store-BadRecord-clause-config g c t =
+    let old = g.H.Device.history c.args.host.now in
+    let mid = g.H.Device.history c.open_store.new.host in
+    let wanted = c.args.config.now.shape in
+    let asks = c.requires.asked t in
+    let only = at_last old mid (ChangesDisk old.world) (g.H.Device.sound c.open_store.new.host t) (c.open_store.ensures.disk t) in
+    let printed = c.print_record_fault in
+    let new = g.H.Device.history printed.new.host in
+    config_then old mid new (g.H.Device.sound c.open_store.new.host t) (config_disk old mid (c.open_store.ensures.disk t)) (config_say (fault_record c.in-Err-Store-BadRecord.at) mid new (printed.ensures.moments t))
+
+pub returns-in-Err-Store-BadPage-clause-holds : goal.returns-in-Err-Store-BadPage-clause-holds
+returns-in-Err-Store-BadPage-clause-holds g c t =
+    let old = g.H.Device.history c.args.host.now in
+    let mid = g.H.Device.history c.open_store.new.host in
+    let wanted = c.args.config.now.shape in
+    let asks = c.requires.asked t in
+    let only = at_last old mid (ChangesDisk old.world) (g.H.Device.sound c.open_store.new.host t) (c.open_store.ensures.disk t) in
+    let printed = c.print_page_fault in
+    let new = g.H.Device.history printed.new.host in
+    let outcome = c.without-in-Err-Store-BadPage.result in
+    let page = c.in-Err-Store-BadPage.page in
+    let err = c.in-Err-Store-BadPage.field-0-is ∙ ap opening.Store c.in-Err-Store-BadPage.field-0-0-is in
+    let alike : shape_fault wanted old.world ≡ None = subst (ComparesShape (shape_fault wanted old.world)) err (c.in-Err-Store-BadPage.ensures.compared t).fault in
+    let unsound : (shape : Shape) (pairs : Pairs) → IsStart (wanted_in old.world) old.world shape pairs → ⊥ = λ shape pairs start.
+    let here = subst (λ (s : Shape). IsStart s old.world shape pairs) asks.wanted_is start in
+    subst IsPlainOpen err (c.in-Err-Store-BadPage.ensures.refused t says_nothing shape pairs (can_begin wanted old.world shape pairs here) (few_numbers wanted old.world shape pairs here) alike) in
+    let cause = subst (HasOpenCause wanted (in_force (image_of old.world)) old.world mid.world) err (c.in-Err-Store-BadPage.ensures.bad t) in
+    let bad : NamesBadOpening old.world mid.world (fault_page page) =
+    subst (λ (s : Shape). NamesBadFor s old.world mid.world (fault_page page)) (sym asks.wanted_is) (inr (page, cause, refl)) in
+    damaged_gen (drawn_lines c.args.seed 1 c.args.count) old mid new outcome.status outcome.lines outcome.order.items (fault_page page) (asks.fault_is ∙ alike) unsound only bad
+    (subst (λ s. (s ≡ Damaged) ⊎ (s ≡ Failed) ⊎ (s ≡ Memory)) (sym c.without-in-Err-Store-BadPage.ensures.status) printed.ensures.cases) (λ e. printed.ensures.damaged t (sym c.without-in-Err-Store-BadPage.ensures.status ∙ e)) c.without-in-Err-Store-BadPage.ensures.lines c.without-in-Err-Store-BadPage.ensures.order
+
+pub returns-in-Err-Store-BadPage-clause-crash : goal.returns-in-Err-Store-BadPage-clause-crash
+returns-in-Err-Store-BadPage-clause-crash g c t shape pairs start =
+    let old = g.H.Device.history c.args.host.now in
+    let mid = g.H.Device.history c.open_store.new.host in
+    let wanted = c.args.config.now.shape in
+    let asks = c.requires.asked t in
+    let only = at_last old mid (ChangesDisk old.world) (g.H.Device.sound c.open_store.new.host t) (c.open_store.ensures.disk t) in
+    let printed = c.print_page_fault in
+    let new = g.H.Device.history printed.new.host in
+    let outcome = c.without-in-Err-Store-BadPage.result in
+    let page = c.in-Err-Store-BadPage.page in
+    let err = c.in-Err-Store-BadPage.field-0-is ∙ ap opening.Store c.in-Err-Store-BadPage.field-0-0-is in
+    let alike : shape_fault wanted old.world ≡ None = subst (ComparesShape (shape_fault wanted old.world)) err (c.in-Err-Store-BadPage.ensures.compared t).fault in
+    let unsound : (shape : Shape) (pairs : Pairs) → IsStart (wanted_in old.world) old.world shape pairs → ⊥ = λ shape pairs start.
+    let here = subst (λ (s : Shape). IsStart s old.world shape pairs) asks.wanted_is start in
+    subst IsPlainOpen err (c.in-Err-Store-BadPage.ensures.refused t says_nothing shape pairs (can_begin wanted old.world shape pairs here) (few_numbers wanted old.world shape pairs here) alike) in
+    absurd (unsound shape pairs start)
+
+pub returns-in-Err-Store-BadPage-clause-config : goal.returns-in-Err-Store-BadPage-clause-config
+returns-in-Err-Store-BadPage-clause-config g c t =
+    let old = g.H.Device.history c.args.host.now in
+    let mid = g.H.Device.history c.open_store.new.host in
+    let wanted = c.args.config.now.shape in
+    let asks = c.requires.asked t in
+    let only = at_last old mid (ChangesDisk old.world) (g.H.Device.sound c.open_store.new.host t) (c.open_store.ensures.disk t) in
+    let printed = c.print_page_fault in
+    let new = g.H.Device.history printed.new.host in
+    config_then old mid new (g.H.Device.sound c.open_store.new.host t) (config_disk old mid (c.open_store.ensures.disk t)) (config_say (fault_page c.in-Err-Store-BadPage.page) mid new (printed.ensures.moments t))
