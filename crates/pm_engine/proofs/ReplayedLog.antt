@@ -177,19 +177,19 @@ reads_one tells t from base scan later before now w same reads applies = by appl
         }
 
 -- the next one can't be
-pub bad_log : (from end : Place) (first : PagedStore) (now : PagedStore) (scan : Scanned) (old new : World) (at : Place) → now.shape ≡ first.shape → ReadsSoFar from first.pairs scan now.shape now.pairs → (scan.next ≡ end → ⊥)
-    → IsBadNext scan now old new at → IsBadReplay first.shape first.pairs from end new at
-bad_log from end first now scan old new at same reads apart bad = record {
+pub bad_log : (from end : Place) (opened : PagedStore) (now : PagedStore) (scan : Scanned) (old new : World) (at : Place) → now.shape ≡ opened.shape → ReadsSoFar from opened.pairs scan now.shape now.pairs → (scan.next ≡ end → ⊥)
+    → IsBadNext scan now old new at → IsBadReplay opened.shape opened.pairs from end new at
+bad_log from end opened now scan old new at same reads apart bad = record {
   before = reads.frames;
   there = sym reads.next ∙ sym bad.there;
   not_end = λ is. apart (sym bad.there ∙ is);
   map = now.pairs;
-  holds = subst (λ (k : Shape). all_replayed k reads.frames (Some first.pairs) ≡ Some now.pairs) same reads.holds;
+  holds = subst (λ (k : Shape). all_replayed k reads.frames (Some opened.pairs) ≡ Some now.pairs) same reads.holds;
   bad = subst (λ (w : World). Why w at) (sym bad.same) (subst (λ (q : Place). Why old q) (sym bad.there) (by bad.found bad.stands (bad.fails now.pairs)));
 }
   where
     Why : World → Place → Type 0
-    Why w q = IsBadAt first.shape now.pairs w q ⊎ EndsBefore reads.frames from w q
+    Why w q = IsBadAt opened.shape now.pairs w q ⊎ EndsBefore reads.frames from w q
 
     by : (found : Option Frame) → found ≡ frame_ahead scan old → AppliesFound false now.shape found now.pairs now.pairs → Why old scan.next
     by None stands fails = inr (λ going. sym (stands_on scan old (reads.over ∙ going)) ∙ sym stands)

@@ -125,6 +125,14 @@ impl PagedEngine {
         self.run_line(alloc, host, line, number, replies)
     }
 
+    // Whether so many pages are logged that too few frames may be left for those of one operation more.
+    pub(crate) fn is_crowded(&self, config: &Config) -> bool
+        ensures { result ≡ is_crowded self.now config.now }
+    {
+        let most = config.frames.saturating_sub(OP_PAGES);
+        self.logged.pages().len() > most as usize
+    }
+
     // Makes a checkpoint where a line asks for one, or where too few frames may be left for it.
     fn make_room<H: Host>(
         &mut self,
@@ -152,14 +160,6 @@ impl PagedEngine {
             return Ok(());
         }
         self.checkpoint(alloc, host)
-    }
-
-    // Whether so many pages are logged that too few frames may be left for those of one operation more.
-    pub(crate) fn is_crowded(&self, config: &Config) -> bool
-        ensures { result ≡ is_crowded self.now config.now }
-    {
-        let most = config.frames.saturating_sub(OP_PAGES);
-        self.logged.pages().len() > most as usize
     }
 }
 

@@ -33,45 +33,6 @@ use std::alloc::{AllocError, Global};
 const CP_BEGIN_LEN: usize = 20;
 
 impl PagedEngine {
-    /// Makes the next checkpoint, of the logged pages: `Ckpt::whole_plain` says which steps it makes. No page is
-    /// logged then, and its start marker is in force.
-    ///
-    /// Out of memory leaves everything as it was. After `Failed` the engine is closed, with the map and the order
-    /// that it had, and a prefix of the steps was made: the store on the disk holds what it held.
-    ///
-    /// Checkpoints are numbered from 1, and after 2^64 - 1 from 1 again: it promises nothing of the store then.
-    pub fn checkpoint<H: Host>(&mut self, alloc: Global, host: &mut H) -> Result<(), StoreFault>
-        requires usable { IsUsable (H.Device.state host.old) }
-        requires is_open { self.old.is_open ≡ true }
-        requires end { H.Device.tells → EndsThere self.old.log (H.Device.history host.old).world }
-        ensures done { OnOk result (self.new ≡ after_checkpoint self.old) }
-        ensures ends { H.Device.tells → OnOk result (EndsThere self.new.log (H.Device.history host.new).world) }
-
-        // Whatever lines the store has done, it has done them still, and all of them last; a crash meanwhile
-        // leaves a prefix of them. There have to be numbers for a segment and a checkpoint more.
-        ensures lines { H.Device.tells → (wanted : Shape) (told : List ℕ → ℕ) (from : ℕ) (start : Pairs)
-            (lines : List Line) (s : State)
-            → HasRun wanted told from start lines (store_of self.old) s (H.Device.history host.old).world
-            → HasNumbersFor self.old 1 1
-            → OnOk result (HasLastingLines wanted told from start lines self.new
-            (H.Device.history host.new).world) }
-        ensures crash { H.Device.tells → (wanted : Shape) (told : List ℕ → ℕ) (from : ℕ) (start : Pairs)
-            (lines : List Line) (s : State)
-            → HasRun wanted told from start lines (store_of self.old) s (H.Device.history host.old).world
-            → HasNumbersFor self.old 1 1
-            → AllMoments (H.Device.history host.old) (H.Device.history host.new)
-            (CrashHoldsLines (self.old.log.end.seg + 2) (number_of self.old.mark + 1)
-            wanted self.old.map.shape start lines) }
-        ensures closed { IsErrOf result StoreFault.Failed → IsClosedAs self.old self.new }
-        ensures unchanged { IsErrOf result StoreFault.Memory
-            → (self.new ≡ self.old) × (host.new ≡ host.old) }
-        ensures disk { H.Device.tells → AllMoments (H.Device.history host.old) (H.Device.history host.new)
-            (ChangesDisk (H.Device.history host.old).world) }
-        ensures cause { HasPlainFault (H.Device.state host.old) (H.Device.state host.new) result }
-    {
-        self.checkpoint_at(alloc, host, None)
-    }
-
     /// Makes the next checkpoint, of the logged pages. A restart applies the log from `replay` on then, and
     /// from just after the CP_BEGIN where that is None.
     pub(crate) fn checkpoint_at<H: Host>(
@@ -119,6 +80,45 @@ impl PagedEngine {
         self.began = self.log.appended();
         self.is_open = true;
         Ok(())
+    }
+
+    /// Makes the next checkpoint, of the logged pages: `Ckpt::whole_plain` says which steps it makes. No page is
+    /// logged then, and its start marker is in force.
+    ///
+    /// Out of memory leaves everything as it was. After `Failed` the engine is closed, with the map and the order
+    /// that it had, and a prefix of the steps was made: the store on the disk holds what it held.
+    ///
+    /// Checkpoints are numbered from 1, and after 2^64 - 1 from 1 again: it promises nothing of the store then.
+    pub fn checkpoint<H: Host>(&mut self, alloc: Global, host: &mut H) -> Result<(), StoreFault>
+        requires usable { IsUsable (H.Device.state host.old) }
+        requires is_open { self.old.is_open ≡ true }
+        requires end { H.Device.tells → EndsThere self.old.log (H.Device.history host.old).world }
+        ensures done { OnOk result (self.new ≡ after_checkpoint self.old) }
+        ensures ends { H.Device.tells → OnOk result (EndsThere self.new.log (H.Device.history host.new).world) }
+
+        // Whatever lines the store has done, it has done them still, and all of them last; a crash meanwhile
+        // leaves a prefix of them. There have to be numbers for a segment and a checkpoint more.
+        ensures lines { H.Device.tells → (wanted : Shape) (told : List ℕ → ℕ) (from : ℕ) (start : Pairs)
+            (lines : List Line) (s : State)
+            → HasRun wanted told from start lines (store_of self.old) s (H.Device.history host.old).world
+            → HasNumbersFor self.old 1 1
+            → OnOk result (HasLastingLines wanted told from start lines self.new
+            (H.Device.history host.new).world) }
+        ensures crash { H.Device.tells → (wanted : Shape) (told : List ℕ → ℕ) (from : ℕ) (start : Pairs)
+            (lines : List Line) (s : State)
+            → HasRun wanted told from start lines (store_of self.old) s (H.Device.history host.old).world
+            → HasNumbersFor self.old 1 1
+            → AllMoments (H.Device.history host.old) (H.Device.history host.new)
+            (CrashHoldsLines (self.old.log.end.seg + 2) (number_of self.old.mark + 1)
+            wanted self.old.map.shape start lines) }
+        ensures closed { IsErrOf result StoreFault.Failed → IsClosedAs self.old self.new }
+        ensures unchanged { IsErrOf result StoreFault.Memory
+            → (self.new ≡ self.old) × (host.new ≡ host.old) }
+        ensures disk { H.Device.tells → AllMoments (H.Device.history host.old) (H.Device.history host.new)
+            (ChangesDisk (H.Device.history host.old).world) }
+        ensures cause { HasPlainFault (H.Device.state host.old) (H.Device.state host.new) result }
+    {
+        self.checkpoint_at(alloc, host, None)
     }
 }
 
