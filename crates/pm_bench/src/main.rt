@@ -19,7 +19,11 @@ mod page_list;
 mod page_table;
 #[cfg(test)]
 mod paged_maps;
+#[cfg(test)]
+mod plain_policies;
 mod policies;
+#[cfg(test)]
+mod policy_rules;
 mod region;
 #[cfg(test)]
 mod restores;

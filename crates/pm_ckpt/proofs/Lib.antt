@@ -1,6 +1,7 @@
 pub mod Finishing
 pub mod GoingOn
 pub mod Home
+pub mod KeptLog
 pub mod Once
 pub mod OnlyDisk
 pub mod Opening

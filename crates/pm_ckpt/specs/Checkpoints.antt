@@ -6,13 +6,13 @@
 --   the files of these pages are forced
 --   the same of the end marker
 --   the segments below both places of the mark are dropped, and the absence of each is forced
-use Rattle.std.specs.Prelude.{◌≡◌, ◌≤◌, ◌<◌, ℕ, List, [], ◌++◌, map, None, Result}
+use Rattle.std.specs.Prelude.{◌≡◌, ◌≤◌, ◌<◌, ◌+◌, ◌^◌, ℕ, List, [], ◌++◌, map, None, Result}
 use Rattle.pm_types.specs.declared.page_id.PageId.{PageId}
 use Rattle.pm_types.specs.declared.shape.Mark.{Mark}
 use Rattle.pm_types.specs.declared.shape.Shape.{Shape}
 use Rattle.pm_types.specs.declared.place.Place.{Place}
 use Rattle.pm_frame.specs.Frames.{Frame}
-use Rattle.pm_records.specs.LogFiles.{Written}
+use Rattle.pm_records.specs.LogFiles.{Written, contents}
 use Rattle.pm_records.specs.Logs.{place}
 use Rattle.pm_disk.specs.Moments.{History}
 use Rattle.pm_disk.specs.Worlds.{World, segment_in}
@@ -28,7 +28,7 @@ use Rattle.pm_core.specs.States.{State}
 use Rattle.pm_core.specs.Stands.{Stands}
 use Rattle.pm_segments.specs.Appends.{grown}
 use Rattle.pm_segments.specs.Drops.{drop_before_steps}
-use Rattle.pm_segments.specs.Ends.{LogEnd, LogIsOpen}
+use Rattle.pm_segments.specs.Ends.{LogEnd, LogIsOpen, EndsThere}
 use Rattle.pm_ckpt.specs.Marked.{begin_frame, begin_log, kept_segment, log_after}
 use Rattle.pm_ckpt.specs.Writes.{Writing, written_page, write_steps, named_of, IsOrderOf, AreHome}
 
@@ -99,6 +99,18 @@ pub record MayCheckpoint (log : LogEnd) (mark : Mark) (held : Partitions) (dirty
 -- no segment from the first kept one on is there that is below both places of the mark
 abbrev pub AreGone : LogEnd → Mark → World → Type 0
 AreGone log mark world = (seg : ℕ) → log.first ≤ seg → seg < kept_segment mark → segment_in world seg ≡ None
+
+-- each segment from this one up to that one begins with what it had
+abbrev pub KeepsLogFrom : ℕ → ℕ → World → World → Type 0
+KeepsLogFrom low high old new = (seg : ℕ) → low ≤ seg → seg ≤ high
+    → (more : List ℕ) × (contents new.log seg ≡ contents old.log seg ++ more)
+
+-- What a checkpoint leaves of the log, whether the store is sound or not: its last segment ends where the log
+-- ends. Where there is a number for a segment more, each segment from this one up to the one in which the log
+-- ended before begins with what it had.
+pub record LeavesLog (low : ℕ) (before now : LogEnd) (old new : World) : Type 0 where
+  pub ends : EndsThere now new
+  pub begins : before.end.seg + 1 < 2 ^ 64 → KeepsLogFrom low before.end.seg old new
 
 -- What a checkpoint leaves that is ended: it is in force, its pages are in their files for good, and the
 -- segments that aren't needed any more are gone.

@@ -9,9 +9,9 @@ ghost use Rattle.pm_segments.specs.Ends.{EndsThere};
 ghost use Rattle.pm_core.specs.Calls.{ChangesDisk};
 ghost use Rattle.pm_core.specs.PageSets.{AreOnce, no_page};
 ghost use Rattle.pm_core.specs.States.{State};
-ghost use Rattle.pm_ckpt.specs.Marked.{mark_for, begin_of, log_after, HasRoomFor, with_mark, spent};
+ghost use Rattle.pm_ckpt.specs.Marked.{mark_for, begin_of, log_after, kept_segment, HasRoomFor, with_mark, spent};
 ghost use Rattle.pm_ckpt.specs.Checkpoints.{CanCheckpoint, MayCheckpoint};
-ghost use Rattle.pm_ckpt.specs.Checkpoints.{MakesWhole, MakesInOrder, IsEnded};
+ghost use Rattle.pm_ckpt.specs.Checkpoints.{MakesWhole, MakesInOrder, IsEnded, LeavesLog};
 ghost use Rattle.pm_ckpt.specs.Writes.{held_in, IsHeld};
 
 use crate::begin::begin_marked;
@@ -107,7 +107,10 @@ impl Ckpt {
         ensures spent { OnErr result (self.new ≡ spent self.old) }
         ensures log { OnOk result
             (log.new ≡ log_after log.old (mark_for self.old log.old replay)) }
-        ensures ends { H.Device.tells → OnOk result (EndsThere log.new (H.Device.history host.new).world) }
+
+        // What it leaves of the log of any store: no segment from the first one that is kept on loses what it has.
+        ensures ends { H.Device.tells → OnOk result (LeavesLog (kept_segment (mark_for self.old log.old replay))
+            log.old log.new (H.Device.history host.old).world (H.Device.history host.new).world) }
 
         // From each state of the disk machine in which this checkpoint may be made: its steps were, each of
         // which meets its guard. A store that wasn't sound when it was opened may be in no such state.
@@ -156,7 +159,8 @@ fn checkpoint<H: Host>(
     requires end { H.Device.tells → EndsThere log.old (H.Device.history host.old).world }
     ensures idle { IfOk result (λ idle. idle ≡ Some (no_page (length set.pages + set.spare))) }
     ensures log { OnOk result (log.new ≡ log_after log.old mark) }
-    ensures ends { H.Device.tells → OnOk result (EndsThere log.new (H.Device.history host.new).world) }
+    ensures ends { H.Device.tells → OnOk result (LeavesLog (kept_segment mark) log.old log.new
+        (H.Device.history host.old).world (H.Device.history host.new).world) }
     ensures steps { H.Device.tells → (wanted : Shape) (told : List ℕ → ℕ) (s : State)
         → (can : CanCheckpoint wanted told s log.old mark (held_in pages.now) order.now
         (H.Device.history host.old).world)

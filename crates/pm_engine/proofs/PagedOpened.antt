@@ -1,6 +1,6 @@
 -- A store that was opened over its pages.
 use Rattle.std.proofs.Common.{◌≡◌, ◌⊎◌, inl, inr, ℕ, zero, suc, ◌+◌, ◌*◌, ◌≤◌, List, [], ◌∷◌, ◌++◌, length, take, drop, Option, Some, None, Result, Ok, Err, refl, sym, ap, ◌∙◌, subst, arith, append-nil}
-use Rattle.std.specs.Prelude.{IsErr, IsErrOf, IfErr}
+use Rattle.std.specs.Prelude.{◌≢◌, IsErr, IsErrOf, IfErr, slice_get}
 use Rattle.std.specs.Option.{option_and_then}
 use Rattle.std.proofs.lemmas.Bool.Decides.{eqb_tells}
 use Rattle.std.proofs.lemmas.List.{take-append-drop}
@@ -16,20 +16,22 @@ use Rattle.pm_types.specs.declared.shape.Mark.{Mark}
 use Rattle.pm_types.specs.declared.shape.Shape.{Shape}
 use Rattle.pm_types.specs.Shapes.{IsShape}
 use Rattle.pm_frame.specs.declared.limits.TheConstants.{FRAME_END_MAX}
-use Rattle.pm_frame.specs.Frames.{Frame}
+use Rattle.pm_frame.specs.Frames.{Frame, frame_len}
 use Rattle.pm_disk.specs.Files.{File, Cut, bytes_of, content, with_change, all_forced}
 use Rattle.pm_disk.specs.Moments.{History, AllMoments}
 use Rattle.pm_disk.specs.Worlds.{World}
 use Rattle.pm_disk.proofs.Families.{file_here, file_there}
 use Rattle.pm_disk.proofs.Files.{content_change}
+use Rattle.pm_disk.proofs.Writes.{slice_get-append_left}
 use Rattle.pm_model.specs.Eval.{Pairs}
 use Rattle.pm_records.specs.FirstRecords.{restart_frame}
 use Rattle.pm_records.specs.LogFiles.{contents}
 use Rattle.pm_records.specs.LogSteps.{Step, DoesPrefix, cut_at, cut_steps, world_after}
-use Rattle.pm_records.specs.Logs.{all_frames, record_in, after_frames, HasFrames, IsLogFrom}
+use Rattle.pm_records.specs.Logs.{all_frames, record_in, after_frames, enters_next, next_place, HasFrames, IsLogFrom}
 use Rattle.pm_records.specs.Records.{Restart}
 use Rattle.pm_records.proofs.RecordOf.{record_of-some}
-use Rattle.pm_records.proofs.Runs.{few_go_on}
+use Rattle.pm_records.proofs.FrameGrammar.{frame_laws}
+use Rattle.pm_records.proofs.Runs.{bool_cases, few_go_on, next-enters, next-stays, rises, rises_from}
 use Rattle.pm_segments.specs.Appends.{append_steps}
 use Rattle.pm_segments.specs.Ends.{LogEnd, EndsThere, IsLogEnd}
 use Rattle.pm_segments.proofs.Emptied.{forced_reads}
@@ -54,19 +56,20 @@ use Rattle.pm_redo.specs.Differences.{difference_from}
 use Rattle.pm_redo.specs.FoundMarks.{replay_at}
 use Rattle.pm_redo.specs.LogEnds.{LogEndsAt}
 use Rattle.pm_redo.specs.Rebuilding.{IsSame}
-use Rattle.pm_redo.specs.Restoring.{shape_of, found_shape, mark_of, segment_bytes_of, left_state, CrashHolds, IsBadRestore, RestoresAll, RestoresWithin, IsBase, IsFit, ComparesShape, KeepsBase, LeavesStore}
+use Rattle.pm_redo.specs.Restoring.{shape_of, found_shape, mark_of, segment_bytes_of, left_state, CrashHolds, IsBadRestore, RestoresAll, RestoresWithin, IsBase, IsFit, ComparesShape, KeepsBase, LeavesStore, OnlyCutsLog}
 use Rattle.pm_redo.specs.declared.opening.Base.{Base}
 use Rattle.pm_redo.proofs.FitMarks.{same_shape}
 use Rattle.pm_redo.proofs.Restored.{left_of}
 use Rattle.pm_redo.proofs.RestoringSteps.{one_end}
 use Rattle.pm_redo.proofs.SoundStores.{no_bad_record}
-use Rattle.pm_engine.specs.AppendRuns.{append_all_steps}
+use Rattle.pm_engine.specs.AppendRuns.{append_all_steps, grown_all}
 use Rattle.pm_engine.specs.OpenedStores.{IsRestoredStore}
 use Rattle.pm_engine.specs.PagedEngines.{PagedRunning, store_of, number_of}
 use Rattle.pm_engine.specs.PagedMaps.{IsPagedStore, pages_of_lists}
 use Rattle.pm_engine.specs.PagedOpenings.{loaded_base, restored_base, IsLoadedEngine, HasPages, IsBadOver, IsRestoredHolding, OpensRunning, HasFewNumbers, opened_last, opened_number, IsPlainOpen, IsBadOpening, IsBadRestored, HasOpenCause, ComparesOpening, OpensMap, OpensOver}
-use Rattle.pm_engine.specs.PagedReplays.{CrashHoldsMap, ReplaysSomehow, AreLasting, HasRecords, CanReplay, IsBadReplay, AppliesAll}
+use Rattle.pm_engine.specs.PagedReplays.{CrashHoldsMap, ReplaysSomehow, AreLasting, HasRecords, CanReplay, GrewAtEnd, IsBadReplay, LogLeadsTo, AppliesAll}
 use Rattle.pm_engine.specs.RunningStores.{RunsOver, ended_with, map_of}
+use Rattle.pm_engine.proofs.GrownWorlds.{all_grew}
 use Rattle.pm_engine.proofs.HeldReplays.{has_records, loaded_map, mark_early}
 use Rattle.pm_engine.proofs.LoadedStores.{HasMark}
 use Rattle.pm_engine.proofs.OpenedStores.{restored_store, ended_mark, counted_twice}
@@ -148,40 +151,178 @@ base_same mark old new same = ap (λ (files : ℕ → File). base_of (ended_with
 pub restored_is : (checkpoint : Checkpoint) (mark : Option Mark) (w : World) → mark ≡ mark_of checkpoint → loaded_base mark w ≡ restored_base checkpoint w
 restored_is checkpoint mark w is = ap (λ m. loaded_base m w) is ∙ ap (λ c. base_of c no_pages (λ part. content (w.pages part))) (sym (ended_mark checkpoint))
 
--- a record that can't be applied to it
-pub bad_over : (shape : Shape) (mark : Option Mark) (log : LogEnd) (from end : Place) (old new : World) (engine : PagedRunning) (at : Place) → IsLoadedEngine shape mark log engine → HasPages shape (loaded_base mark old) engine
-    → IsBadReplay engine.map.shape engine.map.pairs from end new at → IsBadOver shape (loaded_base mark old) from end new at
-bad_over shape mark log from end old new engine at loaded pages bad =
-    subst (λ (q : Shape × Pairs). IsBadReplay q.0 q.1 from end new at) {x = (engine.map.shape, engine.map.pairs)} {y = (shape, pairs_in shape.partitions (loaded_base mark old))} (λ i. (loaded.fresh.shape_is i, loaded_map shape mark log old engine loaded pages i)) bad
-
 -- they are well formed
 loaded_well : (shape : Shape) (mark : Option Mark) (log : LogEnd) (old : World) (engine : PagedRunning) → IsLoadedEngine shape mark log engine → HasPages shape (loaded_base mark old) engine → AllWellFormed shape (loaded_base mark old)
 loaded_well shape mark log old engine loaded pages part inside =
     let well : AllWellFormed shape (pages_of_lists engine.map.lists) = subst (λ (k : Shape). AllWellFormed k (pages_of_lists engine.map.lists)) loaded.fresh.shape_is (all_well engine.map.shape engine.map.lists loaded.paged.partitions) in
     subst (λ (p : Partition). IsWellFormed shape part p) (ap counted (pages part inside) ∙ counted_twice (loaded_base mark old part)) (well part inside)
 
--- the records make this map of theirs
-pub opens_over : (shape : Shape) (mark : Option Mark) (log : LogEnd) (from end : Place) (old new : World) (engine now : PagedRunning) → IsLoadedEngine shape mark log engine → HasPages shape (loaded_base mark old) engine → AppliesAll from end engine now new
-    → OpensOver shape (loaded_base mark old) from end now.map.pairs
-opens_over shape mark log from end old new engine now loaded pages applied = record {
-  well_formed = loaded_well shape mark log old engine loaded pages;
-  frames = applied.frames;
-  to = applied.to;
-  makes = subst (λ (q : Shape × Pairs). all_replayed q.0 applied.frames (Some q.1) ≡ Some now.map.pairs) {x = (engine.map.shape, engine.map.pairs)} {y = (shape, pairs_in shape.partitions (loaded_base mark old))}
-      (λ i. (loaded.fresh.shape_is i, loaded_map shape mark log old engine loaded pages i)) applied.makes;
+-- the same where its frames stand in other bytes
+pub bad_stands : (shape : Shape) (base : Pairs) (log other : ℕ → List ℕ) (from end : Place) (new : World) (at : Place) (bad : IsBadReplay shape base log from end new at) → HasFrames all_frames other from (bad.before ++ bad.rest) → IsBadReplay shape base other from end new at
+bad_stands shape base log other from end new at bad stand = record {
+  before = bad.before;
+  rest = bad.rest;
+  stand = stand;
+  to = bad.to;
+  there = bad.there;
+  not_end = bad.not_end;
+  map = bad.map;
+  holds = bad.holds;
+  bad = bad.bad;
 }
 
+-- once its RESTART is appended its frames stand as before
+module _ (shape : Shape) (mark : Option Mark) (log : LogEnd) (from end : Place) (old mid : World) (engine : PagedRunning) (loaded : IsLoadedEngine shape mark log engine) (there : EndsThere log old)
+    (is : mid ≡ world_after (append_all_steps log (restart_frame shape ∷ [])) log.end old) (leads : LogLeadsTo from end log old) where
+  restart_grew : GrewAtEnd log engine.log old mid
+  restart_grew =
+      let fs : List Frame = restart_frame shape ∷ [] in
+      subst (λ (q : LogEnd × World). GrewAtEnd log q.0 old q.1) {x = (grown_all log fs, world_after (append_all_steps log fs) log.end old)} {y = (engine.log, mid)} (λ i. (sym loaded.log_is i, sym is i)) (all_grew log fs old there loaded.numbered)
+
+  restart_run : HasFrames all_frames (contents mid.log) from leads.frames
+  restart_run =
+      run_stays (contents old.log) (contents mid.log) from leads.frames end.seg (λ seg le. restart_grew.begins seg (omega (arith, le, leads.behind))) (omega (arith, ap (λ (p : Place). p.seg) leads.to)) leads.run
+
+  pub restart_leads : LogLeadsTo from end engine.log mid
+  restart_leads = record { frames = leads.frames; run = restart_run; to = leads.to; behind = omega (arith, leads.behind, restart_grew.rises) }
+
+-- the records make this map of theirs
+pub opens_over : (shape : Shape) (mark : Option Mark) (log : LogEnd) (from end : Place) (old mid new : World) (engine now : PagedRunning) (loaded : IsLoadedEngine shape mark log engine) → HasPages shape (loaded_base mark old) engine → AppliesAll from end engine now mid new
+    → EndsThere log old → mid ≡ world_after (append_all_steps log (restart_frame shape ∷ [])) log.end old → LogLeadsTo from end log old → OpensOver shape (loaded_base mark old) (contents old.log) from end now.map.pairs
+opens_over shape mark log from end old mid new engine now loaded pages applied there is leads =
+    let later = restart_run shape mark log from end old mid engine loaded there is leads in
+    let same : applied.frames ≡ leads.frames = one_run (contents mid.log) from applied.frames leads.frames applied.stand later (applied.to ∙ sym leads.to) in
+    record {
+      well_formed = loaded_well shape mark log old engine loaded pages;
+      frames = applied.frames;
+      stand = subst (HasFrames all_frames (contents old.log) from) (sym same) leads.run;
+      to = applied.to;
+      makes = subst (λ (q : Shape × Pairs). all_replayed q.0 applied.frames (Some q.1) ≡ Some now.map.pairs) {x = (engine.map.shape, engine.map.pairs)} {y = (shape, pairs_in shape.partitions (loaded_base mark old))}
+          (λ i. (loaded.fresh.shape_is i, loaded_map shape mark log old engine loaded pages i)) applied.makes;
+    }
+
+-- a record that can't be applied to it
+pub bad_over : (shape : Shape) (mark : Option Mark) (log : LogEnd) (from end : Place) (old mid new : World) (engine : PagedRunning) (at : Place) (loaded : IsLoadedEngine shape mark log engine) → HasPages shape (loaded_base mark old) engine
+    → IsBadReplay engine.map.shape engine.map.pairs (contents mid.log) from end new at → EndsThere log old → mid ≡ world_after (append_all_steps log (restart_frame shape ∷ [])) log.end old → LogLeadsTo from end log old
+    → IsBadOver shape (loaded_base mark old) (contents old.log) from end new at
+bad_over shape mark log from end old mid new engine at loaded pages bad there is leads =
+    let later = restart_run shape mark log from end old mid engine loaded there is leads in
+    let all : List Frame = bad.before ++ bad.rest in
+    let same : all ≡ leads.frames = one_run (contents mid.log) from all leads.frames bad.stand later (bad.to ∙ sym leads.to) in
+    subst (λ (q : Shape × Pairs). IsBadReplay q.0 q.1 (contents old.log) from end new at) {x = (engine.map.shape, engine.map.pairs)} {y = (shape, pairs_in shape.partitions (loaded_base mark old))}
+    (λ i. (loaded.fresh.shape_is i, loaded_map shape mark log old engine loaded pages i))
+    (bad_stands engine.map.shape engine.map.pairs (contents mid.log) (contents old.log) from end new at bad (subst (HasFrames all_frames (contents old.log) from) (sym same) leads.run))
+
+-- ---- a log that was cut
+
+-- the segment of its end is cut there
+cut_here : (end : Place) (w : World) → contents (world_after cut_steps end w).log end.seg ≡ take end.off (contents w.log end.seg)
+cut_here end w =
+    ap bytes_of (forced_reads end.seg (cut_at end w)) ∙ ap (λ (f : File). bytes_of (content f)) (file_here w.log end.seg (with_change (w.log end.seg) (Cut end.off)))
+    ∙ ap bytes_of (content_change (w.log end.seg) (Cut end.off))
+
+-- and the others are as they were
+cut_there : (end : Place) (w : World) (seg : ℕ) → seg ≢ end.seg → contents (world_after cut_steps end w).log seg ≡ contents w.log seg
+cut_there end w seg other =
+    ap (λ (f : File). bytes_of (content f)) (file_there (cut_at end w).log end.seg seg (all_forced ((cut_at end w).log end.seg)) other)
+    ∙ ap (λ (f : File). bytes_of (content f)) (file_there w.log end.seg seg (with_change (w.log end.seg) (Cut end.off)) other)
+
+-- before a restart's cut each segment had what it has after it, and maybe more
+cut_extends : (end : Place) (w : World) (seg : ℕ) → Extends (contents (world_after cut_steps end w).log seg) (contents w.log seg)
+cut_extends end w seg = elim (eqb_tells seg end.seg) [
+  | inl it ↦
+      subst (λ (n : ℕ). Extends (contents (world_after cut_steps end w).log n) (contents w.log n)) (sym it.1)
+      (drop end.off (contents w.log end.seg), sym (take-append-drop end.off (contents w.log end.seg)) ∙ ap (λ (l : List ℕ). l ++ drop end.off (contents w.log end.seg)) (sym (cut_here end w)))
+  | inr other ↦ extends_same _ _ (sym (cut_there end w seg other.1))
+]
+
+-- a frame whose bytes are among those that are left stands there
+frame_left : (seg off : ℕ) (whole left : List ℕ) (f : Frame) → Extends left whole → off + frame_len f ≤ length left → all_frames.frame_at seg off whole ≡ Some f → all_frames.frame_at seg off left ≡ Some f
+frame_left seg off whole left f more within is =
+    frame_laws.own seg off whole left f is within (λ i lt. sym (ap (λ (l : List ℕ). slice_get l i) more.1 ∙ slice_get-append_left left more.0 i (omega (arith, lt, within))))
+
+-- a frame ends no later than the place to which it leads
+ends_before : (p end : Place) (f : Frame) (fs : List Frame) → after_frames (next_place p f) fs ≡ end → p.seg ≡ end.seg → p.off + frame_len f ≤ end.off
+ends_before p end f fs to same = elim (bool_cases (enters_next p f)) [
+  | inl enters ↦ absurd (omega (arith, same, rises_from (next_place p f) fs, ap (λ (q : Place). q.seg) to, ap (λ (q : Place). q.seg) (next-enters p f enters)))
+  | inr stays ↦
+      let next = next-stays p f stays in
+      let seg_is = ap (λ (q : Place). q.seg) next in
+      let off_is = ap (λ (q : Place). q.off) next in
+      let to_seg = ap (λ (q : Place). q.seg) to in
+      let to_off = ap (λ (q : Place). q.off) to in
+      elim (rises (next_place p f) fs) [
+        | inl up ↦ absurd (omega (arith, up, same, seg_is, to_seg))
+        | inr on ↦ omega (arith, on.1, off_is, to_off)
+      ]
+]
+
+-- frames that lead to its end stand still
+run_left : (end : Place) (w : World) (p : Place) (fs : List Frame) → length (contents (world_after cut_steps end w).log end.seg) ≡ end.off → after_frames p fs ≡ end → HasFrames all_frames (contents w.log) p fs → HasFrames all_frames (contents (world_after cut_steps end w).log) p fs
+run_left end w p [] long to run = tt
+run_left end w p (f ∷ fs) long to run = (here, run.1, run_left end w (next_place p f) fs long to run.2)
+  where
+    cut : ℕ → List ℕ
+    cut = contents (world_after cut_steps end w).log
+
+    here : all_frames.frame_at p.seg p.off (cut p.seg) ≡ Some f
+    here = elim (eqb_tells p.seg end.seg) [
+      | inl it ↦ frame_left p.seg p.off (contents w.log p.seg) (cut p.seg) f (cut_extends end w p.seg) (omega (arith, ends_before p end f fs to it.1, long, ap (λ (n : ℕ). length (cut n)) it.1)) run.0
+      | inr other ↦ ap (all_frames.frame_at p.seg p.off) (cut_there end w p.seg other.1) ∙ run.0
+    ]
+
+-- once it is restored its frames lead to its end
+pub cut_leads : (shape : Shape) (checkpoint : Checkpoint) (old mid : World) (base : Base) → IsFit shape base → IsBase checkpoint shape (contents old.log) mid base → OnlyCutsLog checkpoint old mid → LogLeadsTo base.replay base.log_end base.log mid
+cut_leads shape checkpoint old mid base fit is only =
+    let fs = is.ends.frames in
+    let to : after_frames base.replay fs ≡ base.log_end = sym is.ends.ends in
+    let log_is : mid.log ≡ (world_after cut_steps base.log_end old).log = only base.log_end (subst (λ (p : Place). LogEndsAt (contents old.log) p base.log_end) is.replay is.ends) in
+    let long : length (contents (world_after cut_steps base.log_end old).log base.log_end.seg) ≡ base.log_end.off =
+    ap (λ (files : ℕ → File). length (contents files base.log_end.seg)) (sym log_is)
+    ∙ subst (λ (p : Place). length (contents mid.log p.seg) ≡ p.off) (sym fit.ends) is.there.ends in
+    record {
+      frames = fs;
+      run = subst (λ (files : ℕ → File). HasFrames all_frames (contents files) base.replay fs) (sym log_is) (run_left base.log_end old base.replay fs long to is.ends.is_log.run);
+      to = to;
+      behind = omega (arith, ap (λ (p : Place). p.seg) fit.ends);
+    }
+
+-- each segment had what it has once the store is restored, and maybe more
+had_more : (shape : Shape) (checkpoint : Checkpoint) (old mid : World) (base : Base) → IsBase checkpoint shape (contents old.log) mid base → OnlyCutsLog checkpoint old mid → (seg : ℕ) → Extends (contents mid.log seg) (contents old.log seg)
+had_more shape checkpoint old mid base is only seg =
+    let ends = subst (λ (p : Place). LogEndsAt (contents old.log) p base.log_end) is.replay is.ends in
+    subst (λ (files : ℕ → File). Extends (contents files seg) (contents old.log seg)) (sym (only base.log_end ends)) (cut_extends base.log_end old seg)
+
+-- a record that is bad in what is left was so before
+pub bad_uncut : (shape : Shape) (checkpoint : Checkpoint) (old mid new : World) (base : Base) (at : Place) → IsBase checkpoint shape (contents old.log) mid base → OnlyCutsLog checkpoint old mid
+    → IsBadOver shape (loaded_base base.mark mid) (contents mid.log) base.replay base.log_end new at → IsBadOver shape (restored_base checkpoint mid) (contents old.log) (replay_of checkpoint) base.log_end new at
+bad_uncut shape checkpoint old mid new base at is only bad =
+    let all : List Frame = bad.before ++ bad.rest in
+    let stand : HasFrames all_frames (contents old.log) base.replay all =
+    run_stays (contents mid.log) (contents old.log) base.replay all base.log_end.seg (λ seg le. had_more shape checkpoint old mid base is only seg) (omega (arith, ap (λ (p : Place). p.seg) bad.to)) bad.stand in
+    subst (λ (q : Partitions × Place). IsBadOver shape q.0 (contents old.log) q.1 base.log_end new at) {x = (loaded_base base.mark mid, base.replay)} {y = (restored_base checkpoint mid, replay_of checkpoint)} (λ i. (restored_is checkpoint base.mark mid is.mark i, is.replay i))
+    (bad_stands shape (pairs_in shape.partitions (loaded_base base.mark mid)) (contents mid.log) (contents old.log) base.replay base.log_end new at bad stand)
+
 -- as it was found by the store's checkpoint
-pub opens_map : (shape : Shape) (checkpoint : Checkpoint) (old mid : World) (base : Base) (pairs : Pairs) → IsBase checkpoint shape (contents old.log) mid base → ChangesDisk old mid → KeepsBase checkpoint old mid
-    → OpensOver shape (loaded_base base.mark mid) base.replay base.log_end pairs → OpensMap shape checkpoint old pairs
-opens_map shape checkpoint old mid base pairs is restored keeps opens = record {
-  end = base.log_end;
-  ends = subst (λ (p : Place). LogEndsAt (contents old.log) p base.log_end) is.replay is.ends;
-  mid = mid;
-  restored = restored;
-  keeps = keeps;
-  opens = subst (λ (q : Partitions × Place). OpensOver shape q.0 q.1 base.log_end pairs) {x = (loaded_base base.mark mid, base.replay)} {y = (restored_base checkpoint mid, replay_of checkpoint)} (λ i. (restored_is checkpoint base.mark mid is.mark i, is.replay i)) opens;
-}
+pub opens_map : (shape : Shape) (checkpoint : Checkpoint) (old mid : World) (base : Base) (pairs : Pairs) → IsBase checkpoint shape (contents old.log) mid base → ChangesDisk old mid → KeepsBase checkpoint old mid → OnlyCutsLog checkpoint old mid
+    → OpensOver shape (loaded_base base.mark mid) (contents mid.log) base.replay base.log_end pairs → OpensMap shape checkpoint old pairs
+opens_map shape checkpoint old mid base pairs is restored keeps only opens =
+    let ends = subst (λ (p : Place). LogEndsAt (contents old.log) p base.log_end) is.replay is.ends in
+    let there : OpensOver shape (loaded_base base.mark mid) (contents old.log) base.replay base.log_end pairs = record {
+      well_formed = opens.well_formed;
+      frames = opens.frames;
+      stand = run_stays (contents mid.log) (contents old.log) base.replay opens.frames base.log_end.seg (λ seg le. had_more shape checkpoint old mid base is only seg) (omega (arith, ap (λ (p : Place). p.seg) opens.to)) opens.stand;
+      to = opens.to;
+      makes = opens.makes;
+    } in
+    record {
+      end = base.log_end;
+      ends = ends;
+      mid = mid;
+      restored = restored;
+      keeps = keeps;
+      opens = subst (λ (q : Partitions × Place). OpensOver shape q.0 (contents old.log) q.1 base.log_end pairs) {x = (loaded_base base.mark mid, base.replay)} {y = (restored_base checkpoint mid, replay_of checkpoint)} (λ i. (restored_is checkpoint base.mark mid is.mark i, is.replay i)) there;
+    }
 
 -- ---- a store that was restored, and holds a map
 
@@ -250,22 +391,6 @@ pub number_mark : (checkpoint : Checkpoint) → number_of (mark_of checkpoint) �
 number_mark NoStart = refl
 number_mark (Started mark) = refl
 number_mark (Ended mark) = refl
-
--- before a restart's cut each segment had what it has after it, and maybe more
-cut_extends : (end : Place) (w : World) (seg : ℕ) → Extends (contents (world_after cut_steps end w).log seg) (contents w.log seg)
-cut_extends end w seg = elim (eqb_tells seg end.seg) [
-  | inl it ↦
-      let cut : contents (world_after cut_steps end w).log end.seg ≡ take end.off (contents w.log end.seg) =
-      ap bytes_of (forced_reads end.seg (cut_at end w)) ∙ ap (λ (f : File). bytes_of (content f)) (file_here w.log end.seg (with_change (w.log end.seg) (Cut end.off)))
-      ∙ ap bytes_of (content_change (w.log end.seg) (Cut end.off)) in
-      subst (λ (n : ℕ). Extends (contents (world_after cut_steps end w).log n) (contents w.log n)) (sym it.1)
-      (drop end.off (contents w.log end.seg), sym (take-append-drop end.off (contents w.log end.seg)) ∙ ap (λ (l : List ℕ). l ++ drop end.off (contents w.log end.seg)) (sym cut))
-  | inr other ↦
-      let same : contents (world_after cut_steps end w).log seg ≡ contents w.log seg =
-      ap (λ (f : File). bytes_of (content f)) (file_there (cut_at end w).log end.seg seg (all_forced ((cut_at end w).log end.seg)) other.1)
-      ∙ ap (λ (f : File). bytes_of (content f)) (file_there w.log end.seg seg (with_change (w.log end.seg) (Cut end.off)) other.1) in
-      extends_same _ _ (sym same)
-]
 
 -- what holds at each moment, by two things that do
 both : (old new : History) (P Q R : World → Type 0) → ((w : World) → P w → Q w → R w) → AllMoments old new P → AllMoments old new Q → AllMoments old new R

@@ -11,11 +11,12 @@ use Rattle.pm_disk.specs.Moments.{History, IsHistory, AllMoments}
 use Rattle.pm_disk.specs.Worlds.{World}
 use Rattle.pm_disk.proofs.Chain.{started, weaker}
 use Rattle.pm_model.specs.Eval.{Pairs}
-use Rattle.pm_records.specs.LogFiles.{HasLasting}
+use Rattle.pm_records.specs.LogFiles.{HasLasting, contents}
 use Rattle.pm_records.specs.LogSteps.{frames_in}
 use Rattle.pm_records.specs.Logs.{all_frames}
 use Rattle.pm_marks.specs.Slots.{IsMarkPlace}
 use Rattle.pm_segments.specs.Ends.{EndsThere}
+use Rattle.pm_segments.proofs.GrownLog.{extends_same}
 use Rattle.pm_pages.specs.declared.plain.PlainPages.{PlainPages}
 use Rattle.pm_core.specs.BasePages.{Partitions}
 use Rattle.pm_core.specs.Calls.{ChangesDisk, MakesPrefix}
@@ -26,15 +27,15 @@ use Rattle.pm_core.specs.Starts.{appended}
 use Rattle.pm_core.specs.States.{State}
 use Rattle.pm_core.proofs.OnlyDisk.{none_disk}
 use Rattle.pm_core.proofs.Replaying.{replayed-append}
-use Rattle.pm_ckpt.specs.Checkpoints.{CanCheckpoint, IsStateAfter, MakesWhole, whole_steps}
-use Rattle.pm_ckpt.specs.Marked.{number_after, begin_frame, begin_log}
+use Rattle.pm_ckpt.specs.Checkpoints.{CanCheckpoint, IsStateAfter, MakesWhole, KeepsLogFrom, LeavesLog, whole_steps}
+use Rattle.pm_ckpt.specs.Marked.{number_after, begin_frame, begin_log, kept_segment}
 use Rattle.pm_ckpt.specs.Writes.{Writing, held_in}
 use Rattle.pm_engine.specs.PagedEngines.{PagedRunning, HasNumbersFor, store_of, number_of}
 use Rattle.pm_engine.specs.PagedMaps.{PagedStore, IsPagedStore, pages_of_lists}
 use Rattle.pm_engine.specs.PagedReplays.{IsReplaying, AreLasting, ReplaysFrom, ChecksIn, CrashHoldsMap}
 use Rattle.pm_engine.specs.RunningLines.{KeepsLines}
 use Rattle.pm_engine.specs.RunningStores.{StoreState, RunsOver, HasSegmentsFor, MakesNewest, map_of, mark_at, checkpointed_at}
-use Rattle.pm_engine.proofs.RisenLogs.{grown_rises}
+use Rattle.pm_engine.proofs.RisenLogs.{grown_rises, grown_goes_on}
 use Rattle.pm_engine.proofs.CheckpointPages.{lists_held}
 use Rattle.pm_engine.proofs.CheckpointedLines.{begin_no_map}
 use Rattle.pm_engine.proofs.CheckpointedStores.{store_checkpointed, leads_after, t_first, t_appended, t_pending}
@@ -167,15 +168,21 @@ module _ (tells : Type 0) (engine : PagedRunning) (old new : History) {T E : Typ
 
   -- what the call leaves: `now` is the engine after it, which is the checkpointed one where the call succeeded
   pub checks_made : {S F : Type 0} (answer : Result S F) → ((P : Type 0) → OnOk result P → OnOk answer P) → (now : PagedRunning) → now.map ≡ engine.map → now.order ≡ engine.order → OnOk answer (now.is_open ≡ true)
-      → OnOk answer (store_of now ≡ checkpointed_at its (Some from)) → (tells → OnOk answer (EndsThere now.log new.world)) → (tells → AllMoments old new (ChangesDisk old.world)) → ChecksIn {T = S} {E = F} tells from engine now old new answer
-  checks_made answer so now map order opens after_is ends disk = record {
+      → OnOk answer (store_of now ≡ checkpointed_at its (Some from)) → (tells → OnOk answer (LeavesLog (kept_segment mark) engine.log now.log old.world new.world)) → (tells → AllMoments old new (ChangesDisk old.world))
+      → ChecksIn {T = S} {E = F} tells from engine now old new answer
+  checks_made answer so now map order opens after_is leaves disk = record {
     keeps = record { shape = ap (λ (m : PagedStore). m.shape) map; order = order };
     map = anyway answer map;
     is_open = opens;
     rises = on_ok_weaker answer (λ (is : store_of now ≡ checkpointed_at its (Some from)). omega (arith, ap (λ (st : StoreState). st.log.end.seg) is, grown_rises engine.log (begin_frame (mark_at its (Some from))))) after_is;
     number = on_ok_weaker answer (λ (is : store_of now ≡ checkpointed_at its (Some from)). omega (arith, ap (λ (st : StoreState). number_of st.mark) is, mark_rises engine.mark)) after_is;
     names = on_ok_weaker answer (λ (is : store_of now ≡ checkpointed_at its (Some from)). omega (arith, ap (λ (st : StoreState). length st.logged) is)) after_is;
-    ends = ends;
+    goes_on = λ segments.
+        on_ok_weaker answer (λ (is : store_of now ≡ checkpointed_at its (Some from)). omega (arith, ap (λ (st : StoreState). st.log.end.seg) is, grown_goes_on engine.log (begin_frame (mark_at its (Some from))) (omega (arith, segments)))) after_is;
+    ends = λ t. on_ok_weaker answer (λ (left : LeavesLog (kept_segment mark) engine.log now.log old.world new.world). left.ends) (leaves t);
+    log = λ t segments.
+        on_ok_weaker answer
+        (λ (left : LeavesLog (kept_segment mark) engine.log now.log old.world new.world). λ seg low high. left.begins (omega (arith, segments)) seg (omega (arith, low, ap (λ (m : Mark). m.replay.seg) mark_is)) high) (leaves t);
     disk = disk;
     runs = λ t wanted told pairs s left is lasts makes numbers.
         on_ok_both answer (store_of now ≡ checkpointed_at its (Some from)) ((after : PagedRunning) → store_of after ≡ checkpointed_at its (Some from) → ReplaysFrom wanted told pairs from left after new.world) (ReplaysFrom wanted told pairs from left now new.world)
@@ -203,7 +210,9 @@ checks_none tells from before old result sound there opens = record {
   rises = ok_anyway result (before.log.end.seg ≤ before.log.end.seg + 1) (omega arith);
   number = ok_anyway result (number_of before.mark ≤ number_of before.mark + 1) (omega arith);
   names = ok_anyway result (length before.logged ≤ length before.logged) (omega arith);
+  goes_on = λ segments. ok_anyway result (before.log.end.seg ≤ before.log.end.seg) (omega arith);
   ends = λ t. ok_anyway result (EndsThere before.log old.world) (there t);
+  log = λ t segments. ok_anyway result (KeepsLogFrom from.seg before.log.end.seg old.world old.world) (λ seg low high. extends_same (contents old.world.log seg) (contents old.world.log seg) refl);
   disk = λ t. none_disk old (sound t);
   runs = λ t wanted told pairs s left is lasts makes numbers. ok_anyway result (ReplaysFrom wanted told pairs from left before old.world) (record { state = s; is = is; lasts = lasts });
   crash = λ t wanted told pairs s left is lasts makes numbers.
@@ -221,7 +230,9 @@ checks_failed tells from before now old new result answer err checks = record {
   rises = on_err answer err (now.log.end.seg ≤ before.log.end.seg + 1);
   number = on_err answer err (number_of now.mark ≤ number_of before.mark + 1);
   names = on_err answer err (length now.logged ≤ length before.logged);
+  goes_on = λ segments. on_err answer err (before.log.end.seg ≤ now.log.end.seg);
   ends = λ t. on_err answer err (EndsThere now.log new.world);
+  log = λ t segments. on_err answer err (KeepsLogFrom from.seg before.log.end.seg old.world new.world);
   disk = checks.disk;
   runs = λ t wanted told pairs s left is lasts makes numbers. on_err answer err (ReplaysFrom wanted told pairs from left now new.world);
   crash = checks.crash;

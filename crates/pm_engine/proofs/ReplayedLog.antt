@@ -20,10 +20,11 @@ use Rattle.pm_records.specs.Logs.{all_frames, record_in, is_seal, ends_log, next
 use Rattle.pm_records.proofs.FrameGrammar.{frame_laws}
 use Rattle.pm_records.proofs.HeldLog.{held_log}
 use Rattle.pm_records.proofs.Runs.{neither, next_rises, rises, rises_from, after_frames-append, over-append}
-use Rattle.pm_segments.specs.Ends.{EndsThere}
+use Rattle.pm_segments.specs.Ends.{LogEnd, EndsThere}
 use Rattle.pm_segments.specs.Scans.{Scanned, StaysAt, bytes_after, frame_ahead, Advances}
-use Rattle.pm_segments.proofs.GrownLog.{run_stays}
+use Rattle.pm_segments.proofs.GrownLog.{Extends, frame_stays, run_stays}
 use Rattle.pm_segments.proofs.Reading.{going_on}
+use Rattle.pm_ckpt.specs.Checkpoints.{KeepsLogFrom}
 use Rattle.pm_core.specs.Replays.{replayed, all_replayed}
 use Rattle.pm_core.specs.States.{State}
 use Rattle.pm_core.proofs.Replaying.{replayed-append, replayed-none}
@@ -32,7 +33,7 @@ use Rattle.pm_config.specs.declared.config.Config.{Config}
 use Rattle.pm_engine.specs.PagedBatches.{is_crowded}
 use Rattle.pm_engine.specs.PagedEngines.{PagedRunning, HasNumbersFor, number_of}
 use Rattle.pm_engine.specs.PagedMaps.{PagedStore}
-use Rattle.pm_engine.specs.PagedReplays.{IsReplaying, AreLasting, ReplaysOn, GrewAtEnd, GoesOnReplaying, CrashHoldsMap, AppliesFound, AppliesNext, IsBadNext, HasRecords, HasNumbersUpTo, KeepsReplaying, CanReplay, ChecksIn, IsBadAt, EndsBefore, IsBadReplay, AppliesAll}
+use Rattle.pm_engine.specs.PagedReplays.{IsReplaying, AreLasting, ReplaysOn, GrewAtEnd, GoesOnReplaying, CrashHoldsMap, AppliesFound, AppliesNext, IsBadNext, HasRecords, HasNumbersUpTo, KeepsReplaying, CanReplay, ChecksIn, IsBadAt, EndsBefore, IsBadReplay, LogLeadsTo, AppliesAll}
 use Rattle.pm_engine.specs.RunningStores.{HasSegmentsFor}
 use Rattle.pm_core.specs.Calls.{ChangesDisk}
 use Rattle.pm_core.proofs.OnlyDisk.{same_disk}
@@ -121,25 +122,104 @@ bad_next {T} tells t can scan later before now old new at made fails_so applies 
     named : (x y : Place) → IsErrOf {T = T} {E = StoreFault} (Err (BadRecord x)) (BadRecord y) → x ≡ y
     named x y is = cc
 
+-- ---- frames that stand ahead
+
+stands_on : (scan : Scanned) (w : World) → scan.is_over ≡ false → frame_ahead scan w ≡ frame_at scan.next (bytes_after scan.next w)
+stands_on scan w going = ap (λ (b : Bool). if b then None else frame_at scan.next (bytes_after scan.next w)) going
+
+-- frames that stand one after the other, and are as the first of others
+front_run : (bytes : ℕ → List ℕ) (p : Place) (xs ys : List Frame) → HasFrames all_frames bytes p (xs ++ ys) → HasFrames all_frames bytes p xs
+front_run bytes p [] ys run = tt
+front_run bytes p (x ∷ xs) ys run = (run.0, λ ends. none xs (run.1 ends), front_run bytes (next_place p x) xs ys run.2)
+  where
+    none : (fs : List Frame) → fs ++ ys ≡ [] → fs ≡ []
+    none [] is = refl
+    none (f ∷ fs) is = absurd cc
+
+-- they stand where they stood when the segments from theirs on grew
+run_on : (old new : ℕ → List ℕ) (p : Place) (fs : List Frame) (most : ℕ) → ((seg : ℕ) → p.seg ≤ seg → seg ≤ most → Extends (old seg) (new seg)) → (after_frames p fs).seg ≤ most → HasFrames all_frames old p fs → HasFrames all_frames new p fs
+run_on old new p [] most more le run = tt
+run_on old new p (f ∷ fs) most more le run =
+    let low : p.seg ≤ most = omega (arith, rises_from p (f ∷ fs), le) in (
+      frame_stays p.seg p.off (old p.seg) (new p.seg) f (more p.seg (omega arith) low) run.0,
+      run.1,
+      run_on old new (next_place p f) fs most (λ seg from to. more seg (omega (arith, next_rises p f, from)) to) le run.2,
+    )
+
+-- Of the frames that stood in the log up to its end these were applied, and the others stand ahead of the scan.
+pub record StandsAhead (from end : Place) (frames : List Frame) (scan : Scanned) (was now : World) (log : LogEnd) : Type 0 where
+  pub rest : List Frame
+  pub stood : HasFrames all_frames (contents was.log) from (frames ++ rest)
+  pub ahead : HasFrames all_frames (contents now.log) scan.next rest
+  pub to : after_frames scan.next rest ≡ end
+  pub behind : end.seg ≤ log.end.seg
+
+stands_none : (from end : Place) (scan : Scanned) (w : World) (log : LogEnd) → scan.next ≡ from → LogLeadsTo from end log w → StandsAhead from end [] scan w w log
+stands_none from end scan w log next leads = record {
+  rest = leads.frames;
+  stood = leads.run;
+  ahead = subst (λ (p : Place). HasFrames all_frames (contents w.log) p leads.frames) (sym next) leads.run;
+  to = ap (λ (p : Place). after_frames p leads.frames) next ∙ leads.to;
+  behind = leads.behind;
+}
+
+-- a scan that stays where it is, while the log keeps what is ahead
+stands_stay : (from end : Place) (frames : List Frame) (scan mid : Scanned) (was old new : World) (log now : LogEnd) → StaysAt scan mid → KeepsLogFrom scan.next.seg log.end.seg old new → log.end.seg ≤ now.end.seg → StandsAhead from end frames scan was old log
+    → StandsAhead from end frames mid was new now
+stands_stay from end frames scan mid was old new log now stays keeps rises so = record {
+  rest = so.rest;
+  stood = so.stood;
+  ahead = subst (λ (p : Place). HasFrames all_frames (contents new.log) p so.rest) (sym stays.next)
+      (run_on (contents old.log) (contents new.log) scan.next so.rest end.seg (λ seg low high. keeps seg low (omega (arith, high, so.behind))) (omega (arith, ap (λ (p : Place). p.seg) so.to)) so.ahead);
+  to = ap (λ (p : Place). after_frames p so.rest) stays.next ∙ so.to;
+  behind = omega (arith, so.behind, rises);
+}
+
+-- the next one was applied
+stands_one : (from end : Place) (frames : List Frame) (scan later : Scanned) (f : Frame) (was old new : World) (log now : LogEnd) → (scan.next ≡ end → ⊥) → frame_ahead scan old ≡ Some f → Advances scan later (Some f) → GrewAtEnd log now old new
+    → StandsAhead from end frames scan was old log → StandsAhead from end (frames ++ f ∷ []) later was new now
+stands_one from end frames scan later f was old new log now apart found advances grew so = by so.rest refl
+  where
+    by : (fs : List Frame) → so.rest ≡ fs → StandsAhead from end (frames ++ f ∷ []) later was new now
+    by [] is = absurd (apart (ap (after_frames scan.next) (sym is) ∙ so.to))
+    by (g ∷ rest) is =
+        let first = subst (HasFrames all_frames (contents old.log) scan.next) is so.ahead in
+        let same : g ≡ f = same_Some g f (sym (stands_on scan old (going_on scan old f found) ∙ first.0) ∙ found) in
+        let rest_is : so.rest ≡ f ∷ rest = is ∙ ap (λ (h : Frame). h ∷ rest) same in
+        let run = subst (HasFrames all_frames (contents old.log) scan.next) rest_is so.ahead in
+        let leads : after_frames (next_place scan.next f) rest ≡ end = ap (after_frames scan.next) (sym rest_is) ∙ so.to in
+        record {
+          rest = rest;
+          stood = subst (HasFrames all_frames (contents was.log) from) (sym (append_assoc frames (f ∷ []) rest)) (subst (λ (fs : List Frame). HasFrames all_frames (contents was.log) from (frames ++ fs)) rest_is so.stood);
+          ahead = subst (λ (p : Place). HasFrames all_frames (contents new.log) p rest) (sym advances.1)
+              (run_stays (contents old.log) (contents new.log) (next_place scan.next f) rest end.seg (λ seg le. grew.begins seg (omega (arith, le, so.behind))) (omega (arith, ap (λ (p : Place). p.seg) leads)) run.2);
+          to = ap (λ (p : Place). after_frames p rest) advances.1 ∙ leads;
+          behind = omega (arith, so.behind, grew.rises);
+        }
+
 -- ---- records that were applied so far
 
--- Frames lead from a place to where the scan goes on, and make this map of that one.
-pub record ReadsSoFar (from : Place) (base : Pairs) (scan : Scanned) (shape : Shape) (map : Pairs) : Type 0 where
+-- Frames lead from a place to where the scan goes on, and make this map of that one. They stood in the log, and the
+-- others up to its end stand ahead.
+pub record ReadsSoFar (from end : Place) (base : Pairs) (scan : Scanned) (shape : Shape) (map : Pairs) (was now : World) (log : LogEnd) : Type 0 where
   pub frames : List Frame
   pub next : scan.next ≡ after_frames from frames
   pub holds : all_replayed shape frames (Some base) ≡ Some map
   pub over : scan.is_over ≡ is_over from frames
+  pub stands : StandsAhead from end frames scan was now log
 
-pub reads_none : (from : Place) (base : Pairs) (scan : Scanned) (shape : Shape) → scan.next ≡ from → scan.is_over ≡ false → ReadsSoFar from base scan shape base
-reads_none from base scan shape next over = record { frames = []; next = next; holds = refl; over = over }
+pub reads_none : (from end : Place) (base : Pairs) (scan : Scanned) (shape : Shape) (w : World) (log : LogEnd) → scan.next ≡ from → scan.is_over ≡ false → LogLeadsTo from end log w → ReadsSoFar from end base scan shape base w w log
+reads_none from end base scan shape w log next over leads = record { frames = []; next = next; holds = refl; over = over; stands = stands_none from end scan w log next leads }
 
 -- a scan that stays where it is, while the map stays what it is
-pub reads_stay : (from : Place) (base : Pairs) (scan mid : Scanned) (before now : PagedStore) → StaysAt scan mid → now ≡ before → ReadsSoFar from base scan before.shape before.pairs → ReadsSoFar from base mid now.shape now.pairs
-reads_stay from base scan mid before now stays same reads = record {
+pub reads_stay : (from end : Place) (base : Pairs) (scan mid : Scanned) (before now : PagedStore) (was old new : World) (log later : LogEnd) → StaysAt scan mid → now ≡ before → KeepsLogFrom scan.next.seg log.end.seg old new → log.end.seg ≤ later.end.seg
+    → ReadsSoFar from end base scan before.shape before.pairs was old log → ReadsSoFar from end base mid now.shape now.pairs was new later
+reads_stay from end base scan mid before now was old new log later stays same keeps rises reads = record {
   frames = reads.frames;
   next = stays.next ∙ reads.next;
   holds = subst (λ (m : PagedStore). all_replayed m.shape reads.frames (Some base) ≡ Some m.pairs) (sym same) reads.holds;
   over = stays.is_over ∙ reads.over;
+  stands = stands_stay from end reads.frames scan mid was old new log later stays keeps rises reads.stands;
 }
 
 -- where an engine isn't crowded there are frames for an operation more
@@ -152,18 +232,15 @@ none_crowded engine config none =
     let few : length engine.logged ≡ 0 = ap length none in
     grind (arith, nat_tests)
 
-stands_on : (scan : Scanned) (w : World) → scan.is_over ≡ false → frame_ahead scan w ≡ frame_at scan.next (bytes_after scan.next w)
-stands_on scan w going = ap (λ (b : Bool). if b then None else frame_at scan.next (bytes_after scan.next w)) going
-
 or_false : (b : Bool) → (b || false) ≡ b
 or_false true = refl
 or_false false = refl
 
-pub reads_one : (tells : Type 0) (t : tells) (from : Place) (base : Pairs) (scan later : Scanned) (before now : PagedStore) (w : World) → now.shape ≡ before.shape → ReadsSoFar from base scan before.shape before.pairs → AppliesNext tells true scan later before now w
-    → ReadsSoFar from base later now.shape now.pairs
-reads_one tells t from base scan later before now w same reads applies = by applies.found (applies.stands t) applies.advances applies.applies
+pub reads_one : (tells : Type 0) (t : tells) (from end : Place) (base : Pairs) (scan later : Scanned) (before now : PagedStore) (was w new : World) (log grown : LogEnd) → now.shape ≡ before.shape → (scan.next ≡ end → ⊥) → GrewAtEnd log grown w new
+    → ReadsSoFar from end base scan before.shape before.pairs was w log → AppliesNext tells true scan later before now w → ReadsSoFar from end base later now.shape now.pairs was new grown
+reads_one tells t from end base scan later before now was w new log grown same apart grew reads applies = by applies.found (applies.stands t) applies.advances applies.applies
   where
-    by : (found : Option Frame) → found ≡ frame_ahead scan w → Advances scan later found → AppliesFound true before.shape found before.pairs now.pairs → ReadsSoFar from base later now.shape now.pairs
+    by : (found : Option Frame) → found ≡ frame_ahead scan w → Advances scan later found → AppliesFound true before.shape found before.pairs now.pairs → ReadsSoFar from end base later now.shape now.pairs was new grown
     by None stands a can = absurd cc
     by (Some f) stands a can =
         let going = going_on scan w f (sym stands) in
@@ -174,13 +251,17 @@ reads_one tells t from base scan later before now w same reads applies = by appl
               (replayed-append before.shape reads.frames (f ∷ []) (Some base) ∙ ap (all_replayed before.shape (f ∷ [])) reads.holds ∙ can);
           over = a.2 ∙ ap (λ (q : Place). ends_log q f) reads.next ∙ sym (or_false (ends_log (after_frames from reads.frames) f))
               ∙ ap (λ b. b || (ends_log (after_frames from reads.frames) f || false)) (sym going ∙ reads.over) ∙ sym (over-append from reads.frames (f ∷ []));
+          stands = stands_one from end reads.frames scan later f was w new log grown apart (sym stands) a grew reads.stands;
         }
 
 -- the next one can't be
-pub bad_log : (from end : Place) (opened : PagedStore) (now : PagedStore) (scan : Scanned) (old new : World) (at : Place) → now.shape ≡ opened.shape → ReadsSoFar from opened.pairs scan now.shape now.pairs → (scan.next ≡ end → ⊥)
-    → IsBadNext scan now old new at → IsBadReplay opened.shape opened.pairs from end new at
-bad_log from end opened now scan old new at same reads apart bad = record {
+pub bad_log : (from end : Place) (opened : PagedStore) (now : PagedStore) (scan : Scanned) (was mid old new : World) (log : LogEnd) (at : Place) → now.shape ≡ opened.shape → ReadsSoFar from end opened.pairs scan now.shape now.pairs was mid log
+    → (scan.next ≡ end → ⊥) → IsBadNext scan now old new at → IsBadReplay opened.shape opened.pairs (contents was.log) from end new at
+bad_log from end opened now scan was mid old new log at same reads apart bad = record {
   before = reads.frames;
+  rest = reads.stands.rest;
+  stand = reads.stands.stood;
+  to = after_frames-append from reads.frames reads.stands.rest ∙ ap (λ (p : Place). after_frames p reads.stands.rest) (sym reads.next) ∙ reads.stands.to;
   there = sym reads.next ∙ sym bad.there;
   not_end = λ is. apart (sym bad.there ∙ is);
   map = now.pairs;
@@ -198,10 +279,12 @@ bad_log from end opened now scan old new at same reads apart bad = record {
         inl (f, sym (stands_on scan old going) ∙ sym stands, subst (λ (k : Shape). replayed k (record_in f) now.pairs ≡ None) same fails)
 
 -- all up to the log's old end
-pub applies_all : (from end : Place) (before now : PagedRunning) (scan : Scanned) (w : World) → KeepsReplaying before now → ReadsSoFar from before.map.pairs scan now.map.shape now.map.pairs → scan.next ≡ end → EndsThere now.log w → AppliesAll from end before now w
-applies_all from end before now scan w keeps reads at ends = record {
+pub applies_all : (from end : Place) (before now : PagedRunning) (scan : Scanned) (was w : World) → KeepsReplaying before now → ReadsSoFar from end before.map.pairs scan now.map.shape now.map.pairs was w now.log → scan.next ≡ end → EndsThere now.log w
+    → AppliesAll from end before now was w
+applies_all from end before now scan was w keeps reads at ends = record {
   ends = ends;
   frames = reads.frames;
+  stand = front_run (contents was.log) from reads.frames reads.stands.rest reads.stands.stood;
   to = sym reads.next ∙ at;
   makes = subst (λ (k : Shape). all_replayed k reads.frames (Some before.map.pairs) ≡ Some now.map.pairs) keeps.shape reads.holds;
 }
@@ -332,15 +415,7 @@ pub lasts_stand : (wanted : Shape) (told : List ℕ → ℕ) (pairs : Pairs) (en
     → HasFrames all_frames (contents w.log) from left
 lasts_stand wanted told pairs engine from left s w is lasts =
     let held = held_log all_frames frame_laws w.log s.low from s.at (left ++ lasts.later) s.pending s.tail (record { files = is.runs.log.stands.log; leads = lasts.leads }) in
-    front_stands from left (lasts.later ++ s.pending) (subst (λ (fs : List Frame). HasFrames all_frames (contents w.log) from fs) (append_assoc left lasts.later s.pending) held.log.run)
-  where
-    front_stands : (p : Place) (xs ys : List Frame) → HasFrames all_frames (contents w.log) p (xs ++ ys) → HasFrames all_frames (contents w.log) p xs
-    front_stands p [] ys run = tt
-    front_stands p (x ∷ xs) ys run = (run.0, λ ends. front_none xs ys (run.1 ends), front_stands (next_place p x) xs ys run.2)
-      where
-        front_none : (fs gs : List Frame) → fs ++ gs ≡ [] → fs ≡ []
-        front_none [] gs none = refl
-        front_none (f ∷ fs) gs none = absurd cc
+    front_run (contents w.log) from left (lasts.later ++ s.pending) (subst (λ (fs : List Frame). HasFrames all_frames (contents w.log) from fs) (append_assoc left lasts.later s.pending) held.log.run)
 
 -- and lead on to the log's end
 lasts_behind : (wanted : Shape) (told : List ℕ → ℕ) (pairs : Pairs) (engine : PagedRunning) (from end : Place) (left : List Frame) (s : State) (w : World) → IsReplaying wanted told pairs engine s w → AreLasting from left engine.map.shape pairs s w

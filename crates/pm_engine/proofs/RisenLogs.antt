@@ -1,6 +1,7 @@
 -- How far a log goes on by a frame.
-use Rattle.std.proofs.Common.{◌≡◌, ◌≢◌, ℕ, zero, suc, ◌+◌, ◌≤◌, List, [], ◌∷◌, ◌++◌, length, take, Bool, true, false, refl, sym, ◌∙◌, subst, arith}
-use Rattle.std.specs.Prelude.{if◌then◌else◌}
+use Rattle.std.proofs.Common.{◌≡◌, ◌≢◌, ℕ, zero, suc, ◌+◌, ◌<◌, ◌≤◌, List, [], ◌∷◌, ◌++◌, length, take, Bool, true, false, refl, sym, ◌∙◌, ap, subst, arith}
+use Rattle.std.specs.Prelude.{◌^◌, if◌then◌else◌}
+use Rattle.std.proofs.lemmas.Bool.Decides.{nat_tests}
 use Rattle.pm_types.specs.declared.place.Place.{Place}
 use Rattle.pm_disk.specs.Files.{Write, Cut, Drop, with_change, all_forced}
 use Rattle.pm_disk.specs.Worlds.{World}
@@ -26,3 +27,17 @@ grown_rises log frame = by (has_room log (length frame.payload))
     by : (b : Bool) → (moved (if b then log else rolled log) frame).end.seg ≤ log.end.seg + 1
     by true = omega arith
     by false = next_le log.end.seg
+
+-- and where there is a number for a segment more, in none before
+pub grown_goes_on : (log : LogEnd) (frame : Frame) → log.end.seg + 1 < 2 ^ 64 → log.end.seg ≤ (grown log frame).end.seg
+grown_goes_on log frame numbered = by (has_room log (length frame.payload))
+  where
+    not_last : is_last log.end.seg ≡ false
+    not_last = grind (arith, nat_tests, numbered)
+
+    next_is : next_segment log.end.seg ≡ log.end.seg + 1
+    next_is = ap (λ (b : Bool). if b then 1 else log.end.seg + 1) not_last
+
+    by : (b : Bool) → log.end.seg ≤ (moved (if b then log else rolled log) frame).end.seg
+    by true = omega arith
+    by false = omega (arith, next_is)

@@ -41,7 +41,7 @@ use Rattle.pm_engine.specs.PagedEngines.{PagedRunning, HasRunLines, number_of}
 use Rattle.pm_engine.specs.PagedMaps.{IsPagedStore, pages_of_lists}
 use Rattle.pm_engine.specs.PagedReplays.{IsBadReplay}
 use Rattle.pm_engine.specs.RunningLines.{KeepsLines}
-use Rattle.pm_engine.specs.RunningStores.{ended_with}
+use Rattle.pm_engine.specs.RunningStores.{ended_with, HasSegmentsFor}
 
 -- the base pages of a store that was restored
 abbrev pub loaded_base : Option Mark → World → Partitions
@@ -57,12 +57,14 @@ pub record IsFresh (shape : Shape) (engine : PagedRunning) : Type 0 where
   pub order : engine.order ≡ []
   pub is_open : engine.is_open ≡ true
 
--- The base pages were loaded, and the RESTART appended to this log; no page is logged.
+-- The base pages were loaded, and the RESTART appended to this log, which had a number for a segment more; no page
+-- is logged.
 pub record IsLoadedEngine (shape : Shape) (mark : Option Mark) (log : LogEnd) (engine : PagedRunning)
     : Type 0 where
   pub fresh : IsFresh shape engine
   pub logged : engine.logged ≡ []
   pub log_is : engine.log ≡ grown log (restart_frame shape)
+  pub numbered : HasSegmentsFor log 1
   pub mark_is : engine.mark ≡ mark
   pub paged : IsPagedStore engine.map
 
@@ -71,17 +73,19 @@ abbrev pub HasPages : Shape → Partitions → PagedRunning → Type 0
 HasPages shape base engine =
     (part : ℕ) → part < shape.partitions → pages_of_lists engine.map.lists part ≡ counted (base part)
 
--- These pages are well formed, and frames lead from this place to that one and make this map of that of their
--- rows.
-pub record OpensOver (shape : Shape) (base : Partitions) (from end : Place) (pairs : Pairs) : Type 0 where
+-- These pages are well formed, and frames that stand in these segments' bytes lead from this place to that one and
+-- make this map of that of their rows.
+pub record OpensOver (shape : Shape) (base : Partitions) (log : ℕ → List ℕ) (from end : Place) (pairs : Pairs)
+    : Type 0 where
   pub well_formed : AllWellFormed shape base
   pub frames : List Frame
+  pub stand : HasFrames all_frames log from frames
   pub to : after_frames from frames ≡ end
   pub makes : all_replayed shape frames (Some (pairs_in shape.partitions base)) ≡ Some pairs
 
 -- A store was opened with this map, whether it was sound or not. It was restored: its base pages stood in the
--- partitions' files. The pages there were well formed, and frames from the replay place up to where the log ended
--- make this map of that of their rows.
+-- partitions' files. The pages there were well formed, and the frames that stood in its log from the replay place up
+-- to where the log ended make this map of that of their rows.
 pub record OpensMap (shape : Shape) (checkpoint : Checkpoint) (old : World) (pairs : Pairs) : Type 0 where
   pub end : Place
   pub ends : LogEndsAt (contents old.log) (replay_of checkpoint) end
@@ -89,7 +93,7 @@ pub record OpensMap (shape : Shape) (checkpoint : Checkpoint) (old : World) (pai
   pub mid : World
   pub restored : ChangesDisk old mid
   pub keeps : KeepsBase checkpoint old mid
-  pub opens : OpensOver shape (restored_base checkpoint mid) (replay_of checkpoint) end pairs
+  pub opens : OpensOver shape (restored_base checkpoint mid) (contents old.log) (replay_of checkpoint) end pairs
 
 -- the engine has this map, and its log ends there now
 pub record OpensAny (shape : Shape) (checkpoint : Checkpoint) (old new : World) (engine : PagedRunning)
@@ -103,8 +107,9 @@ pub record IsBadLoad (shape : Shape) (mark : Option Mark) (old new : World) (id 
   pub same : new ≡ old
 
 -- the records from the replay place up to where the log ended, over the rows of the base pages
-abbrev pub IsBadOver : Shape → Partitions → Place → Place → World → Place → Type 0
-IsBadOver shape base from end world at = IsBadReplay shape (pairs_in shape.partitions base) from end world at
+abbrev pub IsBadOver : Shape → Partitions → (ℕ → List ℕ) → Place → Place → World → Place → Type 0
+IsBadOver shape base log from end world at =
+    IsBadReplay shape (pairs_in shape.partitions base) log from end world at
 
 -- A store was restored, holds this map, and to its log nothing was appended since that changes a map. There are
 -- numbers for the segments that the records from its replay place on may take, with a checkpoint before each,
@@ -170,7 +175,7 @@ abbrev pub IsBadOpening : Shape → Checkpoint → World → World → Place →
 IsBadOpening shape checkpoint old new at = IsBadRestore checkpoint (contents old.log) at
     ⊎ ((end : Place) × LogEndsAt (contents old.log) (replay_of checkpoint) end
     × (mid : World) × KeepsBase checkpoint old mid
-    × IsBadOver shape (restored_base checkpoint mid) (replay_of checkpoint) end new at)
+    × IsBadOver shape (restored_base checkpoint mid) (contents old.log) (replay_of checkpoint) end new at)
 
 -- why a fault came; a shape that differs is found before anything is changed
 abbrev pub HasOpenCause : Shape → Checkpoint → World → World → OpenFault → Type 0

@@ -32,6 +32,7 @@ use Rattle.pm_core.specs.Sound.{IsTrueImage}
 use Rattle.pm_core.specs.Starts.{appended}
 use Rattle.pm_core.specs.States.{State}
 use Rattle.pm_redo.specs.Restoring.{CrashHolds}
+use Rattle.pm_ckpt.specs.Checkpoints.{KeepsLogFrom}
 use Rattle.pm_engine.specs.AppendRuns.{AppendsAll}
 use Rattle.pm_engine.specs.LoggedLists.{Logged, AddsNames}
 use Rattle.pm_engine.specs.PagedEngines.{PagedRunning, HasNumbersFor, store_of, number_of}
@@ -193,26 +194,38 @@ pub record ReplaysAll {T : Type 0} (last highest : ℕ) (wanted : Shape) (told :
   pub no_bad : (at : Place) → IsErrOf result (BadRecord at) → ⊥
   pub crash : AllMoments old new (CrashHoldsMap (last + 1) highest wanted before.map.shape pairs)
 
--- All records up to the log's old end were applied, whether the store is sound or not: frames lead there from the
--- first place and make this map of the one that was, and the log ends where the engine has it.
-pub record AppliesAll (from end : Place) (before now : PagedRunning) (world : World) : Type 0 where
-  pub ends : EndsThere now.log world
+-- frames stand from this place up to that one, which is in no later segment than the log's end
+pub record LogLeadsTo (from end : Place) (log : LogEnd) (world : World) : Type 0 where
   pub frames : List Frame
+  pub run : HasFrames all_frames (contents world.log) from frames
+  pub to : after_frames from frames ≡ end
+  pub behind : end.seg ≤ log.end.seg
+
+-- All records up to the log's old end were applied, whether the store is sound or not: frames that stood in the log
+-- lead there from the first place and make this map of the one that was, and the log ends where the engine has it.
+pub record AppliesAll (from end : Place) (before now : PagedRunning) (old new : World) : Type 0 where
+  pub ends : EndsThere now.log new
+  pub frames : List Frame
+  pub stand : HasFrames all_frames (contents old.log) from frames
   pub to : after_frames from frames ≡ end
   pub makes : all_replayed before.map.shape frames (Some before.map.pairs) ≡ Some now.map.pairs
 
 -- A checkpoint may have been made, after which a restart applies the log from this place on. At `Ok` the engine
 -- goes on with its map, and of a sound store the frames from there on are as lasting as they were. Whatever a
--- crash leaves meanwhile holds what the store held.
+-- crash leaves meanwhile holds what the store held. Of any store the log loses nothing from that place's segment
+-- on, where there is a number for a segment more.
 pub record ChecksIn {T E : Type 0} (tells : Type 0) (from : Place) (before now : PagedRunning)
     (old new : History) (result : Result T E) : Type 0 where
   pub keeps : KeepsReplaying before now
   pub map : OnOk result (now.map ≡ before.map)
   pub is_open : OnOk result (now.is_open ≡ true)
   pub rises : OnOk result (now.log.end.seg ≤ before.log.end.seg + 1)
+  pub goes_on : HasSegmentsFor before.log 1 → OnOk result (before.log.end.seg ≤ now.log.end.seg)
   pub number : OnOk result (number_of now.mark ≤ number_of before.mark + 1)
   pub names : OnOk result (length now.logged ≤ length before.logged)
   pub ends : tells → OnOk result (EndsThere now.log new.world)
+  pub log : tells → HasSegmentsFor before.log 1
+      → OnOk result (KeepsLogFrom from.seg before.log.end.seg old.world new.world)
   pub disk : tells → AllMoments old new (ChangesDisk old.world)
   pub runs : tells → (wanted : Shape) (told : List ℕ → ℕ) (pairs : Pairs) (s : State) (left : List Frame)
       → IsReplaying wanted told pairs before s old.world
@@ -237,12 +250,15 @@ IsBadAt shape map world at = (frame : Frame)
     × (all_frames.frame_at at.seg at.off (contents world.log at.seg) ≡ Some frame)
     × (replayed shape (record_in frame) map ≡ None)
 
--- Frames lead from the replay place to this one, before the log's old end, and make a map of the one of the
--- base pages. There a frame stands that is in no grammar, or is a put that meets a full partition, or none
--- stands there.
-pub record IsBadReplay (shape : Shape) (base : Pairs) (from end : Place) (world : World) (at : Place)
-    : Type 0 where
+-- The frames that stood in these segments' bytes from the replay place up to the log's old end begin with some that
+-- lead to this place, before that end, and make a map of the one of the base pages. There a frame stands that is in
+-- no grammar, or is a put that meets a full partition, or none stands there.
+pub record IsBadReplay (shape : Shape) (base : Pairs) (log : ℕ → List ℕ) (from end : Place) (world : World)
+    (at : Place) : Type 0 where
   pub before : List Frame
+  pub rest : List Frame
+  pub stand : HasFrames all_frames log from (before ++ rest)
+  pub to : after_frames from (before ++ rest) ≡ end
   pub there : after_frames from before ≡ at
   pub not_end : at ≡ end → ⊥
   pub map : Pairs

@@ -27,7 +27,7 @@ ghost use Rattle.pm_redo.specs.Loading.{HasPageFault};
 ghost use Rattle.pm_engine.specs.PagedOpenings.{IsFresh, IsLoadedEngine, HasPages, IsBadLoad, IsBadOver};
 ghost use Rattle.pm_engine.specs.PagedOpenings.{OpensAny, OpensOver};
 ghost use Rattle.pm_engine.specs.PagedBatches.{HasFrames};
-ghost use Rattle.pm_engine.specs.PagedReplays.{CrashHoldsMap};
+ghost use Rattle.pm_engine.specs.PagedReplays.{CrashHoldsMap, LogLeadsTo};
 ghost use Rattle.pm_engine.specs.PagedOpenings.{loaded_base, IsRestoredHolding, OpensRunning};
 ghost use Rattle.pm_engine.specs.PagedOpenings.{HasFewNumbers, opened_last, opened_number};
 ghost use Rattle.pm_engine.specs.PagedOpenings.{IsPlainOpen, HasOpenCause, ComparesOpening};
@@ -37,7 +37,7 @@ use crate::loading::load_partitions;
 use crate::paged_engine::PagedEngine;
 use crate::paged_map::PagedMap;
 use crate::record::restart_payload;
-use crate::replay_log::replay_log;
+use crate::replay_log::{has_numbers, replay_log};
 use pm_config::Config;
 use pm_disk::{Failed, Host};
 use pm_frame::RESTART;
@@ -53,8 +53,9 @@ impl PagedEngine {
     /// again, whose pages are logged. Where too few frames may be left for the pages of a record, a checkpoint
     /// is made before it, so that a restart applies the log from that record on.
     ///
-    /// At `Ok` the base pages that it had once it was restored are well formed, and records from the replay
-    /// place on make its map of that of their rows, whether the store was sound or not.
+    /// At `Ok` the base pages that it had once it was restored are well formed, and the records that stood in its
+    /// log from the replay place up to its end make its map of that of their rows, whether the store was sound or
+    /// not.
     ///
     /// `Shape` comes exactly where the store has a shape and it differs, unless a call failed or memory ran
     /// out, and leaves everything as it was. `BadRecord` and `BadPage` come only where the store isn't sound:
@@ -127,18 +128,21 @@ fn open_base<H: Host>(
     requires usable { IsUsable (H.Device.state host.old) }
     requires shape { IsShape config.now.shape }
     requires fit { IsFit config.now.shape base }
+    requires leads { H.Device.tells
+        → LogLeadsTo base.replay base.log_end base.log (H.Device.history host.old).world }
     requires there { H.Device.tells → EndsThere base.log (H.Device.history host.old).world }
     ensures fresh { IfOk result (λ engine. IsFresh config.now.shape engine
         × (OP_PAGES ≤ config.now.frames → HasFrames config.now engine)
         × (H.Device.tells → EndsThere engine.log (H.Device.history host.new).world
-        × OpensOver config.now.shape (loaded_base base.mark (H.Device.history host.old).world) base.replay
-        base.log_end engine.map.pairs)) }
+        × OpensOver config.now.shape (loaded_base base.mark (H.Device.history host.old).world)
+        (contents (H.Device.history host.old).world.log) base.replay base.log_end engine.map.pairs)) }
     ensures bad_page { H.Device.tells → (id : PageId) → IsErrOf result (StoreFault.BadPage id)
         → IsBadLoad config.now.shape base.mark (H.Device.history host.old).world
         (H.Device.history host.new).world id }
     ensures bad_record { H.Device.tells → (at : Place) → IsErrOf result (StoreFault.BadRecord at)
-        → IsBadOver config.now.shape (loaded_base base.mark (H.Device.history host.old).world) base.replay
-        base.log_end (H.Device.history host.new).world at }
+        → IsBadOver config.now.shape (loaded_base base.mark (H.Device.history host.old).world)
+        (contents (H.Device.history host.old).world.log) base.replay base.log_end
+        (H.Device.history host.new).world at }
     ensures opened { H.Device.tells → (last highest : ℕ) (wanted : Shape) (told : List ℕ → ℕ) (pairs : Pairs)
         (s : State) → IsRestoredHolding last highest wanted told config.now.shape pairs base.log base.mark s
         (H.Device.history host.old).world
@@ -165,7 +169,8 @@ fn open_base<H: Host>(
     Ok(engine)
 }
 
-// Loads the base pages of a store that was restored, and appends the RESTART to its log.
+// Loads the base pages of a store that was restored, and appends the RESTART to its log. `Memory` also comes where
+// there may be no number for a segment more.
 fn load_engine<H: Host>(
     alloc: Global,
     host: &mut H,
@@ -189,6 +194,9 @@ fn load_engine<H: Host>(
         → IsBadLoad shape.now mark (H.Device.history host.old).world (H.Device.history host.new).world id }
     ensures cause { HasPageFault (H.Device.state host.old) (H.Device.state host.new) result }
 {
+    if !has_numbers(log.end()) {
+        return Err(StoreFault::Memory);
+    }
     let pictures = Pictures::of_files(alloc, &mark);
     let lists = load_partitions(alloc, host, &pictures, shape)?;
     let map = PagedMap::of(*shape, lists);

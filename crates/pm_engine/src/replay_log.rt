@@ -19,6 +19,8 @@ ghost use Rattle.pm_engine.specs.Batches.{HasPlainFault, HasStoreFault};
 ghost use Rattle.pm_engine.specs.PagedBatches.{HasFrames, is_crowded};
 ghost use Rattle.pm_engine.specs.PagedReplays.{GoesOnReplaying, AppliesNext, IsBadNext, IsBadReplay};
 ghost use Rattle.pm_engine.specs.PagedReplays.{AppliesAll, KeepsReplaying, CanReplay, ChecksIn, ReplaysAll};
+ghost use Rattle.pm_engine.specs.PagedReplays.{LogLeadsTo};
+ghost use Rattle.pm_engine.specs.RunningStores.{HasSegmentsFor};
 
 use crate::paged_engine::PagedEngine;
 use pm_config::Config;
@@ -29,7 +31,8 @@ use pm_segments::Scan;
 use pm_types::{Place, StoreFault};
 use std::alloc::Global;
 
-// While the log ends in a segment up to this one, an operation's records have numbers for their segments.
+// While the log ends in a segment below this one, an operation's records have numbers for their segments, and so has
+// a checkpoint before it.
 const LAST_LOOK: u64 = u64::MAX - 64;
 
 /// Applies the records of the log from `from` on up to `end`, where the log ended before the RESTART. What is
@@ -37,7 +40,8 @@ const LAST_LOOK: u64 = u64::MAX - 64;
 /// a record, a checkpoint is made first, so that a restart applies the log from that record on.
 ///
 /// `BadRecord` names a record that is in no grammar, or is a put that meets a full partition, or a place before
-/// `end` at which none stands. After an error the engine isn't to be used any more.
+/// `end` at which none stands. `Memory` also comes where the log runs out of numbers for its segments: it would go
+/// on in segment 1, which may not have been read yet. After an error the engine isn't to be used any more.
 pub(crate) fn replay_log<H: Host>(
     alloc: Global,
     host: &mut H,
@@ -50,17 +54,19 @@ pub(crate) fn replay_log<H: Host>(
     requires is_open { engine.old.is_open ≡ true }
     requires from_one { 1 ≤ from.seg }
     requires within { from.off ≤ last_end }
+    requires leads { H.Device.tells
+        → LogLeadsTo from end engine.old.log (H.Device.history host.old).world }
     requires there { H.Device.tells → EndsThere engine.old.log (H.Device.history host.old).world }
     ensures keeps { KeepsReplaying engine.old engine.new }
     ensures is_open { OnOk result (engine.new.is_open ≡ true) }
     ensures frames { HasFrames config.now engine.old → OnOk result (HasFrames config.now engine.new) }
     ensures applies { H.Device.tells → OnOk result (AppliesAll from end engine.old engine.new
-        (H.Device.history host.new).world) }
+        (H.Device.history host.old).world (H.Device.history host.new).world) }
     ensures disk { H.Device.tells → AllMoments (H.Device.history host.old) (H.Device.history host.new)
         (ChangesDisk (H.Device.history host.old).world) }
     ensures bad { H.Device.tells → (at : Place) → IsErrOf result (StoreFault.BadRecord at)
-        → IsBadReplay engine.old.map.shape engine.old.map.pairs from end
-        (H.Device.history host.new).world at }
+        → IsBadReplay engine.old.map.shape engine.old.map.pairs
+        (contents (H.Device.history host.old).world.log) from end (H.Device.history host.new).world at }
 
     // What it makes of a sound store, and what a crash leaves of it meanwhile.
     ensures sound { H.Device.tells → (last highest : ℕ) (wanted : Shape) (told : List ℕ → ℕ) (pairs : Pairs)
@@ -84,7 +90,8 @@ pub(crate) fn replay_log<H: Host>(
 }
 
 // Makes a checkpoint where too few frames may be left for the pages of the next record: a restart applies the
-// log from that record on then. `BadRecord` comes where no frame can stand there.
+// log from that record on then. `BadRecord` comes where no frame can stand there, and `Memory` also where there may
+// be no numbers for the segments of the checkpoint and of the record's pages.
 fn make_frames<H: Host>(
     alloc: Global,
     host: &mut H,
@@ -100,6 +107,7 @@ fn make_frames<H: Host>(
     ensures checks { ChecksIn H.Device.tells scan.old.next engine.old engine.new
         (H.Device.history host.old) (H.Device.history host.new) result }
     ensures room { OnOk result (is_crowded engine.new config.now ≡ false) }
+    ensures numbers { OnOk result (HasSegmentsFor engine.old.log (OP_PAGES + 1)) }
     ensures stays { StaysAt scan.old scan.new }
     ensures ahead { H.Device.tells → OnOk result (IsAhead scan.new (H.Device.history host.new).world) }
     ensures bad { H.Device.tells → (at : Place) → IsErrOf result (StoreFault.BadRecord at)
@@ -107,6 +115,9 @@ fn make_frames<H: Host>(
         (H.Device.history host.new).world at }
     ensures cause { HasStoreFault (H.Device.state host.old) (H.Device.state host.new) result }
 {
+    if !has_numbers(engine.log_end()) {
+        return Err(StoreFault::Memory);
+    }
     if !engine.is_crowded(config) {
         return Ok(());
     }
@@ -117,6 +128,13 @@ fn make_frames<H: Host>(
     engine.checkpoint_at(alloc, host, Some(next))?;
     scan.forget();
     Ok(())
+}
+
+/// Whether a log that ends there has numbers for the segments of a checkpoint and of an operation's records.
+pub(crate) fn has_numbers(end: Place) -> bool
+    ensures { result ≡ true → end.seg + (OP_PAGES + 1) + 1 < 2 ^ 64 }
+{
+    end.seg < LAST_LOOK
 }
 
 // Whether a frame may stand at a place of the log, so that a marker may name it.

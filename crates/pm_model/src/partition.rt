@@ -25,23 +25,3 @@ fn fnv_1a(key: &[u8]) -> u32
         (hash ^ u32::from(*byte)).wrapping_mul(PRIME)
     })
 }
-
-#[cfg(test)]
-mod tests {
-    use super::*;
-
-    // Published values of this hash.
-    #[test]
-    fn known_bytes_have_their_published_hashes(rt: HostRuntime) {
-        let rows = [
-            (b"".as_slice(), 0x811c_9dc5),
-            (b"a", 0xe40c_292c),
-            (b"foobar", 0xbf9c_f968),
-        ];
-        for (bytes, hash) in rows {
-            assert_eq!(rt; fnv_1a(bytes), hash, "{bytes:?}");
-        }
-        assert_eq!(rt; part_of(b"foobar", 64), 0x28);
-        assert_eq!(rt; part_of(b"foobar", 1), 0);
-    }
-}

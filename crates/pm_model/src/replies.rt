@@ -138,39 +138,3 @@ fn fill_up(alloc: Global, n: usize, values: &mut Vec<ValueRoom>) -> Result<(), A
     }
     Ok(())
 }
-
-#[cfg(test)]
-mod tests {
-    use super::*;
-    use std::test::Fail;
-
-    #[test]
-    fn replies_stand_in_the_order_in_which_they_came(rt: HostRuntime) -> Result<(), Fail> {
-        let mut replies = Replies::with_room(rt.alloc(), 3)?;
-        replies.push(Reply::Was(true));
-        replies.push_found(b"v");
-        assert_eq!(rt; replies.spare(), 1);
-        assert_eq!(rt; replies.len(), 2);
-        assert!(rt; matches!(replies.get(0), Reply::Was(true)));
-        match replies.get(1) {
-            Reply::Found(value) => assert!(rt; value.bytes() == b"v".as_slice()),
-            _ => assert!(rt; false),
-        }
-        Ok(())
-    }
-
-    #[test]
-    fn a_list_that_is_cleared_has_its_room_again(rt: HostRuntime) -> Result<(), Fail> {
-        let mut replies = Replies::with_room(rt.alloc(), 2)?;
-        replies.push_found(b"v");
-        replies.push(Reply::Done);
-        assert_eq!(rt; replies.spare(), 0);
-        replies.clear(rt.alloc())?;
-        assert_eq!(rt; replies.len(), 0);
-        assert_eq!(rt; replies.spare(), 2);
-        replies.push_found(b"w");
-        replies.push_found(b"x");
-        assert_eq!(rt; replies.len(), 2);
-        Ok(())
-    }
-}

@@ -14,8 +14,6 @@ mod ranges;
 mod row;
 mod sealing;
 mod spare;
-#[cfg(test)]
-mod tests;
 mod well_formed;
 
 pub use checks::{check, check_at, check_meta};

@@ -2,7 +2,11 @@
 
 mod commands;
 mod damage;
+mod deltas;
 mod filling;
+mod grown;
+mod made;
 mod maps;
 mod removals;
+mod stored;
 mod trees;

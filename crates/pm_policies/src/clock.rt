@@ -129,24 +129,3 @@ fn following(marks: &[bool], frame: usize) -> usize
         0
     }
 }
-
-#[cfg(test)]
-mod tests {
-    use super::*;
-    use std::test::Fail;
-
-    // What a clock of three frames picks three times, after frames 0 and 1 were taken.
-    fn three_picks(alloc: Global) -> Result<(u32, u32, u32), AllocError> {
-        let mut clock = Clock::new(alloc);
-        clock.start(alloc, 3)?;
-        clock.taken(0);
-        clock.taken(1);
-        Ok((clock.pick(), clock.pick(), clock.pick()))
-    }
-
-    #[test]
-    fn taken_frames_are_passed_once(rt: HostRuntime) -> Result<(), Fail> {
-        assert_eq!(rt; three_picks(rt.alloc())?, (2, 0, 1));
-        Ok(())
-    }
-}

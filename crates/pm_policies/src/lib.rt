@@ -2,8 +2,6 @@
 #![tactic(auto)]
 
 mod clock;
-#[cfg(test)]
-mod plain;
 mod random_lru;
 mod segmented_lru;
 mod segments;

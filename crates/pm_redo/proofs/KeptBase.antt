@@ -1,5 +1,5 @@
 -- The base pages stand in the partitions' files once a store was restored.
-use Rattle.std.proofs.Common.{◌≡◌, ◌∙◌, ℕ, List, Some, Result, Ok, Err, refl, sym, ap, subst}
+use Rattle.std.proofs.Common.{◌≡◌, ◌∙◌, ℕ, Result, Ok, Err, refl, ap, subst}
 use Rattle.std.specs.Prelude.{IfOk, OnOk, IsErr}
 use Rattle.pm_types.specs.declared.place.Place.{Place}
 use Rattle.pm_types.specs.declared.shape.Mark.{Mark}
@@ -10,24 +10,29 @@ use Rattle.pm_disk.specs.Worlds.{World}
 use Rattle.pm_records.specs.LogFiles.{contents}
 use Rattle.pm_records.specs.LogSteps.{DoesSteps, cut_steps}
 use Rattle.pm_segments.specs.Ends.{LogEnd}
-use Rattle.pm_marks.specs.InForce.{Checkpoint, NoStart, Started, Ended}
+use Rattle.pm_marks.specs.InForce.{Checkpoint, NoStart, Started, Ended, replay_of}
 use Rattle.pm_core.specs.BasePages.{Rebuilds, no_pages, laid_over, pages_of, base_of}
 use Rattle.pm_core.specs.Calls.{ChangesDisk}
 use Rattle.pm_redo.specs.Ending.{LaysPages, StandsInFile}
 use Rattle.pm_redo.specs.LogEnds.{LogEndsAt}
 use Rattle.pm_redo.specs.PageMaps.{PageMap, kept_pages}
-use Rattle.pm_redo.specs.Restoring.{CutsLog, KeepsBase, RestoresFiles}
+use Rattle.pm_redo.specs.Restoring.{CutsLog, KeepsBase, OnlyCutsLog, RestoresFiles}
 use Rattle.pm_redo.proofs.RestoringSteps.{on_err}
 
 -- a call that failed
 pub failed_files : {T E : Type 0} (checkpoint : Checkpoint) (old new : History) (answer : Result T E) → IsErr answer → AllMoments old new (ChangesDisk old.world) → RestoresFiles {T = T} {E = E} checkpoint old new answer
-failed_files checkpoint old new answer err disk = record { disk = disk; base = on_err answer (KeepsBase checkpoint old.world new.world) err }
+failed_files checkpoint old new answer err disk = record { disk = disk; base = on_err answer (KeepsBase checkpoint old.world new.world) err; log = on_err answer (OnlyCutsLog checkpoint old.world new.world) err }
 
 -- the log was cut, and nothing else was changed
 pub cut_pages : {E : Type 0} (result : Result LogEnd E) (old new : History) (replay : Place) (size : ℕ) → IfOk result (CutsLog (contents old.world.log) replay size)
     → ((end : Place) → LogEndsAt (contents old.world.log) replay end → DoesSteps old new result cut_steps end) → OnOk result (new.world.pages ≡ old.world.pages)
 cut_pages (Ok log) old new replay size cuts steps = ap (λ (w : World). w.pages) (steps log.end cuts.ends).all
 cut_pages (Err fault) old new replay size cuts steps = tt
+
+pub cut_alone : {T E : Type 0} (result : Result T E) (checkpoint : Checkpoint) (old new : History) → ((end : Place) → LogEndsAt (contents old.world.log) (replay_of checkpoint) end → DoesSteps {T = T} {E = E} old new result cut_steps end)
+    → OnOk result (OnlyCutsLog checkpoint old.world new.world)
+cut_alone (Ok log) checkpoint old new steps = λ end ends. ap (λ (w : World). w.log) (steps end ends).all
+cut_alone (Err fault) checkpoint old new steps = tt
 
 -- without a start marker there are none
 pub none_kept : (old now : World) → now.pages ≡ old.pages → KeepsBase NoStart old now

@@ -138,18 +138,27 @@ pub record KeepsBase (checkpoint : Checkpoint) (old now : World) : Type 0 where
       → base_of (with_end checkpoint) no_pages (files_in now) part index ≡ Some page
   pub files : KeepsPages checkpoint old now
 
--- Nothing but the store's files is changed, and at `Ok` the base pages stand in them.
+-- of the log nothing but the cut was done at its end, where it ends when it is read from the replay place
+abbrev pub OnlyCutsLog : Checkpoint → World → World → Type 0
+OnlyCutsLog checkpoint old now = (end : Place) → LogEndsAt (contents old.log) (replay_of checkpoint) end
+    → now.log ≡ (world_after cut_steps end old).log
+
+-- Nothing but the store's files is changed. At `Ok` the base pages stand in them, and of the log nothing but the
+-- cut at its end was done.
 pub record RestoresFiles {T E : Type 0} (checkpoint : Checkpoint) (old new : History) (result : Result T E)
     : Type 0 where
   pub disk : AllMoments old new (ChangesDisk old.world)
   pub base : OnOk result (KeepsBase checkpoint old.world new.world)
+  pub log : OnOk result (OnlyCutsLog checkpoint old.world new.world)
 
 -- Nothing but the store's files is changed, after a fault that names something nothing at all, and where the
--- shape differs nothing at any moment. At `Ok` the base pages stand in the files.
+-- shape differs nothing at any moment. At `Ok` the base pages stand in the files, and of the log nothing but the
+-- cut at its end was done.
 pub record OnlyRestores {T : Type 0} (differs : Option Field) (old new : History) (result : Result T OpenFault)
     : Type 0 where
   pub disk : AllMoments old new (ChangesDisk old.world)
   pub base : OnOk result (KeepsBase (in_force (image_of old.world)) old.world new.world)
+  pub log : OnOk result (OnlyCutsLog (in_force (image_of old.world)) old.world new.world)
   pub untouched : IfErr result (LeavesStore old.world new.world)
   pub differing : (field : Field) → differs ≡ Some field → AllMoments old new (IsSame old.world)
 

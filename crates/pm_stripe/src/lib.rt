@@ -33,8 +33,3 @@ pub use bound::Bound;
 pub use halt::Halt;
 pub use laws::{a_new_stripe_rests, edits_are_covered};
 pub use stripe::Stripe;
-
-#[cfg(test)]
-mod rounds;
-#[cfg(test)]
-mod tests;

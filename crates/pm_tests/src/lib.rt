@@ -17,11 +17,15 @@ mod crashes;
 #[cfg(test)]
 mod drawn;
 #[cfg(test)]
+mod evaluation;
+#[cfg(test)]
 mod folders;
 #[cfg(test)]
 mod forces;
 #[cfg(test)]
 mod hosts;
+#[cfg(test)]
+mod keys;
 #[cfg(test)]
 mod lasting;
 #[cfg(test)]
@@ -44,6 +48,8 @@ mod pieces;
 mod recorded;
 #[cfg(test)]
 mod refusals;
+#[cfg(test)]
+mod replies;
 pub mod rounds;
 #[cfg(test)]
 mod runs;

@@ -32,3 +32,6 @@ pub mod DrawnScripts
 pub mod DrawnRunning
 pub mod DrawnOutcomes
 pub mod DrawnRefusing
+pub mod WordsRead
+pub mod WordsTaken
+pub mod WordsGiven

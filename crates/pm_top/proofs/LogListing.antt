@@ -143,8 +143,11 @@ wal_from old mid new status lines order first same holds =
     }
 
 -- the folder wasn't bound
-pub wal_unbound : (old new : History) (status : Status) (lines : ℕ) (order : List ℕ) → AllMoments old new (IsSame old.world) → status ≡ Failed → lines ≡ 0 → order ≡ [] → WalHolds old new status lines order
-wal_unbound old new status lines order same is none no_order = wal_ends old new status lines order (same_says old new same) (inl is) none no_order
+pub wal_unbound : (old new : History) (status : Status) (lines : ℕ) (order : List ℕ)
+    → AllMoments old new (IsSame old.world) → (status ≡ Failed) ⊎ (status ≡ Memory) → lines ≡ 0 → order ≡ []
+    → WalHolds old new status lines order
+wal_unbound old new status lines order same cases none no_order =
+    wal_ends old new status lines order (same_says old new same) cases none no_order
 
 -- ---- what follows
 

@@ -8,7 +8,8 @@ use Rattle.std.proofs.lemmas.Fmt.{decimal_is_IsNumeral, parse-decimal}
 use Rattle.std.proofs.lemmas.Slice.Eq.{bytes_eq-Decides}
 use Rattle.pm_top.specs.Words.{is_number_of, number_in}
 
-both_true : (a b : Bool) → (a && b) ≡ true → (a ≡ true) × (b ≡ true)
+-- what a test of both says
+pub both_true : (a b : Bool) → (a && b) ≡ true → (a ≡ true) × (b ≡ true)
 both_true true b is = (refl, is)
 both_true false b is = absurd cc
 
@@ -16,7 +17,7 @@ true_le : (a b : ℕ) → nat_le a b ≡ true → a ≤ b
 true_le a b is = grind (arith, nat_tests)
 
 -- such a number isn't above the bound, and its text is the word
-is_text : (least most number : ℕ) (word : List ℕ) → is_number_of least most number word ≡ true → (number ≤ most) × (decimal number ≡ word)
+pub is_text : (least most number : ℕ) (word : List ℕ) → is_number_of least most number word ≡ true → (number ≤ most) × (decimal number ≡ word)
 is_text least most number word is =
     let parts = both_true (nat_le least number && nat_le number most) (bytes_eq (decimal number) word) is in
     (true_le number most (both_true (nat_le least number) (nat_le number most) parts.0).1, (bytes_eq-Decides (decimal number) word).0 parts.1)

@@ -11,6 +11,7 @@ pub mod ScriptOrder
 pub mod Scripts
 pub mod Served
 pub mod Statuses
+pub mod Subcommands
 pub mod Words
 pub mod Commands
 pub mod StoreChecks

@@ -183,10 +183,11 @@ pub record IsDamaged (old new : World) (lines : ℕ) (order : List ℕ) : Type 0
   pub says : OnlySays text left new lines order
 
 -- what each status says where the words aren't a command: nothing was done but that this was said, or a prefix
--- of it
+-- of it, and where memory ran out nothing at all
 abbrev pub RefusalIs : Status → World → World → ℕ → List ℕ → Type 0
 RefusalIs Usage old new lines order = OnlySays (codes "fault usage\n") old new lines order
 RefusalIs Failed old new lines order = (n : ℕ) × OnlySays (take n (codes "fault usage\n")) old new lines order
+RefusalIs Memory old new lines order = (new ≡ old) × (lines ≡ 0) × (order ≡ [])
 RefusalIs status old new lines order = ⊥
 
 -- What a run promises, by its status.

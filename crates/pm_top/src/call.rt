@@ -42,7 +42,7 @@ use std::alloc::Global;
 ///
 /// The words are those after the program's name: `run`, `wal`, `verify` or `gen`, and a folder, which isn't
 /// empty and doesn't begin with `-`. After `gen` and its folder two numbers stand. The folder is bound, and
-/// made where it isn't there.
+/// made where it isn't there. Where memory runs out while the words are read, nothing is done.
 ///
 /// `run` reads the folder's configuration: one that is refused, or that asks for another shape than
 /// the store has, is named by its field, and nothing is changed. Then the store is opened: it is restored
@@ -99,7 +99,8 @@ pub fn top<Q: AllocGlobal, H: Host>(rt: &Q, words: &[String], host: &mut H) -> R
     }
 }
 
-// Does what the words ask for, or says that they aren't a command.
+// Does what the words ask for, or says that they aren't a command. Where there is no memory to read them
+// the host isn't touched.
 fn command<H: Host>(alloc: Global, words: &[String], host: &mut H) -> Outcome
     requires whole { (H.state host.old).access.is_lent ≡ false }
     ensures holds { H.tells → CommandHolds (command_in (map string_bytes words.now))
@@ -113,7 +114,10 @@ fn command<H: Host>(alloc: Global, words: &[String], host: &mut H) -> Outcome
     ensures cause { HasStatusCause (map string_bytes words.now) result.status
         (H.state host.old) (H.state host.new) }
 {
-    let Some(asked) = command_of(words) else {
+    let Ok(found) = command_of(alloc, words) else {
+        return Outcome::without(alloc, Status::Memory);
+    };
+    let Some(asked) = found else {
         return Outcome::without(alloc, print_usage_fault(host));
     };
     match host.bind(asked.folder) {

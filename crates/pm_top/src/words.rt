@@ -1,13 +1,19 @@
 //! The words of a command line.
 
-ghost use Rattle.std.specs.Prelude.{◌≡◌, ◌≤◌, ◌<◌, length, map, IsTrue, IfSome, string_bytes};
+ghost use Rattle.std.specs.Prelude.{◌≡◌, ◌≤◌, map, IfOk, IfSome, string_bytes, false};
+ghost use Rattle.std.specs.List.{list_all};
 ghost use Rattle.std.specs.Option.{option_map};
+ghost use Rattle.clap.specs.Words.{app_of, rule_of, shape_of, subcommand_rows_of};
 ghost use Rattle.pm_types.specs.declared.limits.TheConstants.{LINES_MAX as most_lines};
 ghost use Rattle.pm_top.specs.Words.{command_in, folder_in, gen_of, is_folder, is_number_of, name_of};
 ghost use Rattle.pm_top.specs.Words.{number_in, DrawsFew};
+ghost use Rattle.pm_top.specs.Subcommands.{drawing, folder_given, name_given, over_folder, program, required};
 
+use clap::error::ErrorKind;
+use clap::{Arg, ArgMatches};
 use itoa::Buffer;
 use pm_types::LINES_MAX;
+use std::alloc::{AllocError, Global};
 
 /// The highest number that lines are drawn from.
 pub const SEED_MAX: u32 = 2_147_483_647;
@@ -34,34 +40,94 @@ pub struct Command<'a> {
     pub folder: &'a str,
 }
 
-/// The command that the words are: none where they aren't a command's name, a folder and its numbers.
-pub fn command_of(words: &[String]) -> Option<Command<'_>>
-    ensures name { option_map (λ asked. asked.name) result ≡ command_in (map string_bytes words.now) }
+/// The command that the words are: none where they aren't a command's name, a folder and the command's numbers.
+///
+/// `clap` reads them. A list that has an empty word, or one that begins with `-`, isn't given to it.
+/// `Err` comes only where memory runs out.
+pub fn command_of(alloc: Global, words: &[String]) -> Result<Option<Command<'_>>, AllocError>
+    ensures name { IfOk result (λ found.
+        option_map (λ asked. asked.name) found ≡ command_in (map string_bytes words.now)) }
+    ensures folder { IfOk result (λ found. IfSome found
+        (λ asked. asked.folder.now ≡ folder_in (map string_bytes words.now))) }
+    ensures few { IfOk result (λ found. IfSome found (λ asked. DrawsFew asked.name)) }
+{
+    if !are_plain(words) {
+        return Ok(None);
+    }
+    let reader = program(alloc)?;
+    match reader.try_get_matches_from(words) {
+        Ok(matches) => Ok(command_given(&matches)),
+        Err(fault) => {
+            if fault.kind() == ErrorKind::OutOfMemory {
+                return Err(AllocError);
+            }
+            Ok(None)
+        }
+    }
+}
+
+// Whether no word is empty or begins with `-`.
+fn are_plain(words: &[String]) -> bool
+    ensures { result ≡ list_all (λ word. is_folder (string_bytes word)) words.now }
+{
+    words.iter().all(|word| is_folder(word.as_bytes()))
+}
+
+// The program's subcommands, with their words.
+fn program<'a>(alloc: Global) -> Result<clap::Command<'a>, AllocError>
+    ensures { IfOk result (λ made. app_of made ≡ program) }
+{
+    clap::Command::new(alloc, "pagemem")
+        .no_binary_name(true)
+        .disable_help_flag(true)
+        .disable_help_subcommand(true)
+        .disable_version_flag(true)
+        .subcommand_required(true)
+        .subcommand(over_folder(alloc, "run")?)?
+        .subcommand(over_folder(alloc, "wal")?)?
+        .subcommand(over_folder(alloc, "verify")?)?
+        .subcommand(drawing(alloc)?)
+}
+
+// The subcommand with this name over a folder.
+fn over_folder<'a>(alloc: Global, name: &'a str) -> Result<clap::Command<'a>, AllocError>
+    ensures { IfOk result (λ made. shape_of made ≡ over_folder name.entry.now) }
+{
+    clap::Command::new(alloc, name).arg(required(alloc, "DIR"))
+}
+
+// The subcommand that draws lines.
+fn drawing<'a>(alloc: Global) -> Result<clap::Command<'a>, AllocError>
+    ensures { IfOk result (λ made. shape_of made ≡ drawing) }
+{
+    over_folder(alloc, "gen")?
+        .arg(required(alloc, "SEED"))?
+        .arg(required(alloc, "COUNT"))
+}
+
+// A word that has to be there.
+fn required<'a>(alloc: Global, name: &'a str) -> Arg<'a>
+    ensures rule { rule_of result ≡ required name.entry.now }
+    ensures local { result.global ≡ false }
+{
+    Arg::new(alloc, name).required(true)
+}
+
+// The command that the words were read as.
+fn command_given<'a>(matches: &ArgMatches<'a>) -> Option<Command<'a>>
+    ensures name { option_map (λ asked. asked.name) result ≡ name_given (subcommand_rows_of matches.now) }
     ensures folder { IfSome result
-        (λ asked. asked.folder.now ≡ folder_in (map string_bytes words.now)) }
+        (λ asked. asked.folder.now ≡ folder_given (subcommand_rows_of matches.now)) }
     ensures few { IfSome result (λ asked. DrawsFew asked.name) }
 {
-    match words {
-        [name, folder] => {
-            if !is_folder(folder.as_bytes()) {
-                return None;
-            }
-            Some(Command {
-                name: name_of(name.as_bytes())?,
-                folder: folder.as_str(),
-            })
-        }
-        [name, folder, seed, count] => {
-            if name.as_bytes() != b"gen".as_slice() || !is_folder(folder.as_bytes()) {
-                return None;
-            }
-            Some(Command {
-                name: gen_of(seed.as_str(), count.as_str())?,
-                folder: folder.as_str(),
-            })
-        }
-        _ => None,
-    }
+    let (name, given) = matches.subcommand()?;
+    let folder = given.get_str("DIR")?;
+    let name = if name == "gen" {
+        gen_of(given.get_str("SEED")?, given.get_str("COUNT")?)?
+    } else {
+        name_of(name.as_bytes())?
+    };
+    Some(Command { name, folder })
 }
 
 // The command with this name that takes no number.

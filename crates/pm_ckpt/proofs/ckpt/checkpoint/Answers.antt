@@ -1,14 +1,16 @@
 use Rattle.std.proofs.Common.{◌≡◌, List, min, Ok, refl, sym, ◌∙◌, ap, subst, arith}
 use Rattle.pm_types.specs.declared.shape.Mark.{Mark}
 use Rattle.pm_disk.specs.declared.failed.Failed.{Failed}
+use Rattle.pm_core.specs.BasePages.{no_pages}
 use Rattle.pm_core.specs.PageSets.{Running}
 use Rattle.pm_core.proofs.OnlyDisk.{makes_disk, logs_disk, then_disk}
 use Rattle.pm_ckpt.specs.Checkpoints.{MayEnd}
 use Rattle.pm_segments.specs.Appends.{grown}
 use Rattle.pm_segments.specs.Drops.{drop_before_steps, kept_from}
 use Rattle.pm_segments.specs.Ends.{LogEnd}
-use Rattle.pm_ckpt.specs.Marked.{begin_frame}
+use Rattle.pm_ckpt.specs.Marked.{begin_frame, kept_segment}
 use Rattle.pm_ckpt.specs.Writes.{held_in, Finishes}
+use Rattle.pm_ckpt.proofs.KeptLog.{leaves_log}
 use Rattle.pm_ckpt.proofs.OnlyDisk.{open_state, silent_opening, silent_ending}
 use Rattle.pm_ckpt.proofs.Stages.{may_end, broke_open, broke_end, broke_drop, made, ending_makes, in_force_after, home_stays, drops_pages, grown_seg, are_gone}
 use Rattle.pm_ckpt.proofs.ckpt.checkpoint.Goals as goal
@@ -155,3 +157,17 @@ returns-clause-disk g c t =
     (makes_disk old mid _ s (silent_opening log mark) (c.begin_marked.ensures.steps t s _ refl).moments)
     (makes_disk mid new _ s (silent_ending (held_in c.args.pages.now) ends.writings c.in_ok-begun.begun.mark c.args.order.now) (ends.makes s).moments))
     (logs_disk new last _ _ (c.drop_before.ensures.steps t).moments)
+
+pub returns-clause-ends : goal.returns-clause-ends
+returns-clause-ends g c t =
+    let old = g.H.Device.history c.args.host.now in
+    let mid = g.H.Device.history c.begin_marked.new.host in
+    let new = g.H.Device.history c.finish_written.new.host in
+    let last = g.H.Device.history c.drop_before.new.host in
+    let log = c.args.log.now in
+    let mark = c.args.mark in
+    let grew = c.begin_marked.new.log in
+    let s = open_state mark.shape log.end in
+    let first = ap (λ (l : LogEnd). l.first) (c.in_ok-drop_before.ensures.kept ∙ ap (λ n. kept_from n grew) c.min.ensures) in
+    leaves_log log grew c.drop_before.new.self mark no_pages s old.world mid.world new.world last.world (kept_segment mark) refl (c.requires.end t) (c.in_ok-begun.ensures.steps t s no_pages refl).all
+    (c.in_ok-ended.ensures.log t) first (c.in_ok-drop_before.ensures.dropped t) (c.in_ok-drop_before.ensures.ends t)

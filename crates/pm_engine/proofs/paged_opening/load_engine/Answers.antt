@@ -1,10 +1,13 @@
-use Rattle.std.proofs.Common.{rules, ◌∙◌, ◌≤◌, List, Ok, refl, sym, ap, subst, [], ◌∷◌, arith}
+use Rattle.std.proofs.Common.{rules, ◌∙◌, ◌+◌, ◌^◌, ◌<◌, ◌≤◌, List, Ok, refl, sym, ap, subst, [], ◌∷◌, arith}
 use Rattle.std.specs.Prelude.{IsErrOf}
 use Rattle.pm_types.specs.declared.fault.StoreFault.TheVariants.{BadPage}
+use Rattle.pm_types.specs.declared.place.Place.{Place}
 use Rattle.pm_disk.specs.Worlds.{World}
-use Rattle.pm_disk.proofs.Chain.{at_last}
+use Rattle.pm_disk.proofs.Chain.{started, at_last}
 use Rattle.pm_pages.specs.declared.plain.PlainPages.{PlainPages}
 use Rattle.pm_records.specs.FirstRecords.{restart_frame}
+use Rattle.pm_records.specs.LogSteps.{DoesPrefix}
+use Rattle.pm_records.proofs.Tracing.{prefix_none}
 use Rattle.pm_segments.specs.Ends.{LogEnd, EndsThere}
 use Rattle.pm_engine.specs.AppendRuns.{append_all_steps}
 use Rattle.pm_redo.specs.Rebuilding.{IsSame}
@@ -18,6 +21,12 @@ use Rattle.pm_engine.proofs.paged_opening.load_engine.Goals as goal
 
 pub load_partitions-requires-clause-shaped : goal.load_partitions-requires-clause-shaped
 load_partitions-requires-clause-shaped g c κs within = have_shape c.args.shape.now c.args.mark c.of_files-pictures.result c.requires.marked c.of_files-pictures.ensures.shaped
+
+pub returns-then-not-has_numbers-clause-steps : goal.returns-then-not-has_numbers-clause-steps
+returns-then-not-has_numbers-clause-steps g c t =
+    let old = g.H.Device.history c.args.host.now in
+    let steps = append_all_steps c.args.log (restart_frame c.args.shape.now ∷ []) in
+    record { all = tt; moments = started old (DoesPrefix steps c.args.log.end old.world) (g.H.Device.sound c.args.host.now t) (prefix_none steps c.args.log.end old.world) }
 
 pub returns-in_err-lists-clause-bad : goal.returns-in_err-lists-clause-bad
 returns-in_err-lists-clause-bad g c t id is =
@@ -69,6 +78,7 @@ returns-clause-made g c =
       fresh = record { shape_is = c.of-map.ensures.shape; order = refl; is_open = refl };
       logged = refl;
       log_is = c.in_ok-append_restart.ensures.appends.log;
+      numbered = subst (λ (p : Place). p.seg + 1 + 1 < 2 ^ 64) c.end.ensures (omega (arith, c.has_numbers.ensures c.if-not-has_numbers.false));
       mark_is = refl;
       paged = c.of-map.ensures.paged;
     })

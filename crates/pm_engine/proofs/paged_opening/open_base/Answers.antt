@@ -10,7 +10,7 @@ use Rattle.pm_core.proofs.OnlyDisk.{logs_disk, then_disk}
 use Rattle.pm_engine.specs.PagedReplays.{CrashHoldsMap}
 use Rattle.pm_engine.specs.AppendRuns.{append_all_steps}
 use Rattle.pm_engine.proofs.HeldReplays.{mark_from, no_bad_load}
-use Rattle.pm_engine.proofs.PagedOpened.{plain_fault, bad_over, opens_over, can_replay, load_moments, opens_running}
+use Rattle.pm_engine.proofs.PagedOpened.{plain_fault, bad_over, restart_leads, opens_over, can_replay, load_moments, opens_running}
 use Rattle.pm_engine.proofs.ReplayStarts.{holds_map}
 use Rattle.pm_engine.proofs.paged_opening.open_base.Goals as goal
 
@@ -18,6 +18,13 @@ pub replay_log-requires-clause-from_one : goal.replay_log-requires-clause-from_o
 replay_log-requires-clause-from_one g c _ _ =
     let fit = c.requires.fit in
     subst (λ (p : Place). 1 ≤ p.seg) (sym fit.replay) (mark_from c.args.config.now.shape c.args.base.mark fit.marked)
+
+pub replay_log-requires-clause-leads : goal.replay_log-requires-clause-leads
+replay_log-requires-clause-leads g c _ _ t =
+    let base = c.args.base in
+    let old = g.H.Device.history c.args.host.now in
+    let mid = g.H.Device.history c.load_engine.new.host in
+    restart_leads c.args.config.now.shape base.mark base.log base.replay base.log_end old.world mid.world c.in_ok-engine.engine c.in_ok-engine.ensures.made (c.requires.there t) (c.in_ok-engine.ensures.steps t).all (c.requires.leads t)
 
 pub returns-clause-fresh : goal.returns-clause-fresh
 returns-clause-fresh g c =
@@ -28,9 +35,13 @@ returns-clause-fresh g c =
       λ t.
           let base = c.args.base in
           let old = g.H.Device.history c.args.host.now in
+          let mid = g.H.Device.history c.load_engine.new.host in
           let new = g.H.Device.history c.replay_log.new.host in
-          let applied = c.in_ok-replay_log.ensures.applies t in
-          (applied.ends, opens_over c.args.config.now.shape base.mark base.log base.replay base.log_end old.world new.world c.in_ok-engine.engine c.replay_log.new.engine made (c.in_ok-engine.ensures.pages t) applied),
+          let applied = c.in_ok-replay_log.ensures.applies t in (
+            applied.ends,
+            opens_over c.args.config.now.shape base.mark base.log base.replay base.log_end old.world mid.world new.world c.in_ok-engine.engine c.replay_log.new.engine made (c.in_ok-engine.ensures.pages t) applied (c.requires.there t)
+                (c.in_ok-engine.ensures.steps t).all (c.requires.leads t),
+          ),
     )
 
 pub returns-in_err-engine-clause-bad_page : goal.returns-in_err-engine-clause-bad_page
@@ -55,7 +66,8 @@ returns-in_err-replay_log-clause-bad_record g c t at is =
     let new = g.H.Device.history c.replay_log.new.host in
     let base = c.args.base in
     let its : IsErrOf c.replay_log.result (BadRecord at) = search rules in
-    bad_over c.args.config.now.shape base.mark base.log base.replay base.log_end old.world new.world c.in_ok-engine.engine at c.in_ok-engine.ensures.made (c.in_ok-engine.ensures.pages t) (c.replay_log.ensures.bad t at its)
+    bad_over c.args.config.now.shape base.mark base.log base.replay base.log_end old.world mid.world new.world c.in_ok-engine.engine at c.in_ok-engine.ensures.made (c.in_ok-engine.ensures.pages t) (c.replay_log.ensures.bad t at its) (c.requires.there t)
+    (c.in_ok-engine.ensures.steps t).all (c.requires.leads t)
 
 pub returns-clause-opened : goal.returns-clause-opened
 returns-clause-opened g c t last highest wanted told pairs s holding =

@@ -14,6 +14,10 @@ use Rattle.pm_engine.proofs.ReplayCheckpoints.{checks_none, checks_failed}
 use Rattle.pm_engine.proofs.ReplayedLog.{no_frame_fits, none_crowded}
 use Rattle.pm_engine.proofs.replay_log.make_frames.Goals as goal
 
+pub returns-then-not-has_numbers-clause-checks : goal.returns-then-not-has_numbers-clause-checks
+returns-then-not-has_numbers-clause-checks g c =
+    checks_none g.H.Device.tells c.args.scan.now.next c.args.engine.now (g.H.Device.history c.args.host.now) _ (λ t. g.H.Device.sound c.args.host.now t) c.requires.there c.requires.is_open
+
 pub returns-then-not-is_crowded-clause-checks : goal.returns-then-not-is_crowded-clause-checks
 returns-then-not-is_crowded-clause-checks g c =
     checks_none g.H.Device.tells c.args.scan.now.next c.args.engine.now (g.H.Device.history c.args.host.now) _ (λ t. g.H.Device.sound c.args.host.now t) c.requires.there c.requires.is_open

@@ -30,7 +30,7 @@ frames-init g c =
       there = c.requires.there;
       disk = λ t. none_disk old (g.H.Device.sound c.args.host.now t);
       ahead = λ t. subst (λ (s : Scanned). IsAhead s old.world) {x = record { place = c.args.from; next = c.args.from; ahead = []; is_whole = false; is_over = false; found = None }} (sym is) record { front = sym (take_none (bytes_after c.args.from old.world)); whole = λ whole. absurd cc };
-      reads = λ t. reads_none c.args.from c.args.engine.now.map.pairs scan c.args.engine.now.map.shape next over;
+      reads = λ t. reads_none c.args.from c.args.end c.args.engine.now.map.pairs scan c.args.engine.now.map.shape old.world c.args.engine.now.log next over (c.requires.leads t);
       sound = λ t last highest wanted told pairs s can. (
         s,
         subst (λ (p : Place). CanReplay last highest wanted told pairs p c.args.end c.args.engine.now s old.world) (sym next) can,
@@ -74,8 +74,11 @@ frames-preserved g c =
       there = λ t. goes.ends t;
       disk = λ t. then_disk old between now (g.H.Device.sound c.make_frames.new.host t) (then_disk old before between (g.H.Device.sound c.frames.host t) (v.disk t) (checks.disk t)) (goes.disk t);
       ahead = λ t. c.in_ok-replay_next.ensures.ahead t;
-      reads = λ t. reads_one g.H.Device.tells t c.args.from c.args.engine.now.map.pairs mid later checked.map after_it.map between.world goes.shape
-          (reads_stay c.args.from c.args.engine.now.map.pairs scan mid engine.map checked.map stays checks.map (v.reads t)) next;
+      reads = λ t.
+          let few = c.in_ok-make_frames.ensures.numbers in
+          reads_one g.H.Device.tells t c.args.from c.args.end c.args.engine.now.map.pairs mid later checked.map after_it.map old.world between.world now.world checked.log after_it.log goes.shape (λ is. apart (sym stays.next ∙ is))
+          (goes.grew t (omega (arith, few, checks.rises)))
+          (reads_stay c.args.from c.args.end c.args.engine.now.map.pairs scan mid engine.map checked.map old.world before.world between.world engine.log checked.log stays checks.map (checks.log t (omega (arith, few))) (checks.goes_on (omega (arith, few))) (v.reads t)) next;
       sound = λ t last highest wanted told pairs s can.
           let so = v.sound t last highest wanted told pairs s can in
           let on = turn_goes g.H.Device.tells t last highest wanted told pairs c.args.end scan engine checked so.0 before between so.1 so.2 apart checks mid stays later after_it now next goes in
@@ -102,7 +105,7 @@ pub returns-then-eq-clause-applies : goal.returns-then-eq-clause-applies
 returns-then-eq-clause-applies g c t =
     let at = place_same c.next_place-next.result c.args.end c.eq.result c.eq.ensures c.if-eq.true in
     let v = c.frames.invariant in
-    applies_all c.args.from c.args.end c.args.engine.now c.frames.engine c.frames.scan (g.H.Device.history c.frames.host).world v.keeps (v.reads t) (sym c.next_place-next.ensures ∙ at) (v.there t)
+    applies_all c.args.from c.args.end c.args.engine.now c.frames.engine c.frames.scan (g.H.Device.history c.args.host.now).world (g.H.Device.history c.frames.host).world v.keeps (v.reads t) (sym c.next_place-next.ensures ∙ at) (v.there t)
 
 pub returns-then-eq-clause-sound : goal.returns-then-eq-clause-sound
 returns-then-eq-clause-sound g c t last highest wanted told pairs s can =
@@ -179,7 +182,7 @@ returns-in_err-make_frames-clause-bad g c t at is =
     let scan = c.frames.scan in
     let apart : scan.next ≡ c.args.end → ⊥ = λ is. place_differs c.next_place-next.result c.args.end c.eq.result c.eq.ensures c.if-eq.false (c.next_place-next.ensures ∙ is) in
     let its : IsErrOf c.make_frames.result (BadRecord at) = search rules in
-    bad_log c.args.from c.args.end c.args.engine.now.map c.frames.engine.map scan before.world between.world at v.keeps.shape (v.reads t) apart (c.make_frames.ensures.bad t at its)
+    bad_log c.args.from c.args.end c.args.engine.now.map c.frames.engine.map scan (g.H.Device.history c.args.host.now).world before.world before.world between.world c.frames.engine.log at v.keeps.shape (v.reads t) apart (c.make_frames.ensures.bad t at its)
 
 pub returns-in_err-replay_next-clause-bad : goal.returns-in_err-replay_next-clause-bad
 returns-in_err-replay_next-clause-bad g c t at is =
@@ -193,8 +196,12 @@ returns-in_err-replay_next-clause-bad g c t at is =
     let stays = c.make_frames.ensures.stays in
     let apart : mid.next ≡ c.args.end → ⊥ = λ is. place_differs c.next_place-next.result c.args.end c.eq.result c.eq.ensures c.if-eq.false (c.next_place-next.ensures ∙ sym stays.next ∙ is) in
     let its : IsErrOf c.replay_next.result (BadRecord at) = search rules in
-    bad_log c.args.from c.args.end c.args.engine.now.map checked.map mid between.world now.world at (checks.keeps.shape ∙ v.keeps.shape)
-    (reads_stay c.args.from c.args.engine.now.map.pairs scan mid c.frames.engine.map checked.map stays checks.map (v.reads t)) apart (c.replay_next.ensures.bad t at its)
+    let few = c.in_ok-make_frames.ensures.numbers in
+    let was = (g.H.Device.history c.args.host.now).world in
+    let before = (g.H.Device.history c.frames.host).world in
+    bad_log c.args.from c.args.end c.args.engine.now.map checked.map mid was between.world between.world now.world checked.log at (checks.keeps.shape ∙ v.keeps.shape)
+    (reads_stay c.args.from c.args.end c.args.engine.now.map.pairs scan mid c.frames.engine.map checked.map was before between.world c.frames.engine.log checked.log stays checks.map (checks.log t (omega (arith, few))) (checks.goes_on (omega (arith, few))) (v.reads t))
+    apart (c.replay_next.ensures.bad t at its)
 
 pub returns-in_err-make_frames-clause-keeps : goal.returns-in_err-make_frames-clause-keeps
 returns-in_err-make_frames-clause-keeps g c =

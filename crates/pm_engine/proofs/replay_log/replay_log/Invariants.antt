@@ -28,7 +28,7 @@ invariant-frames g l =
       there : g.H.Device.tells → EndsThere l.engine.log now.world;
       disk : g.H.Device.tells → AllMoments old now (ChangesDisk old.world);
       ahead : g.H.Device.tells → IsAhead l.scan now.world;
-      reads : g.H.Device.tells → ReadsSoFar l.fn.from l.fn.engine.map.pairs l.scan l.engine.map.shape l.engine.map.pairs;
+      reads : g.H.Device.tells → ReadsSoFar l.fn.from l.fn.end l.fn.engine.map.pairs l.scan l.engine.map.shape l.engine.map.pairs old.world now.world l.engine.log;
       sound : g.H.Device.tells → (last highest : ℕ) (wanted : Shape) (told : List ℕ → ℕ) (pairs : Pairs) (s : State) → CanReplay last highest wanted told pairs l.fn.from l.fn.end l.fn.engine s old.world
           → (state : State) × CanReplay last highest wanted told pairs l.scan.next l.fn.end l.engine state now.world × (l.scan.is_over ≡ false)
           × AllMoments old now (CrashHoldsMap (last + 1) highest wanted l.fn.engine.map.shape pairs);

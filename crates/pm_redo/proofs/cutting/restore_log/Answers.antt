@@ -1,4 +1,5 @@
 use Rattle.std.proofs.Common.{refl, sym, subst}
+use Rattle.std.specs.Prelude.{OnOk}
 use Rattle.std.proofs.lemmas.Result.{on_ok_weaker}
 use Rattle.pm_disk.proofs.Chain.{started}
 use Rattle.pm_records.specs.LogFiles.{contents}
@@ -6,8 +7,8 @@ use Rattle.pm_marks.specs.InForce.{Checkpoint, NoStart, Ended}
 use Rattle.pm_core.specs.Held.{in_force}
 use Rattle.pm_core.specs.LogAlone.{image_of}
 use Rattle.pm_redo.specs.Rebuilding.{IsSame}
-use Rattle.pm_redo.specs.Restoring.{IsLeft, IsBadLog, KeepsBase, Restores, RestoresFiles}
-use Rattle.pm_redo.proofs.KeptBase.{cut_pages, ended_kept, none_kept}
+use Rattle.pm_redo.specs.Restoring.{IsLeft, IsBadLog, KeepsBase, OnlyCutsLog, Restores, RestoresFiles}
+use Rattle.pm_redo.proofs.KeptBase.{cut_pages, cut_alone, ended_kept, none_kept}
 use Rattle.pm_redo.proofs.Restored.{is_ended, no_start}
 use Rattle.pm_redo.proofs.RestoringSteps.{begins_cut, cut_world, cut_restores}
 use Rattle.pm_redo.proofs.StartMarks.{is_started}
@@ -45,6 +46,7 @@ returns-then-marks-clause-files g c t =
       disk = c.cut_log.ensures.disk t;
       base = on_ok_weaker c.cut_log.result (λ same. subst (λ (checkpoint : Checkpoint). KeepsBase checkpoint old.world new.world) (sym ended) (ended_kept mark old.world new.world same))
           (cut_pages c.cut_log.result old new _ _ (c.cut_log.ensures.log t) (c.cut_log.ensures.steps t));
+      log = subst (λ (checkpoint : Checkpoint). OnOk c.cut_log.result (OnlyCutsLog checkpoint old.world new.world)) (sym ended) (cut_alone c.cut_log.result (Ended mark) old new (c.cut_log.ensures.steps t));
     }
 
 pub returns-else-marks-clause-files : goal.returns-else-marks-clause-files
@@ -63,6 +65,7 @@ returns-in-None-clause-files g c t =
       disk = c.cut_log-in-None.ensures.disk t;
       base = on_ok_weaker c.cut_log-in-None.result (λ same. subst (λ (checkpoint : Checkpoint). KeepsBase checkpoint old.world new.world) (sym none) (none_kept old.world new.world same))
           (cut_pages c.cut_log-in-None.result old new _ _ (c.cut_log-in-None.ensures.log t) (c.cut_log-in-None.ensures.steps t));
+      log = subst (λ (checkpoint : Checkpoint). OnOk c.cut_log-in-None.result (OnlyCutsLog checkpoint old.world new.world)) (sym none) (cut_alone c.cut_log-in-None.result NoStart old new (c.cut_log-in-None.ensures.steps t));
     }
 
 pub returns-else-marks-clause-bad : goal.returns-else-marks-clause-bad

@@ -1,11 +1,11 @@
 use Rattle.std.proofs.Common.{rules, inl, inr, refl, sym, ◌∙◌, ap, subst}
 use Rattle.std.specs.Prelude.{IsErrOf}
 use Rattle.pm_types.specs.declared.fault.StoreFault.TheVariants.{BadRecord}
-use Rattle.pm_disk.specs.Files.{File, bytes_of, content}
 use Rattle.pm_disk.specs.Moments.{AllMoments}
 use Rattle.pm_disk.specs.Worlds.{World}
 use Rattle.pm_disk.proofs.Chain.{at_last}
 use Rattle.pm_records.specs.LogFiles.{contents}
+use Rattle.pm_records.specs.LogSteps.{cut_steps, world_after}
 use Rattle.pm_marks.specs.InForce.{Started}
 use Rattle.pm_core.specs.Calls.{ChangesDisk}
 use Rattle.pm_core.proofs.OnlyDisk.{same_disk, then_disk}
@@ -149,4 +149,7 @@ returns-clause-files g c t =
           (then_disk old read cut (g.H.Device.sound c.rebuild.new.host t) (same_disk old read (c.rebuild.ensures.same t)) (c.cut_log.ensures.disk t)) (c.end_checkpoint.ensures.disk t);
       base = started_kept c.args.mark.now c.in_ok-rebuilt.rebuilt old.world cut.world new.world c.in_ok-rebuilt.ensures.shape (c.in_ok-rebuilt.ensures.rebuilds t)
           (pages ∙ ap (λ (w : World). w.pages) same) (c.in_ok-end_checkpoint.ensures.pages t c.in_ok-pages.ensures);
+      log = λ end ends.
+          let there = subst (λ (w : World). LogEndsAt (contents w.log) c.args.mark.now.replay end) (sym same) ends in
+          c.in_ok-end_checkpoint.ensures.log t ∙ ap (λ (w : World). w.log) (c.in_ok-log.ensures.steps t end there).all ∙ ap (λ (w : World). (world_after cut_steps end w).log) same;
     }

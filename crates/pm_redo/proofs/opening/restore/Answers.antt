@@ -13,7 +13,7 @@ use Rattle.pm_redo.specs.declared.opening.Base.{Base}
 use Rattle.pm_redo.specs.Differences.{difference_from}
 use Rattle.pm_redo.specs.LogEnds.{LogEndsAt}
 use Rattle.pm_redo.specs.Rebuilding.{IsSame}
-use Rattle.pm_redo.specs.Restoring.{IsLeft, IsBadLog, CutsLog, HasSegments, IsBase, IsFit, Restores, first_of, segment_bytes_of, left_state, KeepsBase}
+use Rattle.pm_redo.specs.Restoring.{IsLeft, IsBadLog, CutsLog, HasSegments, IsBase, IsFit, Restores, first_of, segment_bytes_of, left_state, KeepsBase, OnlyCutsLog}
 use Rattle.pm_redo.proofs.Restored.{left_of, restores_within, restores_all, begins_after, restores_after, start_marks, replay_marks, leaves_store, fault_is}
 use Rattle.pm_redo.proofs.FitMarks.{fit_mark}
 use Rattle.pm_redo.proofs.RestoringSteps.{begins_none, on_err}
@@ -60,6 +60,7 @@ returns-in_err-found-clause-only g c t =
     record {
       disk = same_disk old read (c.find.ensures.same t);
       base = on_err c.from_residual.result (KeepsBase (in_force (image_of old.world)) old.world read.world) c.from_residual.ensures.0;
+      log = on_err c.from_residual.result (OnlyCutsLog (in_force (image_of old.world)) old.world read.world) c.from_residual.ensures.0;
       untouched = leaves_store old.world read.world c.from_residual.result fault out.0 out.1 out.2 (λ at is. same)
           (λ page is. c.find.ensures.cause.no_page page (fault_is c.find.result fault (BadPage page) c.in_err-found.was is));
       differing = λ field is. c.find.ensures.same t;
@@ -72,6 +73,7 @@ returns-in-Some-clause-only g c t =
     record {
       disk = same_disk old read (c.find.ensures.same t);
       base = tt;
+      log = tt;
       untouched = at_last old read (IsSame old.world) (g.H.Device.sound c.find.new.host t) (c.find.ensures.same t);
       differing = λ field is. c.find.ensures.same t;
     }
@@ -87,6 +89,7 @@ returns-in_err-log-clause-only g c t =
     record {
       disk = then_disk old read new (g.H.Device.sound c.find.new.host t) (same_disk old read (c.find.ensures.same t)) (c.restore_log.ensures.files t).disk;
       base = on_err c.from_residual-in_err-log.result (KeepsBase (in_force (image_of old.world)) old.world new.world) c.from_residual-in_err-log.ensures.0;
+      log = on_err c.from_residual-in_err-log.result (OnlyCutsLog (in_force (image_of old.world)) old.world new.world) c.from_residual-in_err-log.ensures.0;
       untouched = leaves_store old.world new.world c.from_residual-in_err-log.result fault out.0 out.1 out.2
           (λ at is. (c.restore_log.ensures.bad t at (fault_is c.restore_log.result fault (BadRecord at) c.in_err-log.was is)).1 ∙ same)
           (λ page is. c.restore_log.ensures.cause.no_page page (fault_is c.restore_log.result fault (BadPage page) c.in_err-log.was is));
@@ -102,6 +105,7 @@ returns-clause-only g c t =
     record {
       disk = then_disk old read new (g.H.Device.sound c.find.new.host t) (same_disk old read (c.find.ensures.same t)) (c.restore_log.ensures.files t).disk;
       base = subst (λ (w : World). KeepsBase (in_force (image_of w)) w new.world) same (c.in_ok-log.ensures.files t).base;
+      log = subst (λ (w : World). OnlyCutsLog (in_force (image_of w)) w new.world) same (c.in_ok-log.ensures.files t).log;
       untouched = tt;
       differing = λ field is. absurd (c.in_default.not-Some field (c.difference_from.ensures ∙ ap (λ f. difference_from f c.args.wanted.now) (c.in_ok-found.ensures.shape t) ∙ is));
     }

@@ -174,3 +174,6 @@ invariant_of-self-2 g c =
       room_is = c.self.invariant.room_is;
       goes_on = λ is. checkpoint_goes_on ins after c.args.replay after_is goes fits;
     }
+
+pub returns-clause-ends : goal.returns-clause-ends
+returns-clause-ends g c t = (c.in_ok-whole_plain.ensures.ends t).ends

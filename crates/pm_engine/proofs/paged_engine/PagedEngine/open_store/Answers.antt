@@ -8,7 +8,6 @@ use Rattle.pm_disk.specs.Moments.{AllMoments}
 use Rattle.pm_disk.specs.Worlds.{World}
 use Rattle.pm_disk.proofs.Chain.{at_last, joined}
 use Rattle.pm_records.specs.LogFiles.{contents}
-use Rattle.pm_marks.specs.InForce.{replay_of}
 use Rattle.pm_core.proofs.OnlyDisk.{then_disk}
 use Rattle.pm_core.specs.BasePages.{Partitions}
 use Rattle.pm_core.specs.Calls.{ChangesDisk}
@@ -18,10 +17,17 @@ use Rattle.pm_redo.specs.Loading.{IsBadBase}
 use Rattle.pm_redo.specs.LogEnds.{LogEndsAt}
 use Rattle.pm_redo.specs.Restoring.{KeepsBase}
 use Rattle.pm_engine.specs.PagedEngines.{PagedRunning}
-use Rattle.pm_engine.specs.PagedOpenings.{loaded_base, restored_base, IsBadOver, IsPlainOpen, OpensRunning, opened_last, opened_number}
+use Rattle.pm_engine.specs.PagedOpenings.{loaded_base, IsPlainOpen, OpensRunning, opened_last, opened_number}
 use Rattle.pm_engine.specs.PagedReplays.{CrashHoldsMap}
-use Rattle.pm_engine.proofs.PagedOpened.{restore_cause, leaves_passed, compares_failed, none_differs, open_cause, compared_store, plain_open, field_named, restored_is, never_bad_record, opens_map, holding, shape_is, restore_moments}
+use Rattle.pm_engine.proofs.PagedOpened.{restore_cause, bad_uncut, leaves_passed, compares_failed, none_differs, open_cause, compared_store, plain_open, field_named, restored_is, never_bad_record, cut_leads, opens_map, holding, shape_is, restore_moments}
 use Rattle.pm_engine.proofs.paged_engine.PagedEngine.open_store.Goals as goal
+
+pub open_base-requires-clause-leads : goal.open_base-requires-clause-leads
+open_base-requires-clause-leads g c κs within t =
+    let old = g.H.Device.history c.args.host.now in
+    let mid = g.H.Device.history c.restore.new.host in
+    let base = c.in_ok-base.ensures.base in
+    cut_leads c.args.config.now.shape (in_force (image_of old.world)) old.world mid.world c.in_ok-base.base base.0 (base.1 t) (c.in_ok-base.ensures.only t).log
 
 pub returns-in-Ok-clause-fresh : goal.returns-in-Ok-clause-fresh
 returns-in-Ok-clause-fresh g c =
@@ -35,7 +41,7 @@ returns-in-Ok-clause-fresh g c =
           let only = c.in_ok-base.ensures.only t in
           record {
             ends = made.0;
-            opens = opens_map c.args.config.now.shape (in_force (image_of old.world)) old.world mid.world c.in_ok-base.base c.in-Ok.engine.map.pairs (c.in_ok-base.ensures.base.1 t) (at_last old mid (ChangesDisk old.world) (g.H.Device.sound c.restore.new.host t) only.disk) only.base made.1;
+            opens = opens_map c.args.config.now.shape (in_force (image_of old.world)) old.world mid.world c.in_ok-base.base c.in-Ok.engine.map.pairs (c.in_ok-base.ensures.base.1 t) (at_last old mid (ChangesDisk old.world) (g.H.Device.sound c.restore.new.host t) only.disk) only.base only.log made.1;
           },
     )
 
@@ -127,7 +133,7 @@ returns-in-Err-clause-bad g c t =
       subst (λ (p : Place). LogEndsAt (contents old.world.log) p base.log_end) is_base.replay is_base.ends,
       mid.world,
       keeps,
-      subst (λ (q : Partitions × Place). IsBadOver wanted q.0 q.1 base.log_end new.world at) {x = (loaded_base base.mark mid.world, base.replay)} {y = (restored_base checkpoint mid.world, replay_of checkpoint)} (λ i. (restored_is checkpoint base.mark mid.world is_base.mark i, is_base.replay i)) over,
+      bad_uncut wanted checkpoint old.world mid.world new.world base at is_base (c.in_ok-base.ensures.only t).log over,
     ))
 
 pub returns-in-Err-clause-refused : goal.returns-in-Err-clause-refused

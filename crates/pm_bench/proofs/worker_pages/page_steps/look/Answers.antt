@@ -1,0 +1,6 @@
+use Rattle.pm_stripe.proofs.CoveredPages.{are_covered}
+use Rattle.pm_bench.proofs.worker_pages.page_steps.look.Goals as goal
+
+pub done-requires-clause-covered : goal.done-requires-clause-covered
+done-requires-clause-covered g c =
+    are_covered g.R.Device.tells g.R.Device.history g.R.Device.state c.ready.new.self c.first_byte-first.new.pages (c.in_ok-ready.ensures.ready c.requires.part) c.in_ok-ready.ensures.begins.none_held c.first_byte-first.ensures.kept c.first_byte-first.ensures.notes

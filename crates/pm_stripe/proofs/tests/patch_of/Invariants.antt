@@ -1,5 +1,0 @@
-use Rattle.std.proofs.Common.{◌≡◌}
-use Rattle.pm_stripe.proofs.tests.patch_of.Given as goal
-
-abbrev pub invariant-each : goal.invariant-each
-invariant-each l = l.patch.page_size ≡ 1024
