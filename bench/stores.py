@@ -1,6 +1,7 @@
 """What the benches that compare stores share: the stores with their drivers, the program, and numbers that are drawn."""
 
 import dataclasses
+import json
 import pathlib
 import shutil
 import subprocess
@@ -12,6 +13,8 @@ PROGRAM = ROOT / "crates" / "pagemem" / "out" / "pagemem"
 
 # The drivers, each with its source, its package and its library. A plain map is what the others are measured by.
 PLAIN, OURS = "plain map", "pagemem"
+# The larger settings of the program: frames for a quarter of a GiB of pages, and a GiB of log between two checkpoints.
+LARGER = {"frames": 65_536, "checkpoint_bytes": 2**30}
 STORES = [
     (PLAIN, "plain_map.cc", None, None),
     ("RocksDB", "rocksdb.cc", "librocksdb-dev", "rocksdb"),
@@ -23,11 +26,19 @@ STORES = [
 
 @dataclasses.dataclass
 class Store:
-    """A store, its version, and the program that runs a script over a folder."""
+    """A store, its version, and the program that runs a script over a folder, with this configuration there."""
 
     name: str
     version: str
     command: list
+    config: dict | None = None
+
+    def make(self, folder):
+        """An empty folder for the store in the place of what was there, with its configuration."""
+        fresh(folder)
+        if self.config is not None:
+            (folder / "config.json").write_text(json.dumps(self.config))
+        return folder
 
 
 class Draws:
