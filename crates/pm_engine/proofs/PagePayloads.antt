@@ -11,10 +11,10 @@ use Rattle.pm_records.specs.Records.{Snapshot, Delta, payload_of}
 use Rattle.pm_pages.specs.Deltas.{delta_of, ranges_len, delta_len}
 
 -- the payload of a snapshot
-pub snapshot_written : (page : PageId) (bytes name copied rest : List ℕ) → name ≡ to_le_bytes w64 page.0 → copied ≡ bytes → length name ≡ 8 → take (8 + length bytes) ((name ++ copied) ++ rest) ≡ payload_of (Snapshot page bytes)
+pub snapshot_joined : (page : PageId) (bytes name : List ℕ) → name ≡ to_le_bytes w64 page.0
+    → name ++ bytes ≡ payload_of (Snapshot page bytes)
 unfolding payload_of
-snapshot_written page bytes name copied rest n b eight =
-    take_at (name ++ copied) rest (8 + length bytes) (omega (arith, length-append name copied, ap length b, eight)) ∙ (λ i. n i ++ b i)
+snapshot_joined page bytes name n = λ i. n i ++ bytes
 
 -- the payload of a delta
 pub delta_written : (page : PageId) (bytes : List ℕ) (spans : List Span) (len : ℕ) (name ranges rest : List ℕ) → len ≡ length (delta_of bytes spans) → name ≡ to_le_bytes w64 page.0 → ranges ≡ delta_of bytes spans → length name ≡ 8

@@ -29,8 +29,8 @@ pub(crate) const PAGE_NAME_LEN: usize = 8;
 
 /// Appends a record of each page of a partition that was changed since `ready`, by rising index: the page as a
 /// whole, where the log hasn't had it since the last checkpoint began or its patch is the whole page, else the
-/// ranges of its patch. The pages that the log has had then are noted in `logged`. It takes no memory: a
-/// record's payload is built in `payload`.
+/// ranges of its patch. The pages that the log has had then are noted in `logged`. It takes no memory: the
+/// ranges of a page are gathered in `payload`.
 ///
 /// After `Failed` a prefix of the records was appended, the last of them in part or not at all. Nothing is to
 /// be appended any more.
@@ -157,50 +157,56 @@ fn append_page<L: LogFile>(
         (record_frame (page_record page bytes.now patch.now is_logged) ∷ []) }
     ensures cause { HasCause (L.state dev.old) (L.state dev.new) result }
 {
-    let (kind, len) = write_page(page, bytes, patch, is_logged, payload);
-    log.append(dev, kind, &payload[..len])?;
+    if is_logged && !patch.is_whole() {
+        return append_delta(dev, log, page, bytes, patch, payload);
+    }
+    append_snapshot(dev, log, page, bytes)
+}
+
+// Appends the record of a page as a whole, from its own bytes.
+fn append_snapshot<L: LogFile>(
+    dev: &mut L,
+    log: &mut Log,
+    page: PageId,
+    bytes: &[u8],
+) -> Result<(), Failed>
+    requires usable { IsUsable (L.state dev.old) }
+    requires named { IsPageName page }
+    requires sized { IsPageSize (length bytes.now) }
+    requires end { L.tells → EndsThere log.old (L.history dev.old).world }
+    ensures appends { AppendsAll L.tells (L.history dev.old) (L.history dev.new) result log.old log.new
+        (record_frame (Snapshot page bytes.now) ∷ []) }
+    ensures cause { HasCause (L.state dev.old) (L.state dev.new) result }
+{
+    log.append_parts(dev, SNAPSHOT, &page.0.to_le_bytes(), bytes)?;
     Ok(())
 }
 
-// Writes the payload of the record of a page to the front of `into`, and gives its kind and where it ends.
-fn write_page(
+// Appends the delta of a page with this patch, whose payload is built in `payload`.
+fn append_delta<L: LogFile>(
+    dev: &mut L,
+    log: &mut Log,
     page: PageId,
     bytes: &[u8],
     patch: &Patch,
-    is_logged: bool,
-    into: &mut [u8],
-) -> (u8, usize)
+    payload: &mut [u8],
+) -> Result<(), Failed>
+    requires usable { IsUsable (L.state dev.old) }
+    requires named { IsPageName page }
     requires sized { IsPageSize (length bytes.now) }
     requires patched { patch.now.page_size ≡ length bytes.now }
-    requires some { IsTrue (has_bytes patch.now) }
-    requires room { PAGE_NAME_LEN + length bytes.now ≤ length into.old }
-    ensures size { length into.new ≡ length into.old }
-    ensures kind { result.0 ≡ kind_of (page_record page bytes.now patch.now is_logged) }
-    ensures short { result.1 ≤ PAGE_NAME_LEN + length bytes.now }
-    ensures written { take result.1 into.new
-        ≡ payload_of (page_record page bytes.now patch.now is_logged) }
+    requires part { patch.now.whole ≡ false }
+    requires some { 1 ≤ length patch.now.spans }
+    requires room { PAGE_NAME_LEN + length bytes.now ≤ length payload.old }
+    requires end { L.tells → EndsThere log.old (L.history dev.old).world }
+    ensures size { length payload.new ≡ length payload.old }
+    ensures appends { AppendsAll L.tells (L.history dev.old) (L.history dev.new) result log.old log.new
+        (record_frame (Delta page (delta_of bytes.now patch.now.spans)) ∷ []) }
+    ensures cause { HasCause (L.state dev.old) (L.state dev.new) result }
 {
-    if is_logged && !patch.is_whole() {
-        (DELTA, write_delta(page, bytes, patch, into))
-    } else {
-        (SNAPSHOT, write_snapshot(page, bytes, into))
-    }
-}
-
-// Writes the payload of a page's snapshot to the front of `into`, and gives where it ends.
-fn write_snapshot(page: PageId, bytes: &[u8], into: &mut [u8]) -> usize
-    requires sized { IsPageSize (length bytes.now) }
-    requires room { PAGE_NAME_LEN + length bytes.now ≤ length into.old }
-    ensures size { length into.new ≡ length into.old }
-    ensures end { result ≡ PAGE_NAME_LEN + length bytes.now }
-    ensures written { take result into.new ≡ payload_of (Snapshot page bytes.now) }
-{
-    let end = PAGE_NAME_LEN + bytes.len();
-    let (written, _) = into.split_at_mut(end);
-    let (name, rest) = written.split_at_mut(PAGE_NAME_LEN);
-    name.copy_from_slice(&page.0.to_le_bytes());
-    rest.copy_from_slice(bytes);
-    end
+    let len = write_delta(page, bytes, patch, payload);
+    log.append(dev, DELTA, &payload[..len])?;
+    Ok(())
 }
 
 // Writes the payload of the delta of a page with this patch to the front of `into`, and gives where it ends.

@@ -57,22 +57,26 @@ pub fn read_frame(bytes: &[u8], place: Place) -> Option<FrameView<'_>>
     })
 }
 
-/// Writes the frame of this place with this payload over all of `into`.
+/// Writes the frame of this place over all of `into`. Its payload is `front` and after it `rest`, so
+/// that nobody has to copy the two together first.
 #[tactic(auto, unfolding(crate::specs::Frames::frame_bytes, crate::specs::Frames::summed_bytes))]
-pub fn write_frame(kind: u8, place: Place, payload: &[u8], into: &mut [u8])
-    requires frame { IsFrame place (record { kind = kind; payload = payload.now }) }
-    requires room { length into.old ≡ length payload.now + FRAME_EXTRA }
-    ensures { into.new ≡ frame_bytes place (record { kind = kind; payload = payload.now }) }
+pub fn write_frame(kind: u8, place: Place, front: &[u8], rest: &[u8], into: &mut [u8])
+    requires frame { IsFrame place (record { kind = kind; payload = front.now ++ rest.now }) }
+    requires room { length into.old ≡ length front.now + length rest.now + FRAME_EXTRA }
+    ensures { into.new ≡ frame_bytes place (record { kind = kind; payload = front.now ++ rest.now }) }
 {
+    let payload_len = front.len() + rest.len();
     let head = Head {
         kind,
         place,
-        payload_len: payload.len() as u32,
+        payload_len: payload_len as u32,
     };
-    let (summed, stored) = into.split_at_mut(HEAD_LEN + payload.len());
-    let (front, back) = summed.split_at_mut(HEAD_LEN);
-    front.copy_from_slice(&head.bytes());
-    back.copy_from_slice(payload);
+    let (summed, stored) = into.split_at_mut(HEAD_LEN + payload_len);
+    let (begin, payload) = summed.split_at_mut(HEAD_LEN);
+    begin.copy_from_slice(&head.bytes());
+    let (first, second) = payload.split_at_mut(front.len());
+    first.copy_from_slice(front);
+    second.copy_from_slice(rest);
     stored.copy_from_slice(&sum(summed).to_le_bytes());
 }
 
@@ -97,7 +101,7 @@ mod tests {
     #[test]
     fn a_frame_has_these_bytes(rt: HostRuntime) {
         let mut bytes = [0; 30];
-        write_frame(LOGICAL, PLACE, &FRAME[17..26], &mut bytes);
+        write_frame(LOGICAL, PLACE, &FRAME[17..19], &FRAME[19..26], &mut bytes);
         assert_eq!(rt; bytes, FRAME);
     }
 

@@ -1,6 +1,6 @@
 //! The log's writer.
 
-ghost use Rattle.std.specs.Prelude.{◌≡◌, ◌⊎◌, ◌≤◌, ◌<◌, ◌+◌, ◌↔◌, ℕ, [], length, true, IsTrue, IfOk};
+ghost use Rattle.std.specs.Prelude.{◌≡◌, ◌⊎◌, ◌≤◌, ◌<◌, ◌+◌, ◌++◌, ◌↔◌, ℕ, [], length, true, IsTrue, IfOk};
 ghost use Rattle.std.specs.Prelude.{OnOk, OnErr};
 ghost use Rattle.pm_disk.specs.States.{HasCause, IsUsable};
 ghost use Rattle.pm_frame.specs.declared.limits.TheConstants.{PAYLOAD_MAX as longest};
@@ -141,13 +141,7 @@ impl Log {
         }
     }
 
-    /// Appends a record, and gives its place. Where it doesn't fit into the segment with a SEAL after
-    /// it, the log rolls first: a SEAL is written at its end, the segment is forced, the next one is
-    /// cut to nothing and forced, and the record goes to its begin. It isn't lasting until the log is
-    /// forced.
-    ///
-    /// After `Failed` a prefix of these steps were done. The record may be in the log or not where
-    /// `tried` is true, and else it isn't. Nothing is to be appended any more.
+    /// Appends a record with this payload, as `append_parts` does, and gives its place.
     pub fn append<L: LogFile>(
         &mut self,
         dev: &mut L,
@@ -175,9 +169,47 @@ impl Log {
             ≡ failed_append self.new.tried self.old (record { kind = kind; payload = payload.now })) }
         ensures cause { HasCause (L.state dev.old) (L.state dev.new) result }
     {
+        self.append_parts(dev, kind, payload, &[])
+    }
+
+    /// Appends a record whose payload is `front` and after it `rest`, and gives its place. Where it doesn't fit into the segment with a SEAL after
+    /// it, the log rolls first: a SEAL is written at its end, the segment is forced, the next one is
+    /// cut to nothing and forced, and the record goes to its begin. It isn't lasting until the log is
+    /// forced.
+    ///
+    /// After `Failed` a prefix of these steps were done. The record may be in the log or not where
+    /// `tried` is true, and else it isn't. Nothing is to be appended any more.
+    pub fn append_parts<L: LogFile>(
+        &mut self,
+        dev: &mut L,
+        kind: u8,
+        front: &[u8],
+        rest: &[u8],
+    ) -> Result<Place, Failed>
+        requires usable { IsUsable (L.state dev.old) }
+        requires known_from { LOGICAL ≤ kind }
+        requires known_to { kind < SEAL }
+        requires short { length (front.now ++ rest.now) ≤ longest }
+        requires end { L.tells → EndsThere self.old (L.history dev.old).world }
+
+        ensures place { IfOk result (λ place. place ≡ (roomy self.old (length (front.now ++ rest.now))).end) }
+        ensures grown { OnOk result
+            (self.new ≡ grown self.old (record { kind = kind; payload = front.now ++ rest.now })) }
+        ensures ends { L.tells → OnOk result (EndsThere self.new (L.history dev.new).world) }
+
+        // Which calls were made, in this order, and how far they came.
+        ensures steps { L.tells → DoesSteps (L.history dev.old) (L.history dev.new) result
+            (steps_of self.new.tried self.old (record { kind = kind; payload = front.now ++ rest.now })) self.old.end }
+        ensures reaches { L.tells → Reaches self.new.tried self.old
+            (record { kind = kind; payload = front.now ++ rest.now }) (L.history dev.old).world
+            (L.history dev.new).world }
+        ensures failed { OnErr result (self.new
+            ≡ failed_append self.new.tried self.old (record { kind = kind; payload = front.now ++ rest.now })) }
+        ensures cause { HasCause (L.state dev.old) (L.state dev.new) result }
+    {
         self.tried = false;
-        self.make_room(dev, payload.len())?;
-        self.add(dev, kind, payload)
+        self.make_room(dev, front.len() + rest.len())?;
+        self.add(dev, kind, front, rest)
     }
 
     /// Forces the last segment, so that the log is lasting up to its end. After `Failed` what was
@@ -273,31 +305,37 @@ impl Log {
         if self.end.off > FRAME_END_MAX {
             return Ok(0);
         }
-        self.write(dev, SEAL, &[])?;
+        self.write(dev, SEAL, &[], &[])?;
         Ok(FRAME_EXTRA as u32)
     }
 
     // Writes a record at the log's end, which is after it then, and gives its place.
-    fn add<L: LogFile>(&mut self, dev: &mut L, kind: u8, payload: &[u8]) -> Result<Place, Failed>
+    fn add<L: LogFile>(
+        &mut self,
+        dev: &mut L,
+        kind: u8,
+        front: &[u8],
+        rest: &[u8],
+    ) -> Result<Place, Failed>
         requires usable { IsUsable (L.state dev.old) }
         requires known_from { LOGICAL ≤ kind }
         requires known_to { kind < SEAL }
-        requires short { length payload.now ≤ longest }
-        requires room { HasRoom self.old (length payload.now) }
+        requires short { length (front.now ++ rest.now) ≤ longest }
+        requires room { HasRoom self.old (length (front.now ++ rest.now)) }
         requires end { L.tells → EndsThere self.old (L.history dev.old).world }
         ensures place { IfOk result (λ place. place ≡ self.old.end) }
         ensures moved { OnOk result
-            (self.new ≡ moved self.old (record { kind = kind; payload = payload.now })) }
+            (self.new ≡ moved self.old (record { kind = kind; payload = front.now ++ rest.now })) }
         ensures unmoved { OnErr result (self.new ≡ tried_log self.old) }
         ensures tried { self.new.tried ≡ true }
         ensures ends { L.tells → OnOk result (EndsThere self.new (L.history dev.new).world) }
         ensures does { L.tells → Does (L.history dev.old) (L.history dev.new) result
-            (written self.old.end (record { kind = kind; payload = payload.now }) (L.history dev.old).world) }
+            (written self.old.end (record { kind = kind; payload = front.now ++ rest.now }) (L.history dev.old).world) }
         ensures cause { HasCause (L.state dev.old) (L.state dev.new) result }
     {
         self.tried = true;
         let place = self.end;
-        let len = self.write(dev, kind, payload)?;
+        let len = self.write(dev, kind, front, rest)?;
         self.end = Place {
             seg: place.seg,
             off: place.off + len,
@@ -307,19 +345,25 @@ impl Log {
     }
 
     // Writes a frame at the log's end, and answers how many bytes it has. The log's end stays before it.
-    fn write<L: LogFile>(&mut self, dev: &mut L, kind: u8, payload: &[u8]) -> Result<u32, Failed>
+    fn write<L: LogFile>(
+        &mut self,
+        dev: &mut L,
+        kind: u8,
+        front: &[u8],
+        rest: &[u8],
+    ) -> Result<u32, Failed>
         requires usable { IsUsable (L.state dev.old) }
-        requires frame { IsFrame self.old.end (record { kind = kind; payload = payload.now }) }
+        requires frame { IsFrame self.old.end (record { kind = kind; payload = front.now ++ rest.now }) }
         requires end { L.tells → EndsThere self.old (L.history dev.old).world }
-        ensures len { IfOk result (λ len. len ≡ frame_len (record { kind = kind; payload = payload.now })) }
+        ensures len { IfOk result (λ len. len ≡ frame_len (record { kind = kind; payload = front.now ++ rest.now })) }
         ensures unmoved { self.new ≡ self.old }
         ensures does { L.tells → Does (L.history dev.old) (L.history dev.new) result
-            (written self.old.end (record { kind = kind; payload = payload.now }) (L.history dev.old).world) }
+            (written self.old.end (record { kind = kind; payload = front.now ++ rest.now }) (L.history dev.old).world) }
         ensures cause { HasCause (L.state dev.old) (L.state dev.new) result }
     {
         let place = self.end;
-        let len = payload.len() + FRAME_EXTRA;
-        write_frame(kind, place, payload, &mut self.frame[..len]);
+        let len = front.len() + rest.len() + FRAME_EXTRA;
+        write_frame(kind, place, front, rest, &mut self.frame[..len]);
         dev.write_log(place.seg, place.off as u64, &self.frame[..len])?;
         Ok(len as u32)
     }
