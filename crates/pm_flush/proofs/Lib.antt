@@ -1,0 +1,9 @@
+pub mod Copying
+pub mod Splitting
+pub mod Naming
+pub mod Trying
+pub mod Taking
+pub mod Refusing
+pub mod Writing
+pub mod Progress
+pub mod Ending
