@@ -2,9 +2,7 @@
 use Rattle.std.proofs.Common.{◌≡◌, Bool, true, false, List, [], ◌∷◌, ◌++◌, None, length, sym, ◌∙◌, ap, subst, Result}
 use Rattle.std.specs.FinMap.{empty}
 use Rattle.std.proofs.lemmas.Result.{on_ok_weaker}
-use Rattle.pm_types.specs.declared.page_id.PageId.{PageId}
 use Rattle.pm_types.specs.declared.place.Place.{Place}
-use Rattle.pm_types.specs.declared.shape.Mark.{Mark}
 use Rattle.pm_types.specs.declared.shape.Shape.{Shape}
 use Rattle.pm_frame.specs.Frames.{Frame}
 use Rattle.pm_disk.specs.Moments.{History, AllMoments}
@@ -25,7 +23,6 @@ use Rattle.pm_core.specs.Rounds.{on_log}
 use Rattle.pm_core.specs.States.{State}
 use Rattle.pm_core.proofs.LogCalls.{log_worlds, prefix}
 use Rattle.pm_core.proofs.Making as making
-use Rattle.pm_ckpt.specs.Marked.{begin_log}
 
 -- where the log ends after an append
 pub grown_end : (log : LogEnd) (frame : Frame) → end_after (append_steps log frame) log.end ≡ (grown log frame).end

@@ -1,3 +1,5 @@
 pub mod Checkpoints
+pub mod Dirty
+pub mod Frames
 pub mod Marked
 pub mod Writes

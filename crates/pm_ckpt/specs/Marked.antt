@@ -28,11 +28,12 @@ room_of None = None
 room_of (Some None) = None
 room_of (Some (Some set)) = Some set.spare
 
--- the set that is kept is empty, and this is enough for all its pages
-abbrev pub HasOrderRoom : Option (Option PageList) → ℕ → Type 0
-HasOrderRoom None capacity = Unit {0}
-HasOrderRoom (Some None) capacity = Unit {0}
-HasOrderRoom (Some (Some set)) capacity = (set.pages ≡ []) × (set.spare ≤ capacity)
+-- the set that is kept is empty and has room for so many pages, and the lists beside it have that room too
+abbrev pub HaveRoom : Option (Option PageList) → ℕ → ℕ → ℕ → Type 0
+HaveRoom None frames pages order = Unit {0}
+HaveRoom (Some None) frames pages order = Unit {0}
+HaveRoom (Some (Some set)) frames pages order =
+    (set.pages ≡ []) × (set.spare ≡ frames) × (frames ≤ pages) × (frames ≤ order)
 
 -- no call failed, and there is room for so many pages
 pub record HasRoomFor (pages : ℕ) (kept : Kept) : Type 0 where

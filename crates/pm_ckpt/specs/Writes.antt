@@ -1,6 +1,6 @@
 -- The pages of a checkpoint, and how they are written.
 use Rattle.std.specs.Prelude.{◌≡◌, ℕ, List, [], ◌∷◌, ◌++◌, map, length, slice_get, Some, None}
-use Rattle.std.specs.Prelude.{if◌then◌else◌, All, Result}
+use Rattle.std.specs.Prelude.{if◌then◌else◌, All, Result, true, false}
 use Rattle.std.specs.Option.{option_and_then}
 use Rattle.std.specs.List.Sorted.{IsPermutation, IsNonDecreasingBy}
 use Rattle.pm_types.specs.declared.page_id.PageId.{PageId}
@@ -93,3 +93,11 @@ pub record AreHome (size : ℕ) (held : Partitions) (dirty : List PageId) (world
   pub quiet : All (λ page. (world.pages (part_of_id page)).since ≡ []) dirty
   pub stand : All (λ page. page_in_file size (world.pages (part_of_id page)).forced (index_of_id page)
       ≡ held (part_of_id page) (index_of_id page)) dirty
+
+-- Each of these pages is in its file with these bytes, and each other page that was in its file is there still.
+pub record StoresPages (size : ℕ) (held : Partitions) (order : List PageId) (old new : World) : Type 0 where
+  pub there : (part index : ℕ) (bytes : List ℕ) → has_index part index order ≡ true
+      → held part index ≡ Some bytes → page_in_file size (pages_in new part) index ≡ Some bytes
+  pub others : (part index : ℕ) (bytes : List ℕ) → has_index part index order ≡ false
+      → page_in_file size (pages_in old part) index ≡ Some bytes
+      → page_in_file size (pages_in new part) index ≡ Some bytes

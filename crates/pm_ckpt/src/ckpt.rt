@@ -16,6 +16,7 @@ ghost use Rattle.pm_ckpt.specs.Writes.{held_in, IsHeld};
 
 use crate::begin::begin_marked;
 use crate::ending::finish_written;
+use crate::frame_page::FramePage;
 use crate::mark::next_mark;
 use crate::order::{arrange, fill};
 use pm_core::{Idle, PageSet};
@@ -30,17 +31,21 @@ use std::marker::Model;
 /// checkpoint's pages, so that a checkpoint takes none.
 #[derive(Drop)]
 pub struct Ckpt {
-    shape: Shape,
-    mark: Option<Mark>,
+    pub(crate) shape: Shape,
+    pub(crate) mark: Option<Mark>,
     // None while a checkpoint runs, and once a call failed.
-    idle: Option<Idle>,
+    pub(crate) idle: Option<Idle>,
+    // How many page frames there are, or of how many pages a checkpoint may be.
+    pub(crate) frames: u32,
+    // The pages of the last checkpoint that stood in frames, in the order in which they were written.
+    pub(crate) pages: Vec<FramePage>,
     // The pages of the last checkpoint, in the order in which they were written.
-    order: Vec<PageId>,
+    pub(crate) order: Vec<PageId>,
 }
 
 impl Model for Ckpt {
     ghost use Rattle.std.specs.Vec.{vec_capacity};
-    ghost use Rattle.pm_ckpt.specs.Marked.{Kept, room_of, HasOrderRoom};
+    ghost use Rattle.pm_ckpt.specs.Marked.{Kept, room_of, HaveRoom};
 
     ghost Value = { Kept };
 
@@ -50,7 +55,8 @@ impl Model for Ckpt {
       room = room_of ckpt.idle;
     } };
 
-    ghost invariant = { λ ckpt. HasOrderRoom ckpt.idle (vec_capacity ckpt.order) };
+    ghost invariant = { λ ckpt. HaveRoom ckpt.idle ckpt.frames (vec_capacity ckpt.pages)
+        (vec_capacity ckpt.order) };
 }
 
 impl Ckpt {
@@ -65,11 +71,14 @@ impl Ckpt {
         ensures { IfOk result (λ made. made ≡ record { shape = shape; mark = mark; room = Some frames }) }
     {
         let set = PageSet::with_room(alloc, frames)?;
+        let pages = Vec::with_capacity(alloc, frames as usize)?;
         let order = Vec::with_capacity(alloc, frames as usize)?;
         Ok(Ckpt {
             shape,
             mark,
             idle: Some(Idle::new(set)),
+            frames,
+            pages,
             order,
         })
     }

@@ -3,9 +3,15 @@
 
 mod begin;
 mod ckpt;
+mod cleaning;
+mod dirty;
 mod ending;
+mod frame_page;
+mod from_frames;
+mod making_due;
 mod mark;
 mod order;
 mod writing;
+mod writing_frames;
 
 pub use ckpt::Ckpt;

@@ -1,10 +1,13 @@
 //! The order in which a checkpoint's pages are written.
 
 ghost use Rattle.std.specs.Prelude.{◌≡◌, ◌≤◌, ◌+◌, [], length};
+ghost use Rattle.std.specs.List.Sorted.{IsPermutation, IsNonDecreasingBy};
 ghost use Rattle.std.specs.Vec.{vec_capacity};
 ghost use Rattle.pm_core.specs.PageSets.{AreOnce, no_page};
+ghost use Rattle.pm_ckpt.specs.Frames.{names_of};
 ghost use Rattle.pm_ckpt.specs.Writes.{IsOrderOf};
 
+use crate::frame_page::FramePage;
 use pm_core::PageSet;
 use pm_types::PageId;
 
@@ -28,6 +31,31 @@ fn copy(order: &mut Vec<PageId>, pages: &[PageId])
     order.clear();
     'each: for page in pages {
         order.push_reserved(*page);
+    }
+}
+
+/// The same with pages that stand in frames, which are put into that order too.
+pub(crate) fn arrange_frames(order: &mut Vec<PageId>, pages: &mut Vec<FramePage>)
+    requires { length pages.old.items ≤ vec_capacity order.old }
+    ensures pages { IsPermutation pages.old.items pages.new.items }
+    ensures order { order.new.items ≡ names_of pages.new.items }
+    ensures rising { IsNonDecreasingBy (λ page. page.page.0) pages.new.items }
+    ensures capacity { vec_capacity order.new ≡ vec_capacity order.old }
+    ensures pages_capacity { vec_capacity pages.new ≡ vec_capacity pages.old }
+{
+    pages.sort_unstable_by_key(|page| page.page.0);
+    name(order, pages);
+}
+
+// The names of these pages in the same order.
+fn name(order: &mut Vec<PageId>, pages: &[FramePage])
+    requires { length pages.now ≤ vec_capacity order.old }
+    ensures items { order.new.items ≡ names_of pages.now }
+    ensures capacity { vec_capacity order.new ≡ vec_capacity order.old }
+{
+    order.clear();
+    'each: for page in pages {
+        order.push_reserved(page.page);
     }
 }
 

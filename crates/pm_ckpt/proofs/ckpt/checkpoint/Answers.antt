@@ -1,4 +1,4 @@
-use Rattle.std.proofs.Common.{◌≡◌, List, min, Ok, refl, sym, ◌∙◌, ap, subst, arith}
+use Rattle.std.proofs.Common.{◌≡◌, min, Ok, refl, sym, ◌∙◌, ap, subst, arith}
 use Rattle.pm_types.specs.declared.shape.Mark.{Mark}
 use Rattle.pm_disk.specs.declared.failed.Failed.{Failed}
 use Rattle.pm_core.specs.BasePages.{no_pages}
