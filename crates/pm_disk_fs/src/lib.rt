@@ -25,6 +25,3 @@ pub use lock::Lockable;
 pub use open_files::OPEN_MAX;
 pub use part::FsPart;
 pub use reader::FsReader;
-
-#[cfg(test)]
-mod tests;

@@ -30,6 +30,3 @@ pub use host::MemHost;
 pub use part::MemPart;
 pub use pick::Pick;
 pub use reader::MemReader;
-
-#[cfg(test)]
-mod tests;

@@ -1,21 +1,24 @@
 //! A run of the top call over real files that write a trace.
 
+ghost use Rattle.std.specs.Prelude.{◌≡◌, false};
+
 use crate::consoles::SAID;
+use crate::looks::{holds, same};
 use crate::noted::{Forced, note_force};
-use crate::recorded::{TRACE, recorded_host};
-use crate::runs::status_of;
+use crate::recorded::TRACE;
+use crate::runs::call_with;
+use crate::tasks::{Task, over_files};
 use crate::traces::{count_forces, count_prints};
-use pm_disk::MarkFile;
+use pm_disk::{Host, MarkFile};
 use std::fs;
 use std::process::Abort;
 use std::rt::Files;
-use std::test::Fail;
 
 /// The folder of the store.
 const FOLDER: &str = "lasts";
 
 /// The files of the log's first segment, of two partitions, and of the markers.
-const FILES: [(Forced, &str); 5] = [
+static FILES: [(Forced, &str); 5] = [
     (Forced::Segment(1), "lasts/wal-0000000000000001.seg"),
     (Forced::Pages(0), "lasts/part-000.pages"),
     (Forced::Pages(1), "lasts/part-001.pages"),
@@ -33,47 +36,66 @@ const DEEP_FOLDER: &str = "deep/down/store";
 const DEEP_SEGMENT: &str = "deep/down/store/wal-0000000000000001.seg";
 
 /// The folders that get the names of those that are made for it, by the paths that they are synced by.
-const ABOVE: [&str; 3] = [".", "deep", "deep/down"];
+static ABOVE: [&str; 3] = [".", "deep", "deep/down"];
 
-/// Answers a script over a folder. Answers the status.
-fn run_recorded(rt: &HostRuntime, folder: &str, script: &'static [u8]) -> Result<u8, Fail> {
-    let mut host = recorded_host(rt, script)?;
-    status_of(rt, &mut host, folder)
+/// Makes a run over a folder, and looks at the status.
+pub fn run_over<H: Host>(rt: &(impl Abort + AllocGlobal), host: &mut H, folder: &str)
+    requires { (H.state host.old).access.is_lent ≡ false }
+{
+    let report = call_with(rt, &["run", folder], host);
+    same(rt, "status", u64::from(report.status), 0, &folder);
 }
 
-/// Looks at the trace of so many runs: whenever something was printed the files lasted, and the names, and so
+/// The trace so far.
+fn trace_of(rt: &(impl Abort + AllocGlobal + Files)) -> String {
+    fs::read_to_string(rt, TRACE).expect(rt, TRACE)
+}
+
+/// Looks at the trace of so many runs: whenever something was printed the file lasted, and the names, and so
 /// they did at the end of each run.
-fn look_at_forces(rt: &(impl Abort + AllocGlobal + Files), runs: usize) -> Result<(), Fail> {
-    for (forced, path) in FILES {
-        note_force(rt, FOLDER, forced);
-        let trace = fs::read_to_string(rt, TRACE)?;
-        assert_eq!(rt; count_forces(&trace, FOLDER, path), Some(runs), "{path}");
-        let prints = runs.saturating_mul(3);
-        assert_eq!(rt; count_prints(&trace, FOLDER, path), Some(prints), "{path}");
+fn look_at_file(rt: &(impl Abort + AllocGlobal + Files), forced: Forced, path: &str, runs: usize) {
+    note_force(rt, FOLDER, forced);
+    let trace = trace_of(rt);
+    let forces = count_forces(&trace, FOLDER, path);
+    holds(rt, "forces", forces == Some(runs), &path);
+    let prints = count_prints(&trace, FOLDER, path);
+    holds(rt, "prints", prints == Some(runs.saturating_mul(3)), &path);
+}
+
+/// The same of each file.
+fn look_at_forces(rt: &(impl Abort + AllocGlobal + Files), runs: usize) {
+    for (forced, path) in &FILES {
+        look_at_file(rt, *forced, path, runs);
     }
-    Ok(())
+}
+
+/// Removes a folder, the trace, and what was said.
+fn remove_all(rt: &(impl Abort + AllocGlobal + Files), folder: &str) {
+    fs::remove_dir_all(rt, folder).expect(rt, folder);
+    fs::remove_file(rt, TRACE).expect(rt, TRACE);
+    fs::remove_file(rt, SAID).expect(rt, SAID);
 }
 
 #[test]
-fn what_a_run_prints_lasts(rt: HostRuntime) -> Result<(), Fail> {
-    assert_eq!(rt; run_recorded(&rt, FOLDER, SCRIPT)?, 0);
-    look_at_forces(&rt, 1)?;
-    assert_eq!(rt; run_recorded(&rt, FOLDER, SCRIPT)?, 0);
-    look_at_forces(&rt, 2)?;
-    fs::remove_dir_all(&rt, FOLDER)?;
-    fs::remove_file(&rt, TRACE)?;
-    Ok(fs::remove_file(&rt, SAID)?)
+fn what_a_run_prints_lasts(rt: HostRuntime) {
+    over_files(&rt, &rt, SCRIPT, Task::Run, FOLDER);
+    look_at_forces(&rt, 1);
+    over_files(&rt, &rt, SCRIPT, Task::Run, FOLDER);
+    look_at_forces(&rt, 2);
+    remove_all(&rt, FOLDER);
+}
+
+/// Looks that the name in a folder lasted whenever something was printed.
+fn look_at_name(rt: &(impl Abort + AllocGlobal + Files), folder: &str) {
+    let count = count_prints(&trace_of(rt), folder, DEEP_SEGMENT);
+    holds(rt, "prints", count == Some(3), &folder);
 }
 
 #[test]
-fn each_folder_that_is_made_lasts_before_a_reply(rt: HostRuntime) -> Result<(), Fail> {
-    assert_eq!(rt; run_recorded(&rt, DEEP_FOLDER, SCRIPT)?, 0);
-    let trace = fs::read_to_string(&rt, TRACE)?;
-    for folder in ABOVE {
-        let count = count_prints(&trace, folder, DEEP_SEGMENT);
-        assert_eq!(rt; count, Some(3), "{folder}");
+fn each_folder_that_is_made_lasts_before_a_reply(rt: HostRuntime) {
+    over_files(&rt, &rt, SCRIPT, Task::Run, DEEP_FOLDER);
+    for folder in &ABOVE {
+        look_at_name(&rt, folder);
     }
-    fs::remove_dir_all(&rt, "deep")?;
-    fs::remove_file(&rt, TRACE)?;
-    Ok(fs::remove_file(&rt, SAID)?)
+    remove_all(&rt, "deep");
 }

@@ -1,35 +1,37 @@
 //! The host over files and the host in memory, call by call.
 
-ghost use Rattle.std.specs.Prelude.{◌≡◌, false, IfOk};
+ghost use Rattle.std.specs.Prelude.{◌≡◌, false};
 ghost use Rattle.pm_disk.specs.States.{IsUsable};
 ghost use Rattle.pm_disk_mem.specs.Hosts.{state_of};
 
 use crate::calls::{Call, Round, answer, bind};
 use crate::consoles::SAID;
+use crate::looks::{holds, same_bytes};
 use crate::noted::note_force;
-use crate::recorded::{TRACE, recorded_host};
+use crate::recorded::TRACE;
+use crate::runs::{Disk, host_over, left_of, no_files, put_file};
+use crate::tasks::{Task, over_files};
 use crate::traces::count_forces;
 use pm_disk::{Host, MarkFile};
-use pm_disk_mem::{MemDisk, MemHost, Pick};
+use pm_disk_mem::{MemHost, Pick};
 use std::alloc::{AllocError, Global};
 use std::fs;
 use std::io::{self, ErrorKind};
 use std::process::Abort;
 use std::rt::Files;
-use std::test::Fail;
 
 /// The folder of the host over files.
 const FOLDER: &str = "both";
 
 /// The files that stand in the folder before the first call. The last page and the last slot aren't whole.
-const STANDING: [(&str, &[u8]); 3] = [
+static STANDING: [(&str, &[u8]); 3] = [
     ("config.json", b"{}"),
     ("part-005.pages", b"pages!"),
     ("cp.end", &[8; 70]),
 ];
 
 /// The files that are looked at after each call.
-const NAMES: [&str; 9] = [
+static NAMES: [&str; 9] = [
     "config.json",
     "wal-0000000000000001.seg",
     "wal-0000000000000002.seg",
@@ -42,7 +44,7 @@ const NAMES: [&str; 9] = [
 ];
 
 /// Calls on the log, each with its answer.
-const ON_LOG: [(Call, &str); 31] = [
+static ON_LOG: [(Call, &str); 31] = [
     (Call::SegLen(1), "Ok(None)"),
     (Call::ReadLog(1, 0), "Ok(0) []"),
     (Call::ForceLog(1), "Ok(())"),
@@ -83,7 +85,7 @@ const ON_LOG: [(Call, &str); 31] = [
 ];
 
 /// Calls on pages and markers, each with its answer.
-const ON_PAGES: [(Call, &str); 31] = [
+static ON_PAGES: [(Call, &str); 31] = [
     (Call::ForcePages(3), "Ok(())"),
     (Call::ReadPage(3, 0), "Ok(false) [0, 0, 0, 0]"),
     (Call::WritePage(3, 2, 5), "Ok(())"),
@@ -119,7 +121,7 @@ const ON_PAGES: [(Call, &str); 31] = [
 
 /// Calls on the parts of a split host, and on the host between, each with its answer. What the log part
 /// buffered is written by the next call on the log, of a part or of the host.
-const ON_PARTS: [(Call, &str); 13] = [
+static ON_PARTS: [(Call, &str); 13] = [
     (
         Call::Round(Round {
             append: b"1234",
@@ -168,7 +170,7 @@ const ON_PARTS: [(Call, &str); 13] = [
 ];
 
 /// Calls on the configuration and the console, each with its answer.
-const ON_CONSOLE: [(Call, &str); 7] = [
+static ON_CONSOLE: [(Call, &str); 7] = [
     (Call::ReadConfig, "Ok(2) [123, 125]"),
     (Call::Read, "Ok(8) [103, 101, 116, 32, 48, 32, 97, 10]"),
     (Call::Print(b"none\n"), "Ok(())"),
@@ -193,74 +195,88 @@ fn if_there(read: io::Result<Vec<u8>>) -> io::Result<Option<Vec<u8>>> {
 }
 
 /// The bytes of a file of the folder, none where it isn't there.
-fn file_of(rt: &(impl AllocGlobal + Files), name: &str) -> Result<Option<Vec<u8>>, Fail> {
-    let path = path_of(rt.alloc(), name)?;
-    Ok(if_there(fs::read(rt, &path))?)
+fn file_of(
+    rt: &(impl Abort + AllocGlobal),
+    real: &(impl AllocGlobal + Files),
+    name: &str,
+) -> Option<Vec<u8>> {
+    let path = path_of(rt.alloc(), name).expect(rt, name);
+    if_there(fs::read(real, &path)).expect(rt, name)
 }
 
 /// Whether a file of the folder is as it is on this disk.
-fn is_alike(rt: &(impl AllocGlobal + Files), disk: &MemDisk, name: &str) -> Result<bool, Fail> {
-    let file = file_of(rt, name)?;
-    Ok(disk.file(name) == file.as_ref().map(|bytes| bytes.as_slice()))
+fn is_alike(
+    rt: &(impl Abort + AllocGlobal),
+    real: &(impl AllocGlobal + Files),
+    disk: &Disk,
+    name: &str,
+) -> bool {
+    let file = file_of(rt, real, name);
+    disk.file(name) == file.as_ref().map(|bytes| bytes.as_slice())
 }
 
 /// The first of the files that the folder and the memory don't have alike.
 fn differing(
-    rt: &(impl AllocGlobal + Files),
+    rt: &(impl Abort + AllocGlobal),
+    real: &(impl AllocGlobal + Files),
     memory: &MemHost,
     pick: Pick,
-) -> Result<Option<&'static str>, Fail> {
-    let disk = memory.image(rt.alloc(), pick)?;
-    for name in NAMES {
-        if !is_alike(rt, &disk, name)? {
-            return Ok(Some(name));
+) -> Option<&'static str> {
+    let disk = left_of(rt, memory, pick);
+    for name in &NAMES {
+        if !is_alike(rt, real, &disk, name) {
+            return Some(*name);
         }
     }
-    Ok(None)
+    None
 }
 
-/// Both answers to a call, where one of them isn't as wanted.
-fn unlike(
-    alloc: Global,
-    by_memory: &str,
-    by_files: &str,
-    wanted: &str,
-) -> Result<Option<String>, AllocError> {
-    if by_memory == wanted && by_files == wanted {
-        return Ok(None);
-    }
-    Ok(Some(format!(in alloc; "{by_memory}, {by_files}")?))
+/// Looks at both answers to a call.
+fn look_at_answers(rt: &impl Abort, by_memory: &str, by_files: &str, wanted: &str) {
+    holds(
+        rt,
+        "the answer of the host in memory",
+        by_memory == wanted,
+        &(by_memory, wanted),
+    );
+    holds(
+        rt,
+        "the answer of the host over files",
+        by_files == wanted,
+        &(by_files, wanted),
+    );
 }
 
-/// Makes a call on both. Answers what both say to it, where one of them doesn't answer as wanted.
-fn unlike_answers<M: Host, F: Host>(
-    alloc: Global,
+/// Makes a call on both, and looks at what both say to it.
+fn answer_both<M: Host, F: Host>(
+    rt: &(impl Abort + AllocGlobal),
     memory: &mut M,
     files: &mut F,
     call: &Call,
     wanted: &str,
-) -> Result<Option<String>, AllocError>
+)
     requires memory { IsUsable (M.state memory.old) }
     requires files { IsUsable (F.state files.old) }
     ensures memory { IsUsable (M.state memory.new) }
     ensures files { IsUsable (F.state files.new) }
 {
-    let by_memory = answer(alloc, memory, call)?;
-    let by_files = answer(alloc, files, call)?;
-    unlike(alloc, by_memory.as_str(), by_files.as_str(), wanted)
+    let by_memory = answer(rt.alloc(), memory, call).expect(rt, "an answer");
+    let by_files = answer(rt.alloc(), files, call).expect(rt, "an answer");
+    look_at_answers(rt, by_memory.as_str(), by_files.as_str(), wanted);
 }
 
 /// The first file that isn't alike after this call. None is looked at after a log write, which may
 /// be made with the next other call on the log.
 fn differing_after(
-    rt: &(impl AllocGlobal + Files),
+    rt: &(impl Abort + AllocGlobal),
+    real: &(impl AllocGlobal + Files),
     memory: &MemHost,
     call: &Call,
-) -> Result<Option<&'static str>, Fail> {
+) -> Option<&'static str> {
     if call.may_wait() {
-        return Ok(None);
+        return None;
     }
-    differing(rt, memory, Pick::Kept)
+    differing(rt, real, memory, Pick::Kept)
 }
 
 /// Notes which file a call has forced, if one: the call was answered as wanted.
@@ -270,171 +286,182 @@ fn note_call(rt: &(impl AllocGlobal + Files), call: &Call) {
     }
 }
 
-/// Makes a call on both, and looks at each answer and at the files after it. Answers what isn't as wanted.
+/// Makes a call on both, and looks at each answer and at the files after it.
 fn step<F: Host>(
-    rt: &(impl AllocGlobal + Files),
+    rt: &(impl Abort + AllocGlobal),
+    real: &(impl AllocGlobal + Files),
     memory: &mut MemHost,
     files: &mut F,
     call: &Call,
     wanted: &str,
-) -> Result<Option<String>, Fail>
+)
     requires memory { IsUsable (state_of memory.old) }
     requires files { IsUsable (F.state files.old) }
     ensures memory { IsUsable (state_of memory.new) }
     ensures files { IsUsable (F.state files.new) }
 {
-    if let Some(answers) = unlike_answers(rt.alloc(), memory, files, call, wanted)? {
-        return Ok(Some(answers));
-    }
-    note_call(rt, call);
-    match differing_after(rt, memory, call)? {
-        Some(name) => Ok(Some(String::from_str(rt.alloc(), name)?)),
-        None => Ok(None),
-    }
+    answer_both(rt, memory, files, call, wanted);
+    note_call(real, call);
+    let differs = differing_after(rt, real, memory, call);
+    holds(
+        rt,
+        "the files are alike",
+        differs.is_none(),
+        &(differs, wanted),
+    );
 }
 
-/// Makes the calls on both up to the first one where something isn't as wanted. Answers its number
-/// and what that is.
+/// Makes the calls on both, and looks at each.
 fn compare<F: Host>(
-    rt: &(impl AllocGlobal + Files),
+    rt: &(impl Abort + AllocGlobal),
+    real: &(impl AllocGlobal + Files),
     memory: &mut MemHost,
     files: &mut F,
     calls: &[(Call, &str)],
-) -> Result<Option<String>, Fail>
+)
     requires memory { IsUsable (state_of memory.old) }
     requires files { IsUsable (F.state files.old) }
     ensures memory { IsUsable (state_of memory.new) }
     ensures files { IsUsable (F.state files.new) }
 {
-    for (number, (call, wanted)) in calls.iter().enumerate() {
-        if let Some(unwanted) = step(rt, memory, files, call, wanted)? {
-            return Ok(Some(format!(in rt.alloc(); "{number}: {unwanted}")?));
-        }
+    'calls: for (call, wanted) in calls {
+        step(rt, real, memory, files, call, wanted);
     }
-    Ok(None)
 }
 
 /// The files that stand there before the first call, on a disk in memory.
-fn standing_disk(rt: &impl AllocGlobal) -> Result<MemDisk, Fail> {
-    let mut disk = MemDisk::empty(rt.alloc());
-    for (name, bytes) in STANDING {
-        disk.put_file(name, bytes)?;
+fn standing_disk(rt: &(impl Abort + AllocGlobal)) -> Disk {
+    let mut disk = no_files(rt);
+    for (name, bytes) in &STANDING {
+        put_file(rt, &mut disk, name, bytes);
     }
-    Ok(disk)
+    disk
 }
 
 /// The host in memory, over the files that stand there before the first call.
-fn in_memory(rt: &impl AllocGlobal) -> Result<MemHost, Fail>
-    ensures { IfOk result (λ memory. memory.is_lent ≡ false) }
+fn in_memory(rt: &(impl Abort + AllocGlobal)) -> MemHost
+    ensures { result.is_lent ≡ false }
 {
-    let disk = standing_disk(rt)?;
-    Ok(MemHost::new(rt.alloc(), INPUT, b"", disk, &[], None)?)
+    host_over(rt, INPUT, b"", standing_disk(rt), &[], None)
 }
 
 /// Puts a file into the folder.
-fn put_file(rt: &(impl AllocGlobal + Files), name: &str, bytes: &[u8]) -> Result<(), Fail> {
-    let path = path_of(rt.alloc(), name)?;
-    Ok(fs::write(rt, &path, bytes)?)
+fn write_file(
+    rt: &(impl Abort + AllocGlobal),
+    real: &(impl AllocGlobal + Files),
+    name: &str,
+    bytes: &[u8],
+) {
+    let path = path_of(rt.alloc(), name).expect(rt, name);
+    fs::write(real, &path, bytes).expect(rt, name);
 }
 
 /// Puts the files that stand there before the first call into the folder.
-fn fill_folder(rt: &(impl AllocGlobal + Files)) -> Result<(), Fail> {
-    for (name, bytes) in STANDING {
-        put_file(rt, name, bytes)?;
+fn fill_folder(rt: &(impl Abort + AllocGlobal), real: &(impl AllocGlobal + Files)) {
+    for (name, bytes) in &STANDING {
+        write_file(rt, real, name, bytes);
     }
-    Ok(())
 }
 
-/// Makes all the calls on both, up to the first one where something isn't as wanted. Answers what that is.
+/// Makes all the calls on both.
 fn make_calls<F: Host>(
-    rt: &(impl AllocGlobal + Files),
+    rt: &(impl Abort + AllocGlobal),
+    real: &(impl AllocGlobal + Files),
     memory: &mut MemHost,
     files: &mut F,
-) -> Result<Option<String>, Fail>
+)
     requires memory { IsUsable (state_of memory.old) }
     requires files { IsUsable (F.state files.old) }
 {
-    for calls in [ON_CONSOLE.as_slice(), &ON_LOG, &ON_PAGES, &ON_PARTS] {
-        if let Some(unwanted) = compare(rt, memory, files, calls)? {
-            return Ok(Some(unwanted));
-        }
-    }
-    Ok(None)
+    compare(rt, real, memory, files, &ON_CONSOLE);
+    compare(rt, real, memory, files, &ON_LOG);
+    compare(rt, real, memory, files, &ON_PAGES);
+    compare(rt, real, memory, files, &ON_PARTS);
 }
 
 /// Binds both to the folder, fills it, and makes all the calls.
 fn bind_and_call<F: Host>(
-    rt: &(impl AllocGlobal + Files),
+    rt: &(impl Abort + AllocGlobal),
+    real: &(impl AllocGlobal + Files),
     memory: &mut MemHost,
     files: &mut F,
-) -> Result<Option<String>, Fail>
+)
     requires memory { memory.old.is_lent ≡ false }
     requires files { (F.state files.old).access.is_lent ≡ false }
 {
-    bind(memory, FOLDER)?;
-    bind(files, FOLDER)?;
-    fill_folder(rt)?;
-    make_calls(rt, memory, files)
+    bind(memory, FOLDER).expect(rt, FOLDER);
+    bind(files, FOLDER).expect(rt, FOLDER);
+    fill_folder(rt, real);
+    make_calls(rt, real, memory, files);
+}
+
+/// Looks at what was printed by the host over files.
+fn look_at_printed(rt: &impl Abort, real: &(impl AllocGlobal + Files), wanted: &[u8]) {
+    let said = fs::read(real, SAID).expect(rt, SAID);
+    same_bytes(rt, "said", &said, wanted, &SAID);
 }
 
 /// Looks at what both have in the end: all was forced, and the same was said.
-fn look_at_the_end(rt: &(impl Abort + AllocGlobal + Files), memory: &MemHost) -> Result<(), Fail> {
-    assert_eq!(rt; differing(rt, memory, Pick::Lost)?, None);
-    assert_eq!(rt; memory.said(), b"none\nok".as_slice());
-    assert_eq!(rt; fs::read(rt, SAID)?.as_slice(), memory.said());
-    Ok(())
+fn look_at_the_end(
+    rt: &(impl Abort + AllocGlobal),
+    real: &(impl AllocGlobal + Files),
+    memory: &MemHost,
+) {
+    let differs = differing(rt, real, memory, Pick::Lost);
+    holds(rt, "all was forced", differs.is_none(), &differs);
+    same_bytes(rt, "said", memory.said(), b"none\nok", &"memory");
+    look_at_printed(rt, real, b"none\nok");
 }
 
 /// Looks at the trace: each force that was answered `Ok` had made its file lasting, and the names. Each
 /// file that is changed was forced.
-fn look_at_forces(rt: &(impl Abort + AllocGlobal + Files)) -> Result<(), Fail> {
-    let trace = fs::read_to_string(rt, TRACE)?;
-    for name in NAMES {
-        look_at_file_forces(rt, &trace, name)?;
+fn look_at_forces(rt: &(impl Abort + AllocGlobal + Files)) {
+    let trace = fs::read_to_string(rt, TRACE).expect(rt, TRACE);
+    for name in &NAMES {
+        look_at_file_forces(rt, &trace, name);
     }
-    Ok(())
 }
 
 /// The same of one file.
-fn look_at_file_forces(
-    rt: &(impl Abort + AllocGlobal),
-    trace: &str,
-    name: &str,
-) -> Result<(), Fail> {
-    let path = path_of(rt.alloc(), name)?;
+fn look_at_file_forces(rt: &(impl Abort + AllocGlobal), trace: &str, name: &str) {
+    let path = path_of(rt.alloc(), name).expect(rt, name);
     let forces = count_forces(trace, FOLDER, &path);
-    assert!(rt; forces.is_some(), "{name}");
-    assert_eq!(rt; forces == Some(0), name == "config.json", "{name}");
-    Ok(())
+    holds(rt, "forced files last", forces.is_some(), &name);
+    let is_forced = forces != Some(0);
+    holds(
+        rt,
+        "changed files are forced",
+        is_forced == (name != "config.json"),
+        &name,
+    );
 }
 
 /// Removes the folder, what was said, and the trace.
-fn remove_files(rt: &(impl AllocGlobal + Files)) -> Result<(), Fail> {
-    fs::remove_dir_all(rt, FOLDER)?;
-    fs::remove_file(rt, TRACE)?;
-    Ok(fs::remove_file(rt, SAID)?)
+fn remove_files(rt: &(impl Abort + Files + AllocGlobal)) {
+    fs::remove_dir_all(rt, FOLDER).expect(rt, FOLDER);
+    fs::remove_file(rt, TRACE).expect(rt, TRACE);
+    fs::remove_file(rt, SAID).expect(rt, SAID);
 }
 
 /// What there is to read.
 const INPUT: &[u8] = b"get 0 a\nput";
 
-/// Makes all the calls on the host in memory, and on one over files.
-fn call_both(
-    rt: &HostRuntime,
-    memory: &mut MemHost,
-    input: &'static [u8],
-) -> Result<Option<String>, Fail>
-    requires { memory.old.is_lent ≡ false }
+/// Makes all the calls on a host in memory and on this one over files, and looks at what both have in the end.
+pub fn compare_all<F: Host>(
+    rt: &(impl Abort + AllocGlobal),
+    real: &(impl AllocGlobal + Files),
+    files: &mut F,
+)
+    requires { (F.state files.old).access.is_lent ≡ false }
 {
-    let mut files = recorded_host(rt, input)?;
-    bind_and_call(rt, memory, &mut files)
+    let mut memory = in_memory(rt);
+    bind_and_call(rt, real, &mut memory, files);
+    look_at_the_end(rt, real, &memory);
 }
 
 #[test]
-fn files_and_memory_answer_the_same(rt: HostRuntime) -> Result<(), Fail> {
-    let mut memory = in_memory(&rt)?;
-    assert_eq!(rt; call_both(&rt, &mut memory, INPUT)?, None);
-    look_at_the_end(&rt, &memory)?;
-    look_at_forces(&rt)?;
-    remove_files(&rt)
+fn files_and_memory_answer_the_same(rt: HostRuntime) {
+    over_files(&rt, &rt, INPUT, Task::Compare, FOLDER);
+    look_at_forces(&rt);
+    remove_files(&rt);
 }

@@ -19,6 +19,14 @@ mod drawn;
 #[cfg(test)]
 mod evaluation;
 #[cfg(test)]
+mod file_buffers;
+#[cfg(test)]
+mod file_calls;
+#[cfg(test)]
+mod file_failures;
+#[cfg(test)]
+mod file_hosts;
+#[cfg(test)]
 mod folders;
 #[cfg(test)]
 mod forces;
@@ -35,6 +43,14 @@ pub mod lock_clients;
 mod log_writers;
 #[cfg(test)]
 mod logs;
+#[cfg(test)]
+mod looks;
+#[cfg(test)]
+mod memory_calls;
+#[cfg(test)]
+mod memory_hosts;
+#[cfg(test)]
+mod memory_images;
 #[cfg(test)]
 mod noted;
 pub mod pages;
@@ -59,6 +75,8 @@ mod scripts;
 mod shapes;
 #[cfg(test)]
 mod stores;
+#[cfg(test)]
+mod tasks;
 #[cfg(test)]
 mod threads;
 #[cfg(test)]

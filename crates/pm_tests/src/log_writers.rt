@@ -6,12 +6,14 @@ ghost use Rattle.pm_logger.specs.Loggers.{inboxes};
 ghost use Rattle.pm_logger.specs.Rings.{AreLinked, StayLinked};
 ghost use Rattle.pm_logger.specs.declared.log_end.LogEnd.{LogEnd as AnEnd};
 
+use crate::looks::{holds, same};
 use pm_disk::{Device, Failed, LogFile, LogReader};
 use pm_frame::{LOGICAL, SNAPSHOT};
 use pm_logger::{LogEnd, Logger};
 use pm_segments::{Log, Scan};
 use pm_types::{Place, SEGMENT_BYTES_MAX};
 use std::alloc::{AllocError, Global};
+use std::process::Abort;
 use std::test::Fail;
 use std::thread::{Threads, join_mut, yield_now};
 
@@ -247,37 +249,75 @@ fn both<R: Threads + Sync>(rt: &R, worker: &mut Worker, writer: &mut Writer)
     join_mut(rt, &mut || worker.work(), &mut || writer.work());
 }
 
+/// What was read back of a log: how many operations of each worker, and how many of the lines that are noted.
+#[derive(Clone, Copy)]
+struct ReadBack {
+    next: [u32; 2],
+    noted: usize,
+}
+
+/// Whether this payload is that of a worker's operation.
+fn is_payload(alloc: Global, payload: &[u8], worker: u8, index: u32) -> Result<bool, AllocError> {
+    let mut expected = Vec::new(alloc);
+    write_payload(&mut expected, worker, index)?;
+    Ok(payload == expected.as_slice())
+}
+
+impl ReadBack {
+    /// Whether the line of a worker's operation is the next that is noted, where the operation names one.
+    fn is_noted(&mut self, worker: u8, index: u32, lines: &[u32]) -> bool {
+        if index >= NAMED {
+            return true;
+        }
+        let line = lines.get(self.noted).copied();
+        self.noted = self.noted.saturating_add(1);
+        line == Some(line_of(worker, index))
+    }
+
+    /// The number of a worker's next operation, which is read by this.
+    fn count(&mut self, worker: u8) -> u32 {
+        let at = usize::from(worker & 1);
+        let index = self.next[at];
+        self.next[at] = index.saturating_add(1);
+        index
+    }
+
+    /// Whether a frame is the next operation of its worker, and its line the next that is noted.
+    fn read(
+        &mut self,
+        alloc: Global,
+        kind: u8,
+        payload: &[u8],
+        lines: &[u32],
+    ) -> Result<bool, AllocError> {
+        let worker = payload.first().copied().unwrap_or(0) & 1;
+        let index = self.count(worker);
+        Ok(
+            is_payload(alloc, payload, worker, index)?
+                && kind == kind_of(index)
+                && self.is_noted(worker, index, lines),
+        )
+    }
+}
+
 /// Whether the frames of the log are the operations of both workers, each in its order, and their lines those
 /// that are noted.
 /// Answers how many there are of each.
 fn read_back(alloc: Global, dev: &mut Segment, lines: &[u32]) -> Result<Option<[u32; 2]>, Fail> {
-    let mut next = [0u32; 2];
-    let mut noted = lines.iter();
-    let mut expected = Vec::new(alloc);
+    let mut so_far = ReadBack {
+        next: [0; 2],
+        noted: 0,
+    };
     let mut scan = Scan::new(alloc, BEGIN)?;
     for _ in 0..200_000 {
         let Some(frame) = scan.next(dev)? else {
-            if noted.next().is_some() {
-                return Ok(None);
-            }
-            return Ok(Some(next));
+            break;
         };
-        let Some(number) = frame.payload.first() else {
-            return Ok(None);
-        };
-        let worker = *number & 1;
-        let index = next[usize::from(worker)];
-        expected.clear();
-        write_payload(&mut expected, worker, index)?;
-        if frame.kind != kind_of(index) || frame.payload != expected.as_slice() {
+        if !so_far.read(alloc, frame.kind, frame.payload, lines)? {
             return Ok(None);
         }
-        if index < NAMED && noted.next() != Some(&line_of(worker, index)) {
-            return Ok(None);
-        }
-        next[usize::from(worker)] = index.saturating_add(1);
     }
-    Ok(None)
+    Ok((so_far.noted == lines.len()).then_some(so_far.next))
 }
 
 fn worker_of(alloc: Global, end: LogEnd, number: u8, count: u32) -> Worker
@@ -472,34 +512,75 @@ fn torn_of(failing: u32) -> u32 {
     }
 }
 
+/// Looks at the records of one worker: the second log has each that the first one lacks, from an operation's first
+/// one on, up to the last. Answers how many of them both logs have.
+fn look_at_worker(rt: &impl Abort, before: &Held, after: &Held, at: usize, failing: u32) -> u32
+    requires { at < 2 }
+{
+    let from = if after.count[at] == 0 {
+        260
+    } else {
+        after.first[at]
+    };
+    let is_joined = from <= before.end(at) && from % 2 == 0;
+    holds(rt, "no operation is missing", is_joined, &failing);
+    let is_whole = after.count[at] == 0 || after.end(at) == 260;
+    holds(rt, "the last operation is there", is_whole, &failing);
+    before.end(at).saturating_sub(from)
+}
+
+/// How many writes are done, where the call with this number fails, and how many were tried.
+fn writes_of(failing: u32) -> (u32, u32) {
+    let writes = if failing <= 512 {
+        failing
+    } else {
+        failing.saturating_sub(1)
+    };
+    if failing == 512 {
+        (writes, 512)
+    } else {
+        (writes, writes.saturating_add(1))
+    }
+}
+
+/// Looks at how many lines were noted, and at the records of both logs. The writes are in turn a logical record and
+/// a snapshot.
+fn look_at_logs(rt: &impl Abort, failing: u32, noted: usize, before: &Held, after: &Held) {
+    let (writes, tried) = writes_of(failing);
+    let lines = u64::from(tried).saturating_add(1) / 2;
+    same(rt, "lines", noted as u64, lines, &failing);
+    holds(rt, "first records", before.first == [0, 0], &failing);
+    let written = before.count[0].saturating_add(before.count[1]);
+    same(
+        rt,
+        "records",
+        u64::from(written),
+        u64::from(writes),
+        &failing,
+    );
+    let one = look_at_worker(rt, before, after, 0, failing);
+    let two = look_at_worker(rt, before, after, 1, failing);
+    let torn = u64::from(one.saturating_add(two));
+    same(rt, "torn", torn, u64::from(torn_of(failing)), &failing);
+}
+
+/// Looks at both logs where the call with this number fails.
+fn look_at_failing(rt: &(impl Abort + AllocGlobal), failing: u32) -> Result<(), Fail> {
+    let (noted, before, after) = failing_at(rt.alloc(), failing)?;
+    let are_read = before.is_some() && after.is_some();
+    holds(rt, "both logs are read", are_read, &failing);
+    if let (Some(before), Some(after)) = (before, after) {
+        look_at_logs(rt, failing, noted, &before, &after);
+    }
+    Ok(())
+}
+
 // A log that failed takes nothing any more, so that what is left goes to another one: the operation that failed
 // is still there whole.
 #[test]
 fn what_was_appended_and_what_is_left_are_what_was_pushed(rt: HostRuntime) -> Result<(), Fail> {
     for failing in 0..521u32 {
-        let (noted, before, after) = failing_at(rt.alloc(), failing)?;
-        assert!(rt; before.is_some() && after.is_some(), "{failing}");
-        let (Some(before), Some(after)) = (before, after) else {
-            return Ok(());
-        };
-        // The writes are in turn a logical record and a snapshot.
-        let writes = if failing <= 512 { failing } else { failing - 1 };
-        let tried = if failing == 512 { 512 } else { writes + 1 };
-        assert_eq!(rt; noted, ((tried + 1) / 2) as usize);
-        assert_eq!(rt; before.first, [0, 0]);
-        assert_eq!(rt; before.count[0].saturating_add(before.count[1]), writes);
-        let mut torn = 0u32;
-        for at in 0..2usize {
-            let from = if after.count[at] == 0 {
-                260
-            } else {
-                after.first[at]
-            };
-            assert!(rt; from <= before.end(at) && from % 2 == 0, "{failing}");
-            assert!(rt; after.count[at] == 0 || after.end(at) == 260, "{failing}");
-            torn = torn.saturating_add(before.end(at).saturating_sub(from));
-        }
-        assert_eq!(rt; torn, torn_of(failing));
+        look_at_failing(&rt, failing)?;
     }
     Ok(())
 }

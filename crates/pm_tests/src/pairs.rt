@@ -1,16 +1,18 @@
 //! Crashes of a round: the log part has come so far, and the writer so far, and each pair of the two may be
 //! what a crash finds.
 
-ghost use Rattle.std.specs.Prelude.{◌≡◌, IfOk};
+ghost use Rattle.std.specs.Prelude.{◌≡◌};
 ghost use Rattle.pm_disk.specs.States.{IsLaterState, IsUsable, MayWrite};
 ghost use Rattle.pm_disk_mem.specs.Hosts.{state_of};
 
+use crate::calls::bind;
+use crate::looks::holds;
+use crate::runs::{Disk, file_bytes, host_over, left_of, no_files, put_file};
 use pm_disk::{Failed, Host, LogFile, PageWriter};
-use pm_disk_mem::{MemDisk, MemHost, Pick};
+use pm_disk_mem::{MemHost, Pick};
 use pm_types::PageId;
 use std::alloc::AllocError;
 use std::process::Abort;
-use std::test::Fail;
 
 /// The file of the segment, which has `old!` before the round.
 const SEGMENT: &str = "wal-0000000000000001.seg";
@@ -33,14 +35,14 @@ enum OnPages {
     Force,
 }
 
-const LOG_CALLS: [OnLog; 4] = [
+static LOG_CALLS: [OnLog; 4] = [
     OnLog::Append(b"ab"),
     OnLog::Force,
     OnLog::Append(b"cd"),
     OnLog::Force,
 ];
 
-const PAGE_CALLS: [OnPages; 4] = [
+static PAGE_CALLS: [OnPages; 4] = [
     OnPages::Write(b"2222"),
     OnPages::Force,
     OnPages::Write(b"3333"),
@@ -49,10 +51,10 @@ const PAGE_CALLS: [OnPages; 4] = [
 
 /// The crashes that are looked at: all that is pending is kept, all is lost, each byte of it is a question
 /// mark, and the first byte of what is pending in the log is kept.
-const PICKS: [Pick; 4] = [Pick::Kept, Pick::Lost, Pick::Fill(b'?'), Pick::Cut(1)];
+static PICKS: [Pick; 4] = [Pick::Kept, Pick::Lost, Pick::Fill(b'?'), Pick::Cut(1)];
 
 /// What each crash leaves of the segment, after so many calls of the log part.
-const LOG_LEFT: [[&str; 4]; 5] = [
+static LOG_LEFT: [[&str; 4]; 5] = [
     ["old!", "old!", "old!", "old!"],
     ["old!ab", "old!", "old!??", "old!a"],
     ["old!ab", "old!ab", "old!ab", "old!ab"],
@@ -61,7 +63,7 @@ const LOG_LEFT: [[&str; 4]; 5] = [
 ];
 
 /// What each crash leaves of the pages, after so many calls of the writer.
-const PAGES_LEFT: [[&str; 4]; 5] = [
+static PAGES_LEFT: [[&str; 4]; 5] = [
     ["00001111", "00001111", "00001111", "00001111"],
     ["00002222", "00001111", "0000????", "00001111"],
     ["00002222", "00002222", "00002222", "00002222"],
@@ -71,7 +73,7 @@ const PAGES_LEFT: [[&str; 4]; 5] = [
 
 /// How far the log part and the writer come in a round that is stopped after each number of calls of each. An
 /// append is two calls: the segment's length is asked for first.
-const STOPPED: [(usize, usize); 7] = [(0, 0), (0, 1), (1, 2), (2, 3), (2, 4), (3, 4), (4, 4)];
+static STOPPED: [(usize, usize); 7] = [(0, 0), (0, 1), (1, 2), (2, 3), (2, 4), (3, 4), (4, 4)];
 
 /// Makes a call on the log part.
 fn call_log<L: LogFile>(log: &mut L, call: OnLog) -> Result<(), Failed>
@@ -137,67 +139,80 @@ fn round<H: Host>(host: &mut H, on_log: usize, on_pages: usize) -> Result<bool, 
 }
 
 /// The disk before the round.
-fn disk_before(rt: &impl AllocGlobal) -> Result<MemDisk, Fail> {
-    let mut disk = MemDisk::empty(rt.alloc());
-    disk.put_file(SEGMENT, b"old!")?;
-    disk.put_file(PAGES, b"00001111")?;
-    Ok(disk)
+fn disk_before(rt: &(impl Abort + AllocGlobal)) -> Disk {
+    let mut disk = no_files(rt);
+    put_file(rt, &mut disk, SEGMENT, b"old!");
+    put_file(rt, &mut disk, PAGES, b"00001111");
+    disk
 }
 
 /// A host over that disk, whose calls after its first one and those of its parts fail from the stop on.
-fn host_before(rt: &impl AllocGlobal, stop: Option<u64>) -> Result<MemHost, Fail>
-    ensures { IfOk result (λ host. IsUsable (state_of host)) }
+fn host_before(rt: &(impl Abort + AllocGlobal), stop: Option<u64>) -> MemHost
+    ensures { IsUsable (state_of result) }
 {
-    let mut host = MemHost::new(rt.alloc(), b"", b"", disk_before(rt)?, &[], stop)?;
-    host.bind("store")?;
-    Ok(host)
+    let mut host = host_over(rt, b"", b"", disk_before(rt), &[], stop);
+    bind(&mut host, "store").expect(rt, "a folder");
+    host
+}
+
+/// Whether a crash of the host, the one of this number, leaves what it does after so many calls of each part.
+fn is_picked(
+    rt: &(impl Abort + AllocGlobal),
+    host: &MemHost,
+    number: usize,
+    pick: Pick,
+    left: (usize, usize),
+) -> bool {
+    let disk = left_of(rt, host, pick);
+    let log = LOG_LEFT[left.0.min(4)][number.min(3)];
+    let pages = PAGES_LEFT[left.1.min(4)][number.min(3)];
+    file_bytes(&disk, SEGMENT) == log.as_bytes() && file_bytes(&disk, PAGES) == pages.as_bytes()
 }
 
 /// Whether each crash of the host leaves what it does after so many calls of each part.
-fn is_left(
-    rt: &impl AllocGlobal,
-    host: &MemHost,
-    on_log: usize,
-    on_pages: usize,
-) -> Result<bool, Fail> {
+fn is_left(rt: &(impl Abort + AllocGlobal), host: &MemHost, left: (usize, usize)) -> bool {
     for (number, pick) in PICKS.iter().enumerate() {
-        let disk = host.image(rt.alloc(), *pick)?;
-        let log = LOG_LEFT[on_log.min(4)][number.min(3)];
-        let pages = PAGES_LEFT[on_pages.min(4)][number.min(3)];
-        if disk.file(SEGMENT) != Some(log.as_bytes())
-            || disk.file(PAGES) != Some(pages.as_bytes())
-        {
-            return Ok(false);
+        if !is_picked(rt, host, number, *pick, left) {
+            return false;
         }
     }
-    Ok(true)
+    true
 }
 
-/// Whether each crash leaves what it does after so many calls of each part, where a round makes these calls,
+/// Looks that each crash leaves what it does after so many calls of each part, where a round makes these calls,
 /// all of them where there is no stop.
-fn is_pair_left(
-    rt: &impl AllocGlobal,
+fn look_at_pair(
+    rt: &(impl Abort + AllocGlobal),
     stop: Option<u64>,
     calls: (usize, usize),
     left: (usize, usize),
-) -> Result<bool, Fail> {
-    let mut host = host_before(rt, stop)?;
-    let done = round(&mut host, calls.0, calls.1)?;
-    Ok(done == (calls == left) && is_left(rt, &host, left.0, left.1)?)
+) {
+    let mut host = host_before(rt, stop);
+    let done = round(&mut host, calls.0, calls.1).expect(rt, "parts");
+    holds(rt, "all calls are done", done == (calls == left), &left);
+    holds(rt, "each crash", is_left(rt, &host, left), &left);
+}
+
+/// Looks at each pair of moments of a round that isn't stopped.
+fn look_at_each_pair(rt: &(impl Abort + AllocGlobal), on_log: usize) {
+    for on_pages in 0..5 {
+        let pair = (on_log, on_pages);
+        look_at_pair(rt, None, pair, pair);
+    }
+}
+
+/// Looks at a round that is stopped at each of its calls.
+fn look_at_each_stop(rt: &(impl Abort + AllocGlobal)) {
+    for (calls, pair) in STOPPED.iter().enumerate() {
+        let stop = Some((calls as u64).saturating_add(1));
+        look_at_pair(rt, stop, (4, 4), *pair);
+    }
 }
 
 #[test]
-fn a_crash_leaves_each_pair_of_moments_of_a_round(rt: HostRuntime) -> Result<(), Fail> {
+fn a_crash_leaves_each_pair_of_moments_of_a_round(rt: HostRuntime) {
     for on_log in 0..5 {
-        for on_pages in 0..5 {
-            let pair = (on_log, on_pages);
-            assert!(rt; is_pair_left(&rt, None, pair, pair)?, "{pair:?}");
-        }
+        look_at_each_pair(&rt, on_log);
     }
-    // A round may be stopped at each of its calls.
-    for (calls, pair) in STOPPED.iter().enumerate() {
-        let stop = Some((calls as u64).saturating_add(1));
-        assert!(rt; is_pair_left(&rt, stop, (4, 4), *pair)?, "{calls}");
-    }
-    Ok(())
+    look_at_each_stop(&rt);
 }

@@ -81,6 +81,18 @@ fn on_page<P: PageReader>(alloc: Global, reader: &mut P, page: PageId) -> Result
     format!(in alloc; "{whole:?} {into:?}")
 }
 
+/// What the parts have answered, and what the host has that was to say something meanwhile.
+fn joined(
+    alloc: Global,
+    logged: Result<String, AllocError>,
+    paged: Result<String, AllocError>,
+    read: Result<String, AllocError>,
+    said: Result<(), Failed>,
+) -> Result<String, AllocError> {
+    let (logged, paged, read) = (logged?, paged?, read?);
+    format!(in alloc; "{logged}; {paged}; {read}; {said:?}")
+}
+
 /// What the parts of a host answer, and what it answers meanwhile that is to say something.
 fn on_all<H: Host>(
     alloc: Global,
@@ -99,8 +111,7 @@ fn on_all<H: Host>(
     let read = on_page(alloc, &mut lent.readers[1], other);
     let said = host.print(b"no");
     host.take_back(lent);
-    let (logged, paged, read) = (logged?, paged?, read?);
-    format!(in alloc; "{logged}; {paged}; {read}; {said:?}")
+    joined(alloc, logged, paged, read, said)
 }
 
 /// What the parts of a host answer.

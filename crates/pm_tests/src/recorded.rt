@@ -10,7 +10,6 @@ use std::fs::{Metadata, OpenFile, OpenOptions};
 use std::io::{self, Lines, Read, Seek, SeekFrom, Write};
 use std::os::unix::fs::FileExt;
 use std::rt::Files;
-use std::test::Fail;
 
 /// The file that has the trace: a line for each event, with its path.
 pub const TRACE: &str = "trace";
@@ -223,13 +222,17 @@ impl Files for Recorded {
     }
 }
 
+/// A host over files that write the trace. It is in a box, whose drop is a call: that of the host itself would
+/// stand in each function that has one.
+pub type RecordedHost = Box<FsHost<Recorded>>;
+
 /// A host over files that write the trace, beside a console with this input.
-pub fn recorded_host(rt: &HostRuntime, input: &'static [u8]) -> Result<FsHost<Recorded>, Fail>
-    ensures { IfOk result (λ host. host.is_lent ≡ false) }
+pub fn recorded_host(rt: &HostRuntime, input: &'static [u8]) -> Result<RecordedHost, AllocError>
+    ensures { IfOk result (λ host. host.value.is_lent ≡ false) }
 {
     let console = FileConsole {
         rt: rt.clone()?,
         input,
     };
-    Ok(FsHost::new(Recorded { rt: console }))
+    Ok(Box::new(rt.alloc(), FsHost::new(Recorded { rt: console }))?)
 }

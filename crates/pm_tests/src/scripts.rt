@@ -1,64 +1,62 @@
 //! Scripts through the top call.
 
-ghost use Rattle.std.specs.Prelude.{◌≡◌, ◌<◌, false, IfOk};
+ghost use Rattle.std.specs.Prelude.{◌≡◌, ◌<◌, false};
 
+use crate::looks::{holds, same};
 use crate::pieces::PieceHost;
-use crate::runs::{Run, call_with};
-use pm_disk_mem::{MemDisk, MemHost};
+use crate::runs::{
+    Run, add, call_with, copy_of, host_over, look_at_lines, look_at_run, look_at_status, no_files,
+};
 use std::process::Abort;
-use std::test::Fail;
 
 /// A host over an empty disk that gives this input in pieces of this size, and refuses the calls of
 /// these numbers.
 fn host_of(
-    rt: &impl AllocGlobal,
+    rt: &(impl Abort + AllocGlobal),
     input: &[u8],
     piece: usize,
     refused: &[u64],
-) -> Result<PieceHost, Fail>
+) -> PieceHost
     requires { 0 < piece }
-    ensures { IfOk result (λ pieces. pieces.host.is_lent ≡ false) }
+    ensures { result.host.is_lent ≡ false }
 {
-    let disk = MemDisk::empty(rt.alloc());
-    let host = MemHost::new(rt.alloc(), input, b"", disk, refused, None)?;
-    Ok(PieceHost { host, piece })
+    let host = host_over(rt, input, b"", no_files(rt), refused, None);
+    PieceHost { host, piece }
+}
+
+/// Makes the call of these words over a host that gives its input in pieces.
+fn run_pieces(rt: &(impl Abort + AllocGlobal), words: &[&str], pieces: PieceHost) -> Run
+    requires { pieces.host.is_lent ≡ false }
+{
+    let mut pieces = pieces;
+    let report = call_with(rt, words, &mut pieces);
+    let PieceHost { host, piece: _ } = pieces;
+    Run::of(rt, report, host)
 }
 
 /// The top call over an input in pieces of this size, where the calls of these numbers are refused.
 pub fn run_in_pieces(
-    rt: &impl AllocGlobal,
+    rt: &(impl Abort + AllocGlobal),
     words: &[&str],
     input: &[u8],
     piece: usize,
     refused: &[u64],
-) -> Result<Run, Fail>
+) -> Run
     requires { 0 < piece }
 {
-    let mut pieces = host_of(rt, input, piece, refused)?;
-    let report = call_with(rt, words, &mut pieces)?;
-    let PieceHost { host, piece: _ } = pieces;
-    Ok(Run { report, host })
+    run_pieces(rt, words, host_of(rt, input, piece, refused))
 }
 
 /// Runs a script in pieces of this size, and looks at how many lines were answered and at what was said.
-fn answer(
-    rt: &(impl Abort + AllocGlobal),
-    script: &[u8],
-    piece: usize,
-    lines: u64,
-    wanted: &[u8],
-) -> Result<(), Fail>
+fn answer(rt: &(impl Abort + AllocGlobal), script: &[u8], piece: usize, lines: u64, wanted: &[u8])
     requires { 0 < piece }
 {
-    let run = run_in_pieces(rt, &["run", "d"], script, piece, &[])?;
-    assert_eq!(rt; run.report.status, 0, "{script:?}");
-    assert_eq!(rt; run.report.lines, lines, "{script:?}");
-    assert_eq!(rt; run.said(), wanted, "{script:?}");
-    Ok(())
+    let run = run_in_pieces(rt, &["run", "d"], script, piece, &[]);
+    look_at_run(rt, &run, 0, lines, wanted, &script);
 }
 
 /// Scripts, each with its replies and with how many lines it has.
-const SCRIPTS: [(&[u8], &[u8], u64); 21] = [
+static SCRIPTS: [(&[u8], &[u8], u64); 21] = [
     (b"", b"", 0),
     (b"\n", b"error line\n", 1),
     (b"\n\n", b"error line\nerror line\n", 2),
@@ -118,58 +116,54 @@ const SCRIPTS: [(&[u8], &[u8], u64); 21] = [
     ),
 ];
 
-#[test]
-fn each_line_has_its_reply(rt: HostRuntime) -> Result<(), Fail> {
-    for (script, wanted, lines) in SCRIPTS {
-        for piece in [1, 3, 65_536] {
-            answer(&rt, script, piece, lines, wanted)?;
-        }
-    }
-    Ok(())
+/// Runs a script in pieces of one byte, of three, and at once.
+fn answer_in_pieces(rt: &(impl Abort + AllocGlobal), script: &[u8], lines: u64, wanted: &[u8]) {
+    answer(rt, script, 1, lines, wanted);
+    answer(rt, script, 3, lines, wanted);
+    answer(rt, script, 65_536, lines, wanted);
 }
 
-/// `put 0 k V` with so many bytes in all, the value as long as it takes.
-fn put_of_length(rt: &impl AllocGlobal, length: usize) -> Result<Vec<u8>, Fail> {
-    let mut line = Vec::from_slice(rt.alloc(), b"put 0 k ")?;
-    for _ in 0..length.saturating_sub(8) {
-        line.push(b'v')?;
+#[test]
+fn each_line_has_its_reply(rt: HostRuntime) {
+    for (script, wanted, lines) in &SCRIPTS {
+        answer_in_pieces(&rt, script, *lines, wanted);
     }
-    Ok(line)
+}
+
+/// `put 0 k V` with so many bytes in all, the value as long as it takes, and a get of its key.
+fn put_of_length(rt: &(impl Abort + AllocGlobal), length: usize) -> Vec<u8> {
+    let mut script = copy_of(rt, b"put 0 k ");
+    script.resize(length.max(8), b'v').expect(rt, "a value");
+    add(rt, &mut script, b"\nget 0 k\n");
+    script
 }
 
 /// Puts a line of so many bytes and reads its key, and looks at how the replies begin.
-fn measure(
-    rt: &(impl Abort + AllocGlobal),
-    length: usize,
-    piece: usize,
-    wanted: &[u8],
-) -> Result<(), Fail>
+fn measure(rt: &(impl Abort + AllocGlobal), length: usize, piece: usize, wanted: &[u8])
     requires { 0 < piece }
 {
-    let mut script = put_of_length(rt, length)?;
-    script.extend_from_slice(b"\nget 0 k\n")?;
-    let run = run_in_pieces(rt, &["run", "d"], &script, piece, &[])?;
-    assert_eq!(rt; run.report.status, 0, "{length}");
-    assert_eq!(rt; run.report.lines, 2, "{length}");
-    assert!(rt; run.said().starts_with(wanted), "{length}");
-    Ok(())
+    let script = put_of_length(rt, length);
+    let run = run_in_pieces(rt, &["run", "d"], &script, piece, &[]);
+    look_at_status(rt, &run, 0, &length);
+    look_at_lines(rt, &run, 2, &length);
+    holds(rt, "replies", run.said().starts_with(wanted), &length);
 }
 
+/// Lengths of lines, each with how the replies to it and to a get of its key begin.
+static LENGTHS: [(usize, &[u8]); 5] = [
+    (908, b"ok\nvalue "),
+    (909, b"error line\nnone\n"),
+    (4_096, b"error line\nnone\n"),
+    (4_097, b"error long\nnone\n"),
+    (70_000, b"error long\nnone\n"),
+];
+
 #[test]
-fn lines_are_measured_to_the_byte(rt: HostRuntime) -> Result<(), Fail> {
-    let cases = [
-        (908, b"ok\nvalue ".as_slice()),
-        (909, b"error line\nnone\n"),
-        (4_096, b"error line\nnone\n"),
-        (4_097, b"error long\nnone\n"),
-        (70_000, b"error long\nnone\n"),
-    ];
-    for (length, wanted) in cases {
-        for piece in [1_000, 65_536] {
-            measure(&rt, length, piece, wanted)?;
-        }
+fn lines_are_measured_to_the_byte(rt: HostRuntime) {
+    for (length, wanted) in &LENGTHS {
+        measure(&rt, *length, 1_000, wanted);
+        measure(&rt, *length, 65_536, wanted);
     }
-    Ok(())
 }
 
 /// Runs other words, and looks at the status and at what is said, where the call of this number is refused.
@@ -179,78 +173,71 @@ fn refuse_words(
     refused: u64,
     status: u8,
     said: &[u8],
-) -> Result<(), Fail> {
-    let run = run_in_pieces(rt, words, b"put 0 a 1\n", 100, &[refused])?;
-    assert_eq!(rt; run.report.status, status, "{words:?}");
-    assert_eq!(rt; run.report.lines, 0, "{words:?}");
-    assert_eq!(rt; run.said(), said, "{words:?}");
-    Ok(())
+) {
+    let run = run_in_pieces(rt, words, b"put 0 a 1\n", 100, &[refused]);
+    look_at_run(rt, &run, status, 0, said, &words);
 }
+
+/// Words that are no command.
+static OTHER_WORDS: [&[&str]; 33] = [
+    &[],
+    &["run"],
+    &["run", "d", "e"],
+    &["run", "-x"],
+    &["run", ""],
+    &["run", "--", "d"],
+    &["wal"],
+    &["verify", ""],
+    &["verify", "-d"],
+    &["Verify", "d"],
+    &["go", "d"],
+    &[""],
+    &["", "d"],
+    &["help"],
+    &["help", "run"],
+    &["gen"],
+    &["gen", "d"],
+    &["gen", "d", "0"],
+    &["gen", "d", "5"],
+    &["gen", "d", "01", "3"],
+    &["gen", "d", "0", "3", "0"],
+    &["gen", "", "0", "3"],
+    &["gen", "-d", "0", "3"],
+    &["run", "d", "0", "3"],
+    &["gen", "d", "2147483648", "3"],
+    &["gen", "d", "4294967296", "3"],
+    &["gen", "d", "0", "0"],
+    &["gen", "d", "0", "4000001"],
+    &["gen", "d", "+0", "3"],
+    &["gen", "d", "-1", "3"],
+    &["gen", "d", "0", "3 "],
+    &["gen", "d", "", "3"],
+    &["--help"],
+];
 
 // The first call would say the fault.
 #[test]
-fn other_words_are_refused(rt: HostRuntime) -> Result<(), Fail> {
-    let cases = [
-        [].as_slice(),
-        &["run"],
-        &["run", "d", "e"],
-        &["run", "-x"],
-        &["run", ""],
-        &["run", "--", "d"],
-        &["wal"],
-        &["verify", ""],
-        &["verify", "-d"],
-        &["Verify", "d"],
-        &["go", "d"],
-        &[""],
-        &["", "d"],
-        &["help"],
-        &["help", "run"],
-        &["gen"],
-        &["gen", "d"],
-        &["gen", "d", "0"],
-        &["gen", "d", "5"],
-        &["gen", "d", "01", "3"],
-        &["gen", "d", "0", "3", "0"],
-        &["gen", "", "0", "3"],
-        &["gen", "-d", "0", "3"],
-        &["run", "d", "0", "3"],
-        &["gen", "d", "2147483648", "3"],
-        &["gen", "d", "4294967296", "3"],
-        &["gen", "d", "0", "0"],
-        &["gen", "d", "0", "4000001"],
-        &["gen", "d", "+0", "3"],
-        &["gen", "d", "-1", "3"],
-        &["gen", "d", "0", "3 "],
-        &["gen", "d", "", "3"],
-        &["--help"],
-    ];
-    for words in cases {
-        refuse_words(&rt, words, 1, 1, b"fault usage\n")?;
-        refuse_words(&rt, words, 0, 3, b"")?;
+fn other_words_are_refused(rt: HostRuntime) {
+    for words in &OTHER_WORDS {
+        refuse_words(&rt, words, 1, 1, b"fault usage\n");
+        refuse_words(&rt, words, 0, 3, b"");
     }
-    Ok(())
 }
 
 /// Runs so many empty lines, of which the first 4,000,000 are answered, and looks for this status
 /// and for how the replies end.
-fn run_to_the_limit(
-    rt: &(impl Abort + AllocGlobal),
-    lines: usize,
-    status: u8,
-    tail: &[u8],
-) -> Result<(), Fail> {
-    let script = vec![in rt.alloc(); b'\n'; lines]?;
-    let run = run_in_pieces(rt, &["run", "d"], &script, 65_536, &[])?;
-    assert_eq!(rt; run.report.status, status);
-    assert_eq!(rt; run.report.lines, 4_000_000);
-    assert_eq!(rt; run.said().len(), lines.saturating_mul(11));
-    assert!(rt; run.said().ends_with(tail));
-    Ok(())
+fn run_to_the_limit(rt: &(impl Abort + AllocGlobal), lines: usize, status: u8, tail: &[u8]) {
+    let script = vec![in rt.alloc(); b'\n'; lines].expect(rt, "a script");
+    let run = run_in_pieces(rt, &["run", "d"], &script, 65_536, &[]);
+    look_at_status(rt, &run, status, &lines);
+    look_at_lines(rt, &run, 4_000_000, &lines);
+    let replies = lines.saturating_mul(11) as u64;
+    same(rt, "replies", run.said().len() as u64, replies, &lines);
+    holds(rt, "the last reply", run.said().ends_with(tail), &lines);
 }
 
 #[test]
-fn a_script_of_too_many_lines_is_answered_up_to_the_limit(rt: HostRuntime) -> Result<(), Fail> {
-    run_to_the_limit(&rt, 4_000_000, 0, b"error line\n")?;
-    run_to_the_limit(&rt, 4_000_001, 6, b"fault long\n")
+fn a_script_of_too_many_lines_is_answered_up_to_the_limit(rt: HostRuntime) {
+    run_to_the_limit(&rt, 4_000_000, 0, b"error line\n");
+    run_to_the_limit(&rt, 4_000_001, 6, b"fault long\n");
 }

@@ -1,10 +1,9 @@
 //! One script over stores of several shapes and with several triggers of checkpoints, which has the same
 //! replies over each.
 
-use crate::runs::{Run, run_configured};
-use pm_disk_mem::MemDisk;
+use crate::looks::holds;
+use crate::runs::{Run, add, look_at_lines, look_at_status, no_files, run_configured};
 use std::process::Abort;
-use std::test::Fail;
 
 /// How many lines the script has before its scans.
 const LINES: u32 = 12_000;
@@ -18,7 +17,7 @@ const FIRST: &[u8] = b"{\"partitions\": 4, \"page_size\": 4096}";
 /// Other numbers of partitions with its size of page, and each other size with one number of partitions. The
 /// last ones begin a checkpoint after 64 KiB of log, where one percent of the frames is logged, and where the
 /// frames run short.
-const OTHERS: [&[u8]; 10] = [
+static OTHERS: [&[u8]; 10] = [
     b"{\"partitions\": 1, \"page_size\": 4096}",
     b"{\"partitions\": 3, \"page_size\": 4096}",
     b"{\"partitions\": 64, \"page_size\": 4096}",
@@ -36,53 +35,53 @@ fn next_draw(draw: u32) -> u32 {
     draw.wrapping_mul(1_664_525).wrapping_add(1_013_904_223)
 }
 
-/// A line: of ten six are puts, two gets and two removals. A value's length grows with the draw, so that a row
-/// that is written again often has another length.
-fn line_of(rt: &impl AllocGlobal, draw: u32, number: u32) -> Result<String, Fail> {
+/// Puts a line after these bytes: of ten six are puts, two gets and two removals. A value's length grows with the
+/// draw, so that a row that is written again often has another length.
+fn add_line(rt: &(impl Abort + AllocGlobal), script: &mut Vec<u8>, draw: u32, number: u32) {
     let cache = draw / 65_536 % 2;
     let key = draw / 1_024 % KEYS;
     let width = (draw % 97) as usize;
     let line = match number % 10 {
-        0..=5 => format!(in rt.alloc(); "put {cache} k{key} v{number:0width$}\n")?,
-        6 => format!(in rt.alloc(); "get {cache} k{key}\n")?,
-        7 => format!(in rt.alloc(); "get {cache} k{key}x\n")?,
-        _ => format!(in rt.alloc(); "remove {cache} k{key}\n")?,
+        0..=5 => format!(in rt.alloc(); "put {cache} k{key} v{number:0width$}\n"),
+        6 => format!(in rt.alloc(); "get {cache} k{key}\n"),
+        7 => format!(in rt.alloc(); "get {cache} k{key}x\n"),
+        _ => format!(in rt.alloc(); "remove {cache} k{key}\n"),
     };
-    Ok(line)
+    add(rt, script, line.expect(rt, "a line").as_bytes());
 }
 
 /// The script, which ends with a scan of each cache.
-fn script(rt: &impl AllocGlobal) -> Result<Vec<u8>, Fail> {
+fn script(rt: &(impl Abort + AllocGlobal)) -> Vec<u8> {
     let mut script = Vec::new(rt.alloc());
     let mut draw = 1;
     for number in 0..LINES {
         draw = next_draw(draw);
-        script.extend_from_slice(line_of(rt, draw, number)?.as_bytes())?;
+        add_line(rt, &mut script, draw, number);
     }
-    script.extend_from_slice(b"scan 0\nscan 1\n")?;
-    Ok(script)
+    add(rt, &mut script, b"scan 0\nscan 1\n");
+    script
 }
 
 /// Runs the script over an empty store with this configuration.
-fn run_to_its_end(
-    rt: &(impl Abort + AllocGlobal),
-    config: &[u8],
-    script: &[u8],
-) -> Result<Run, Fail> {
-    let run = run_configured(rt, config, script, MemDisk::empty(rt.alloc()))?;
-    assert_eq!(rt; run.report.status, 0, "{config:?}");
-    assert_eq!(rt; run.report.lines, u64::from(LINES) + 2, "{config:?}");
-    Ok(run)
+fn run_to_its_end(rt: &(impl Abort + AllocGlobal), config: &[u8], script: &[u8]) -> Run {
+    let run = run_configured(rt, config, script, no_files(rt));
+    look_at_status(rt, &run, 0, &config);
+    look_at_lines(rt, &run, u64::from(LINES) + 2, &config);
+    run
+}
+
+/// Looks that a run with another configuration says the same as the first one.
+fn look_at_other(rt: &(impl Abort + AllocGlobal), first: &Run, config: &[u8], script: &[u8]) {
+    let run = run_to_its_end(rt, config, script);
+    holds(rt, "the same replies", run.said() == first.said(), &config);
 }
 
 #[test]
-fn partitions_page_sizes_and_checkpoints_change_no_reply(rt: HostRuntime) -> Result<(), Fail> {
-    let script = script(&rt)?;
-    let first = run_to_its_end(&rt, FIRST, &script)?;
-    assert!(rt; first.said().len() > 50_000);
-    for config in OTHERS {
-        let run = run_to_its_end(&rt, config, &script)?;
-        assert!(rt; run.said() == first.said(), "{config:?}");
+fn partitions_page_sizes_and_checkpoints_change_no_reply(rt: HostRuntime) {
+    let script = script(&rt);
+    let first = run_to_its_end(&rt, FIRST, &script);
+    holds(&rt, "many replies", first.said().len() > 50_000, &FIRST);
+    for config in &OTHERS {
+        look_at_other(&rt, &first, config, &script);
     }
-    Ok(())
 }

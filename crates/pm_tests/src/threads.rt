@@ -1,15 +1,17 @@
 //! The log part and the writer of a host on two threads.
 
-ghost use Rattle.std.specs.Prelude.{◌≡◌, false};
+ghost use Rattle.std.specs.Prelude.{◌≡◌, false, IfOk};
 ghost use Rattle.pm_disk.specs.States.{IsLaterState, IsUsable, MayWrite};
 
 use crate::calls::bind;
+use crate::looks::{same, same_bytes};
 use pm_disk::{Failed, Host, Lent, LogFile, PageWriter};
 use pm_disk_fs::FsHost;
 use pm_types::PageId;
 use std::alloc::AllocError;
 use std::fs;
-use std::test::Fail;
+use std::process::Abort;
+use std::rt::Files;
 use std::thread::{Threads, join_mut};
 
 /// The folder of the store.
@@ -117,29 +119,44 @@ fn round<R: Threads, H: Host>(rt: &R, host: &mut H, page: PageId) -> Result<bool
 }
 
 /// Splits the host for each round. Answers how many were done.
-fn rounds<R: Threads, H: Host>(rt: &R, host: &mut H) -> Result<u32, Fail>
+fn rounds<R: Threads + Abort, H: Host>(rt: &R, host: &mut H) -> u32
     requires { (H.state host.old).access.is_lent ≡ false }
 {
-    bind(host, FOLDER)?;
+    bind(host, FOLDER).expect(rt, FOLDER);
     let mut done: u32 = 0;
     for index in 0..ROUNDS {
-        if round(rt, host, PageId::new(3, index))? {
+        if round(rt, host, PageId::new(3, index)).expect(rt, "parts") {
             done = done.saturating_add(1);
         }
     }
-    Ok(done)
+    done
+}
+
+/// A host over real files. It is in a box, whose drop is a call.
+fn host_over(files: &HostRuntime) -> Result<Box<FsHost<HostRuntime>>, AllocError>
+    ensures { IfOk result (λ host. host.value.is_lent ≡ false) }
+{
+    Ok(Box::new(files.alloc(), FsHost::new(files.clone()?))?)
+}
+
+/// Splits a host over real files for each round, and looks that all were done.
+fn look_at_rounds(rt: &(impl Threads + Abort), files: &HostRuntime) {
+    let mut host = host_over(files).expect(rt, "a host");
+    let done = rounds(rt, &mut *host);
+    same(rt, "rounds", u64::from(done), u64::from(ROUNDS), &FOLDER);
+}
+
+/// Looks at a file that has these four bytes for each round.
+fn look_at_file(rt: &(impl Abort + AllocGlobal + Files), path: &str, four: &[u8; 4]) {
+    let bytes = fs::read(rt, path).expect(rt, path);
+    let wanted = four.repeat(rt.alloc(), 40).expect(rt, path);
+    same_bytes(rt, "bytes", &bytes, &wanted, &path);
 }
 
 #[test]
-fn both_parts_work_beside_each_other(rt: HostRuntime) -> Result<(), Fail> {
-    let mut host = FsHost::new(rt.clone()?);
-    assert_eq!(rt; rounds(&rt, &mut host)?, ROUNDS);
-    let log = fs::read(&rt, "beside/wal-0000000000000001.seg")?;
-    assert_eq!(rt; log.as_slice(), b"line".repeat(rt.alloc(), 40)?.as_slice());
-    let pages = fs::read(&rt, "beside/part-003.pages")?;
-    assert_eq!(rt;
-        pages.as_slice(),
-        b"page".repeat(rt.alloc(), 40)?.as_slice()
-    );
-    Ok(fs::remove_dir_all(&rt, FOLDER)?)
+fn both_parts_work_beside_each_other(rt: HostRuntime) {
+    look_at_rounds(&rt, &rt);
+    look_at_file(&rt, "beside/wal-0000000000000001.seg", b"line");
+    look_at_file(&rt, "beside/part-003.pages", b"page");
+    fs::remove_dir_all(&rt, FOLDER).expect(&rt, FOLDER);
 }

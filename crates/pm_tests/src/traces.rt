@@ -86,7 +86,7 @@ pub fn count_syncs(trace: &str, file: &str) -> usize {
 }
 
 /// Traces of the file `d/f`, each with how often it was forced.
-const TRACES: [(&str, Option<usize>); 10] = [
+static TRACES: [(&str, Option<usize>); 10] = [
     ("", Some(0)),
     ("forced d/f\n", None),
     ("synced d\nforced d/f\n", Some(1)),

@@ -2,6 +2,7 @@ ghost use Rattle.std.specs.Prelude.{◌≡◌, ℕ, IfOk};
 ghost use Rattle.pm_pages.specs.Paged.{IsTold, IsThere};
 ghost use Rattle.pm_tests.specs.Table.{table_seen, IsTableReady};
 
+use crate::looks::holds;
 use crate::pages::*;
 use pm_model::part_of;
 use pm_pages::{Pages, PlainPages, is_well_formed};
@@ -20,13 +21,13 @@ const SHAPE: Shape = Shape {
 };
 
 #[test]
-fn plain_pages_keep_what_changed_since_they_were_made_ready(rt: HostRuntime) -> Result<(), Fail> {
-    let mut pages = PlainPages::new(rt.alloc(), &SHAPE, 2)?;
+fn plain_pages_keep_what_changed_since_they_were_made_ready(rt: HostRuntime) {
+    let mut pages = PlainPages::new(rt.alloc(), &SHAPE, 2).expect(&rt, "pages");
     assert!(rt; pages.len() == 0 && pages.page(0).is_none() && pages.patch(0).is_none());
-    pages.ready(rt.alloc())?;
+    pages.ready(rt.alloc()).expect(&rt, "ready");
     assert!(rt; pages.fresh(0).is_ok() && pages.len() == 1);
     assert!(rt; pages.patch(0).is_some_and(|patch| patch.is_whole()));
-    pages.ready(rt.alloc())?;
+    pages.ready(rt.alloc()).expect(&rt, "ready");
     assert!(rt; pages.patch(0).is_none());
     assert!(rt; set_byte(&mut pages, 0, 1023, 7).is_ok());
     assert!(rt;
@@ -39,28 +40,25 @@ fn plain_pages_keep_what_changed_since_they_were_made_ready(rt: HostRuntime) -> 
             .page(0)
             .is_some_and(|page| page.len() == 1024 && page[1023] == 7)
     );
-    Ok(())
 }
 
 #[test]
-fn a_first_page_that_is_not_there_is_not_bad(rt: HostRuntime) -> Result<(), Fail> {
-    let mut pages = PlainPages::new(rt.alloc(), &SHAPE, 2)?;
-    pages.ready(rt.alloc())?;
+fn a_first_page_that_is_not_there_is_not_bad(rt: HostRuntime) {
+    let mut pages = PlainPages::new(rt.alloc(), &SHAPE, 2).expect(&rt, "pages");
+    pages.ready(rt.alloc()).expect(&rt, "ready");
     assert!(rt; matches!(pages.view(0), Ok(None)));
     assert!(rt;
         matches!(pages.view(1), Err(PageFault::BadPage(page)) if page == PageId::new(2, 1))
     );
-    Ok(())
 }
 
 #[test]
-fn a_page_after_a_gap_is_not_made(rt: HostRuntime) -> Result<(), Fail> {
-    let mut pages = PlainPages::new(rt.alloc(), &SHAPE, 2)?;
-    pages.ready(rt.alloc())?;
+fn a_page_after_a_gap_is_not_made(rt: HostRuntime) {
+    let mut pages = PlainPages::new(rt.alloc(), &SHAPE, 2).expect(&rt, "pages");
+    pages.ready(rt.alloc()).expect(&rt, "ready");
     assert!(rt;
         matches!(pages.fresh(1), Err(PageFault::BadPage(page)) if page == PageId::new(2, 0))
     );
-    Ok(())
 }
 
 // A table that holds page 0, which is of zeros. No page was asked for.
@@ -213,14 +211,23 @@ fn lay_rest(rt: &impl Abort, pages: &mut Pages21, keys: &[[u8; 2]; 84]) {
     lay(rt, pages, 19, 16, &[18, 0, 0, 0, 0, 0, 0, 0, 0xd3, 2]);
 }
 
-fn page_of(alloc: Global, bytes: &[u8; 1024]) -> Result<Page, Fail> {
-    Ok(Page {
-        bytes: Vec::from_slice(alloc, bytes)?,
-    })
+fn page_of(rt: &impl Abort, alloc: Global, bytes: &[u8; 1024]) -> Page {
+    Page {
+        bytes: Vec::from_slice(alloc, bytes).expect(rt, "a page"),
+    }
+}
+
+// The pages as a list.
+fn listed(rt: &impl Abort, alloc: Global, pages: &Pages21) -> Vec<Page> {
+    let mut list = Vec::new(alloc);
+    'pages: for page in pages.iter() {
+        list.push(page_of(rt, alloc, page)).expect(rt, "a page");
+    }
+    list
 }
 
 // The pages, with one byte of one of them otherwise.
-fn partition(rt: &impl Abort, alloc: Global, at: (usize, usize, u8)) -> Result<Vec<Page>, Fail> {
+fn partition(rt: &impl Abort, alloc: Global, at: (usize, usize, u8)) -> Vec<Page> {
     let mut pages = [[0; 1024]; 21];
     let keys = keys();
     lay_leaves(rt, &mut pages, &keys);
@@ -229,41 +236,44 @@ fn partition(rt: &impl Abort, alloc: Global, at: (usize, usize, u8)) -> Result<V
     if at.0 < 21 {
         lay(rt, &mut pages, at.0, at.1, &[at.2]);
     }
-    let mut list = Vec::new(alloc);
-    'pages: for page in pages.iter() {
-        list.push(page_of(alloc, page)?)?;
-    }
-    Ok(list)
+    listed(rt, alloc, &pages)
+}
+
+// A byte of a page that is another, whether the pages are well formed then, and what is wrong.
+static OTHER_BYTES: [((usize, usize, u8), bool, &str); 9] = [
+    ((21, 0, 0), true, "nothing"),
+    ((17, 33, b'z'), false, "a key of the root above its bound"),
+    ((15, 97, 3), false, "one leaf below two children"),
+    (
+        (7, 16, 0),
+        false,
+        "leaves that aren't linked across inner pages",
+    ),
+    ((0, 36, 0), false, "a cache with rows and no tree"),
+    ((0, 32, 15), false, "a tree without its root"),
+    ((18, 20, 0), false, "a bucket's second page in no chain"),
+    ((19, 16, 0), false, "a page before the second of a bucket"),
+    ((19, 1017, 0), false, "a row of another cache"),
+];
+
+// Looks whether the pages, with this byte otherwise, are well formed as those of this partition.
+fn look_at_partition(
+    rt: &impl Abort,
+    alloc: Global,
+    at: (usize, usize, u8),
+    part: u16,
+    wanted: bool,
+    what: &str,
+) {
+    let pages = partition(rt, alloc, at);
+    let is_one = is_well_formed(alloc, &SHAPE, part, &pages).expect(rt, what);
+    holds(rt, "well formed", is_one == wanted, &what);
 }
 
 #[test]
-fn a_partition_of_two_caches_and_three_levels_is_well_formed_up_to_one_byte(
-    rt: HostRuntime,
-) -> Result<(), Fail> {
-    let rows = [
-        ((21, 0, 0), true, "nothing"),
-        ((17, 33, b'z'), false, "a key of the root above its bound"),
-        ((15, 97, 3), false, "one leaf below two children"),
-        (
-            (7, 16, 0),
-            false,
-            "leaves that aren't linked across inner pages",
-        ),
-        ((0, 36, 0), false, "a cache with rows and no tree"),
-        ((0, 32, 15), false, "a tree without its root"),
-        ((18, 20, 0), false, "a bucket's second page in no chain"),
-        ((19, 16, 0), false, "a page before the second of a bucket"),
-        ((19, 1017, 0), false, "a row of another cache"),
-    ];
-    for (at, wanted, what) in rows {
-        let pages = partition(&rt, rt.alloc(), at)?;
-        assert_eq!(rt;
-            is_well_formed(rt.alloc(), &SHAPE, 2, &pages)?,
-            wanted,
-            "{what}"
-        );
+fn a_partition_of_two_caches_and_three_levels_is_well_formed_up_to_one_byte(rt: HostRuntime) {
+    for (at, wanted, what) in &OTHER_BYTES {
+        look_at_partition(&rt, rt.alloc(), *at, 2, *wanted, what);
     }
-    let pages = partition(&rt, rt.alloc(), (21, 0, 0))?;
-    assert!(rt; !is_well_formed(rt.alloc(), &SHAPE, 3, &pages)?);
-    Ok(())
+    look_at_partition(&rt, rt.alloc(), (21, 0, 0), 3, false, "another partition");
 }

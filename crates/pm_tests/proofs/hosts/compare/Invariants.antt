@@ -3,5 +3,5 @@ use Rattle.pm_disk.specs.States.{IsUsable}
 use Rattle.pm_disk_mem.specs.Hosts.{state_of}
 use Rattle.pm_tests.proofs.hosts.compare.Given as goal
 
-abbrev pub invariant-loop-number : goal.invariant-loop-number
-invariant-loop-number g l = record { memory : IsUsable (state_of l.memory); files : IsUsable (g.F.Device.state l.files) }
+abbrev pub invariant-calls : goal.invariant-calls
+invariant-calls g l = record { memory : IsUsable (state_of l.memory); files : IsUsable (g.F.Device.state l.files) }

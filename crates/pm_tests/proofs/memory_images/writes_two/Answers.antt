@@ -5,7 +5,7 @@ use Rattle.std.proofs.lemmas.Result.{on_ok_weaker}
 use Rattle.pm_disk.specs.Files.{File, Write, Cut, with_change, all_forced}
 use Rattle.pm_disk.specs.Worlds.{World, log_changed, log_forced}
 use Rattle.pm_disk.proofs.Families.{changed_here, changed_there, forced_here}
-use Rattle.pm_disk_mem.proofs.tests.writes_two.Goals as goal
+use Rattle.pm_tests.proofs.memory_images.writes_two.Goals as goal
 
 -- both are cut, both are written, and the first is forced
 forced_one : (seg other : ℕ) (bytes : List ℕ) (w0 w1 w2 w3 w4 w5 : World) → seg ≢ other → w1 ≡ log_changed seg (Cut 0) w0 → w2 ≡ log_changed other (Cut 0) w1 → w3 ≡ log_changed seg (Write 0 bytes) w2
