@@ -1,5 +1,6 @@
 //! Checkpoints over a host in memory: what a crash leaves of one, which segments are kept, and the records of puts.
 mod crashes;
+mod frames;
 mod kept_segments;
 mod many_segments;
 mod one_page;

@@ -35,7 +35,7 @@ fn log_long<L: LogFile>(host: &mut L, log: &mut Log, long: &[u8]) -> Result<(), 
 }
 
 /// Begins the log with a long record in each of three segments, and the page in a fourth one.
-fn fill_log<L: LogFile>(host: &mut L, written: &Written) -> Result<Log, Failed>
+pub fn fill_log<L: LogFile>(host: &mut L, written: &Written) -> Result<Log, Failed>
     requires { IsUsable (L.state host.old) }
     ensures usable { IsUsable (L.state host.new) }
     ensures end { L.tells → IfOk result (λ log. EndsThere log (L.history host.new).world) }
@@ -69,7 +69,7 @@ fn run<H: Host>(
 }
 
 /// Which of the first five segments are there.
-fn segments_there<L: LogReader>(dev: &mut L) -> Result<[bool; 5], Failed>
+pub fn segments_there<L: LogReader>(dev: &mut L) -> Result<[bool; 5], Failed>
     requires { IsUsable (L.state dev.old) }
 {
     let one = dev.seg_len(1)?.is_some();
