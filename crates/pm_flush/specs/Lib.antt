@@ -5,3 +5,4 @@ pub mod Writes
 pub mod Frames
 pub mod Steps
 pub mod Flushes
+pub mod Seats

@@ -2,10 +2,10 @@
 
 ghost use Rattle.std.specs.Prelude.{length};
 ghost use Rattle.pm_disk.specs.States.{HasCause};
-ghost use Rattle.pm_locks.specs.Rounds.{IsFlushers};
 ghost use Rattle.pm_flush.specs.Done.{IsEmpty, HasRoomFor, KeepsRoom};
 ghost use Rattle.pm_flush.specs.Flushes.{WritesDue};
 ghost use Rattle.pm_flush.specs.Frames.{TakesImages, RefusesFrames};
+ghost use Rattle.pm_flush.specs.Seats.{MayFlush, KeepsSeat};
 ghost use Rattle.pm_flush.specs.Jobs.{IsJob, MayWriteAll, HasShortFrames, CopiesHavePageSize};
 ghost use Rattle.pm_flush.specs.Jobs.{SplitsJob, asked_of};
 
@@ -24,6 +24,8 @@ use pm_locks::{Locks, PageSeat};
 /// - After `Failed` they have the pages before the one at hand, which may have been written or not. Where that
 ///   isn't copied its frame is Done, and its image counts as taken.
 /// - No other frame is taken, and none is out at the return. No other page is written.
+///
+/// The seat is the flusher's own in a round, and between two rounds that of all numbers.
 pub fn flush<W: PageWriter>(
     locks: &Locks,
     seat: &mut PageSeat,
@@ -32,7 +34,7 @@ pub fn flush<W: PageWriter>(
     writer: &mut W,
     done: &mut FlushDone,
 ) -> Result<(), Failed>
-    requires seat { IsFlushers locks.now seat.old }
+    requires seat { MayFlush locks.now seat.old }
     requires job { IsJob locks.now job.now }
     requires allowed { MayWriteAll (W.state writer.old) job.now }
     requires short { HasShortFrames locks.now }
@@ -48,7 +50,8 @@ pub fn flush<W: PageWriter>(
     ensures refused { RefusesFrames seat.old.view seat.new.view copies.now.pages job.now done.new.left.items }
 
     // What the flusher has.
-    ensures seat { IsFlushers locks.now seat.new }
+    ensures seat { MayFlush locks.now seat.new }
+    ensures keeps { KeepsSeat locks.now seat.old seat.new }
     ensures images { TakesImages seat.old.view seat.new.view copies.now.pages job.now
         (asked_of job.now done.new.written.items done.new.left.items result) }
     ensures room { KeepsRoom done.old done.new }

@@ -4,10 +4,10 @@ ghost use Rattle.std.specs.Prelude.{◌≡◌, ◌≤◌, true, false, None, len
 ghost use Rattle.pm_types.specs.declared.limits.TheConstants.{PAGE_SIZE_MAX};
 ghost use Rattle.pm_disk.specs.Moments.{WritesPage};
 ghost use Rattle.pm_disk.specs.States.{HasCause, MayWrite};
-ghost use Rattle.pm_locks.specs.Rounds.{IsFlushers};
 ghost use Rattle.pm_locks.specs.Sight.{IsFrameOf};
 ghost use Rattle.pm_flush.specs.Copies.{copy_of};
 ghost use Rattle.pm_flush.specs.Frames.{bytes_due, image_of};
+ghost use Rattle.pm_flush.specs.Seats.{MayFlush, KeepsSeat};
 ghost use Rattle.pm_flush.specs.Jobs.{HasShortFrames, CopiesHavePageSize};
 ghost use Rattle.pm_flush.specs.Steps.{is_asked, TriesPage};
 
@@ -26,12 +26,13 @@ pub(crate) fn write_page<W: PageWriter>(
     copies: &CopyList,
     writer: &mut W,
 ) -> Result<bool, Failed>
-    requires seat { IsFlushers locks.now seat.old }
+    requires seat { MayFlush locks.now seat.old }
     requires frame { IsFrameOf locks.now due.frame }
     requires allowed { MayWrite (W.state writer.old) due.page }
     requires short { HasShortFrames locks.now }
     requires copies { CopiesHavePageSize locks.now copies.now.pages }
-    ensures seat { IsFlushers locks.now seat.new }
+    ensures seat { MayFlush locks.now seat.new }
+    ensures keeps { KeepsSeat locks.now seat.old seat.new }
     ensures tries { TriesPage (copy_of copies.now.pages due.page) (is_asked result)
         seat.old.view seat.new.view due }
     ensures writes { W.tells → is_asked result ≡ true
@@ -68,11 +69,12 @@ fn write_frame<W: PageWriter>(
     due: DuePage,
     writer: &mut W,
 ) -> Result<bool, Failed>
-    requires seat { IsFlushers locks.now seat.old }
+    requires seat { MayFlush locks.now seat.old }
     requires frame { IsFrameOf locks.now due.frame }
     requires allowed { MayWrite (W.state writer.old) due.page }
     requires short { HasShortFrames locks.now }
-    ensures seat { IsFlushers locks.now seat.new }
+    ensures seat { MayFlush locks.now seat.new }
+    ensures keeps { KeepsSeat locks.now seat.old seat.new }
     ensures tries { TriesPage None (is_asked result) seat.old.view seat.new.view due }
     ensures writes { W.tells → is_asked result ≡ true
         → WritesPage (W.history writer.old) (W.history writer.new) result due.page
