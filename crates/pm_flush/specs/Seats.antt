@@ -10,7 +10,8 @@ pub record MayFlush (locks : LockTable) (seat : Sight) : Type 0 where
   pub has : Has seat.view FLUSHER
   pub still : IsStill seat.view
 
--- It has the numbers that it had, and knows all frames if it did.
-pub record KeepsSeat (locks : LockTable) (old new : Sight) : Type 0 where
+-- It may flush still, has the numbers that it had, and knows all frames if it did.
+pub record StaysFlusher (locks : LockTable) (old new : Sight) : Type 0 where
+  pub may : MayFlush locks new
   pub numbers : new.view.numbers ≡ old.view.numbers
   pub knows : KnowsAll locks old.view → KnowsAll locks new.view

@@ -5,7 +5,7 @@ ghost use Rattle.pm_disk.specs.States.{HasCause};
 ghost use Rattle.pm_flush.specs.Done.{IsEmpty, HasRoomFor, KeepsRoom};
 ghost use Rattle.pm_flush.specs.Flushes.{WritesDue};
 ghost use Rattle.pm_flush.specs.Frames.{TakesImages, RefusesFrames};
-ghost use Rattle.pm_flush.specs.Seats.{MayFlush, KeepsSeat};
+ghost use Rattle.pm_flush.specs.Seats.{MayFlush, StaysFlusher};
 ghost use Rattle.pm_flush.specs.Jobs.{IsJob, MayWriteAll, HasShortFrames, CopiesHavePageSize};
 ghost use Rattle.pm_flush.specs.Jobs.{SplitsJob, asked_of};
 
@@ -50,8 +50,7 @@ pub fn flush<W: PageWriter>(
     ensures refused { RefusesFrames seat.old.view seat.new.view copies.now.pages job.now done.new.left.items }
 
     // What the flusher has.
-    ensures seat { MayFlush locks.now seat.new }
-    ensures keeps { KeepsSeat locks.now seat.old seat.new }
+    ensures seat { StaysFlusher locks.now seat.old seat.new }
     ensures images { TakesImages seat.old.view seat.new.view copies.now.pages job.now
         (asked_of job.now done.new.written.items done.new.left.items result) }
     ensures room { KeepsRoom done.old done.new }

@@ -7,7 +7,7 @@ ghost use Rattle.pm_disk.specs.States.{HasCause, MayWrite};
 ghost use Rattle.pm_locks.specs.Sight.{IsFrameOf};
 ghost use Rattle.pm_flush.specs.Copies.{copy_of};
 ghost use Rattle.pm_flush.specs.Frames.{bytes_due, image_of};
-ghost use Rattle.pm_flush.specs.Seats.{MayFlush, KeepsSeat};
+ghost use Rattle.pm_flush.specs.Seats.{MayFlush, StaysFlusher};
 ghost use Rattle.pm_flush.specs.Jobs.{HasShortFrames, CopiesHavePageSize};
 ghost use Rattle.pm_flush.specs.Steps.{is_asked, TriesPage};
 
@@ -31,8 +31,7 @@ pub(crate) fn write_page<W: PageWriter>(
     requires allowed { MayWrite (W.state writer.old) due.page }
     requires short { HasShortFrames locks.now }
     requires copies { CopiesHavePageSize locks.now copies.now.pages }
-    ensures seat { MayFlush locks.now seat.new }
-    ensures keeps { KeepsSeat locks.now seat.old seat.new }
+    ensures seat { StaysFlusher locks.now seat.old seat.new }
     ensures tries { TriesPage (copy_of copies.now.pages due.page) (is_asked result)
         seat.old.view seat.new.view due }
     ensures writes { W.tells → is_asked result ≡ true
@@ -73,8 +72,7 @@ fn write_frame<W: PageWriter>(
     requires frame { IsFrameOf locks.now due.frame }
     requires allowed { MayWrite (W.state writer.old) due.page }
     requires short { HasShortFrames locks.now }
-    ensures seat { MayFlush locks.now seat.new }
-    ensures keeps { KeepsSeat locks.now seat.old seat.new }
+    ensures seat { StaysFlusher locks.now seat.old seat.new }
     ensures tries { TriesPage None (is_asked result) seat.old.view seat.new.view due }
     ensures writes { W.tells → is_asked result ≡ true
         → WritesPage (W.history writer.old) (W.history writer.new) result due.page

@@ -20,8 +20,7 @@ pages-init g c =
     let copies = c.args.copies.now.pages in
     let history = g.W.Device.history c.args.writer.now in
     record {
-      seat = c.requires.seat;
-      keeps = record { numbers = refl; knows = λ knows. knows };
+      seat = record { may = c.requires.seat; numbers = refl; knows = λ knows. knows };
       state = record { later = omega arith; access = refl; usable = λ usable. usable };
       room = record { written = refl; left = refl };
       progress = subst (λ (x : List PageId × List PageId). Progress v v copies [] x.0 x.1) (λ i. (sym c.requires.empty.written i, sym c.requires.empty.left i)) (progress_none v copies);
@@ -66,10 +65,10 @@ pages-preserved g c =
     let part : take (i + 1) job ≡ take i job ++ d ∷ [] = take_more job i none c.pages-test.true in
     let old = g.W.Device.history c.args.writer.now in
     record {
-      seat = told.ensures.seat;
-      keeps = record {
-        numbers = told.ensures.keeps.numbers ∙ v.keeps.numbers;
-        knows = λ knows. told.ensures.keeps.knows (v.keeps.knows knows);
+      seat = record {
+        may = told.ensures.seat.may;
+        numbers = told.ensures.seat.numbers ∙ v.seat.numbers;
+        knows = λ knows. told.ensures.seat.knows (v.seat.knows knows);
       };
       state = record {
         later = omega (arith, v.state.later, told.ensures.cause.later);
