@@ -1,13 +1,16 @@
 -- The pages that stand in Dirty frames, and what a checkpoint makes of all frames.
 use Rattle.std.specs.Prelude.{◌≡◌, ◌≤◌, ℕ, zero, suc, ◌==◌, ◌&&◌, ◌++◌, Bool, true, false, if◌then◌else◌, All}
-use Rattle.std.specs.Prelude.{List, [], ◌∷◌, length, slice_get, Option, Some, None}
+use Rattle.std.specs.Prelude.{List, [], ◌∷◌, length, slice_get, Option, Some, None, Result, OnOk}
 use Rattle.std.specs.Option.{option_map, option_and_then}
 use Rattle.pm_types.specs.declared.flag.Flag.{Flag}
 use Rattle.pm_types.specs.declared.flag.Flag.TheVariants as flag
 use Rattle.pm_types.specs.declared.page_id.PageId.{PageId}
 use Rattle.pm_types.specs.declared.shape.Shape.{Shape}
 use Rattle.pm_types.specs.Ids.{part_of_id, index_of_id}
+use Rattle.pm_types.specs.declared.shape.Mark.{Mark}
 use Rattle.pm_disk.specs.Moments.{History}
+use Rattle.pm_disk.specs.Worlds.{World}
+use Rattle.pm_segments.specs.Ends.{LogEnd}
 use Rattle.pm_locks.specs.Rounds.{IsKnown}
 use Rattle.pm_locks.specs.Sight.{Sight, LockTable, IsFrameOf}
 use Rattle.pm_locks.specs.Views.{Has, known_at, entry_at}
@@ -20,8 +23,10 @@ use Rattle.pm_stripe.specs.Kept.{AreClean}
 use Rattle.pm_stripe.specs.Stripes.{kept, file_of, IsAtRest}
 use Rattle.pm_stripe.specs.declared.stripe.Stripe.{Stripe}
 use Rattle.pm_ckpt.specs.declared.frame_page.FramePage.{FramePage}
-use Rattle.pm_ckpt.specs.Frames.{names_of, frame_bytes}
-use Rattle.pm_ckpt.specs.Writes.{page_of}
+use Rattle.pm_ckpt.specs.Checkpoints.{MayCheckpoint, IsEnded}
+use Rattle.pm_ckpt.specs.Frames.{names_of, frame_bytes, IsWholeSeat}
+use Rattle.pm_ckpt.specs.Marked.{Kept, log_after, with_mark}
+use Rattle.pm_ckpt.specs.Writes.{page_of, StoresPages}
 
 -- whether it is Dirty
 abbrev pub is_dirty : Flag → Bool
@@ -126,3 +131,25 @@ pub record StayClean (old new : History) (before after : Sight) (stripes : List 
       → AreClean (stored new.world stripe.shape.page_size) (kept stripe after)
   pub read : (n : ℕ) (stripe : Stripe) → slice_get stripes n ≡ Some stripe → stripe.files ≡ true
       → AreClean (file_of stripe old) (kept stripe before) → AreClean (file_of stripe new) (kept stripe after)
+
+-- What a checkpoint leaves of frames and stripes: nothing is out of the seat, also after a failure. At `Ok` each frame
+-- that was Dirty is Clean; each stripe is at rest, where the pages that were written pass their checks; and what is
+-- Clean is as the files have it, where it was.
+pub record LeavesFrames {T E : Type 0} (tells : Type 0) (locks : LockTable) (shape : Shape) (old new : History)
+    (result : Result T E) (before after : Sight) (stripes : List Stripe) : Type 0 where
+  pub seat : IsWholeSeat locks after
+  pub cleaned : OnOk result (AreCleaned locks before.view after.view)
+  pub rests : ArePassing shape (dirty_held locks stripes before.view) (dirty_pages locks stripes before.view)
+      → OnOk result (AreResting locks shape after stripes)
+  pub clean : tells → OnOk result (StayClean old new before after stripes)
+
+-- What a checkpoint with this mark leaves of what is kept for checkpoints, and where the log ends then.
+pub record IsNext (mark : Mark) (before now : Kept) (was log : LogEnd) : Type 0 where
+  pub kept : now ≡ with_mark mark before
+  pub ends : log ≡ log_after was mark
+
+-- What a checkpoint leaves at `Ok`: where it might be made it is ended, and its pages are in their files.
+pub record LeavesPages {T E : Type 0} (size : ℕ) (log : LogEnd) (mark : Mark) (held : Partitions)
+    (order : List PageId) (old new : World) (result : Result T E) : Type 0 where
+  pub ended : MayCheckpoint log mark held order old → OnOk result (IsEnded size log mark held order new)
+  pub stored : OnOk result (StoresPages size held order old new)

@@ -5,7 +5,7 @@
 --   every Dirty frame becomes Due, all of them before a page is written
 --   each becomes Done as its page is written
 --   each becomes Clean once the end marker is in force
-use Rattle.std.specs.Prelude.{◌≡◌, ◌≢◌, ◌⊎◌, ℕ, List, length, map, All, AllPairs, Some}
+use Rattle.std.specs.Prelude.{◌≡◌, ◌≢◌, ◌⊎◌, ℕ, List, length, map, All, AllPairs, Some, Result, OnOk}
 use Rattle.pm_types.specs.declared.flag.Flag.{Flag}
 use Rattle.pm_types.specs.declared.flag.Flag.TheVariants as flag
 use Rattle.pm_types.specs.declared.page_id.PageId.{PageId}
@@ -78,6 +78,12 @@ pub record CleansFrames (pages : List FramePage) (old new : View) : Type 0 where
       ≡ Some (clean_entry old page.frame)) pages
   pub entries : (n g : ℕ) → All (λ page. (n ≢ owner_of old page.frame) ⊎ (g ≢ page.frame)) pages
       → entry_at new.entries n g ≡ entry_at old.entries n g
+
+-- Nothing is out of the seat, also after a failure. At `Ok` the frames of these pages are Clean.
+pub record CleansSeat {T E : Type 0} (locks : LockTable) (pages : List FramePage) (result : Result T E)
+    (before after : Sight) : Type 0 where
+  pub seat : IsWholeSeat locks after
+  pub clean : OnOk result (CleansFrames pages before.view after.view)
 
 -- these partitions have the pages as their frames have them
 abbrev pub AreInFrames : Partitions → View → List FramePage → Type 0

@@ -11,14 +11,13 @@ ghost use Rattle.pm_core.specs.BasePages.{Partitions};
 ghost use Rattle.pm_core.specs.Calls.{ChangesDisk};
 ghost use Rattle.pm_core.specs.PageSets.{AreOnce, no_page};
 ghost use Rattle.pm_core.specs.States.{State};
-ghost use Rattle.pm_ckpt.specs.Marked.{mark_for, begin_of, log_after, kept_segment, with_mark, spent};
+ghost use Rattle.pm_ckpt.specs.Marked.{mark_for, begin_of, log_after, kept_segment, spent};
 ghost use Rattle.pm_ckpt.specs.Checkpoints.{CanCheckpoint, MayCheckpoint};
 ghost use Rattle.pm_ckpt.specs.Checkpoints.{MakesWhole, MakesInOrder, IsEnded, LeavesLog};
-ghost use Rattle.pm_ckpt.specs.Dirty.{dirty_pages, dirty_held, AreResting, AreCleaned};
-ghost use Rattle.pm_ckpt.specs.Dirty.{ArePassing, StayClean};
-ghost use Rattle.pm_ckpt.specs.Frames.{IsWholeSeat, IsFlagged, AreApart, CleansFrames};
+ghost use Rattle.pm_ckpt.specs.Dirty.{dirty_pages, dirty_held, AreResting};
+ghost use Rattle.pm_ckpt.specs.Dirty.{IsNext, LeavesFrames, LeavesPages};
+ghost use Rattle.pm_ckpt.specs.Frames.{IsWholeSeat, IsFlagged, AreApart, CleansSeat};
 ghost use Rattle.pm_ckpt.specs.Frames.{names_of, AreInFrames, HaveLength};
-ghost use Rattle.pm_ckpt.specs.Writes.{StoresPages};
 
 use crate::begin::begin_marked;
 use crate::ckpt::Ckpt;
@@ -68,20 +67,10 @@ impl Ckpt {
         requires stripes { AreResting locks.now self.old.shape seat.old stripes.now }
         requires end { H.Device.tells → EndsThere log.old (H.Device.history host.old).world }
 
-        ensures kept { OnOk result
-            (self.new ≡ with_mark (mark_for self.old log.old replay) self.old) }
+        ensures next { OnOk result (IsNext (mark_for self.old log.old replay) self.old self.new log.old log.new) }
         ensures spent { OnErr result (self.new ≡ spent self.old) }
-        ensures log { OnOk result
-            (log.new ≡ log_after log.old (mark_for self.old log.old replay)) }
-
-        // What it leaves of frames: those that were Dirty are Clean.
-        ensures seat { IsWholeSeat locks.now seat.new }
-        ensures cleaned { OnOk result (AreCleaned locks.now seat.old.view seat.new.view) }
-        ensures rests { ArePassing self.old.shape (dirty_held locks.now stripes.now seat.old.view)
-            (dirty_pages locks.now stripes.now seat.old.view)
-            → OnOk result (AreResting locks.now self.old.shape seat.new stripes.now) }
-        ensures clean { H.Device.tells → OnOk result (StayClean (H.Device.history host.old)
-            (H.Device.history host.new) seat.old seat.new stripes.now) }
+        ensures frames { LeavesFrames H.Device.tells locks.now self.old.shape (H.Device.history host.old)
+            (H.Device.history host.new) result seat.old seat.new stripes.now }
 
         // What it leaves of the log of any store: no segment from the first one that is kept on loses what it has.
         ensures ends { H.Device.tells → OnOk result (LeavesLog (kept_segment (mark_for self.old log.old replay))
@@ -164,20 +153,15 @@ fn checkpoint_frames<H: Host>(
     ensures log { OnOk result (log.new ≡ log_after log.old mark) }
     ensures ends { H.Device.tells → OnOk result (LeavesLog (kept_segment mark) log.old log.new
         (H.Device.history host.old).world (H.Device.history host.new).world) }
-    ensures seat { IsWholeSeat locks.now seat.new }
-    ensures clean { OnOk result (CleansFrames pages.now seat.old.view seat.new.view) }
+    ensures frames { CleansSeat locks.now pages.now result seat.old seat.new }
     ensures steps { H.Device.tells → (held : Partitions) → AreInFrames held seat.old.view pages.now
         → (wanted : Shape) (told : List ℕ → ℕ) (s : State)
         → (can : CanCheckpoint wanted told s log.old mark held order.now (H.Device.history host.old).world)
         → MakesInOrder told (H.Device.history host.old) (H.Device.history host.new) result log.old mark
         can.rebuilt held order.now s }
-    ensures ended { H.Device.tells → (held : Partitions) → AreInFrames held seat.old.view pages.now
-        → MayCheckpoint log.old mark held order.now (H.Device.history host.old).world
-        → OnOk result (IsEnded mark.shape.page_size log.old mark held order.now
-        (H.Device.history host.new).world) }
-    ensures stored { H.Device.tells → (held : Partitions) → AreInFrames held seat.old.view pages.now
-        → OnOk result (StoresPages mark.shape.page_size held order.now (H.Device.history host.old).world
-        (H.Device.history host.new).world) }
+    ensures pages { H.Device.tells → (held : Partitions) → AreInFrames held seat.old.view pages.now
+        → LeavesPages mark.shape.page_size log.old mark held order.now (H.Device.history host.old).world
+        (H.Device.history host.new).world result }
     ensures disk { H.Device.tells → AllMoments (H.Device.history host.old) (H.Device.history host.new)
         (ChangesDisk (H.Device.history host.old).world) }
     ensures cause { HasCause (H.Device.state host.old) (H.Device.state host.new) result }

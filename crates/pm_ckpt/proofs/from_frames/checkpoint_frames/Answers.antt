@@ -80,35 +80,6 @@ returns-clause-steps g c t held are wanted told s can =
     made wanted told s c.args.log.now c.args.mark held order old can held_all mid opened.moments opened.all new (Ok c.in_ok-ended.ended) ends done
     last (Ok tt) c.begin_marked.new.log c.min.result c.in_ok-begun.ensures.grown c.min.ensures (c.in_ok-drop_before.ensures.steps t) (Ok c.idle.result) (λ p. p)
 
-pub returns-clause-ended : goal.returns-clause-ended
-returns-clause-ended g c t held are may =
-    let held_all = frames_named c.args.mark.shape.page_size held c.args.seat.now.view c.args.pages.now c.args.order.now c.requires.names c.requires.sized are in
-    let old = g.H.Device.history c.args.host.now in
-    let mid = g.H.Device.history c.begin_marked.new.host in
-    let new = g.H.Device.history c.finish_frames.new.host in
-    let last = g.H.Device.history c.drop_before.new.host in
-    let order = c.args.order.now in
-    let log = c.args.log.now in
-    let mark = c.args.mark in
-    let s = may.state in
-    let can = may.can in
-    let opened = c.in_ok-begun.ensures.steps t s can.rebuilt can.ends in
-    let mark_is : c.in_ok-begun.begun.mark ≡ mark = ap (λ (r : Running). r.mark) c.in_ok-begun.ensures.begun in
-    let ends = subst (λ (m : Mark). Finishes {E = Failed} mid new (Ok c.in_ok-ended.ended) held order m) mark_is (c.in_ok-ended.ensures.steps t held are) in
-    let done = (ending_makes may.wanted may.told s log mark held order old can held_all mid opened.moments opened.all new (Ok c.in_ok-ended.ended) ends).all in
-    let dropped = c.in_ok-drop_before.ensures.steps t in
-    let grew = c.begin_marked.new.log in
-    let begun_mark : mark ≡ c.in_ok-begun.begun.mark = sym mark_is in
-    let may_end_there = subst (λ (m : Mark). MayEnd m held order mid.world) begun_mark (may_end log mark held order old.world mid.world may held_all opened.all) in
-    record {
-      checkpoint = in_force_after may.wanted may.told s log mark held order old can held_all mid opened.moments opened.all new (Ok c.in_ok-ended.ended) ends done
-          last (Ok tt) grew c.min.result c.in_ok-begun.ensures.grown c.min.ensures dropped (λ p. p);
-      home = home_stays mark.shape.page_size held order new.world last.world (drops_pages new.world last.world (drop_before_steps grew c.min.result new.world) grew.end dropped.all)
-          (c.in_ok-ended.ensures.home t held are may_end_there);
-      gone = are_gone log grew c.drop_before.new.self mark new.world last.world c.in_ok-begun.ensures.grown
-          (c.in_ok-drop_before.ensures.kept ∙ ap (λ n. kept_from n grew) c.min.ensures) (c.in_ok-drop_before.ensures.dropped t);
-    }
-
 pub returns-in_err-begun-clause-disk : goal.returns-in_err-begun-clause-disk
 returns-in_err-begun-clause-disk g c t =
     let old = g.H.Device.history c.args.host.now in
@@ -177,19 +148,48 @@ returns-clause-ends g c t =
     leaves_log log grew c.drop_before.new.self mark no_pages s old.world mid.world new.world last.world (kept_segment mark) refl (c.requires.end t) (c.in_ok-begun.ensures.steps t s no_pages refl).all
     (c.in_ok-ended.ensures.log t) first (c.in_ok-drop_before.ensures.dropped t) (c.in_ok-drop_before.ensures.ends t)
 
-pub returns-clause-stored : goal.returns-clause-stored
-returns-clause-stored g c t held are =
-    let old = g.H.Device.history c.args.host.now in
-    let mid = g.H.Device.history c.begin_marked.new.host in
-    let new = g.H.Device.history c.finish_frames.new.host in
-    let last = g.H.Device.history c.drop_before.new.host in
-    let log = c.args.log.now in
-    let mark = c.args.mark in
-    let grew = c.begin_marked.new.log in
-    let s = open_state mark.shape log.end in
-    let opened = (c.in_ok-begun.ensures.steps t s no_pages refl).all in
-    let dropped = drops_pages new.world last.world (drop_before_steps grew c.min.result new.world) grew.end (c.in_ok-drop_before.ensures.steps t).all in
-    stored_as mark.shape.page_size held c.args.order.now mid.world new.world old.world last.world
-    (λ k. sym (ap (λ (w : World). pages_in w k) opened ∙ opened_same log mark no_pages s old.world k))
-    (λ k. ap (λ (files : ℕ → File). content (files k)) dropped)
-    (c.in_ok-ended.ensures.stored t held are)
+pub returns-clause-pages : goal.returns-clause-pages
+returns-clause-pages g c t held are = record {
+  ended = λ may.
+      let held_all = frames_named c.args.mark.shape.page_size held c.args.seat.now.view c.args.pages.now c.args.order.now c.requires.names c.requires.sized are in
+      let old = g.H.Device.history c.args.host.now in
+      let mid = g.H.Device.history c.begin_marked.new.host in
+      let new = g.H.Device.history c.finish_frames.new.host in
+      let last = g.H.Device.history c.drop_before.new.host in
+      let order = c.args.order.now in
+      let log = c.args.log.now in
+      let mark = c.args.mark in
+      let s = may.state in
+      let can = may.can in
+      let opened = c.in_ok-begun.ensures.steps t s can.rebuilt can.ends in
+      let mark_is : c.in_ok-begun.begun.mark ≡ mark = ap (λ (r : Running). r.mark) c.in_ok-begun.ensures.begun in
+      let ends = subst (λ (m : Mark). Finishes {E = Failed} mid new (Ok c.in_ok-ended.ended) held order m) mark_is (c.in_ok-ended.ensures.steps t held are) in
+      let done = (ending_makes may.wanted may.told s log mark held order old can held_all mid opened.moments opened.all new (Ok c.in_ok-ended.ended) ends).all in
+      let dropped = c.in_ok-drop_before.ensures.steps t in
+      let grew = c.begin_marked.new.log in
+      let begun_mark : mark ≡ c.in_ok-begun.begun.mark = sym mark_is in
+      let may_end_there = subst (λ (m : Mark). MayEnd m held order mid.world) begun_mark (may_end log mark held order old.world mid.world may held_all opened.all) in
+      record {
+        checkpoint = in_force_after may.wanted may.told s log mark held order old can held_all mid opened.moments opened.all new (Ok c.in_ok-ended.ended) ends done
+            last (Ok tt) grew c.min.result c.in_ok-begun.ensures.grown c.min.ensures dropped (λ p. p);
+        home = home_stays mark.shape.page_size held order new.world last.world (drops_pages new.world last.world (drop_before_steps grew c.min.result new.world) grew.end dropped.all)
+            (c.in_ok-ended.ensures.home t held are may_end_there);
+        gone = are_gone log grew c.drop_before.new.self mark new.world last.world c.in_ok-begun.ensures.grown
+            (c.in_ok-drop_before.ensures.kept ∙ ap (λ n. kept_from n grew) c.min.ensures) (c.in_ok-drop_before.ensures.dropped t);
+      };
+  stored =
+      let old = g.H.Device.history c.args.host.now in
+      let mid = g.H.Device.history c.begin_marked.new.host in
+      let new = g.H.Device.history c.finish_frames.new.host in
+      let last = g.H.Device.history c.drop_before.new.host in
+      let log = c.args.log.now in
+      let mark = c.args.mark in
+      let grew = c.begin_marked.new.log in
+      let s = open_state mark.shape log.end in
+      let opened = (c.in_ok-begun.ensures.steps t s no_pages refl).all in
+      let dropped = drops_pages new.world last.world (drop_before_steps grew c.min.result new.world) grew.end (c.in_ok-drop_before.ensures.steps t).all in
+      stored_as mark.shape.page_size held c.args.order.now mid.world new.world old.world last.world
+      (λ k. sym (ap (λ (w : World). pages_in w k) opened ∙ opened_same log mark no_pages s old.world k))
+      (λ k. ap (λ (files : ℕ → File). content (files k)) dropped)
+      (c.in_ok-ended.ensures.stored t held are);
+}

@@ -247,69 +247,68 @@ returns-clause-ended g c t may =
     (may_order log named held dirty order is.same old.world may)) in
     ended_order named.shape.page_size log named held dirty order new.world is.same
     (subst (λ (m : Mark). IsEnded m.shape.page_size log m held order new.world) mark
-    (subst (λ (ps : List PageId). IsEnded c.next_mark-mark.result.shape.page_size log c.next_mark-mark.result held ps new.world) (sym order_at) (c.in_ok-checkpoint_frames.ensures.ended t held are may_there)))
+    (subst (λ (ps : List PageId). IsEnded c.next_mark-mark.result.shape.page_size log c.next_mark-mark.result held ps new.world) (sym order_at) ((c.in_ok-checkpoint_frames.ensures.pages t held are).ended may_there)))
 
-pub returns-clause-cleaned : goal.returns-clause-cleaned
-returns-clause-cleaned g c =
-    let locks = c.args.locks.now in
-    let seat = c.args.seat.now in
-    let stripes = c.args.stripes.now in
-    let shape = c.args.self.now.shape in
-    let pages = c.gather.new.pages.items in
-    let sight = c.gather.ensures.same in
-    let known = c.gather.ensures.known in
-    let resting = c.requires.stripes in
-    let same = c.gather.ensures.pages in
-    let whole = c.requires.seat in
-    let pages_at : pages ≡ c.deref-2.result.now = sym c.deref-2.ensures.value in
-    let cleans = cleans_seen pages seat.view c.gather.new.seat.view c.checkpoint_frames.new.seat.view sight
-    (subst (λ (ps : List FramePage). CleansFrames ps c.gather.new.seat.view c.checkpoint_frames.new.seat.view) (sym pages_at) c.in_ok-checkpoint_frames.ensures.clean) in
-    are_cleaned locks shape seat stripes resting whole known pages same c.checkpoint_frames.new.seat.view cleans
-
-pub returns-clause-rests : goal.returns-clause-rests
-returns-clause-rests g c passing =
-    let locks = c.args.locks.now in
-    let seat = c.args.seat.now in
-    let stripes = c.args.stripes.now in
-    let shape = c.args.self.now.shape in
-    let pages = c.gather.new.pages.items in
-    let sight = c.gather.ensures.same in
-    let known = c.gather.ensures.known in
-    let resting = c.requires.stripes in
-    let same = c.gather.ensures.pages in
-    let whole = c.requires.seat in
-    let pages_at : pages ≡ c.deref-2.result.now = sym c.deref-2.ensures.value in
-    let cleans = cleans_seen pages seat.view c.gather.new.seat.view c.checkpoint_frames.new.seat.view sight
-    (subst (λ (ps : List FramePage). CleansFrames ps c.gather.new.seat.view c.checkpoint_frames.new.seat.view) (sym pages_at) c.in_ok-checkpoint_frames.ensures.clean) in
-    resting_after locks shape seat stripes resting whole known pages same c.checkpoint_frames.new.seat c.checkpoint_frames.ensures.seat cleans passing
-
-pub returns-clause-clean : goal.returns-clause-clean
-returns-clause-clean g c t =
-    let old = g.H.Device.history c.args.host.now in
-    let new = g.H.Device.history c.checkpoint_frames.new.host in
-    let locks = c.args.locks.now in
-    let seat = c.args.seat.now in
-    let stripes = c.args.stripes.now in
-    let shape = c.args.self.now.shape in
-    let pages = c.gather.new.pages.items in
-    let sight = c.gather.ensures.same in
-    let known = c.gather.ensures.known in
-    let resting = c.requires.stripes in
-    let same = c.gather.ensures.pages in
-    let whole = c.requires.seat in
-    let held = dirty_held locks stripes seat.view in
-    let pages_at : pages ≡ c.deref-2.result.now = sym c.deref-2.ensures.value in
-    let order_at : c.gather.new.order.items ≡ c.deref-3.result.now = sym c.deref-3.ensures.value in
-    let are = subst (λ (ps : List FramePage). AreInFrames held c.gather.new.seat.view ps) pages_at (seen_held seat.view c.gather.new.seat.view sight held pages (pages_held locks shape seat stripes resting whole known pages same)) in
-    let shape_is : shape ≡ c.next_mark-mark.result.shape = sym (ap (λ (m : Mark). m.shape) c.next_mark-mark.ensures ∙ ap (λ (k : Kept). k.shape) c.self.view_is) in
-    let cleans = cleans_seen pages seat.view c.gather.new.seat.view c.checkpoint_frames.new.seat.view sight
-    (subst (λ (ps : List FramePage). CleansFrames ps c.gather.new.seat.view c.checkpoint_frames.new.seat.view) (sym pages_at) c.in_ok-checkpoint_frames.ensures.clean) in
-    let stores = subst (λ (sh : Shape). StoresPages sh.page_size held (names_of pages) old.world new.world) (sym shape_is)
-    (subst (λ (ps : List PageId). StoresPages c.next_mark-mark.result.shape.page_size held ps old.world new.world) (sym order_at ∙ c.gather.ensures.names)
-    (c.in_ok-checkpoint_frames.ensures.stored t held are)) in
-    record {
-      in_files = λ n stripe at was.
-          clean_stored locks shape seat stripes resting whole known pages same c.checkpoint_frames.new.seat c.checkpoint_frames.ensures.seat cleans n stripe at old new stores was;
-      read = λ n stripe at files was.
-          clean_read locks shape seat stripes resting whole known pages same c.checkpoint_frames.new.seat c.checkpoint_frames.ensures.seat cleans n stripe at old new files stores was;
-    }
+pub returns-clause-frames : goal.returns-clause-frames
+returns-clause-frames g c = record {
+  seat = c.checkpoint_frames.ensures.frames.seat;
+  cleaned =
+      let locks = c.args.locks.now in
+      let seat = c.args.seat.now in
+      let stripes = c.args.stripes.now in
+      let shape = c.args.self.now.shape in
+      let pages = c.gather.new.pages.items in
+      let sight = c.gather.ensures.same in
+      let known = c.gather.ensures.known in
+      let resting = c.requires.stripes in
+      let same = c.gather.ensures.pages in
+      let whole = c.requires.seat in
+      let pages_at : pages ≡ c.deref-2.result.now = sym c.deref-2.ensures.value in
+      let cleans = cleans_seen pages seat.view c.gather.new.seat.view c.checkpoint_frames.new.seat.view sight
+      (subst (λ (ps : List FramePage). CleansFrames ps c.gather.new.seat.view c.checkpoint_frames.new.seat.view) (sym pages_at) c.in_ok-checkpoint_frames.ensures.frames.clean) in
+      are_cleaned locks shape seat stripes resting whole known pages same c.checkpoint_frames.new.seat.view cleans;
+  rests = λ passing.
+      let locks = c.args.locks.now in
+      let seat = c.args.seat.now in
+      let stripes = c.args.stripes.now in
+      let shape = c.args.self.now.shape in
+      let pages = c.gather.new.pages.items in
+      let sight = c.gather.ensures.same in
+      let known = c.gather.ensures.known in
+      let resting = c.requires.stripes in
+      let same = c.gather.ensures.pages in
+      let whole = c.requires.seat in
+      let pages_at : pages ≡ c.deref-2.result.now = sym c.deref-2.ensures.value in
+      let cleans = cleans_seen pages seat.view c.gather.new.seat.view c.checkpoint_frames.new.seat.view sight
+      (subst (λ (ps : List FramePage). CleansFrames ps c.gather.new.seat.view c.checkpoint_frames.new.seat.view) (sym pages_at) c.in_ok-checkpoint_frames.ensures.frames.clean) in
+      resting_after locks shape seat stripes resting whole known pages same c.checkpoint_frames.new.seat c.checkpoint_frames.ensures.frames.seat cleans passing;
+  clean = λ t.
+      let old = g.H.Device.history c.args.host.now in
+      let new = g.H.Device.history c.checkpoint_frames.new.host in
+      let locks = c.args.locks.now in
+      let seat = c.args.seat.now in
+      let stripes = c.args.stripes.now in
+      let shape = c.args.self.now.shape in
+      let pages = c.gather.new.pages.items in
+      let sight = c.gather.ensures.same in
+      let known = c.gather.ensures.known in
+      let resting = c.requires.stripes in
+      let same = c.gather.ensures.pages in
+      let whole = c.requires.seat in
+      let held = dirty_held locks stripes seat.view in
+      let pages_at : pages ≡ c.deref-2.result.now = sym c.deref-2.ensures.value in
+      let order_at : c.gather.new.order.items ≡ c.deref-3.result.now = sym c.deref-3.ensures.value in
+      let are = subst (λ (ps : List FramePage). AreInFrames held c.gather.new.seat.view ps) pages_at (seen_held seat.view c.gather.new.seat.view sight held pages (pages_held locks shape seat stripes resting whole known pages same)) in
+      let shape_is : shape ≡ c.next_mark-mark.result.shape = sym (ap (λ (m : Mark). m.shape) c.next_mark-mark.ensures ∙ ap (λ (k : Kept). k.shape) c.self.view_is) in
+      let cleans = cleans_seen pages seat.view c.gather.new.seat.view c.checkpoint_frames.new.seat.view sight
+      (subst (λ (ps : List FramePage). CleansFrames ps c.gather.new.seat.view c.checkpoint_frames.new.seat.view) (sym pages_at) c.in_ok-checkpoint_frames.ensures.frames.clean) in
+      let stores = subst (λ (sh : Shape). StoresPages sh.page_size held (names_of pages) old.world new.world) (sym shape_is)
+      (subst (λ (ps : List PageId). StoresPages c.next_mark-mark.result.shape.page_size held ps old.world new.world) (sym order_at ∙ c.gather.ensures.names)
+      ((c.in_ok-checkpoint_frames.ensures.pages t held are).stored)) in
+      record {
+        in_files = λ n stripe at was.
+            clean_stored locks shape seat stripes resting whole known pages same c.checkpoint_frames.new.seat c.checkpoint_frames.ensures.frames.seat cleans n stripe at old new stores was;
+        read = λ n stripe at files was.
+            clean_read locks shape seat stripes resting whole known pages same c.checkpoint_frames.new.seat c.checkpoint_frames.ensures.frames.seat cleans n stripe at old new files stores was;
+      };
+}
