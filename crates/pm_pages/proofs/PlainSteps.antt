@@ -214,7 +214,7 @@ pub asks_page : (s : Shown) (now : List Asked) (i : ℕ) → RegistersPage s.ask
 asks_page s now i registers lent patches = record {
   pages = λ j told. refl;
   known = λ j k. refl;
-  passes = λ j k. inl refl;
+  reads = λ j k. inl refl;
   lent = lent;
   patches = patches;
   room = takes_room s (record s { asked = now }) i registers;
@@ -226,7 +226,7 @@ pub asks_none : (p : Paged) (i : ℕ) → AsksPage (Unit {0}) p p i
 asks_none p i = record {
   pages = λ j told. refl;
   known = λ j k. k;
-  passes = λ j k. inl k;
+  reads = λ j k. inl k;
   lent = λ j l. l;
   patches = λ j. refl;
   room = record { others = λ j k. k; most = omega arith; free = inr (omega arith); again = λ k. omega arith };

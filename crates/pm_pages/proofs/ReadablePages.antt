@@ -13,7 +13,7 @@ use Rattle.pm_meta.specs.MetaPages.{IsReusePage}
 use Rattle.pm_pages.specs.Rows.{kind_of}
 use Rattle.pm_pages.specs.Passes.{PassesAt}
 use Rattle.pm_pages.specs.PageLists.{IsReadable, ReadsAt}
-use Rattle.pm_pages.specs.Paged.{Paged, AllReadable, PassesIn, AsksPage, MakesPage, WritesPage, with_page}
+use Rattle.pm_pages.specs.Paged.{Paged, AllReadable, AsksPage, MakesPage, WritesPage, with_page}
 
 zeros_kind : (size : ℕ) → IsPageSize size → kind_of (replicate size 0) ≡ 0
 zeros_kind size is = get_or-replicate size 8 0 0 (elim is [ inl e ↦ omega (arith, e) | inr r ↦ elim r [ inl e ↦ omega (arith, e) | inr r2 ↦ elim r2 [ inl e ↦ omega (arith, e) | inr r3 ↦ elim r3 [ inl e ↦ omega (arith, e) | inr e ↦ omega (arith, e) ] ] ] ])
@@ -51,15 +51,15 @@ read_same i o o' e h = subst (λ x. IfSome x (ReadsAt i)) (sym e) h
 -- a page was asked for
 pub readable_asked : (T : Type 0) (a b : Paged) (i : ℕ) → AllReadable a → AsksPage T a b i → AllReadable b
 readable_asked T a b i readable asks = record {
-  each = λ j known. elim (asks.passes j known) [
+  each = λ j known. elim (asks.reads j known) [
     | inl before ↦ read_same j (a.pages j) (b.pages j) (asks.pages j (inr before)) (readable.each j before)
-    | inr passes ↦ passed j (b.pages j) passes
+    | inr reads ↦ if_there j (b.pages j) reads
   ];
 }
   where
-    passed : (j : ℕ) (o : Option (List ℕ)) → IsSomeAnd o (PassesIn a j) → IfSome o (ReadsAt j)
-    passed j None h = absurd h
-    passed j (Some page) h = passes_read a.page_size a.max_rows a.part j page h
+    if_there : (j : ℕ) (o : Option (List ℕ)) → IsSomeAnd o (ReadsAt j) → IfSome o (ReadsAt j)
+    if_there j None h = absurd h
+    if_there j (Some page) h = h
 
 -- bytes were written that read as what they say
 pub readable_written : (a b : Paged) (i : ℕ) (now : List ℕ) → AllReadable a → WritesPage a b i now → ReadsAt i now → AllReadable b

@@ -91,11 +91,11 @@ pub record TakesRoom (old new : Paged) (i : ℕ) : Type 0 where
   pub free : IsTrue (new.asked i) ⊎ (old.spare ≤ new.spare)
   pub again : IsTrue (old.asked i) → old.spare ≤ new.spare
 
--- Page i was asked for. What was at hand stays so, and what is at hand now besides passes its check.
+-- Page i was asked for. What was at hand stays so, and what is at hand now besides reads as what it says.
 pub record AsksPage (T : Type 0) (old new : Paged) (i : ℕ) : Type 0 where
   pub pages : (j : ℕ) → IsTold T old j → new.pages j ≡ old.pages j
   pub known : (j : ℕ) → IsTrue (old.known j) → IsTrue (new.known j)
-  pub passes : (j : ℕ) → IsTrue (new.known j) → IsTrue (old.known j) ⊎ IsSomeAnd (new.pages j) (PassesIn old j)
+  pub reads : (j : ℕ) → IsTrue (new.known j) → IsTrue (old.known j) ⊎ IsSomeAnd (new.pages j) (ReadsAt j)
   pub lent : (j : ℕ) → IsTrue (old.lent j) → IsTrue (new.lent j)
   pub patches : (j : ℕ) → new.patch j ≡ old.patch j
   pub room : TakesRoom old new i
@@ -111,11 +111,11 @@ pub record AsksInVain (T : Type 0) (old new : Paged) (i : ℕ) : Type 0 where
   pub none_lent : LendsNone old new
   pub spare : old.spare ≤ new.spare
 
--- these bytes are those of page i, or pass its check
+-- these bytes are those of page i, which is at hand, or read as what they say
 pub record IsPageIn (T : Type 0) (p : Paged) (i : ℕ) (bytes : List ℕ) : Type 0 where
   pub same : IsTold T p i → p.pages i ≡ Some bytes
   pub size : length bytes ≡ p.page_size
-  pub passes : IsTrue (p.known i) ⊎ PassesIn p i bytes
+  pub reads : IsTrue (p.known i) ⊎ ReadsAt i bytes
 
 -- page i is the first, and isn't there
 pub record IsFirstAbsent (T : Type 0) (p : Paged) (i : ℕ) : Type 0 where

@@ -39,7 +39,7 @@ returns-then-index-len c =
           tt,
         ),
       ),
-      record { page = record { same = λ told. page; size = ap length c.as_slice.ensures.value ∙ size; passes = inl refl }; none = tt; rests = tt },
+      record { page = record { same = λ told. page; size = ap length c.as_slice.ensures.value ∙ size; reads = inl refl }; none = tt; rests = tt },
     )
 
 pub returns-then-index-eq0 : goal.returns-then-index-eq0
