@@ -1,2 +1,3 @@
 pub mod NotedChanges
+pub mod OneRound
 pub mod SharedSeats

@@ -11,15 +11,15 @@ use Rattle.pm_types.specs.declared.flag.Flag.TheVariants as flag
 use Rattle.pm_types.specs.declared.shape.Shape.{Shape}
 use Rattle.pm_locks.specs.Sight.{Sight, LockTable, IsFrameOf}
 use Rattle.pm_locks.specs.Views.{Has, known_at, entry_at, entry_or}
-use Rattle.pm_locks.specs.Words.{LockWord, IsReachedFrom, put_as}
+use Rattle.pm_locks.specs.Words.{LockWord, put_as}
 use Rattle.pm_locks.specs.declared.view.Entry.{Entry}
 use Rattle.pm_locks.specs.declared.view.View.{View}
 use Rattle.pm_core.specs.BasePages.{Partitions}
 use Rattle.pm_stripe.specs.declared.stripe.Stripe.{Stripe}
 use Rattle.pm_ckpt.specs.declared.frame_page.FramePage.{FramePage}
-use Rattle.pm_ckpt.specs.Dirty.{is_dirty, dirty_frames, cleaned_entry, cleaned_word, AreResting, AreCleaned, IsSameSight, KnowsFrames}
+use Rattle.pm_ckpt.specs.Dirty.{is_dirty, dirty_frames, cleaned_entry, cleaned_word, AreResting, AreCleaned, IsSameSight}
 use Rattle.pm_ckpt.specs.Frames.{IsWholeSeat, IsFlagged, CleansFrames, AreInFrames, HaveLength, clean_entry, owner_of, frame_bytes}
-use Rattle.pm_ckpt.proofs.DirtyPages.{IsListed, dirty_or, reached_dirty, pages_listed, is_among}
+use Rattle.pm_ckpt.proofs.DirtyPages.{IsListed, dirty_or, pages_listed, is_among}
 use Rattle.pm_ckpt.proofs.Flagging.{clean_entry_same, flagged_still, bytes_same}
 
 -- what is made Clean after all frames were looked at
@@ -57,7 +57,7 @@ IsCleaned word n e now =
     ((word.flag ≡ flag.Dirty) × (word.owner ≡ n) × (e.flag ≡ flag.Dirty) × (now ≡ Some (record e { flag = flag.Clean })))
     ⊎ (((is_dirty word.flag && word.owner == n) ≡ false) × (now ≡ Some e))
 
-owned_dirty : (word : LockWord) (n : ℕ) → word.flag ≡ flag.Dirty → word.owner ≡ n → (is_dirty word.flag && word.owner == n) ≡ true
+pub owned_dirty : (word : LockWord) (n : ℕ) → word.flag ≡ flag.Dirty → word.owner ≡ n → (is_dirty word.flag && word.owner == n) ≡ true
 owned_dirty word n dirty owner = ap (λ (b : Bool). b && word.owner == n) (ap is_dirty dirty) ∙ eq-eqb word.owner n owner
 
 -- the frame of a Dirty owner, or another
@@ -73,21 +73,19 @@ owned_or word n = elim (dirty_or word.flag) [
 pub true_not_false : true ≡ false → ⊥
 true_not_false e = cc e
 
-module _ (locks : LockTable) (shape : Shape) (seat : Sight) (stripes : List Stripe) (resting : AreResting locks shape seat stripes) (whole : IsWholeSeat locks seat) (known : KnowsFrames locks seat.view) where
+module _ (locks : LockTable) (shape : Shape) (seat : Sight) (stripes : List Stripe) (resting : AreResting locks shape seat stripes) (whole : IsWholeSeat locks seat) where
   -- what the owner of a Dirty frame last put there is Dirty under the frame's tag
   pub entry_dirty : (n f : ℕ) (e : Entry) → IsFrameOf locks f → Has seat.view n → entry_at seat.view.entries n f ≡ Some e → (known_at seat.view f).flag ≡ flag.Dirty → owner_of seat.view f ≡ n
       → (e.flag ≡ flag.Dirty) × (e.tag ≡ (known_at seat.view f).tag)
   entry_dirty n f e lt has at dirty owner =
-      let w = known_at seat.view f in
-      let last = (known f lt).backed.last (subst (λ m. Has seat.view m) (sym owner) has) in
-      let same : last.entry ≡ e = same_Some _ _ (sym last.at ∙ ap (λ m. entry_at seat.view.entries m f) owner ∙ at) in
-      let was : IsReachedFrom e.flag flag.Dirty = subst (IsReachedFrom e.flag) dirty (subst (λ (x : Entry). IsReachedFrom x.flag w.flag) same last.flag) in
-      (reached_dirty e.flag was, ap (λ (x : Entry). x.tag) (sym same) ∙ last.tag)
+      let k = resting.settled.each f lt in
+      let same : k.last ≡ e = same_Some _ _ (sym k.at ∙ ap (λ m. entry_at seat.view.entries m f) owner ∙ at) in
+      (ap (λ (x : Entry). x.flag) (sym same) ∙ k.flag_is ∙ dirty, ap (λ (x : Entry). x.tag) (sym same) ∙ k.tag_is)
 
   module _ (pages : List FramePage) (same : IsPermutation (dirty_frames locks stripes seat.view) pages) (new : View) (cleans : CleansFrames pages seat.view new) where
     -- an entry of a frame that isn't Dirty, or isn't its own, stays
     entry_stays : (n f : ℕ) → (is_dirty (known_at seat.view f).flag && owner_of seat.view f == n) ≡ false → entry_at new.entries n f ≡ entry_at seat.view.entries n f
-    entry_stays n f other = cleans.entries n f (λ k d lt. by (get_or pages k d) (pages_listed locks shape seat stripes resting whole known pages same k d lt))
+    entry_stays n f other = cleans.entries n f (λ k d lt. by (get_or pages k d) (pages_listed locks shape seat stripes resting whole pages same k d lt))
       where
         by : (x : FramePage) → IsListed locks shape seat stripes x → (n ≢ owner_of seat.view x.frame) ⊎ (f ≢ x.frame)
         by x l = elim (cases_eq f x.frame) [
@@ -102,13 +100,13 @@ module _ (locks : LockTable) (shape : Shape) (seat : Sight) (stripes : List Stri
         let w = known_at seat.view f in
         elim (dirty_or w.flag) [
           | inl dirty ↦
-              let x = is_among locks shape seat stripes resting whole known pages same f lt dirty in
+              let x = is_among locks shape seat stripes resting whole pages same f lt dirty in
               let here = All-contains (λ p. known_at new p.frame ≡ put_as flag.Clean (known_at seat.view p.frame)) pages x.0 cleans.each x.2 in
               subst (λ g. known_at new g ≡ put_as flag.Clean (known_at seat.view g)) x.1 here
               ∙ sym (ap (λ (b : Bool). if b then put_as flag.Clean w else w) (ap is_dirty dirty))
           | inr clean ↦
               cleans.others f (λ k d low frame.
-              let l = pages_listed locks shape seat stripes resting whole known pages same k d low in
+              let l = pages_listed locks shape seat stripes resting whole pages same k d low in
               let never : true ≡ false = sym (ap is_dirty l.dirty) ∙ ap (λ g. is_dirty (known_at seat.view g).flag) frame ∙ clean in
               absurd cc)
               ∙ sym (ap (λ (b : Bool). if b then put_as flag.Clean w else w) clean)
@@ -119,7 +117,7 @@ module _ (locks : LockTable) (shape : Shape) (seat : Sight) (stripes : List Stri
       | inl own ↦
           let w = known_at seat.view f in
           let was = entry_dirty n f e lt has at own.0 own.1 in
-          let x = is_among locks shape seat stripes resting whole known pages same f lt own.0 in
+          let x = is_among locks shape seat stripes resting whole pages same f lt own.0 in
           let put = All-contains (λ p. entry_at new.entries (owner_of seat.view p.frame) p.frame ≡ Some (clean_entry seat.view p.frame)) pages x.0 cleans.entry x.2 in
           let here : entry_at new.entries n f ≡ Some (clean_entry seat.view f) =
           ap (λ m. entry_at new.entries m f) (sym own.1) ∙ subst (λ g. entry_at new.entries (owner_of seat.view g) g ≡ Some (clean_entry seat.view g)) x.1 put in
@@ -145,8 +143,8 @@ module _ (locks : LockTable) (shape : Shape) (seat : Sight) (stripes : List Stri
     none_stays n f lt has at = elim (owned_or (known_at seat.view f) n) [
       | inr other ↦ entry_stays n f other ∙ at
       | inl own ↦
-          let last = (known f lt).backed.last (subst (λ m. Has seat.view m) (sym own.1) has) in
-          let never : None ≡ Some last.entry = sym at ∙ ap (λ m. entry_at seat.view.entries m f) (sym own.1) ∙ last.at in
+          let k = resting.settled.each f lt in
+          let never : None ≡ Some k.last = sym at ∙ ap (λ m. entry_at seat.view.entries m f) (sym own.1) ∙ k.at in
           absurd cc
     ]
 
@@ -171,7 +169,7 @@ module _ (locks : LockTable) (shape : Shape) (seat : Sight) (stripes : List Stri
     -- what isn't a frame of the locks stays
     pub entry_outside : (n f : ℕ) → (IsFrameOf locks f → ⊥) → entry_at new.entries n f ≡ entry_at seat.view.entries n f
     entry_outside n f outside =
-        cleans.entries n f (λ k d lt. inr (λ here. outside (subst (IsFrameOf locks) (sym here) (pages_listed locks shape seat stripes resting whole known pages same k d lt).frame)))
+        cleans.entries n f (λ k d lt. inr (λ here. outside (subst (IsFrameOf locks) (sym here) (pages_listed locks shape seat stripes resting whole pages same k d lt).frame)))
 
 -- ---- what is so of pages, after all frames were looked at
 

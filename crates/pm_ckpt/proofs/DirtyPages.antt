@@ -1,6 +1,6 @@
 -- The pages that are listed stand in Dirty frames, each once, as their owners keep them.
 use Rattle.std.proofs.Common.{◌≡◌, ◌≢◌, ◌⊎◌, inl, inr, ℕ, zero, suc, ◌<◌, ◌≤◌, List, [], ◌∷◌, ◌++◌, append-nil, length, get_or, Bool, true, false, Option, Some, refl, sym, ◌∙◌, ap, subst, arith}
-use Rattle.std.specs.Prelude.{◌==◌, ◌&&◌, ◌%◌, ◌/◌, ◌^◌, if◌then◌else◌, slice_get, All, Contains}
+use Rattle.std.specs.Prelude.{◌==◌, ◌&&◌, ◌%◌, ◌/◌, ◌^◌, if◌then◌else◌, slice_get, All, Contains, IsTrue}
 use Rattle.std.specs.FinMap as map
 use Rattle.std.specs.Option.{option_and_then}
 use Rattle.std.specs.List.Sorted.{IsPermutation}
@@ -17,17 +17,19 @@ use Rattle.pm_types.specs.Ids.{part_of_id, index_of_id}
 use Rattle.pm_records.specs.PageNames.{IsPageName}
 use Rattle.pm_locks.specs.Sight.{Sight, LockTable, IsFrameOf}
 use Rattle.pm_locks.specs.Views.{Has, known_at, entry_at, entry_or}
-use Rattle.pm_locks.specs.Words.{AT_HOME, IsReachedFrom}
+use Rattle.pm_locks.specs.Words.{AT_HOME}
 use Rattle.pm_locks.specs.declared.view.Entry.{Entry}
 use Rattle.pm_locks.specs.declared.view.View.{View}
 use Rattle.pm_locks.proofs.Numbering.{whole_has}
 use Rattle.pm_core.specs.PageSets.{AreOnce, has_page}
 use Rattle.pm_core.proofs.Once.{once_push}
-use Rattle.pm_stripe.specs.Kept.{IsKeptPage, place_of, stays}
+use Rattle.pm_stripe.specs.Kept.{IsKeptPage, IsPageOf, place_of, stays}
+use Rattle.pm_stripe.specs.Sights.{IsSettledIn}
+use Rattle.pm_stripe.proofs.LostPages.{spare_goes}
 use Rattle.pm_stripe.specs.Stripes.{kept}
 use Rattle.pm_stripe.specs.declared.stripe.Stripe.{Stripe}
 use Rattle.pm_ckpt.specs.declared.frame_page.FramePage.{FramePage}
-use Rattle.pm_ckpt.specs.Dirty.{is_dirty, placed, page_in, dirty_page, dirty_below, dirty_frames, dirty_pages, dirty_held, held_by, AreResting, KnowsFrames}
+use Rattle.pm_ckpt.specs.Dirty.{is_dirty, placed, page_in, dirty_page, dirty_below, dirty_frames, dirty_pages, dirty_held, held_by, AreResting}
 use Rattle.pm_ckpt.specs.Frames.{IsWholeSeat, IsFlagged, AreApart, AreInFrames, HaveLength, names_of, owner_of, frame_bytes}
 use Rattle.pm_ckpt.specs.Writes.{IsHeld}
 use Rattle.pm_ckpt.proofs.Flagging.{frames_held}
@@ -43,14 +45,22 @@ dirty_or flag.Dirty = inl refl
 dirty_or flag.Due = inr refl
 dirty_or flag.Done = inr refl
 
--- what reached Dirty was so
-pub reached_dirty : (was : Flag) → IsReachedFrom was flag.Dirty → was ≡ flag.Dirty
-reached_dirty was (inl same) = same
-reached_dirty flag.Empty (inr high) = absurd (omega (arith, high.0))
-reached_dirty flag.Clean (inr high) = absurd (omega (arith, high.0))
-reached_dirty flag.Dirty (inr high) = refl
-reached_dirty flag.Due (inr high) = absurd (omega (arith, high.1))
-reached_dirty flag.Done (inr high) = absurd (omega (arith, high.1))
+-- what stays between two rounds is Dirty, in a frame of its worker's
+pub staying_word : (v : View) (f n : ℕ) (e : Entry) → IsSettledIn v f → Has v n → entry_at v.entries n f ≡ Some e → IsTrue (stays e.flag) → ((known_at v f).flag ≡ flag.Dirty) × ((known_at v f).owner ≡ n)
+staying_word v f n e k has at stay = elim (cases_eq n (known_at v f).owner) [
+  | inr other ↦ absurd (spare_goes e.flag (k.others n e has other at) stay)
+  | inl own ↦
+      let same : k.last ≡ e = same_Some _ _ (sym k.at ∙ ap (λ m. entry_at v.entries m f) (sym own) ∙ at) in
+      let flag_is : e.flag ≡ (known_at v f).flag = ap (λ (y : Entry). y.flag) (sym same) ∙ k.flag_is in
+      (plain_dirty (known_at v f).flag k.not_due k.not_done (subst (λ g. IsTrue (stays g)) flag_is stay), sym own)
+]
+  where
+    plain_dirty : (g : Flag) → g ≢ flag.Due → g ≢ flag.Done → IsTrue (stays g) → g ≡ flag.Dirty
+    plain_dirty flag.Empty due done is = absurd (cc is)
+    plain_dirty flag.Clean due done is = absurd (cc is)
+    plain_dirty flag.Dirty due done is = refl
+    plain_dirty flag.Due due done is = absurd (due refl)
+    plain_dirty flag.Done due done is = absurd (done refl)
 
 -- ---- lists
 
@@ -112,20 +122,19 @@ module _ (locks : LockTable) (shape : Shape) (seat : Sight) (stripes : List Stri
     pub entry_tag : entry.tag ≡ page.tag
     pub place : place_of (kept stripe seat) page.page ≡ Some (page.frame, page.tag)
 
-  module _ (resting : AreResting locks shape seat stripes) (whole : IsWholeSeat locks seat) (known : KnowsFrames locks seat.view) where
+  module _ (resting : AreResting locks shape seat stripes) (whole : IsWholeSeat locks seat) where
     -- a Dirty frame's page is listed
     pub listed_here : (f : ℕ) → IsFrameOf locks f → (known_at seat.view f).flag ≡ flag.Dirty → (x : FramePage) × (x.frame ≡ f) × (dirty_page stripes f (known_at seat.view f) ≡ x ∷ []) × IsListed x
     listed_here f lt dirty =
         let w = known_at seat.view f in
-        let k = known f lt in
+        let k = resting.settled.each f lt in
         let below : w.owner < length stripes = omega (arith, k.worker, whole.of.staff, resting.count) in
         let s = stripe_at stripes w.owner below in
         let r = resting.each w.owner s.0 s.1 in
         let has : Has seat.view w.owner = whole_has seat.view w.owner whole.knows.whole (inl k.worker) in
-        let last = k.backed.last has in
-        let entry_dirty : last.entry.flag ≡ flag.Dirty = reached_dirty last.entry.flag (subst (IsReachedFrom last.entry.flag) dirty last.flag) in
-        let stay = r.rests.holds.stay f last.entry (ap (λ n. entry_at seat.view.entries n f) r.number ∙ last.at) (ap stays entry_dirty) in
-        let named = s.0.places.agree.kept stay.0 f last.entry.tag stay.1 in
+        let entry_dirty : k.last.flag ≡ flag.Dirty = k.flag_is ∙ dirty in
+        let stay = r.rests.holds.stay f k.last (ap (λ n. entry_at seat.view.entries n f) r.number ∙ k.at) (ap stays entry_dirty) in
+        let named = s.0.places.agree.kept stay.0 f k.last.tag stay.1 in
         let x : FramePage = record { page = stay.0; frame = f; tag = w.tag } in (
           x,
           refl,
@@ -135,16 +144,16 @@ module _ (locks : LockTable) (shape : Shape) (seat : Sight) (stripes : List Stri
           record {
             frame = lt;
             dirty = dirty;
-            home = k.home;
+            home = k.home (whole.still f);
             tag = refl;
             has = has;
             stripe = s.0;
             at = s.1;
-            entry = last.entry;
-            put = last.at;
+            entry = k.last;
+            put = k.at;
             entry_flag = entry_dirty;
-            entry_tag = last.tag;
-            place = stay.1 ∙ ap (λ t. Some (f, t)) last.tag;
+            entry_tag = k.tag_is;
+            place = stay.1 ∙ ap (λ t. Some (f, t)) k.tag_is;
           },
         )
 
@@ -181,6 +190,16 @@ module _ (locks : LockTable) (shape : Shape) (seat : Sight) (stripes : List Stri
         let here = l.stripe.places.agree.kept x.page x.frame x.tag l.place in
         let there = m.stripe.places.agree.kept y.page y.frame y.tag m.place in
         same_Some _ _ (same_Some _ _ (sym here ∙ ap (λ (s : Stripe). slice_get s.places.pages.items x.frame) stripes_are ∙ ap (slice_get m.stripe.places.pages.items) same ∙ there))
+
+    -- a listed page with the name of a page of a worker's is that page, in the frame that keeps it
+    pub own_place : (n : ℕ) (s : Stripe) → slice_get stripes n ≡ Some s → (id : PageId) → IsPageOf locks.workers shape.partitions n id → (x : FramePage) → IsListed x → part_of_id x.page ≡ part_of_id id → index_of_id x.page ≡ index_of_id id
+        → (owner_of seat.view x.frame ≡ n) × (place_of (kept s seat) id ≡ Some (x.frame, x.tag))
+    own_place n s at id own x l part index =
+        let page = kept_of x l in
+        let number : owner_of seat.view x.frame ≡ n = sym (number_of x l) ∙ sym page.own.worker ∙ ap (λ m. m % locks.workers) part ∙ own.worker in
+        let stripe : l.stripe ≡ s = same_Some _ _ (sym l.at ∙ ap (slice_get stripes) number ∙ at) in
+        let name : x.page.0 ≡ id.0 = name_same x.page id page.own.name own.name part index in
+        (number, ap (λ m. map.get s.places.table.entries m) (sym name) ∙ ap (λ (t : Stripe). place_of (kept t seat) x.page) (sym stripe) ∙ l.place)
 
     pub all_below : (n : ℕ) → n ≤ length locks.ranges → All (λ x. IsListed x × (x.frame < n)) (dirty_below stripes seat.view n)
     all_below zero le = All-nil (λ x. IsListed x × (x.frame < 0))

@@ -101,7 +101,7 @@ module _ (size : ℕ) (held : Partitions) (x : Writing) (w : World) (is : IsHeld
 -- ---- all of them
 
 -- the first page, or one of the others
-first_or : (part index : ℕ) (page : PageId) (pages : List PageId) → has_index part index (page ∷ pages) ≡ true → ((part_of_id page ≡ part) × (index_of_id page ≡ index)) ⊎ (has_index part index pages ≡ true)
+pub first_or : (part index : ℕ) (page : PageId) (pages : List PageId) → has_index part index (page ∷ pages) ≡ true → ((part_of_id page ≡ part) × (index_of_id page ≡ index)) ⊎ (has_index part index pages ≡ true)
 first_or part index page pages is = by (part_of_id page == part) (index_of_id page == index) refl refl is
   where
     by : (a b : Bool) → (part_of_id page == part) ≡ a → (index_of_id page == index) ≡ b → (if a && b then true else has_index part index pages) ≡ true

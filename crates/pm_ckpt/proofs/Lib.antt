@@ -15,6 +15,7 @@ pub mod Opening
 pub mod Orders
 pub mod RestingStripes
 pub mod Stages
+pub mod StayingPages
 pub mod Stored
 pub mod Whole
 pub mod Written

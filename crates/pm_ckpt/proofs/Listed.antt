@@ -1,5 +1,5 @@
 -- All frames are looked at, one after the other, and the pages in those that are Dirty are listed.
-use Rattle.std.proofs.Common.{◌≡◌, inr, ℕ, zero, suc, ◌+◌, ◌<◌, ◌≤◌, List, [], ◌++◌, length, Bool, true, false, Option, Some, None, refl, sym, ◌∙◌, ap, subst, arith}
+use Rattle.std.proofs.Common.{◌≡◌, ℕ, zero, suc, ◌+◌, ◌≤◌, List, [], ◌++◌, length, Bool, true, false, Option, Some, None, refl, sym, ◌∙◌, ap, arith}
 use Rattle.std.specs.Prelude.{if◌then◌else◌, slice_get, MatchOption}
 use Rattle.std.specs.FinMap as map
 use Rattle.std.specs.FinMap.{FinMap}
@@ -9,14 +9,12 @@ use Rattle.std.proofs.lemmas.List.{length-append}
 use mathlib.Core.Logic.{dite}
 use native.Mathlib.Decide.{ℕ_discrete}
 use Rattle.pm_types.specs.declared.page_id.PageId.{PageId}
-use Rattle.pm_locks.specs.Rounds.{IsKnown}
 use Rattle.pm_locks.specs.Sight.{LockTable, KnowsAll, IsFrameOf}
-use Rattle.pm_locks.specs.Steps.{IsTold, IsMet, IsBacked, LastPut, AreDated, meets}
-use Rattle.pm_locks.specs.Views.{IsStill, known_at}
-use Rattle.pm_locks.specs.Words.{LockWord, FLUSHER}
+use Rattle.pm_locks.specs.Steps.{IsMet, meets}
+use Rattle.pm_locks.specs.Views.{known_at}
+use Rattle.pm_locks.specs.Words.{LockWord}
 use Rattle.pm_locks.specs.declared.view.View.{View}
-use Rattle.pm_locks.proofs.Callers.{known_here, known_else, word_home}
-use Rattle.pm_locks.proofs.Numbering.{whole_has}
+use Rattle.pm_locks.proofs.Callers.{known_here, known_else}
 use Rattle.pm_stripe.specs.PlacedPages.{AgreeOnPages, KeepsNone}
 use Rattle.pm_stripe.specs.declared.stripe.Stripe.{Stripe}
 use Rattle.pm_ckpt.specs.Dirty.{is_dirty, placed, page_in, dirty_page, dirty_below, IsSameSight}
@@ -83,24 +81,6 @@ known_after locks v v' f word knows lt met g =
     dite (ℕ_discrete g f)
     (λ e. ap (known_at v') e ∙ known_here v' f word v.words words ∙ met_known locks v v' f word knows lt met ∙ ap (known_at v) (sym e))
     (λ ne. known_else v v' f word words g ne)
-
--- what was told of a frame is so of what was known in the beginning
-pub known_told : (locks : LockTable) (old v : View) (f : ℕ) (word : LockWord) → IsLooked old v → KnowsAll locks old → KnowsAll locks v → IsStill v → IsFrameOf locks f → word ≡ known_at old f → IsTold v f word → IsKnown old f (known_at old f)
-known_told locks old v f word looked before knows still lt is told =
-    subst (IsKnown old f) is (record {
-      at = before.each f lt ∙ ap Some (sym is);
-      home = word_home locks v f word knows still told;
-      worker = subst (λ (u : View). word.owner < u.workers) looked (told.worker FLUSHER (whole_has v FLUSHER knows.whole (inr refl)));
-      dated = subst (λ (u : View). AreDated u f word) looked told.dated;
-      bytes = told.bytes;
-      backed = backed_here (subst (λ (u : View). IsBacked u f word told.bytes) looked told.backed);
-    })
-  where
-    last_here : LastPut (record old { words = v.words; met = v.met }) f word told.bytes → LastPut old f word told.bytes
-    last_here l = record { entry = l.entry; at = l.at; tag = l.tag; same = l.same; flag = l.flag; alone = l.alone }
-
-    backed_here : IsBacked (record old { words = v.words; met = v.met }) f word told.bytes → IsBacked old f word told.bytes
-    backed_here b = record { last = λ has. last_here (b.last has); due = b.due; done = b.done }
 
 -- what is known of frames is the same
 pub same_sight : (old new : View) → IsLooked old new → ((f : ℕ) → known_at new f ≡ known_at old f) → IsSameSight old new

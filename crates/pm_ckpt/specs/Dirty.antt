@@ -11,16 +11,16 @@ use Rattle.pm_types.specs.declared.shape.Mark.{Mark}
 use Rattle.pm_disk.specs.Moments.{History}
 use Rattle.pm_disk.specs.Worlds.{World}
 use Rattle.pm_segments.specs.Ends.{LogEnd}
-use Rattle.pm_locks.specs.Rounds.{IsKnown}
 use Rattle.pm_locks.specs.Sight.{Sight, LockTable, IsFrameOf}
 use Rattle.pm_locks.specs.Views.{Has, known_at, entry_at}
 use Rattle.pm_locks.specs.Words.{LockWord, put_as}
 use Rattle.pm_locks.specs.declared.view.Entry.{Entry}
 use Rattle.pm_locks.specs.declared.view.View.{View}
 use Rattle.pm_core.specs.BasePages.{Partitions}
-use Rattle.pm_stripe.specs.Reads.{Passes, stored}
-use Rattle.pm_stripe.specs.Kept.{AreClean}
-use Rattle.pm_stripe.specs.Stripes.{kept, file_of, IsAtRest}
+use Rattle.pm_stripe.specs.Reads.{Reads, stored}
+use Rattle.pm_stripe.specs.Kept.{AreClean, IsPageOf, IsStaying, page_bytes}
+use Rattle.pm_stripe.specs.Sights.{AreSettled}
+use Rattle.pm_stripe.specs.Stripes.{kept, file_in, file_of, IsAtRest}
 use Rattle.pm_stripe.specs.declared.stripe.Stripe.{Stripe}
 use Rattle.pm_ckpt.specs.declared.frame_page.FramePage.{FramePage}
 use Rattle.pm_ckpt.specs.Checkpoints.{MayCheckpoint, IsEnded}
@@ -75,9 +75,9 @@ held_by view (page ∷ pages) part index =
 abbrev pub dirty_held : LockTable → List Stripe → View → Partitions
 dirty_held locks stripes view = held_by view (dirty_frames locks stripes view)
 
--- these pages pass their checks
-abbrev pub ArePassing : Shape → Partitions → List PageId → Type 0
-ArePassing shape held pages = All (λ page. Passes shape page (page_of held page)) pages
+-- each of these pages reads as what it says
+abbrev pub AreReading : Partitions → List PageId → Type 0
+AreReading held pages = All (λ page. Reads page (page_of held page)) pages
 
 -- The worker's stripe is at rest over this seat, isn't told that a checkpoint runs, and has nothing left for the
 -- log.
@@ -88,8 +88,9 @@ pub record IsResting (locks : LockTable) (shape : Shape) (seat : Sight) (n : ℕ
   pub idle : stripe.is_running ≡ false
   pub sent : stripe.outbox ≡ []
 
--- The stripes of all workers, by rising number.
+-- The stripes of all workers, by rising number. No frame is Due or Done.
 pub record AreResting (locks : LockTable) (shape : Shape) (seat : Sight) (stripes : List Stripe) : Type 0 where
+  pub settled : AreSettled locks seat.view
   pub count : length stripes ≡ locks.workers
   pub each : (n : ℕ) (stripe : Stripe) → slice_get stripes n ≡ Some stripe
       → IsResting locks shape seat n stripe
@@ -98,10 +99,6 @@ pub record AreResting (locks : LockTable) (shape : Shape) (seat : Sight) (stripe
 abbrev pub HaveFrames : ℕ → List Stripe → Type 0
 HaveFrames frames stripes = (n : ℕ) (stripe : Stripe) → slice_get stripes n ≡ Some stripe
     → frames ≤ length stripe.places.pages.items
-
--- The seat knows of each frame what is so of its bytes.
-abbrev pub KnowsFrames : LockTable → View → Type 0
-KnowsFrames locks view = (f : ℕ) → IsFrameOf locks f → IsKnown view f (known_at view f)
 
 -- what is known of frames is the same
 pub record IsSameSight (old new : View) : Type 0 where
@@ -132,16 +129,32 @@ pub record StayClean (old new : History) (before after : Sight) (stripes : List 
   pub read : (n : ℕ) (stripe : Stripe) → slice_get stripes n ≡ Some stripe → stripe.files ≡ true
       → AreClean (file_of stripe old) (kept stripe before) → AreClean (file_of stripe new) (kept stripe after)
 
+-- no page of these stripes stays in its frame
+abbrev pub NoneStays : Sight → List Stripe → Type 0
+NoneStays seat stripes = (n : ℕ) (stripe : Stripe) (id : PageId) → slice_get stripes n ≡ Some stripe
+    → IsStaying (kept stripe seat) id → ⊥
+
+-- Of each stripe: each page of the worker's that was there is there with the bytes that it had, by what the
+-- partitions' files have now.
+abbrev pub AreThere : LockTable → Shape → World → World → Sight → Sight → List Stripe → Type 0
+AreThere locks shape old new before after stripes =
+    (n : ℕ) (stripe : Stripe) (id : PageId) (bytes : List ℕ) → slice_get stripes n ≡ Some stripe
+    → IsPageOf locks.workers shape.partitions n id
+    → page_bytes (file_in stripe old) (kept stripe before) id ≡ Some bytes
+    → page_bytes (stored new stripe.shape.page_size) (kept stripe after) id ≡ Some bytes
+
 -- What a checkpoint leaves of frames and stripes: nothing is out of the seat, also after a failure. At `Ok` each frame
--- that was Dirty is Clean; each stripe is at rest, where the pages that were written pass their checks; and what is
--- Clean is as the files have it, where it was.
+-- that was Dirty is Clean, so no page stays in its frame; each stripe is at rest, where each page that was written reads
+-- as what it says; what is Clean is as the files have it, where it was; and each page has the bytes that it had.
 pub record LeavesFrames {T E : Type 0} (tells : Type 0) (locks : LockTable) (shape : Shape) (old new : History)
     (result : Result T E) (before after : Sight) (stripes : List Stripe) : Type 0 where
   pub seat : IsWholeSeat locks after
   pub cleaned : OnOk result (AreCleaned locks before.view after.view)
-  pub rests : ArePassing shape (dirty_held locks stripes before.view) (dirty_pages locks stripes before.view)
+  pub rests : AreReading (dirty_held locks stripes before.view) (dirty_pages locks stripes before.view)
       → OnOk result (AreResting locks shape after stripes)
+  pub none_stays : OnOk result (NoneStays after stripes)
   pub clean : tells → OnOk result (StayClean old new before after stripes)
+  pub pages : tells → OnOk result (AreThere locks shape old.world new.world before after stripes)
 
 -- What a checkpoint with this mark leaves of what is kept for checkpoints, and where the log ends then.
 pub record IsNext (mark : Mark) (before now : Kept) (was log : LogEnd) : Type 0 where

@@ -3,7 +3,7 @@
 ghost use Rattle.std.specs.Prelude.{◌≡◌, ◌≤◌, ◌<◌, ◌+◌, ◌++◌, Some, length, slice_get, vec_len};
 ghost use Rattle.std.specs.List.Sorted.{IsPermutation, IsNonDecreasingBy};
 ghost use Rattle.std.specs.Vec.{vec_capacity};
-ghost use Rattle.pm_ckpt.specs.Dirty.{page_in, dirty_page, dirty_frames, KnowsFrames, IsSameSight};
+ghost use Rattle.pm_ckpt.specs.Dirty.{page_in, dirty_page, dirty_frames, IsSameSight};
 ghost use Rattle.pm_ckpt.specs.Dirty.{HaveFrames};
 ghost use Rattle.pm_ckpt.specs.Frames.{IsWholeSeat, names_of};
 
@@ -30,7 +30,6 @@ pub(crate) fn gather(
     requires names_room { frames ≤ vec_capacity order.old }
     ensures seat { IsWholeSeat locks.now seat.new }
     ensures same { IsSameSight seat.old.view seat.new.view }
-    ensures known { KnowsFrames locks.now seat.old.view }
     ensures pages { IsPermutation (dirty_frames locks.now stripes.now seat.old.view) pages.new.items }
     ensures names { order.new.items ≡ names_of pages.new.items }
     ensures rising { IsNonDecreasingBy (λ page. page.page.0) pages.new.items }
@@ -55,7 +54,6 @@ fn list_dirty(
     requires room { frames ≤ vec_capacity pages.old }
     ensures seat { IsWholeSeat locks.now seat.new }
     ensures same { IsSameSight seat.old.view seat.new.view }
-    ensures known { KnowsFrames locks.now seat.old.view }
     ensures pages { pages.new.items ≡ dirty_frames locks.now stripes.now seat.old.view }
     ensures capacity { vec_capacity pages.new ≡ vec_capacity pages.old }
 {

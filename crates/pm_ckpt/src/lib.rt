@@ -8,6 +8,7 @@ mod dirty;
 mod ending;
 mod frame_page;
 mod from_frames;
+mod laws;
 mod making_due;
 mod mark;
 mod order;
@@ -15,3 +16,4 @@ mod writing;
 mod writing_frames;
 
 pub use ckpt::Ckpt;
+pub use laws::{dirty_frames_hold_what_stays, stripes_stay_at_rest};

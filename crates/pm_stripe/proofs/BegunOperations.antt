@@ -26,6 +26,7 @@ use Rattle.pm_stripe.specs.Shown.{kept_by, file_by, IsReady}
 use Rattle.pm_stripe.specs.ShownLaws.{any_file, clean_file, may_read}
 use Rattle.pm_stripe.specs.Stripes.{kept, SameButFrames, SameButPages}
 use Rattle.pm_stripe.specs.Sweeps.{stealable, StopsAtEnough, SweepsFrames}
+use Rattle.pm_stripe.specs.SightLaws.{sight_then}
 use Rattle.pm_stripe.proofs.BoundCalls.{same_state}
 use Rattle.pm_stripe.proofs.SweptFrames.{same_low}
 
@@ -102,7 +103,7 @@ module _ {Q R : Type 0} (tells : Type 0) (history : R → History) (state : R �
     goes_on = record { begins = λ m is. absurd (cc is); ends = λ m is. absurd (cc is); idle = λ _. same₁.next };
     once = record { few = λ f. omega arith };
     stops = record { none = λ _. refl; last = λ few full. absurd (omega (arith, few, full, ap length p.free)) };
-    knows = p.left.knows;
+    sight = p.left.sight;
     staying = p.staying;
     only = p.only;
     pages = λ id. ⊎_elim
@@ -168,7 +169,7 @@ module _ {Q R : Type 0} (tells : Type 0) (history : R → History) (state : R �
         goes_on = subst (λ n. GoesOn (length b.locks.now.ranges) swept.met n s.next) same₁.next swept.goes_on;
         once = swept.once;
         stops = subst (λ fs. StopsAtEnough fs s.free.items swept.met) p.free swept.stops;
-        knows = λ is. swept.gathers.knows (p.left.knows is);
+        sight = sight_then b.locks.now b.seat.view seat₁.view seat.view p.left.sight swept.gathers.sight;
         staying = λ id is. swept.gathers.staying id (p.staying id is);
         only = λ id away. both_ways _ _ (swept.gathers.back id) (swept.gathers.keeps.known id) ∙ p.only id away;
         pages = λ id. ⊎_elim
@@ -186,7 +187,7 @@ module _ {Q R : Type 0} (tells : Type 0) (history : R → History) (state : R �
         all = all;
         few = few;
         met = swept.met;
-        meets = record { added = added; own = λ i m is has. swept.meets.own i m is (ap (λ (l : Numbers). is_among l m.word.holder) p.left.numbers ∙ has) };
+        meets = record { added = added; own = λ i m is has. swept.meets.own i m is (ap (λ (l : Numbers). is_among l m.word.holder) p.left.sight.numbers ∙ has) };
         each = swept.each few;
       }
 
@@ -195,11 +196,11 @@ module _ {Q R : Type 0} (tells : Type 0) (history : R → History) (state : R �
     frames_known = omega (arith, ap length p.free, same_low (put_by b) seat₁.view (length b.locks.now.ranges) (λ f _. ap (λ ws. word_at ws f) p.left.words))
 
     pub known_few : KnowsAll b.locks.now b.seat.view → length s.free.items < OP_PAGES → frames_by b < OP_PAGES
-    known_few knows few = omega (arith, (swept.exact (p.left.knows knows)).0 few, frames_known)
+    known_few knows few = omega (arith, (swept.exact (p.left.sight.knows knows)).0 few, frames_known)
 
     pub known_enough : KnowsAll b.locks.now b.seat.view → OP_PAGES ≤ length s.free.items → OP_PAGES ≤ frames_by b
     known_enough knows enough = ⊎_elim
-        (λ lt. absurd (let few = (swept.exact (p.left.knows knows)).1 (omega (arith, lt, frames_known)) in omega (arith, few, enough)))
+        (λ lt. absurd (let few = (swept.exact (p.left.sight.knows knows)).1 (omega (arith, lt, frames_known)) in omega (arith, few, enough)))
         (λ le. le)
         (cases_lt (frames_by b) OP_PAGES)
 

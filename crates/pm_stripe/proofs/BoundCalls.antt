@@ -26,6 +26,8 @@ use Rattle.pm_stripe.specs.Moves.{ChangesOnePage}
 use Rattle.pm_stripe.specs.ReplacedLaws.{moves_replaced}
 use Rattle.pm_stripe.specs.Rewrites.{Replaces, LendsPage, NotesPage}
 use Rattle.pm_stripe.specs.Shown.{is_lent, paged, kept_by, file_by, shown, IsReady, KeepsBound}
+use Rattle.pm_stripe.specs.Sights.{KeepsSight}
+use Rattle.pm_stripe.specs.SightLaws.{sight_refl}
 use Rattle.pm_stripe.specs.ShownLaws.{after_moved, keeps_by, kept_then, same_file}
 use Rattle.pm_stripe.specs.Stripes.{kept, SameButPages}
 use Rattle.pm_stripe.proofs.Fetched.{some_held}
@@ -47,12 +49,12 @@ module _ {Q R : Type 0} (tells : Type 0) (history : R → History) (state : R �
 
   -- a call on one page keeps what calls keep
   pub moved_keeps : (b : Bound Q R) (s : Stripe) (seat : Sight) (r : R) (id : PageId) → part_of_id id ≡ b.part → SameButPages b.stripe s
-      → (tells → (history r).world ≡ (history b.reader).world) → IsLaterState (state b.reader) (state r)
+      → (tells → (history r).world ≡ (history b.reader).world) → IsLaterState (state b.reader) (state r) → KeepsSight b.locks.now b.seat.view seat.view
       → (IsReady tells history state b → ChangesOnePage b.locks.now tells (file_by history b) (kept_by b) (kept s seat) id)
       → KeepsBound tells history state b (record b { stripe = s; seat = seat; reader = r })
-  moved_keeps b s seat r id in_part same world later m =
+  moved_keeps b s seat r id in_part same world later sight m =
       let b' : Bound Q R = record b { stripe = s; seat = seat; reader = r } in
-      keeps_by tells history state b b' refl refl refl same world later
+      keeps_by tells history state b b' refl refl refl same world later sight
       (λ ready. after_moved b.locks.now tells (file_by history b) (file_by history b') (state b.reader) (state r) b.part (kept_by b) (kept s seat) id
       (same_file tells history state b b' same world) later ready.bound.reads ready.bound.clean ready.operates in_part (m ready))
 
@@ -64,7 +66,7 @@ module _ {Q R : Type 0} (tells : Type 0) (history : R → History) (state : R �
       → (IsAllCovered b.stripe.shape.page_size (Some h) → IsAllCovered b.stripe.shape.page_size (Some h'))
       → KeepsBound tells history state b (record b { stripe = t })
   replaced_keeps b t id h h' in_part r page frame was_same read_same unchanged still covered =
-      moved_keeps b t b.seat b.reader id in_part (same_replaced b.stripe t id h h' r) (λ _. refl) (same_state (state b.reader))
+      moved_keeps b t b.seat b.reader id in_part (same_replaced b.stripe t id h h' r) (λ _. refl) (same_state (state b.reader)) (sight_refl b.locks.now b.seat.view)
       (λ ready.
       let lt = place_some b.stripe.held.items id.0 (some_held (held_at b.stripe.held.items id.0) h r.at) in
       let x = place_there b.stripe.held.items id.0 lt in
@@ -90,7 +92,7 @@ module _ {Q R : Type 0} (tells : Type 0) (history : R → History) (state : R �
   in_part = pages.in_part b.part i p16 i32
 
   pub keeps : KeepsBound tells history state b now
-  keeps = moved_keeps tells history state b s seat r (page_id b.part i) in_part same world later
+  keeps = moved_keeps tells history state b s seat r (page_id b.part i) in_part same world later f.sight
       (λ _. moves_fetched b.locks.now tells (file_by history b) (kept_by b) (kept s seat) (page_id b.part i) result f)
 
   pub asks : AsksPage tells (shown history state b) (shown history state now) i
@@ -138,7 +140,7 @@ module _ {Q R : Type 0} (tells : Type 0) (history : R → History) (state : R �
           patched = held.patched;
           unlent = λ e. absurd (cc e);
           from_frame = λ e. let y = held.from_frame e in record { kept = y.kept; follows = y.follows; last = y.last; taken = y.taken };
-          from_file = λ e. let y = held.from_file e in record { unkept = y.unkept; bare = y.bare; empty = y.empty; passes = y.passes };
+          from_file = λ e. let y = held.from_file e in record { unkept = y.unkept; bare = y.bare; empty = y.empty; reads = y.reads };
         })
         (λ all. all))
 
@@ -171,7 +173,7 @@ module _ {Q R : Type 0} (tells : Type 0) (history : R → History) (state : R �
         patched = joined_size b.stripe.shape.page_size x.page.patch patch x.joined held.patched size x.joins;
         unlent = λ e. absurd (let bad : true ≡ false = sym lent ∙ ap is_lent x.is.at ∙ e in cc bad);
         from_frame = λ e. let y = held.from_frame e in record { kept = y.kept; follows = y.follows; last = y.last; taken = y.taken };
-        from_file = λ e. let y = held.from_file e in record { unkept = y.unkept; bare = y.bare; empty = y.empty; passes = λ c. y.passes (x.changed c) };
+        from_file = λ e. let y = held.from_file e in record { unkept = y.unkept; bare = y.bare; empty = y.empty; reads = λ c. y.reads (x.changed c) };
       })
       (joined_all b.stripe.shape.page_size x.page.patch patch x.joined x.joins)
 
@@ -187,7 +189,7 @@ module _ {Q R : Type 0} (tells : Type 0) (history : R → History) (state : R �
       (same_file tells history state b made_now same (λ _. refl)) m
 
   pub makes_keeps : KeepsBound tells history state b made_now
-  makes_keeps = moved_keeps tells history state b s seat b.reader (page_id b.part i) in_part same (λ _. refl) (same_state (state b.reader))
+  makes_keeps = moved_keeps tells history state b s seat b.reader (page_id b.part i) in_part same (λ _. refl) (same_state (state b.reader)) m.sight
       (λ _. moves_any b.locks.now tells (file_by history b) (kept_by b) (kept s seat) (page_id b.part i) (m.moves (file_by history b)))
 
 -- none of the pages in hand was lent, where none of the partition was
@@ -207,5 +209,5 @@ module _ {Q R : Type 0} (tells : Type 0) (history : R → History) (state : R �
   gives_pages = pages.gives_pages b.locks.now tells (file_by history b) (file_by history given_now) (state b.reader).faults b.part (kept_by b) (kept s seat) ready.bound.clean same_files g none
 
   pub gives_keeps : KeepsBound tells history state b given_now
-  gives_keeps = keeps_by tells history state b given_now refl refl refl same (λ _. refl) (same_state (state b.reader))
+  gives_keeps = keeps_by tells history state b given_now refl refl refl same (λ _. refl) (same_state (state b.reader)) g.sight
       (λ ready'. pages.after_given b.locks.now tells (file_by history b) (file_by history given_now) (state b.reader).faults b.part (kept_by b) (kept s seat) ready'.bound.clean same_files g none ready'.bound.holds unlent_all (state b.reader) ready'.bound.reads ready'.operates)

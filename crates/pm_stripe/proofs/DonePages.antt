@@ -17,6 +17,7 @@ use Rattle.pm_stripe.specs.Dones.{HasOutboxRoom}
 use Rattle.pm_stripe.specs.Kept.{Kept, held_at, place_of, known_by, is_known, Holds}
 use Rattle.pm_stripe.specs.Listings.{AreLoggable, pages_room}
 use Rattle.pm_stripe.specs.Puts.{put_flag, put_word, AreStayingCovered, IsPutAs, LeavesWords, PutsLast, PutsBack}
+use Rattle.pm_stripe.specs.SightLaws.{sight_refl, sight_then}
 use Rattle.pm_stripe.proofs.Hands.{none_named}
 
 -- nothing is put back
@@ -28,7 +29,7 @@ puts_none locks k holds = record {
   free = refl;
   shape = refl;
   number = refl;
-  left = record { words = refl; met = refl; numbers = refl; knows = λ is. is };
+  left = record { words = refl; met = refl; sight = sight_refl locks k.seat.view };
   put = λ i h is. absurd (cc is);
   only = λ id none. refl;
   staying = λ id is. is;
@@ -86,8 +87,7 @@ module _ (locks : LockTable) (k k₁ k₂ : Kept) (holds : Holds locks k) (x : P
   left_all = record {
     words = y.left.words ∙ (λ i. (y.last.frame, put_word (x.number i) y.last (put_flag y.last)) ∷ x.left.words i);
     met = y.left.met ∙ x.left.met;
-    numbers = y.left.numbers ∙ x.left.numbers;
-    knows = λ is. y.left.knows (x.left.knows is);
+    sight = sight_then locks k.seat.view k₁.seat.view k₂.seat.view x.left.sight y.left.sight;
   }
 
   -- what is at hand then was so before

@@ -43,6 +43,7 @@ module _ {Q R : Type 0} (tells : Type 0) (history : R → History) (state : R �
       clean = λ t. clean_file (file_by history b) (file_by history ended) (kept s seat) same_files (p.clean (file_by history b) (ready.bound.clean t) (all_covered t));
       few = omega (arith, ap read_count none, ap length p.free, ready.operates.bare);
     };
+    sight = p.left.sight;
     none_held = none;
     free = p.free;
     put = λ i h is. p.put i h (sym (ap (λ hs. slice_get hs i) all_rest) ∙ is);

@@ -20,6 +20,7 @@ use Rattle.pm_stripe.specs.Kept.{Kept, held_at, place_of, out_of, bytes_by, IsIn
 use Rattle.pm_stripe.specs.Puts.{unended_flag, IsPutAs, PutsHeld}
 use Rattle.pm_stripe.specs.Reads.{stored}
 use Rattle.pm_stripe.specs.Shown.{kept_by, file_by}
+use Rattle.pm_stripe.specs.SightLaws.{sight_then}
 use Rattle.pm_stripe.specs.ShownLaws.{any_file, clean_file, may_read}
 use Rattle.pm_stripe.specs.Stripes.{kept, file_of, IsAtRest, MayReadOthers, SameButPages}
 use Rattle.pm_stripe.proofs.BoundCalls.{same_state}
@@ -83,6 +84,7 @@ module _ {Q R : Type 0} (tells : Type 0) (history : R → History) (state : R �
   ends = record {
     same = same;
     still = still;
+    sight = sight_then b.locks.now b.seat.view seat₂.view seat₃.view puts.left.sight frees.sight;
     put = put;
     empty = λ i e is. frees.empty i e (sym (ap (λ fs. slice_get fs i) all_free) ∙ is);
     staying = stays_in_frame;

@@ -6,14 +6,15 @@ use Rattle.pm_types.specs.declared.shape.Shape.{Shape}
 use Rattle.pm_types.specs.declared.fault.PageFault.{PageFault}
 use Rattle.pm_types.specs.declared.limits.TheConstants.{OP_PAGES}
 use Rattle.pm_disk.specs.States.{DeviceState, MayRead}
-use Rattle.pm_locks.specs.Sight.{LockTable}
+use Rattle.pm_locks.specs.Sight.{Sight, LockTable}
 use Rattle.pm_stripe.specs.declared.held.Held.{Held}
 use Rattle.pm_stripe.specs.declared.places.Places.{Places}
-use Rattle.pm_stripe.specs.Reads.{Passes, FailsCheck}
+use Rattle.pm_stripe.specs.Reads.{FailsCheck}
 use Rattle.pm_stripe.specs.Fetches.{KeepsBeside, ReadsFrame, Fetches, TakesHome}
 use Rattle.pm_stripe.specs.Kept.{Kept, held_at, place_at, place_of, last_put, known_by, is_known, Holds, HasFrames, KeepsPages, IsAway, AddsPage, IsStaying, IsPageOf}
 use Rattle.pm_stripe.specs.Stripes.{MayReadOthers}
 use Rattle.pm_stripe.specs.HandLaws.{place_there, place_none}
+use Rattle.pm_stripe.specs.SightLaws.{sight_refl, sight_same}
 use Rattle.pm_stripe.proofs.Hands.{or_else, held_push, one_here}
 
 pub some_held : (o : Option Held) (h : Held) → o ≡ Some h → IsSome o
@@ -71,6 +72,7 @@ had locks k id tells stored holds frames lt = record {
   back = λ j is. is;
   only = λ j ne. refl;
   bare = refl;
+  sight = sight_refl locks k.seat.view;
   held = inl refl;
   found = λ _. (let x = place_there k.held id.0 lt in some_held (held_at k.held id.0) x.0 x.1);
   not_found = λ no. absurd (no refl);
@@ -90,6 +92,7 @@ at_home locks k k' id tells stored away home = let x = home.takes in let adds = 
   back = x.back;
   only = x.only;
   bare = x.bare;
+  sight = x.sight;
   held = inr (away, adds);
   found = λ _. added_some k k' id away adds;
   not_found = λ no. absurd (no refl);
@@ -109,6 +112,7 @@ nowhere locks k k' id tells stored away home none = let x = home.takes in let lo
   back = x.back;
   only = x.only;
   bare = x.bare;
+  sight = x.sight;
   held = inl lost.0;
   found = λ e. absurd (cc e);
   not_found = λ _. (lost.0, away.away, lost.1);
@@ -138,9 +142,9 @@ module _ (locks locks' : LockTable) (k k₁ k₂ : Kept) (id : PageId) (tells : 
     page_is = x.page_is;
     unlent = x.unlent;
     bare = x.bare;
-    passes = inr (⊎_elim
+    reads = inr (⊎_elim
         (λ known. absurd (let q : false ≡ true = sym unknown ∙ known in cc q))
-        (λ passes. subst (λ (s : Shape). Passes s id x.page.lease.bytes) home.takes.shape passes) x.passes);
+        (λ reads. reads) x.reads);
   }
 
   is_there : (result ≡ Ok true) ⊎ (result ≡ Ok true → ⊥) → (k₂.held ≡ k.held) ⊎ (IsAway k id × AddsPage k k₂ id)
@@ -177,6 +181,7 @@ module _ (locks locks' : LockTable) (k k₁ k₂ : Kept) (id : PageId) (tells : 
     back = λ j is. home.takes.back j (back_by reads.places j is);
     only = λ j ne. reads.only j ne ∙ home.takes.only j ne;
     bare = reads.bare ∙ home.takes.bare;
+    sight = sight_same locks k.seat.view k₁.seat.view k₂.seat.view (ap (λ (s : Sight). s.view) reads.seat) home.takes.sight;
     held = is_there decided;
     found = λ e. added_some k k₂ id away (then_added (reads.added e));
     not_found = λ no. (reads.not_added no ∙ lost.0, away.away, ap (λ (p : Places). place_of (record k₁ { places = p }) id) reads.places ∙ lost.1);

@@ -17,7 +17,7 @@ use Rattle.pm_locks.specs.Steps.{entry_as, put_back}
 use Rattle.pm_locks.specs.Answers.{out_or, IsOwnOut, IsSameLease, MayPut}
 use Rattle.pm_locks.specs.Answers as answers
 use Rattle.pm_locks.specs.Views.{entry_at, out_at, is_among}
-use Rattle.pm_locks.specs.Sight.{Sight, LockTable, IsSeatOf}
+use Rattle.pm_locks.specs.Sight.{Sight, LockTable, IsSeatOf, KnowsAll}
 use Rattle.pm_locks.proofs.Facts.{out_at-here, out_at-else, entry_at-here, entry_at-other_frame}
 use Rattle.pm_locks.proofs.Pushing.{slice_get-pushed, slice_get-push, slice_get-front}
 use Rattle.pm_stripe.specs.declared.held.Held.{Held}
@@ -25,8 +25,11 @@ use Rattle.pm_stripe.specs.declared.held.Free.{Free}
 use Rattle.pm_stripe.specs.declared.places.Places.{Places}
 use Rattle.pm_stripe.specs.Frees.{IsPutEmpty, FreesFrames}
 use Rattle.pm_stripe.specs.Kept.{Kept, held_at, place_of, last_put, page_at, out_of, stays, bytes_by, known_by, IsKeptPage, IsHeldPage, IsFreeFrame, IsHeldIn, IsFreeIn, IsInHand, Holds, stays_in}
+use Rattle.pm_stripe.specs.Sights.{KeepsSight}
+use Rattle.pm_stripe.specs.SightLaws.{sight_refl, sight_then}
 use Rattle.pm_stripe.proofs.DonePages.{behind}
 use Rattle.pm_stripe.proofs.MetFrames.{at_append}
+use Rattle.pm_stripe.proofs.SettledFrames.{put_sight}
 
 may_empty : (o : Out) (bytes : List ℕ) → o.word.flag ≡ flag.Empty → MayPut o flag.Empty bytes
 may_empty o bytes is = record {
@@ -47,6 +50,7 @@ frees_none locks k holds = record {
   shape = refl;
   number = refl;
   places = refl;
+  sight = sight_refl locks k.seat.view;
   empty = λ i s is. absurd (cc is);
   put_else = λ f none. refl;
   puts = λ id f tag is. refl;
@@ -95,6 +99,7 @@ frees_then locks k k₁ k₂ holds x y = record {
   shape = y.shape ∙ x.shape;
   number = y.number ∙ x.number;
   places = y.places ∙ x.places;
+  sight = sight_then locks k.seat.view k₁.seat.view k₂.seat.view x.sight y.sight;
   empty = all_empty locks k k₁ k₂ holds x y;
   put_else = all_else locks k k₁ k₂ holds x y;
   puts = λ id f tag is. y.puts id f tag (ap (λ (p : Places). fin.get p.table.entries id.0) x.places ∙ is) ∙ x.puts id f tag is;
@@ -127,7 +132,11 @@ module _ (locks : LockTable) (k : Kept) (holds : Holds locks k) (others : List F
   pub may_put : MayPut (answers.out_of k.seat.view s.frame) flag.Empty s.lease.bytes
   may_put = subst (λ (o : Out). MayPut o flag.Empty s.lease.bytes) (sym out_is) (may_empty last_free.out.out s.lease.bytes last_free.out.flag_is)
 
-  module _ (seat' : Sight) (room' : ℕ) (room : OP_PAGES ≤ room') (seat_of : IsSeatOf locks seat') (put : seat'.view ≡ put_back k.seat.view s.frame (put_as flag.Empty (answers.out_of k.seat.view s.frame).word) s.lease.bytes) where
+  -- the seat knows what it knew once the frame is put back
+  pub own_sight : (seat' : Sight) → seat'.view ≡ put_back k.seat.view s.frame (put_as flag.Empty (answers.out_of k.seat.view s.frame).word) s.lease.bytes → (KnowsAll locks k.seat.view → KnowsAll locks seat'.view) → KeepsSight locks k.seat.view seat'.view
+  own_sight seat' put knows = put_sight locks k.seat.view seat'.view s.frame flag.Empty s.lease.bytes last_free.frame knows is_own.out (record { not_due = λ _ e. cc e; not_done = λ _ e. cc e }) put
+
+  module _ (seat' : Sight) (room' : ℕ) (room : OP_PAGES ≤ room') (seat_of : IsSeatOf locks seat') (put : seat'.view ≡ put_back k.seat.view s.frame (put_as flag.Empty (answers.out_of k.seat.view s.frame).word) s.lease.bytes) (sight : KeepsSight locks k.seat.view seat'.view) where
     abbrev k' : Kept
     k' = record k { seat = seat'; free = others; free_room = room' }
 
@@ -248,6 +257,7 @@ module _ (locks : LockTable) (k : Kept) (holds : Holds locks k) (others : List F
       shape = refl;
       number = refl;
       places = refl;
+      sight = sight;
       empty = empty_one;
       put_else = λ g none. put_else g (λ e. none 0 s refl (sym e));
       puts = λ j g t is. put_else g (not_here j g t is);

@@ -14,6 +14,7 @@ use Rattle.pm_stripe.specs.ChangedPages.{is_changed}
 use Rattle.pm_stripe.specs.GivenUp.{AreUnlent, GivesUpHeld}
 use Rattle.pm_stripe.specs.Puts.{put_flag, AreCovered, PutsLast}
 use Rattle.pm_stripe.specs.Kept.{Kept, held_at, place_of, out_of, bytes_by, page_bytes, known_by, is_known, read_one, read_count, bare_count, IsHeldIn, IsFreeIn, IsInHand, Holds, AreClean}
+use Rattle.pm_stripe.specs.SightLaws.{sight_refl, sight_then}
 use Rattle.pm_stripe.proofs.PlacedPages.{same_page}
 use Rattle.pm_stripe.proofs.Hands.{once_push, held_push_else, held_push_here, found_at, read_push}
 
@@ -43,6 +44,7 @@ gives_none locks k holds = record {
   rest = [];
   held = sym (append-nil k.held);
   bare = refl;
+  sight = sight_refl locks k.seat.view;
   shape = refl;
   number = refl;
   staying = λ j is. is;
@@ -67,6 +69,7 @@ gives_then locks k k₁ k₂ x y = record {
   rest = y.rest ++ x.rest;
   held = x.held ∙ ap (λ hs. hs ++ x.rest) y.held ∙ append_assoc k₂.held y.rest x.rest;
   bare = y.bare ∙ x.bare;
+  sight = sight_then locks k.seat.view k₁.seat.view k₂.seat.view x.sight y.sight;
   shape = y.shape ∙ x.shape;
   number = y.number ∙ x.number;
   staying = λ j is. y.staying j (x.staying j is);
@@ -134,6 +137,7 @@ module _ (locks : LockTable) (k : Kept) (holds : Holds locks k) (others : List H
         rest = h ∷ [];
         held = list ∙ ap (λ hs. hs ++ h ∷ []) (sym left);
         bare = omega (arith, ap read_count left, ap length puts.free, ap read_count list, read_push others h, ap read_one unread);
+        sight = puts.left.sight;
         shape = puts.shape;
         number = puts.number;
         staying = puts.staying;
@@ -217,6 +221,7 @@ module _ (locks : LockTable) (k : Kept) (holds : Holds locks k) (others : List H
       rest = h ∷ [];
       held = list;
       bare = omega (arith, ap read_count list, read_push others h, ap read_one read, length-append k.free (new ∷ []));
+      sight = sight_refl locks k.seat.view;
       shape = refl;
       number = refl;
       staying = λ j is. record { frame = is.frame; tag = is.tag; entry = is.entry; kept = is.kept; at = is.at; stay = is.stay };

@@ -5,11 +5,12 @@ use Rattle.std.proofs.lemmas.Option.{slice_get_within}
 use Rattle.pm_types.specs.declared.flag.Flag.TheVariants as flag
 use Rattle.pm_region.specs.Lease.{Leased}
 use Rattle.pm_locks.specs.Words.{LockWord}
-use Rattle.pm_locks.specs.Sight.{LockTable, Sight, KnowsAll}
+use Rattle.pm_locks.specs.Sight.{LockTable, Sight}
 use Rattle.pm_stripe.specs.declared.held.Held.{Held}
 use Rattle.pm_stripe.specs.Kept.{Kept, last_put, place_of, IsHeldIn, Holds}
 use Rattle.pm_stripe.specs.Marks.{IsMarkedAt, MarksPages}
 use Rattle.pm_stripe.specs.Puts.{put_flag, unended_flag, put_word, words_put, AreCovered, IsPutAs, PutsBack, PutsHeld}
+use Rattle.pm_stripe.specs.Sights.{KeepsSight}
 use Rattle.pm_stripe.proofs.PutPages.{empty_before}
 
 -- each page in hand is covered by its patch, once those that were lent are marked
@@ -85,8 +86,7 @@ module _ (locks : LockTable) (k k₁ k₂ : Kept) (seat : k₁.seat ≡ k.seat) 
           ∙ (λ i. words_put put_flag (marks.number i) (sym all_rest i) (seat i).view.words)
           ∙ words_marked k.number k₁.held k.held k.seat.view.words marks.long marked;
       met = puts.left.met ∙ ap (λ (s : Sight). s.view.met) seat;
-      numbers = puts.left.numbers ∙ ap (λ (s : Sight). s.view.numbers) seat;
-      knows = λ is. puts.left.knows (subst (λ (s : Sight). KnowsAll locks s.view) (sym seat) is);
+      sight = subst (λ (s : Sight). KeepsSight locks s.view k₂.seat.view) seat puts.left.sight;
     };
     put = put_one;
     only = λ id away. puts.only id (marks.names id.0 away) ∙ marks.known id;

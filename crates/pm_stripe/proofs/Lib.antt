@@ -7,6 +7,8 @@ pub mod DonePages
 pub mod EndedOperations
 pub mod EndedRounds
 pub mod Fetched
+pub mod FileStripes
+pub mod FirstSeats
 pub mod ForgottenPages
 pub mod FreedFrames
 pub mod GivenPages
@@ -26,6 +28,8 @@ pub mod PageRooms
 pub mod PlacedPages
 pub mod PutPages
 pub mod ReadPages
+pub mod ReadableParts
+pub mod SettledFrames
 pub mod SentBytes
 pub mod ShownPages
 pub mod Spelling

@@ -20,6 +20,7 @@ use Rattle.pm_stripe.specs.declared.places.Places.{Places}
 use Rattle.pm_stripe.specs.PlacedPages.{forgotten}
 use Rattle.pm_stripe.specs.Takes.{LosesFrame}
 use Rattle.pm_stripe.specs.Kept.{Kept, held_at, place_of, last_put, page_at, out_of, stays, stays_in, bytes_by, known_by, is_known, IsKeptPage, IsHeldPage, IsFreeFrame, IsHeldIn, IsFreeIn, AreApart, Holds, AreClean, IsAway, TakesPage}
+use Rattle.pm_stripe.specs.Sights.{KeepsSight}
 use Rattle.pm_stripe.specs.HandLaws.{set_else}
 use Rattle.pm_stripe.proofs.PlacedPages.{get_removed, get_rest, same_page}
 use Rattle.pm_stripe.proofs.Hands.{none_named}
@@ -35,7 +36,7 @@ pub spare_clean : (f : Flag) → IsSpare f → f ≢ flag.Empty → f ≡ flag.C
 spare_clean f spare some = ⊎_elim (λ e. absurd (some e)) (λ e. e) spare
 
 module _ (locks : LockTable) (k : Kept) (id : PageId) (f tag : ℕ) (seat' : Sight) (places' : Places) (holds : Holds locks k) (away : IsAway k id) (at : place_of k id ≡ Some (f, tag)) (seat_of : IsSeatOf locks seat')
-    (lost : LosesFrame k.seat.view seat'.view k.number f) (table : places'.table.entries ≡ forgotten k.places.table.entries (page_at k f)) (pages : places'.pages.items ≡ set k.places.pages.items f None) where
+    (lost : LosesFrame k.seat.view seat'.view k.number f) (table : places'.table.entries ≡ forgotten k.places.table.entries (page_at k f)) (pages : places'.pages.items ≡ set k.places.pages.items f None) (sight : KeepsSight locks k.seat.view seat'.view) where
   abbrev k' : Kept
   k' = record k { seat = seat'; places = places' }
 
@@ -161,4 +162,5 @@ module _ (locks : LockTable) (k : Kept) (id : PageId) (f tag : ℕ) (seat' : Sig
     bare = refl;
     added = λ e. absurd (let q : false ≡ true = e in cc q);
     lost = λ _. (refl, gone);
+    sight = sight;
   }

@@ -27,6 +27,7 @@ use Rattle.pm_stripe.specs.Moves.{IsNamedIn, ChangesOnePage}
 use Rattle.pm_stripe.specs.ReplacedLaws.{found, found_else, long, moves_replaced}
 use Rattle.pm_stripe.specs.Rewrites.{Replaces, ClearsPage}
 use Rattle.pm_stripe.specs.ShownLaws.{written_bytes}
+use Rattle.pm_stripe.specs.SightLaws.{sight_refl, sight_then}
 use Rattle.pm_stripe.specs.Stripes.{kept, SameButPages}
 use Rattle.pm_stripe.specs.Zeros.{zeroed}
 use Rattle.std.proofs.lemmas.Bool.{cases_eq}
@@ -184,7 +185,7 @@ module _ (locks : LockTable) (k : Kept) (holds : Holds locks k) (frames : HasFra
     patched = whole.size;
     unlent = λ e. absurd (cc e);
     from_frame = λ e. let y = held.from_frame e in record { kept = y.kept; follows = y.follows; last = y.last; taken = y.taken };
-    from_file = λ e. let y = held.from_file e in record { unkept = y.unkept; bare = y.bare; empty = y.empty; passes = λ c. absurd (whole_changed k.shape.page_size patch whole c) };
+    from_file = λ e. let y = held.from_file e in record { unkept = y.unkept; bare = y.bare; empty = y.empty; reads = λ c. absurd (whole_changed k.shape.page_size patch whole c) };
   }
 
   pub made_in_hand : MakesAnew locks k (record k { held = set k.held (place_at k.held id.0) h'; held_room = room' }) id
@@ -193,6 +194,7 @@ module _ (locks : LockTable) (k : Kept) (holds : Holds locks k) (frames : HasFra
     made = record { page = h'; patch = patch; at = found locks k id h h' room' at refl refl; lent = refl; patched = refl; whole = whole; zeros = zero_bytes h.lease ∙ ap (λ n. replicate n 0) held.out.long };
     hands = found_else locks k id h h' room' at refl refl;
     count = inl (long locks k id h h' room' at refl refl);
+    sight = sight_refl locks k.seat.view;
   }
 
 -- the same, of the page in hand that was found
@@ -215,6 +217,7 @@ taken_made locks k k₁ k₂ id away home m =
           (λ same. inr (away.away, omega (arith, same, ap length adds.added, length-append k.held (adds.page ∷ []))))
           (λ p. absurd (no_some (held_at k₁.held id.0) p.0 (added_some k k₁ id away adds)))
           m.count;
+      sight = sight_then locks k.seat.view k₁.seat.view k₂.seat.view home.takes.sight m.sight;
     }
 
 -- a page that no frame keeps, and then made anew
@@ -226,6 +229,7 @@ lost_made locks k k₁ k₂ id home m =
       made = subst (IsMade k₂.held id.0) size m.made;
       hands = λ j ne. m.hands j ne ∙ ap (λ hs. held_at hs j) same;
       count = subst (λ (hs : List Held). MayAddOne hs k₂.held id.0) same m.count;
+      sight = sight_then locks k.seat.view k₁.seat.view k₂.seat.view home.takes.sight m.sight;
     }
 
 -- a page was made in an empty frame
@@ -256,7 +260,7 @@ module _ (locks : LockTable) (k : Kept) (holds : Holds locks k) (frames : HasFra
     patched = subst (λ (o : Option Coverage). IfSome o (λ p. p.page_size ≡ k.shape.page_size)) (sym patched) whole.size;
     unlent = λ e. absurd (let bad : true ≡ false = sym lent ∙ e in cc bad);
     from_frame = λ e. absurd (let bad : true ≡ false = sym is_read ∙ e in cc bad);
-    from_file = λ _. record { unkept = unkept.none; bare = bare_frame locks k holds frames rest s list (zeroed s.lease) z_same z_long new room' room free_room' free_room away frame_is is_read; empty = empty; passes = λ c. absurd (unchanged c) };
+    from_file = λ _. record { unkept = unkept.none; bare = bare_frame locks k holds frames rest s list (zeroed s.lease) z_same z_long new room' room free_room' free_room away frame_is is_read; empty = empty; reads = λ c. absurd (unchanged c) };
   }
 
   bytes_else : (file : PageId → Option (List ℕ)) (j : PageId) → j.0 ≢ new.page.0 → page_bytes file k₂ j ≡ page_bytes file k j
@@ -317,4 +321,5 @@ module _ (locks : LockTable) (k : Kept) (holds : Holds locks k) (frames : HasFra
     };
     hands = λ j ne. held_push_else k.held new j (λ e. ne (sym e));
     count = inr (away.away, omega (arith, length-append k.held (new ∷ [])));
+    sight = sight_refl locks k.seat.view;
   }

@@ -28,13 +28,15 @@ use Rattle.pm_stripe.specs.declared.held.Held.{Held}
 use Rattle.pm_stripe.specs.declared.held.Free.{Free}
 use Rattle.pm_stripe.specs.declared.places.Places.{Places}
 use Rattle.pm_stripe.specs.ChangedPages.{is_changed, has_bytes}
-use Rattle.pm_stripe.specs.Reads.{Passes}
+use Rattle.pm_stripe.specs.Reads.{Reads}
+use Rattle.pm_stripe.specs.Sights.{KeepsSight}
 use Rattle.pm_stripe.specs.Puts.{is_empty, put_flag, put_word, IsCovered, AreCovered, AreStayingCovered, IsPutAs, LeavesWords, PutsLast}
 use Rattle.pm_stripe.specs.Kept.{Kept, held_at, place_of, last_put, page_at, out_of, stays, bytes_by, page_bytes, known_by, is_known, IsKeptPage, IsHeldPage, IsFreeFrame, IsHeldIn, IsFreeIn, IsKeptIn, IsInHand, Holds, AreClean, IsStaying, stays_in}
 use Rattle.std.specs.FinMap as fin
 use Rattle.std.proofs.lemmas.List.{length-set}
 use Rattle.pm_stripe.specs.PlacedPages.{forgotten}
 use Rattle.pm_stripe.specs.HandLaws.{set_else}
+use Rattle.pm_stripe.proofs.SettledFrames.{IsPutPlain, put_sight}
 use Rattle.pm_stripe.proofs.PlacedPages.{same_page, get_put, get_other, get_removed, get_rest}
 use Rattle.pm_stripe.proofs.Hands.{or_else, held_push, held_push_else, one_here, one_else, found_at}
 
@@ -143,6 +145,18 @@ module _ (locks : LockTable) (k : Kept) (holds : Holds locks k) (others : List H
   pub may_put : AreStayingCovered k.held → (now : Flag) → now ≡ put_flag h → MayPut (answers.out_of k.seat.view h.frame) now h.lease.bytes
   may_put covered now is = subst (λ (p : Out × Flag). MayPut p.0 p.1 h.lease.bytes) (λ i. (sym out_is i, sym is i)) (may_by covered (put_flag h) (way h))
 
+  plain_by : (now : Flag) → Way h now → IsPutPlain h.flag now
+  plain_by now (Changed c) = record { not_due = λ _ e. cc e; not_done = λ _ e. cc e }
+  plain_by now (GivenUp c l s) = record { not_due = λ _ e. cc e; not_done = λ _ e. cc e }
+  plain_by now (Read c r l) = record { not_due = λ _ e. cc e; not_done = λ _ e. cc e }
+  plain_by now (Same c r l) = record { not_due = λ no. no; not_done = λ no. no }
+
+  -- the seat knows what it knew once the page is put back
+  pub own_sight : (now : Flag) → now ≡ put_flag h → (seat' : Sight) → seat'.view ≡ put_back k.seat.view h.frame (put_as now (answers.out_of k.seat.view h.frame).word) h.lease.bytes → (KnowsAll locks k.seat.view → KnowsAll locks seat'.view)
+      → KeepsSight locks k.seat.view seat'.view
+  own_sight now is seat' put knows = put_sight locks k.seat.view seat'.view h.frame now h.lease.bytes last_held.frame knows is_own.out
+      (subst (λ (p : Flag × Flag). IsPutPlain p.0 p.1) (λ i. ((sym last_held.out.flag_is ∙ sym (ap (λ (z : Out). z.word.flag) out_is)) i, sym is i)) (plain_by (put_flag h) (way h))) put
+
   -- an entry whose flag is reached by Clean is Clean
   clean_before : (was now : Flag) → IsReachedFrom was now → now ≡ flag.Clean → was ≡ flag.Clean
   clean_before was now r e = ⊎_elim (λ same. same ∙ e) (λ p. absurd (let z = ap code_of e in let a = p.0 in let b = p.1 in omega (arith, z))) r
@@ -168,20 +182,20 @@ module _ (locks : LockTable) (k : Kept) (holds : Holds locks k) (others : List H
   lent_or_stays : (f : Flag) → stays f ≡ false → (h.is_lent ≡ false) ⊎ (stays f ≡ true) → h.is_lent ≡ false
   lent_or_stays f goes = ⊎_elim (λ l. l) (λ s. absurd (let bad : false ≡ true = sym goes ∙ s in cc bad))
 
-  -- what is put as Clean passes its check, and is as it was
-  clean_by : (now : Flag) → Way h now → now ≡ flag.Clean → Passes k.shape h.page h.lease.bytes × (is_changed h.patch ≡ false) × (h.lease.bytes ≡ h.was.value.bytes) × ((h.is_read ≡ true) ⊎ ((h.is_read ≡ false) × (h.flag ≡ flag.Clean)))
+  -- what is put as Clean reads as what it says, and is as it was
+  clean_by : (now : Flag) → Way h now → now ≡ flag.Clean → Reads h.page h.lease.bytes × (is_changed h.patch ≡ false) × (h.lease.bytes ≡ h.was.value.bytes) × ((h.is_read ≡ true) ⊎ ((h.is_read ≡ false) × (h.flag ≡ flag.Clean)))
   clean_by now (Changed c) e = absurd (cc e)
   clean_by now (GivenUp c l s) e = absurd (cc e)
   clean_by now (Read c r l) e =
       let x = last_held.from_file r in
       let same = (last_held.unlent (lent_or_stays h.flag (ap stays x.empty) l)).0 in
-      (subst (Passes k.shape h.page) (sym same) (x.passes c), c, same, inl r)
+      (subst (Reads h.page) (sym same) (x.reads c), c, same, inl r)
   clean_by now (Same c r l) e =
       let x = last_held.from_frame r in
       let y = holds.kept h.page h.frame h.tag x.kept in
       let same = (last_held.unlent (lent_or_stays h.flag (ap stays e) l)).0 in
       let is_clean = clean_before y.entry.flag h.flag (x.follows y.entry y.at) e in
-      (subst (Passes k.shape h.page) (sym (same ∙ x.last y.entry y.at)) (y.passes is_clean), c, same, inr (r, e))
+      (subst (Reads h.page) (sym (same ∙ x.last y.entry y.at)) (y.reads is_clean), c, same, inr (r, e))
 
   -- what is put as Empty was lent, and not noted
   empty_by : (now : Flag) → Way h now → now ≡ flag.Empty → (is_changed h.patch ≡ false) × ((h.is_read ≡ true) ⊎ ((h.is_read ≡ false) × (h.flag ≡ flag.Clean)))
@@ -213,7 +227,7 @@ module _ (locks : LockTable) (k : Kept) (holds : Holds locks k) (others : List H
   module _ (now : Flag) (now_is : now ≡ put_flag h) (seat' : Sight) (places' : Places) (room' : ℕ) (room : OP_PAGES ≤ room') (seat_of : IsSeatOf locks seat')
       (put : seat'.view ≡ put_back k.seat.view h.frame (put_as now (answers.out_of k.seat.view h.frame).word) h.lease.bytes) (many : length places'.pages.items ≡ length k.places.pages.items)
       (rest : (j : PageId) → j.0 ≢ h.page.0 → place_of (record k { places = places' }) j ≡ place_of k j) (page_else : (g : ℕ) → g ≢ h.frame → page_at (record k { places = places' }) g ≡ page_at k g)
-      (knows : KnowsAll locks k.seat.view → KnowsAll locks seat'.view)
+      (sight : KeepsSight locks k.seat.view seat'.view)
       (kept_or : ((place_of (record k { places = places' }) h.page ≡ Some (h.frame, h.tag)) × (now ≢ flag.Empty)) ⊎ ((place_of (record k { places = places' }) h.page ≡ None) × (now ≡ flag.Empty))) where
     abbrev k' : Kept
     k' = record k { seat = seat'; places = places'; held = others; held_room = room' }
@@ -291,7 +305,7 @@ module _ (locks : LockTable) (k : Kept) (holds : Holds locks k) (others : List H
       tag_is = tag_is;
       long = last_held.out.long;
       some = some;
-      passes = λ e. (clean_by (put_flag h) (way h) (sym now_is ∙ e)).0;
+      reads = λ e. (clean_by (put_flag h) (way h) (sym now_is ∙ e)).0;
     }
 
     kept_new : (j : PageId) (g t : ℕ) → place_of k' j ≡ Some (g, t) → IsKeptIn locks k' j g t
@@ -521,8 +535,7 @@ module _ (locks : LockTable) (k : Kept) (holds : Holds locks k) (others : List H
     left = record {
       words = ap (λ (v : View). v.words) put ∙ ap (λ w. (h.frame, w) ∷ k.seat.view.words) left_word;
       met = ap (λ (v : View). v.met) put;
-      numbers = ap (λ (v : View). v.numbers) put;
-      knows = knows;
+      sight = sight;
     }
 
     pub puts_last : PutsLast locks k k'
@@ -559,25 +572,25 @@ module _ (locks : LockTable) (k : Kept) (holds : Holds locks k) (others : List H
         let own = k.places.agree.kept h.page h.frame h.tag (last_held.from_frame r).kept in
         ap (λ m. fin.get m h.page.0) (table ∙ ap (forgotten k.places.table.entries) own) ∙ get_removed k.places.table.entries h.page.0
 
-    pub forgot : (now : Flag) → now ≡ put_flag h → (seat' : Sight) (room' : ℕ) → OP_PAGES ≤ room' → IsSeatOf locks seat' → seat'.view ≡ put_back k.seat.view h.frame (put_as now (answers.out_of k.seat.view h.frame).word) h.lease.bytes → (KnowsAll locks k.seat.view → KnowsAll locks seat'.view) → now ≡ flag.Empty
+    pub forgot : (now : Flag) → now ≡ put_flag h → (seat' : Sight) (room' : ℕ) → OP_PAGES ≤ room' → IsSeatOf locks seat' → seat'.view ≡ put_back k.seat.view h.frame (put_as now (answers.out_of k.seat.view h.frame).word) h.lease.bytes → KeepsSight locks k.seat.view seat'.view → now ≡ flag.Empty
         → PutsLast locks k (record k { seat = seat'; places = places'; held = others; held_room = room' })
-    forgot now is seat' room' room seat_of put knows empty =
+    forgot now is seat' room' room seat_of put sight empty =
         puts_last now is seat' places' room' room seat_of put (ap length pages ∙ length-set k.places.pages.items h.frame None) (forgot_rest h.is_read refl)
-        (λ g ne. ap (λ ps. slice_get ps g) pages ∙ set_else k.places.pages.items h.frame g None ne) knows (inr (forgot_gone h.is_read refl, empty))
+        (λ g ne. ap (λ ps. slice_get ps g) pages ∙ set_else k.places.pages.items h.frame g None ne) sight (inr (forgot_gone h.is_read refl, empty))
 
   -- the frame keeps the page that was read from now on
   pub placed : (places' : Places) → places'.table.entries ≡ fin.insert k.places.table.entries h.page.0 (h.frame, h.tag) → places'.pages.items ≡ set k.places.pages.items h.frame (Some h.page)
-      → (now : Flag) → now ≡ put_flag h → (seat' : Sight) (room' : ℕ) → OP_PAGES ≤ room' → IsSeatOf locks seat' → seat'.view ≡ put_back k.seat.view h.frame (put_as now (answers.out_of k.seat.view h.frame).word) h.lease.bytes → (KnowsAll locks k.seat.view → KnowsAll locks seat'.view) → now ≢ flag.Empty
+      → (now : Flag) → now ≡ put_flag h → (seat' : Sight) (room' : ℕ) → OP_PAGES ≤ room' → IsSeatOf locks seat' → seat'.view ≡ put_back k.seat.view h.frame (put_as now (answers.out_of k.seat.view h.frame).word) h.lease.bytes → KeepsSight locks k.seat.view seat'.view → now ≢ flag.Empty
       → PutsLast locks k (record k { seat = seat'; places = places'; held = others; held_room = room' })
-  placed places' table pages now is seat' room' room seat_of put knows some =
+  placed places' table pages now is seat' room' room seat_of put sight some =
       puts_last now is seat' places' room' room seat_of put (ap length pages ∙ length-set k.places.pages.items h.frame (Some h.page))
       (λ j ne. ap (λ m. fin.get m j.0) table ∙ get_other k.places.table.entries h.page.0 (h.frame, h.tag) j.0 ne)
       (λ g ne. ap (λ ps. slice_get ps g) pages ∙ set_else k.places.pages.items h.frame g (Some h.page) ne)
-      knows
+      sight
       (inl (ap (λ m. fin.get m h.page.0) table ∙ get_put k.places.table.entries h.page.0 (h.frame, h.tag), some))
 
   -- the frame that keeps the page still does
-  pub returned : (now : Flag) → now ≡ put_flag h → (seat' : Sight) (room' : ℕ) → OP_PAGES ≤ room' → IsSeatOf locks seat' → seat'.view ≡ put_back k.seat.view h.frame (put_as now (answers.out_of k.seat.view h.frame).word) h.lease.bytes → (KnowsAll locks k.seat.view → KnowsAll locks seat'.view) → now ≢ flag.Empty → h.is_read ≡ false
+  pub returned : (now : Flag) → now ≡ put_flag h → (seat' : Sight) (room' : ℕ) → OP_PAGES ≤ room' → IsSeatOf locks seat' → seat'.view ≡ put_back k.seat.view h.frame (put_as now (answers.out_of k.seat.view h.frame).word) h.lease.bytes → KeepsSight locks k.seat.view seat'.view → now ≢ flag.Empty → h.is_read ≡ false
       → PutsLast locks k (record k { seat = seat'; held = others; held_room = room' })
-  returned now is seat' room' room seat_of put knows some r =
-      puts_last now is seat' k.places room' room seat_of put refl (λ j ne. refl) (λ g ne. refl) knows (inl ((last_held.from_frame r).kept, some))
+  returned now is seat' room' room seat_of put sight some r =
+      puts_last now is seat' k.places room' room seat_of put refl (λ j ne. refl) (λ g ne. refl) sight (inl ((last_held.from_frame r).kept, some))

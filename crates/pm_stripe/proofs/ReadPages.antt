@@ -6,20 +6,27 @@ use Rattle.std.proofs.lemmas.Option.{slice_get_within}
 use Rattle.std.proofs.lemmas.List.{length-append}
 use Rattle.pm_types.specs.declared.flag.Flag.TheVariants as flag
 use Rattle.pm_types.specs.declared.page_id.PageId.{PageId}
+use Rattle.pm_types.specs.declared.shape.Shape.{Shape}
 use Rattle.pm_types.specs.declared.fault.PageFault.{PageFault}
+use Rattle.pm_types.specs.Ids.{part_of_id, index_of_id}
 use Rattle.pm_types.specs.declared.limits.TheConstants.{OP_PAGES}
 use Rattle.pm_types.specs.Spans.{Coverage}
 use Rattle.pm_region.specs.Lease.{Leased}
+use Rattle.pm_pages.proofs.ReadablePages.{passes_read}
 use Rattle.pm_locks.specs.Answers.{IsSameLease}
 use Rattle.pm_locks.specs.declared.view.Out.{Out}
 use Rattle.pm_locks.specs.Sight.{LockTable}
 use Rattle.pm_locks.proofs.Pushing.{slice_get-pushed, slice_get-push, slice_get-front}
 use Rattle.pm_stripe.specs.declared.held.Held.{Held}
 use Rattle.pm_stripe.specs.declared.held.Free.{Free}
-use Rattle.pm_stripe.specs.Reads.{Passes, ReadsPage}
+use Rattle.pm_stripe.specs.Reads.{Passes, Reads, ReadsPage}
 use Rattle.pm_stripe.specs.Fetches.{IsUnkept, ReadsFrame}
 use Rattle.pm_stripe.specs.Kept.{Kept, held_at, place_of, page_at, out_of, bytes_by, page_bytes, known_by, is_known, IsOutWith, IsFreeFrame, IsHeldIn, IsFreeIn, IsInHand, Holds, HasFrames, IsAway, read_one, bare_count}
 use Rattle.pm_stripe.proofs.Hands.{once_push, or_else, held_push, held_push_else, one_here, one_else, none_named, read_push}
+
+-- a page that passes its check reads as what it says
+passes_reads : (shape : Shape) (id : PageId) (bytes : List ℕ) → Passes shape id bytes → Reads id bytes
+passes_reads shape id = passes_read shape.page_size shape.max_rows (part_of_id id) (index_of_id id)
 
 -- an empty frame with other bytes
 pub refilled_free : (locks : LockTable) (size n : ℕ) (page : Option (Option PageId)) (held : Option Out) (s : Free) (lease : Leased) → IsSameLease s.lease lease → length lease.bytes ≡ size → IsFreeFrame locks size n page held s → IsFreeFrame locks size n page held (record s { lease = lease })
@@ -197,7 +204,7 @@ module _ (locks : LockTable) (k : Kept) (holds : Holds locks k) (ready : HasFram
       patched = subst (λ (o : Option Coverage). IfSome o (λ patch. patch.page_size ≡ k.shape.page_size)) (sym bare) tt;
       unlent = λ _. (ap (λ (l : Leased). l.bytes) lease_is ∙ sym was_is, bare);
       from_frame = λ e. absurd (let q : true ≡ false = sym is_read ∙ e in cc q);
-      from_file = λ _. record { unkept = unkept.none; bare = bare_frame new room' room free_room' free_room away frame_is is_read; empty = empty; passes = λ _. subst (Passes k.shape new.page) (sym was_is) passes };
+      from_file = λ _. record { unkept = unkept.none; bare = bare_frame new room' room free_room' free_room away frame_is is_read; empty = empty; reads = λ _. subst (Reads new.page) (sym was_is) (passes_reads k.shape new.page lease.bytes passes) };
     }
 
     -- the new page alone isn't as it was, where it isn't what its file has
@@ -242,7 +249,7 @@ module _ (locks : LockTable) (k : Kept) (holds : Holds locks k) (ready : HasFram
       seat = refl;
       only = added_only new room' room free_room' free_room away frame_is is_read;
       bare = added_bare new room' room free_room' free_room away frame_is is_read;
-      added = λ _. record { page = new; added = refl; page_is = refl; unlent = unlent; bare = bare; passes = inr (subst (λ (l : Leased). Passes k.shape new.page l.bytes) (sym lease_is) passes) };
+      added = λ _. record { page = new; added = refl; page_is = refl; unlent = unlent; bare = bare; reads = inr (subst (λ (l : Leased). Reads new.page l.bytes) (sym lease_is) (passes_reads k.shape new.page lease.bytes passes)) };
       not_added = λ no. absurd (no refl);
       absent = λ e. absurd (cc e);
       bad = λ named e. absurd (cc e);

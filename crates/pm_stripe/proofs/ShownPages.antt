@@ -10,6 +10,7 @@ use Rattle.pm_types.specs.Ids.{page_id, part_of_id, index_of_id}
 use Rattle.pm_types.specs.Spans.{Coverage}
 use Rattle.pm_disk.specs.States.{DeviceState}
 use Rattle.pm_pages.specs.Passes.{PassesAt}
+use Rattle.pm_pages.specs.PageLists.{ReadsAt}
 use Rattle.pm_pages.specs.Paged.{IsTold, IsThere, NoneLent, JoinsPatch, IsWhole, AsksPage, LendsNone, AsksInVain, IsPageIn, IsInHand, IsLent, MakesPage, NotesPatch, GivesUpPages, IsBadPage}
 use Rattle.pm_locks.specs.Sight.{LockTable}
 use Rattle.pm_stripe.specs.declared.held.Held.{Held}
@@ -18,7 +19,7 @@ use Rattle.pm_stripe.specs.GivenUp.{AreUnlent, GivesUpHeld}
 use Rattle.pm_stripe.specs.Kept.{Kept, held_at, place_at, place_of, bytes_by, page_bytes, known_by, is_known, read_count, Holds, AreClean}
 use Rattle.pm_stripe.specs.Makes.{MakesAnew}
 use Rattle.pm_stripe.specs.Moves.{AreOfPart, HasOperation}
-use Rattle.pm_stripe.specs.Reads.{Passes}
+use Rattle.pm_stripe.specs.Reads.{Passes, Reads}
 use Rattle.pm_stripe.specs.ReplacedLaws.{known_same, hand_same, found, found_else, long}
 use Rattle.pm_stripe.specs.Shown.{is_held, is_lent, patch_of, paged}
 use Rattle.pm_stripe.specs.ShownLaws.{names_apart, any_file, IsInOrder, clean_file, may_read}
@@ -98,8 +99,8 @@ module _ (locks : LockTable) (tells : Type 0) (file file' : PageId → Option (L
       (λ p. inl (ap is_held (ap (λ hs. held_at hs (page_id part i).0) p.1.added ∙ held_push_here k.held p.1.page (page_id part i).0 (ap (λ (z : PageId). z.0) p.1.page_is) p.0.away)))
       f.held
 
-  passes_by : (bytes : List ℕ) → Passes k.shape (page_id part i) bytes → PassesAt k.shape.page_size k.shape.max_rows part i bytes
-  passes_by bytes passes = subst (λ (n : ℕ × ℕ). PassesAt k.shape.page_size k.shape.max_rows n.0 n.1 bytes) (λ j. (in_part part i p16 i32 j, in_index part i p16 i32 j)) passes
+  reads_by : (bytes : List ℕ) → Reads (page_id part i) bytes → ReadsAt i bytes
+  reads_by bytes reads = subst (λ (n : ℕ). ReadsAt n bytes) (in_index part i p16 i32) reads
 
   fails_by : (bytes : List ℕ) → (Passes k.shape (page_id part i) bytes → ⊥) → PassesAt k.shape.page_size k.shape.max_rows part i bytes → ⊥
   fails_by bytes fails passes = fails (subst (λ (n : ℕ × ℕ). PassesAt k.shape.page_size k.shape.max_rows n.0 n.1 bytes) (λ j. (sym (in_part part i p16 i32) j, sym (in_index part i p16 i32) j)) passes)
@@ -120,16 +121,16 @@ module _ (locks : LockTable) (tells : Type 0) (file file' : PageId → Option (L
       sym (f.keeps.told t file (page_id part i) refl (clean t))
       ∙ (λ n. bytes_by (none n) (x.2 n) k'.seat.view.entries k'.number (file (page_id part i)))
 
-  -- a page that is at hand now was so, or passes its check
-  passes_here : is_known k' (page_id part i) ≡ true → IsTrue (is_known k (page_id part i)) ⊎ IsSomeAnd (page_bytes file' k' (page_id part i)) (PassesAt k.shape.page_size k.shape.max_rows part i)
-  passes_here known = ⊎_elim
+  -- a page that is at hand now was so, or reads as what it says
+  reads_here : is_known k' (page_id part i) ≡ true → IsTrue (is_known k (page_id part i)) ⊎ IsSomeAnd (page_bytes file' k' (page_id part i)) (ReadsAt i)
+  reads_here known = ⊎_elim
       (λ e. inl (by_hand e (held_at k'.held (page_id part i).0) refl (decided result)))
       (λ p.
       let at : held_at k'.held (page_id part i).0 ≡ Some p.1.page = ap (λ hs. held_at hs (page_id part i).0) p.1.added ∙ held_push_here k.held p.1.page (page_id part i).0 (ap (λ (z : PageId). z.0) p.1.page_is) p.0.away in
       ⊎_elim
       (λ was. inl was)
-      (λ passes. inr (subst (λ o. IsSomeAnd o (PassesAt k.shape.page_size k.shape.max_rows part i)) (sym (here file' k' (page_id part i) p.1.page at)) (passes_by p.1.page.lease.bytes passes)))
-      p.1.passes)
+      (λ reads. inr (subst (λ o. IsSomeAnd o (ReadsAt i)) (sym (here file' k' (page_id part i) p.1.page at)) (reads_by p.1.page.lease.bytes reads)))
+      p.1.reads)
       f.held
     where
       by_hand : k'.held ≡ k.held → (o : Option Held) → held_at k'.held (page_id part i).0 ≡ o → (result ≡ Ok true) ⊎ (result ≡ Ok true → ⊥) → is_known k (page_id part i) ≡ true
@@ -144,8 +145,8 @@ module _ (locks : LockTable) (tells : Type 0) (file file' : PageId → Option (L
   asks = record {
     pages = λ j t. fetched_pages (page_id part j) t;
     known = λ j is. f.keeps.known (page_id part j) is;
-    passes = λ j is. elim (cases_eq j i) [
-      | inl same ↦ subst (λ n. IsTrue (is_known k (page_id part n)) ⊎ IsSomeAnd (page_bytes file' k' (page_id part n)) (PassesAt k.shape.page_size k.shape.max_rows part n)) (sym same) (passes_here (ap (λ n. is_known k' (page_id part n)) (sym same) ∙ is))
+    reads = λ j is. elim (cases_eq j i) [
+      | inl same ↦ subst (λ n. IsTrue (is_known k (page_id part n)) ⊎ IsSomeAnd (page_bytes file' k' (page_id part n)) (ReadsAt n)) (sym same) (reads_here (ap (λ n. is_known k' (page_id part n)) (sym same) ∙ is))
       | inr ne ↦ inl (sym (f.only (page_id part j) (names_apart part i j ne)) ∙ is)
     ];
     lent = λ j. lent_still (page_id part j).0;
@@ -169,7 +170,7 @@ module _ (locks : LockTable) (tells : Type 0) (file file' : PageId → Option (L
         record {
           same = λ t. sym (fetched_pages (page_id part i) t) ∙ is;
           size = (f.holds.held x.0 h x.1).out.long ∙ ap (λ (s : Shape). s.page_size) f.shape;
-          passes = ⊎_elim (λ was. inl was) (λ passes. inr (subst (λ o. IsSomeAnd o (PassesAt k.shape.page_size k.shape.max_rows part i)) is passes)) (passes_here (known_here k' (page_id part i) h at));
+          reads = ⊎_elim (λ was. inl was) (λ reads. inr (subst (λ o. IsSomeAnd o (ReadsAt i)) is reads)) (reads_here (known_here k' (page_id part i) h at));
         },
         record { known = known_here k' (page_id part i) h at; asked = held_here (held_at k'.held (page_id part i).0) h at; page = is },
       )
@@ -232,7 +233,7 @@ module _ (locks : LockTable) (tells : Type 0) (file file' : PageId → Option (L
       record {
         pages = λ j t. now_bytes (page_id part j) ∙ asks.pages j t;
         known = λ j is. now_known (page_id part j) ∙ asks.known j is;
-        passes = λ j is. ⊎_elim (λ was. inl was) (λ passes. inr (subst (λ o. IsSomeAnd o (PassesAt k.shape.page_size k.shape.max_rows part j)) (sym (now_bytes (page_id part j))) passes)) (asks.passes j (sym (now_known (page_id part j)) ∙ is));
+        reads = λ j is. ⊎_elim (λ was. inl was) (λ reads. inr (subst (λ o. IsSomeAnd o (ReadsAt j)) (sym (now_bytes (page_id part j))) reads)) (asks.reads j (sym (now_known (page_id part j)) ∙ is));
         lent = λ j is. lent_more (page_id part j).0 (asks.lent j is);
         patches = λ j. hand patch_of refl (page_id part j).0 ∙ asks.patches j;
         room = record {

@@ -14,6 +14,8 @@ use Rattle.pm_locks.proofs.Pushing.{slice_get-push}
 use Rattle.pm_stripe.specs.Kept.{Kept, KeepsPages, Holds, IsInHand}
 use Rattle.pm_stripe.specs.declared.held.Free.{Free}
 use Rattle.pm_stripe.specs.Met.{IsRefused, EndsWithTheft, MeetsFrame, GoesOn, last_of, start_of}
+use Rattle.pm_stripe.specs.Sights.{KeepsSight}
+use Rattle.pm_stripe.specs.SightLaws.{sight_refl, sight_then}
 use Rattle.pm_stripe.specs.Steals.{StealsFrame, IsExactly}
 use Rattle.pm_stripe.specs.Sweeps.{is_spare, is_stealable, one_if, stealable, entries_of, EndsWithLast, GathersFrames, TriesFrames, TriesRange, SweepsFrames}
 use Rattle.pm_stripe.proofs.MetFrames.{still_in, refused_before, refused_after, theft_after, meets_then, meets_none, order_none, order_one, order_then, last_append, front_nil, back_nil}
@@ -104,8 +106,7 @@ gathers_none locks k holds = record {
   staying = λ id is. is;
   unmoved = λ id f tag e is at stay. (is, at);
   back = λ id is. is;
-  numbers = refl;
-  knows = λ is. is;
+  sight = sight_refl locks k.seat.view;
 }
 
 pub tries_none : (locks : LockTable) (k : Kept) (f : ℕ) → Holds locks k → length k.free ≤ OP_PAGES → TriesFrames locks k k f f
@@ -143,13 +144,12 @@ gathers_then locks k k₁ k₂ x y = record {
   staying = λ id is. y.staying id (x.staying id is);
   unmoved = λ id f tag e is at stay. let p = x.unmoved id f tag e is at stay in y.unmoved id f tag e p.0 p.1 stay;
   back = λ id is. x.back id (y.back id is);
-  numbers = y.numbers ∙ x.numbers;
-  knows = λ is. y.knows (x.knows is);
+  sight = sight_then locks k.seat.view k₁.seat.view k₂.seat.view x.sight y.sight;
 }
 
 -- one frame is tried
 module _ (locks : LockTable) (k k' : Kept) (f : ℕ) (found : Bool) (s : StealsFrame locks k k' f found) (m : MeetsFrame k k' f found) (room : length k.free < OP_PAGES)
-    (exact : KnowsAll locks k.seat.view → IsExactly (known_at k.seat.view f) found) (knows : KnowsAll locks k.seat.view → KnowsAll locks k'.seat.view) where
+    (exact : KnowsAll locks k.seat.view → IsExactly (known_at k.seat.view f) found) (sight : KeepsSight locks k.seat.view k'.seat.view) where
   gathers_by : (found ≡ true) ⊎ (found ≡ false) → GathersFrames locks k k'
   gathers_by cases = record {
     holds = s.holds;
@@ -162,8 +162,7 @@ module _ (locks : LockTable) (k k' : Kept) (f : ℕ) (found : Bool) (s : StealsF
     staying = s.staying;
     unmoved = s.unmoved;
     back = s.back;
-    numbers = m.numbers;
-    knows = knows;
+    sight = sight;
   }
     where
       free_by : (c : (found ≡ true) ⊎ (found ≡ false)) → k'.free ≡ k.free ++ ⊎_elim (λ got. (s.added got).frame ∷ []) (λ lost. []) c
@@ -221,7 +220,7 @@ tries_then locks k k₁ k₂ a b c ab bc x y = record {
   gathers = gathers_then locks k k₁ k₂ x.gathers y.gathers;
   few = y.few;
   met = x.met ++ y.met;
-  meets = meets_then k k₁ k₂ x.met y.met y.gathers.more x.gathers.numbers y.gathers.held y.gathers.free x.meets y.meets;
+  meets = meets_then k k₁ k₂ x.met y.met y.gathers.more x.gathers.sight.numbers y.gathers.held y.gathers.free x.meets y.meets;
   order = order_then x.met y.met a b c ab (omega (arith, bc)) x.order y.order;
   each = λ f from below. ⊎_elim
       (λ lt. ⊎_elim
@@ -249,7 +248,7 @@ tries_then locks k k₁ k₂ a b c ab bc x y = record {
       let v = k.seat.view in
       let v₁ = k₁.seat.view in
       let first = x.counted all in
-      let second = y.counted (x.gathers.knows all) in
+      let second = y.counted (x.gathers.sight.knows all) in
       let same = same_high v v₁ b (c - b) (λ f le. x.words f (inr le)) in
       let end : b + (c - b) ≡ c = omega (arith, bc) in
       let same' : stealable v₁ c + stealable v b ≡ stealable v c + stealable v₁ b = subst (λ n. stealable v₁ n + stealable v b ≡ stealable v n + stealable v₁ b) end same in
@@ -285,7 +284,7 @@ module _ (locks : LockTable) (k k₁ k₂ : Kept) (a n next next₁ next₂ : �
 
     second_count : length k₂.free ≡ length k₁.free + stealable v y.end
     second_count =
-        let counted = y.tries.counted (x.tries.gathers.knows knows) in
+        let counted = y.tries.counted (x.tries.gathers.sight.knows knows) in
         let same = same_low v k₁.seat.view y.end (λ f lt. x.tries.words f (inl (omega (arith, lt, y.before)))) in
         omega (arith, counted, same)
 
@@ -370,7 +369,7 @@ module _ (locks : LockTable) (k k₁ k₂ : Kept) (a n next next₁ next₂ : �
     gathers = gathers_then locks k k₁ k₂ x.tries.gathers y.tries.gathers;
     few = y.tries.few;
     met = x.tries.met ++ y.tries.met;
-    meets = meets_then k k₁ k₂ x.tries.met y.tries.met y.tries.gathers.more x.tries.gathers.numbers y.tries.gathers.held y.tries.gathers.free x.tries.meets y.tries.meets;
+    meets = meets_then k k₁ k₂ x.tries.met y.tries.met y.tries.gathers.more x.tries.gathers.sight.numbers y.tries.gathers.held y.tries.gathers.free x.tries.meets y.tries.meets;
     each = each_one;
     exact = λ knows. subst (λ n. (length k₂.free < OP_PAGES) ↔ (length k.free + stealable k.seat.view n < OP_PAGES)) all (lacks_then knows, then_lacks knows);
   }

@@ -19,8 +19,9 @@ use Rattle.pm_locks.proofs.Pushing.{slice_get-pushed, slice_get-push, slice_get-
 use Rattle.pm_stripe.specs.declared.held.Held.{Held}
 use Rattle.pm_stripe.specs.declared.held.Free.{Free}
 use Rattle.pm_stripe.specs.Takes.{HasPut, TakesFrame}
-use Rattle.pm_stripe.specs.Reads.{Passes}
+use Rattle.pm_stripe.specs.Reads.{Reads}
 use Rattle.pm_stripe.specs.Kept.{Kept, held_at, place_of, last_put, page_at, out_of, stays, stays_in, bytes_by, page_bytes, known_by, is_known, IsKeptPage, IsHeldPage, IsFreeFrame, IsHeldIn, IsFreeIn, IsInHand, AreApart, Holds, IsAway, TakesPage, read_one}
+use Rattle.pm_stripe.specs.Sights.{KeepsSight}
 use Rattle.pm_stripe.proofs.Hands.{once_push, or_else, held_push, held_push_else, one_here, one_else, none_named, stays_or_clean, read_push}
 
 -- what a frame keeps was last put there
@@ -28,7 +29,7 @@ pub has_put : (locks : LockTable) (k : Kept) (id : PageId) (f tag : ℕ) → Hol
 has_put locks k id f tag holds at = let x = holds.kept id f tag at in record { has = holds.worker.has; entry = x.entry; at = x.at; tag_is = x.tag_is }
 
 module _ (locks : LockTable) (k : Kept) (new : Held) (seat' : Sight) (room' : ℕ) (holds : Holds locks k) (away : IsAway k new.page) (at : place_of k new.page ≡ Some (new.frame, new.tag)) (seat_of : IsSeatOf locks seat')
-    (took : TakesFrame k.seat.view seat'.view k.number new.frame new.tag new.lease new.flag) (was_is : new.was.value.bytes ≡ new.lease.bytes) (unread : new.is_read ≡ false) (unlent : new.is_lent ≡ false) (bare : new.patch ≡ None) (room : OP_PAGES ≤ room') where
+    (took : TakesFrame k.seat.view seat'.view k.number new.frame new.tag new.lease new.flag) (was_is : new.was.value.bytes ≡ new.lease.bytes) (unread : new.is_read ≡ false) (unlent : new.is_lent ≡ false) (bare : new.patch ≡ None) (room : OP_PAGES ≤ room') (sight : KeepsSight locks k.seat.view seat'.view) where
   abbrev k' : Kept
   k' = record k { seat = seat'; held = k.held ++ new ∷ []; held_room = room' }
 
@@ -167,10 +168,11 @@ module _ (locks : LockTable) (k : Kept) (new : Held) (seat' : Sight) (room' : �
       page_is = refl;
       unlent = unlent;
       bare = bare;
-      passes = let x = holds.kept new.page new.frame new.tag at in ⊎_elim
+      reads = let x = holds.kept new.page new.frame new.tag at in ⊎_elim
           (λ stay. inl (known_is ∙ stay))
-          (λ clean. inr (subst (Passes k.shape new.page) (sym (took.last x.entry x.at).bytes) (x.passes clean)))
+          (λ clean. inr (subst (Reads new.page) (sym (took.last x.entry x.at).bytes) (x.reads clean)))
           (stays_or_clean x.entry.flag x.some);
     };
     lost = λ e. absurd (let q : true ≡ false = e in cc q);
+    sight = sight;
   }

@@ -7,7 +7,7 @@ use Rattle.pm_disk.specs.Moments.{History}
 use Rattle.pm_disk.specs.States.{DeviceState}
 use Rattle.pm_locks.specs.declared.view.Met.{Met}
 use Rattle.pm_locks.specs.declared.view.View.{View}
-use Rattle.pm_locks.specs.Sight.{IsFrameOf, KnowsAll}
+use Rattle.pm_locks.specs.Sight.{IsFrameOf}
 use Rattle.pm_stripe.specs.declared.limits.TheConstants.{PAGE_EXTRA}
 use Rattle.pm_stripe.specs.declared.bound.Bound.{Bound}
 use Rattle.pm_stripe.specs.declared.halt.Halt.{Halt}
@@ -21,6 +21,7 @@ use Rattle.pm_stripe.specs.Kept.{IsInHand, IsStaying, held_at, is_known, page_by
 use Rattle.pm_stripe.specs.Met.{IsRefused, MeetsFrames, GoesOn}
 use Rattle.pm_stripe.specs.Puts.{unended_flag, words_put, IsPutAs}
 use Rattle.pm_stripe.specs.Shown.{kept_by, file_by}
+use Rattle.pm_stripe.specs.Sights.{KeepsSight}
 use Rattle.pm_stripe.specs.Stripes.{SameButFrames}
 use Rattle.pm_stripe.specs.Sweeps.{stealable, StopsAtEnough, TriesOnce}
 
@@ -78,7 +79,7 @@ module _ {Q R : Type 0} where
     pub goes_on : GoesOn (length b.locks.now.ranges) met b.stripe.next c.stripe.next
     pub stops : StopsAtEnough b.stripe.free.items c.stripe.free.items met
     pub once : TriesOnce met
-    pub knows : KnowsAll b.locks.now b.seat.view → KnowsAll b.locks.now c.seat.view
+    pub sight : KeepsSight b.locks.now b.seat.view c.seat.view
     pub staying : (id : PageId) → IsStaying (kept_by b) id → IsStaying (kept_by c) id
     pub only : (id : PageId) → held_at b.stripe.held.items id.0 ≡ None
         → is_known (kept_by c) id ≡ is_known (kept_by b) id

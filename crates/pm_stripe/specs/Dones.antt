@@ -13,6 +13,7 @@ use Rattle.pm_stripe.specs.Bounds.{IsBound}
 use Rattle.pm_stripe.specs.Kept.{held_at, page_bytes, is_known, IsStaying}
 use Rattle.pm_stripe.specs.Puts.{put_flag, IsPutAs}
 use Rattle.pm_stripe.specs.Shown.{kept_by, file_by}
+use Rattle.pm_stripe.specs.Sights.{KeepsSight}
 
 -- The outbox has room for one operation more, whatever it changes.
 pub record HasOutboxRoom (s : Stripe) : Type 0 where
@@ -40,6 +41,7 @@ module _ {Q R : Type 0} where
     pub not_ready : c.is_ready ≡ false
     pub same : SameButWork b.stripe c.stripe
     pub bound : IsBound tells history state c
+    pub sight : KeepsSight b.locks.now b.seat.view c.seat.view
     pub none_held : c.stripe.held.items ≡ []
     pub free : c.stripe.free.items ≡ b.stripe.free.items
     pub put : (i : ℕ) (h : Held) → slice_get b.stripe.held.items i ≡ Some h

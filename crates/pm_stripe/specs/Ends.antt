@@ -12,6 +12,7 @@ use Rattle.pm_stripe.specs.Frees.{IsPutEmpty}
 use Rattle.pm_stripe.specs.Kept.{held_at, page_bytes, is_known, IsStaying}
 use Rattle.pm_stripe.specs.Puts.{unended_flag, IsPutAs}
 use Rattle.pm_stripe.specs.Shown.{kept_by, file_by}
+use Rattle.pm_stripe.specs.Sights.{KeepsSight}
 use Rattle.pm_stripe.specs.Stripes.{kept, file_of, SameButPages}
 
 module _ {Q R : Type 0} where
@@ -19,11 +20,12 @@ module _ {Q R : Type 0} where
   -- in hand: Dirty where it was lent to be written, Clean where it was only read from its file, and else with
   -- the flag that it had. The empty frames that were in hand are Empty. Pages that stay do so still, and of
   -- those that were not in hand nothing changed. Each page is as it was where the files' content is told, and
-  -- each that is at hand in any case.
+  -- each that is at hand in any case. The seat knows what it knew.
   pub record EndsRound (tells : Type 0) (history : R → History) (b : Bound Q R) (s : Stripe) (seat : Sight)
       : Type 0 where
     pub same : SameButPages b.stripe s
     pub still : IsStill seat.view
+    pub sight : KeepsSight b.locks.now b.seat.view seat.view
     pub put : (i : ℕ) (h : Held) → slice_get b.stripe.held.items i ≡ Some h
         → IsPutAs (kept s seat) h (unended_flag h)
     pub empty : (i : ℕ) (e : Free) → slice_get b.stripe.free.items i ≡ Some e → IsPutEmpty (kept s seat) e

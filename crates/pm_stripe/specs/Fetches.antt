@@ -8,6 +8,7 @@ use Rattle.pm_locks.specs.Sight.{LockTable}
 use Rattle.pm_stripe.specs.Reads.{FailsCheck}
 use Rattle.pm_stripe.specs.Kept.{Kept, place_of, IsPageOf, Holds, HasFrames, AreClean, page_bytes, is_known}
 use Rattle.pm_stripe.specs.Kept.{AddsPage, TakesPage, IsStaying, IsAway, held_at, bare_count}
+use Rattle.pm_stripe.specs.Sights.{KeepsSight}
 
 -- a page of the worker's that no frame keeps
 pub record IsUnkept (locks : LockTable) (k : Kept) (id : PageId) : Type 0 where
@@ -53,6 +54,7 @@ pub record Fetches (locks : LockTable) (k k' : Kept) (id : PageId) (tells : Type
   pub back : (j : PageId) → IsStaying k' j → IsStaying k j
   pub only : (j : PageId) → j.0 ≢ id.0 → is_known k' j ≡ is_known k j
   pub bare : bare_count k' ≡ bare_count k
+  pub sight : KeepsSight locks k.seat.view k'.seat.view
   pub held : (k'.held ≡ k.held) ⊎ (IsAway k id × AddsPage k k' id)
   pub found : result ≡ Ok true → IsSome (held_at k'.held id.0)
   pub not_found : (result ≡ Ok true → ⊥)

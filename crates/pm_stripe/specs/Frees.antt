@@ -6,6 +6,7 @@ use Rattle.pm_locks.specs.declared.view.Entry.{Entry}
 use Rattle.pm_locks.specs.Sight.{LockTable}
 use Rattle.pm_stripe.specs.declared.held.Free.{Free}
 use Rattle.pm_stripe.specs.Kept.{Kept, place_of, last_put, page_bytes, is_known, Holds, AreClean, IsStaying}
+use Rattle.pm_stripe.specs.Sights.{KeepsSight}
 
 -- An empty frame that was in hand was put back as Empty.
 pub record IsPutEmpty (k : Kept) (s : Free) : Type 0 where
@@ -23,6 +24,7 @@ pub record FreesFrames (locks : LockTable) (k k' : Kept) : Type 0 where
   pub shape : k'.shape ≡ k.shape
   pub number : k'.number ≡ k.number
   pub places : k'.places ≡ k.places
+  pub sight : KeepsSight locks k.seat.view k'.seat.view
   pub empty : (i : ℕ) (s : Free) → slice_get rest i ≡ Some s → IsPutEmpty k' s
   pub put_else : (f : ℕ) → ((i : ℕ) (s : Free) → slice_get rest i ≡ Some s → s.frame ≢ f)
       → last_put k' f ≡ last_put k f

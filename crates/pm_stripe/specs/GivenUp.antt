@@ -4,6 +4,7 @@ use Rattle.pm_types.specs.declared.page_id.PageId.{PageId}
 use Rattle.pm_locks.specs.Sight.{LockTable}
 use Rattle.pm_stripe.specs.declared.held.Held.{Held}
 use Rattle.pm_stripe.specs.Kept.{Kept, Holds, AreClean, IsStaying, held_at, page_bytes, is_known, bare_count}
+use Rattle.pm_stripe.specs.Sights.{KeepsSight}
 
 -- no page in hand was lent to be written
 abbrev pub AreUnlent : List Held → Type 0
@@ -17,6 +18,7 @@ pub record GivesUpHeld (locks : LockTable) (k k' : Kept) : Type 0 where
   pub rest : List Held
   pub held : k.held ≡ k'.held ++ rest
   pub bare : bare_count k' ≡ bare_count k
+  pub sight : KeepsSight locks k.seat.view k'.seat.view
   pub shape : k'.shape ≡ k.shape
   pub number : k'.number ≡ k.number
   pub staying : (j : PageId) → IsStaying k j → IsStaying k' j

@@ -22,7 +22,8 @@ use Rattle.pm_stripe.specs.declared.places.Places.{Places}
 use Rattle.pm_stripe.specs.declared.held.Held.{Held}
 use Rattle.pm_stripe.specs.declared.held.Free.{Free}
 use Rattle.pm_stripe.specs.ChangedPages.{is_changed}
-use Rattle.pm_stripe.specs.Reads.{Passes}
+use Rattle.pm_stripe.specs.Reads.{Reads}
+use Rattle.pm_stripe.specs.Sights.{KeepsSight}
 
 -- What a worker keeps of its pages.
 pub record Kept : Type 0 where
@@ -129,7 +130,8 @@ pub record IsOutWith (held : Option Out) (size n tag : ℕ) (told : Flag) (lease
   pub same : IsSameLease out.lease lease
   pub long : length lease.bytes ≡ size
 
--- A frame keeps a page: what was last put there is the page. Where it is Clean it passes its check.
+-- A frame keeps a page: what was last put there is the page. Where it is Clean it reads as what it
+-- says.
 pub record IsKeptPage (locks : LockTable) (shape : Shape) (n : ℕ) (put : Option Entry) (id : PageId) (f tag : ℕ)
     : Type 0 where
   pub own : IsPageOf locks.workers shape.partitions n id
@@ -139,7 +141,7 @@ pub record IsKeptPage (locks : LockTable) (shape : Shape) (n : ℕ) (put : Optio
   pub tag_is : entry.tag ≡ tag
   pub long : length entry.bytes ≡ shape.page_size
   pub some : entry.flag ≢ flag.Empty
-  pub passes : entry.flag ≡ flag.Clean → Passes shape id entry.bytes
+  pub reads : entry.flag ≡ flag.Clean → Reads id entry.bytes
 
 -- A page was taken from the frame that keeps it, with the bytes that were last put there.
 pub record IsFromFrame (place : Option (ℕ × ℕ)) (put : Option Entry) (held : Option Out) (h : Held)
@@ -149,13 +151,13 @@ pub record IsFromFrame (place : Option (ℕ × ℕ)) (put : Option Entry) (held 
   pub last : (e : Entry) → put ≡ Some e → h.was.value.bytes ≡ e.bytes
   pub taken : (out : Out) → held ≡ Some out → h.was.value.bytes ≡ out.lease.bytes
 
--- A page was read from its file or made, in a frame that keeps none. What was read passes its check.
-pub record IsFromFile (shape : Shape) (place : Option (ℕ × ℕ)) (page : Option (Option PageId)) (h : Held)
-    : Type 0 where
+-- A page was read from its file or made, in a frame that keeps none. What was read reads as what
+-- it says.
+pub record IsFromFile (place : Option (ℕ × ℕ)) (page : Option (Option PageId)) (h : Held) : Type 0 where
   pub unkept : place ≡ None
   pub bare : page ≡ Some None
   pub empty : h.flag ≡ flag.Empty
-  pub passes : is_changed h.patch ≡ false → Passes shape h.page h.was.value.bytes
+  pub reads : is_changed h.patch ≡ false → Reads h.page h.was.value.bytes
 
 -- A page in hand, by what is known of its name and its frame.
 pub record IsHeldPage (locks : LockTable) (shape : Shape) (n : ℕ) (place : Option (ℕ × ℕ))
@@ -168,7 +170,7 @@ pub record IsHeldPage (locks : LockTable) (shape : Shape) (n : ℕ) (place : Opt
   -- until it is lent nobody writes it
   pub unlent : h.is_lent ≡ false → (h.lease.bytes ≡ h.was.value.bytes) × (h.patch ≡ None)
   pub from_frame : h.is_read ≡ false → IsFromFrame place put held h
-  pub from_file : h.is_read ≡ true → IsFromFile shape place page h
+  pub from_file : h.is_read ≡ true → IsFromFile place page h
 
 -- An empty frame in hand.
 pub record IsFreeFrame (locks : LockTable) (size n : ℕ) (page : Option (Option PageId)) (held : Option Out)
@@ -255,14 +257,14 @@ pub record IsAway (k : Kept) (id : PageId) : Type 0 where
   pub away : held_at k.held id.0 ≡ None
   pub room : length k.held < OP_PAGES
 
--- One page more is in hand, to be read: of one that was not at hand the check is passed.
+-- One page more is in hand, to be read: one that was not at hand reads as what it says.
 pub record AddsPage (k k' : Kept) (id : PageId) : Type 0 where
   pub page : Held
   pub added : k'.held ≡ k.held ++ page ∷ []
   pub page_is : page.page ≡ id
   pub unlent : page.is_lent ≡ false
   pub bare : page.patch ≡ None
-  pub passes : IsTrue (is_known k id) ⊎ Passes k.shape id page.lease.bytes
+  pub reads : IsTrue (is_known k id) ⊎ Reads id page.lease.bytes
 
 -- the page is in a frame that isn't given to another page
 pub record IsStaying (k : Kept) (id : PageId) : Type 0 where
@@ -286,3 +288,4 @@ pub record TakesPage (locks : LockTable) (k k' : Kept) (id : PageId) (found : Bo
   pub bare : bare_count k' ≡ bare_count k
   pub added : found ≡ true → AddsPage k k' id
   pub lost : found ≡ false → (k'.held ≡ k.held) × (place_of k' id ≡ None)
+  pub sight : KeepsSight locks k.seat.view k'.seat.view

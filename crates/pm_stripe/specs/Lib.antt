@@ -20,12 +20,15 @@ pub mod Met
 pub mod Moves
 pub mod PlacedPages
 pub mod Puts
+pub mod Readable
 pub mod Reads
 pub mod ReplacedLaws
 pub mod Rests
 pub mod Rewrites
 pub mod Shown
 pub mod ShownLaws
+pub mod SightLaws
+pub mod Sights
 pub mod Steals
 pub mod Stripes
 pub mod Sweeps

@@ -7,6 +7,7 @@ use Rattle.pm_locks.specs.Sight.{LockTable}
 use Rattle.pm_stripe.specs.declared.held.Held.{Held}
 use Rattle.pm_stripe.specs.Kept.{Kept, held_at}
 use Rattle.pm_stripe.specs.Moves.{ChangesOnePage}
+use Rattle.pm_stripe.specs.Sights.{KeepsSight}
 
 -- so many more are in hand: none, or one, which wasn't
 abbrev pub MayAddOne : List Held → List Held → ℕ → Type 0
@@ -29,3 +30,4 @@ pub record MakesAnew (locks : LockTable) (k k' : Kept) (id : PageId) : Type 0 wh
   pub made : IsMade k'.held id.0 k.shape.page_size
   pub hands : (j : ℕ) → j ≢ id.0 → held_at k'.held j ≡ held_at k.held j
   pub count : MayAddOne k.held k'.held id.0
+  pub sight : KeepsSight locks k.seat.view k'.seat.view

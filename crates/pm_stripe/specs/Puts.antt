@@ -8,11 +8,12 @@ use Rattle.pm_types.specs.Pages.{SameOutside}
 use Rattle.pm_pages.specs.Paged.{CoversByte}
 use Rattle.pm_locks.specs.declared.view.Entry.{Entry}
 use Rattle.pm_locks.specs.Words.{LockWord, AT_HOME}
-use Rattle.pm_locks.specs.Sight.{LockTable, KnowsAll}
+use Rattle.pm_locks.specs.Sight.{LockTable}
 use Rattle.pm_stripe.specs.declared.held.Held.{Held}
 use Rattle.pm_stripe.specs.ChangedPages.{is_changed}
 use Rattle.pm_stripe.specs.Kept.{Kept, stays, held_at, place_of, last_put, page_bytes, is_known}
 use Rattle.pm_stripe.specs.Kept.{Holds, AreClean, IsStaying}
+use Rattle.pm_stripe.specs.Sights.{KeepsSight}
 
 -- a frame with this flag has no page
 abbrev pub is_empty : Flag → Bool
@@ -79,8 +80,7 @@ pub record LeavesWords (locks : LockTable) (k k' : Kept) (flag_of : Held → Fla
     : Type 0 where
   pub words : k'.seat.view.words ≡ words_put flag_of k.number put k.seat.view.words
   pub met : k'.seat.view.met ≡ k.seat.view.met
-  pub numbers : k'.seat.view.numbers ≡ k.seat.view.numbers
-  pub knows : KnowsAll locks k.seat.view → KnowsAll locks k'.seat.view
+  pub sight : KeepsSight locks k.seat.view k'.seat.view
 
 -- The last page in hand was put back. What is at hand then is as it was, and where what is Clean is as the
 -- files have it, and each page is covered by its patch, all pages are.

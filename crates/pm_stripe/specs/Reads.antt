@@ -9,10 +9,15 @@ use Rattle.pm_types.specs.Ids.{part_of_id, index_of_id}
 use Rattle.pm_disk.specs.Files.{bytes_of}
 use Rattle.pm_disk.specs.Worlds.{World, pages_in, page_at}
 use Rattle.pm_pages.specs.Passes.{PassesAt}
+use Rattle.pm_pages.specs.PageLists.{ReadsAt}
 
 -- under its name these bytes pass their check
 abbrev pub Passes : Shape → PageId → List ℕ → Type 0
 Passes shape id bytes = PassesAt shape.page_size shape.max_rows (part_of_id id) (index_of_id id) bytes
+
+-- under its name a page with these bytes reads as what it says
+abbrev pub Reads : PageId → List ℕ → Type 0
+Reads id bytes = ReadsAt (index_of_id id) bytes
 
 -- the page that a partition's file has at this offset
 abbrev pub stored_at : Option (List ℕ) → ℕ → ℕ → Option (List ℕ)

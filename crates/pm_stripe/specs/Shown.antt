@@ -13,6 +13,7 @@ use Rattle.pm_stripe.specs.declared.bound.Bound.{Bound}
 use Rattle.pm_stripe.specs.Bases.{KeepsBases}
 use Rattle.pm_stripe.specs.Kept.{Kept, held_at, page_bytes, is_known}
 use Rattle.pm_stripe.specs.Moves.{HasOperation}
+use Rattle.pm_stripe.specs.Sights.{KeepsSight}
 use Rattle.pm_stripe.specs.Stripes.{kept, file_of, SameButPages}
 use Rattle.pm_stripe.specs.Bounds.{IsBound}
 
@@ -80,7 +81,7 @@ module _ {Q R : Type 0} where
         (kept_by c)
 
   -- What no call on a page changes: the locks, the partition that is meant, the outbox and all else of the
-  -- stripe but its pages, and the files. The reader may read what it might read.
+  -- stripe but its pages, and the files. The reader may read what it might read, and the seat knows what it knew.
   pub record KeepsBound (tells : Type 0) (history : R → History) (state : R → DeviceState) (b c : Bound Q R)
       : Type 0 where
     pub locks : c.locks ≡ b.locks
@@ -89,4 +90,5 @@ module _ {Q R : Type 0} where
     pub same : SameButPages b.stripe c.stripe
     pub world : tells → (history c.reader).world ≡ (history b.reader).world
     pub later : IsLaterState (state b.reader) (state c.reader)
+    pub sight : KeepsSight b.locks.now b.seat.view c.seat.view
     pub leaves : IsReady tells history state b → LeavesReady tells history state b c

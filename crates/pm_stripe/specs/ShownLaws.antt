@@ -29,6 +29,8 @@ use Rattle.pm_stripe.specs.ReplacedLaws.{known_same, hand_same, bytes_here, byte
 use Rattle.pm_stripe.specs.Rewrites.{rewritten, held_with, bound_with}
 use Rattle.pm_stripe.specs.Shown.{is_held, is_lent, patch_of, KeepsOthers, kept_by, file_by, shown}
 use Rattle.pm_stripe.specs.Shown.{IsReady, KeepsBound}
+use Rattle.pm_stripe.specs.Sights.{KeepsSight}
+use Rattle.pm_stripe.specs.SightLaws.{sight_refl, sight_then}
 use Rattle.pm_stripe.specs.Stripes.{SameButPages, MayReadOthers}
 
 -- pages of one partition have different names
@@ -124,16 +126,17 @@ module _ {Q R : Type 0} (tells : Type 0) (history : R → History) (state : R �
   -- a call that leaves all in order keeps what calls keep
   pub keeps_by : (b c : Bound Q R) → c.locks ≡ b.locks → c.part ≡ b.part → c.is_ready ≡ b.is_ready
       → SameButPages b.stripe c.stripe → (tells → (history c.reader).world ≡ (history b.reader).world)
-      → IsLaterState (state b.reader) (state c.reader)
+      → IsLaterState (state b.reader) (state c.reader) → KeepsSight b.locks.now b.seat.view c.seat.view
       → (IsReady tells history state b → IsInOrder b.locks.now tells (file_by history b) (file_by history c)
       (state c.reader) b.part (kept_by b) (kept_by c)) → KeepsBound tells history state b c
-  keeps_by b c locks part is_ready same world later after = record {
+  keeps_by b c locks part is_ready same world later sight after = record {
     locks = locks;
     part = part;
     is_ready = is_ready;
     same = same;
     world = world;
     later = later;
+    sight = sight;
     leaves = λ ready.
         let x = after ready in
         let table : c.locks.now ≡ b.locks.now = ap (λ z. z.now) locks in record {
@@ -162,6 +165,7 @@ module _ {Q R : Type 0} (tells : Type 0) (history : R → History) (state : R �
     same = record { number = refl; shape = refl; files = refl; next = refl; is_running = refl; outbox = refl };
     world = λ t. refl;
     later = record { later = omega arith; access = refl; usable = λ is. is };
+    sight = sight_refl b.locks.now b.seat.view;
     leaves = λ ready. record {
       ready = ready;
       others = record { known = λ j ne. refl; pages = λ j ne told. refl };
@@ -189,6 +193,8 @@ module _ {Q R : Type 0} (tells : Type 0) (history : R → History) (state : R �
       access = y.later.access ∙ x.later.access;
       usable = λ is. y.later.usable (x.later.usable is);
     };
+    sight = sight_then b.locks.now b.seat.view c.seat.view d.seat.view x.sight
+        (subst (λ (l : LockTable). KeepsSight l c.seat.view d.seat.view) (ap (λ z. z.now) x.locks) y.sight);
     leaves = λ ready.
         let p = x.leaves ready in
         let q = y.leaves p.ready in record {
@@ -252,7 +258,7 @@ rewritten_held locks k h w lent same x = record {
       record { kept = y.kept; follows = y.follows; last = y.last; taken = y.taken };
   from_file = λ e.
       let y = x.from_file e in
-      record { unkept = y.unkept; bare = y.bare; empty = y.empty; passes = y.passes };
+      record { unkept = y.unkept; bare = y.bare; empty = y.empty; reads = y.reads };
 }
 
 module _ {Q R : Type 0} (tells : Type 0) (history : R → History) (state : R → DeviceState) (b : Bound Q R)
@@ -323,7 +329,7 @@ module _ {Q R : Type 0} (tells : Type 0) (history : R → History) (state : R �
       record { later = omega arith; access = refl; usable = λ is. is } in
       keeps_by tells history state b (by_held (Some x.page)) refl refl refl
       (record { number = refl; shape = refl; files = refl; next = refl; is_running = refl; outbox = refl })
-      (λ t. refl) later
+      (λ t. refl) later (sight_refl b.locks.now b.seat.view)
       (λ r. after_moved b.locks.now tells (file_by history b) (file_by history b) (state b.reader)
       (state b.reader) b.part (kept_by b) (kept_by (by_held (Some x.page))) (page_id b.part i) (λ t j. refl)
       later r.bound.reads r.bound.clean r.operates in_part

@@ -8,6 +8,7 @@ use Rattle.pm_types.specs.declared.page_id.PageId.{PageId}
 use Rattle.pm_types.specs.declared.shape.Shape.{Shape}
 use Rattle.pm_disk.specs.Moments.{History}
 use Rattle.pm_disk.specs.States.{DeviceState, IsUsable}
+use Rattle.pm_disk.specs.Worlds.{World}
 use Rattle.pm_locks.specs.Sight.{Sight, LockTable}
 use Rattle.pm_stripe.specs.declared.stripe.Stripe.{Stripe}
 use Rattle.pm_stripe.specs.Reads.{stored}
@@ -52,6 +53,17 @@ pub record SameButOutbox (s t : Stripe) : Type 0 where
   pub next : t.next ≡ s.next
   pub is_running : t.is_running ≡ s.is_running
 
+-- all but whether the partitions' files have pages is as it was
+pub record SameButFiles (s t : Stripe) : Type 0 where
+  pub number : t.number ≡ s.number
+  pub shape : t.shape ≡ s.shape
+  pub places : t.places ≡ s.places
+  pub held : t.held ≡ s.held
+  pub free : t.free ≡ s.free
+  pub next : t.next ≡ s.next
+  pub is_running : t.is_running ≡ s.is_running
+  pub outbox : t.outbox ≡ s.outbox
+
 -- all but whether a checkpoint runs is as it was
 pub record SameButRunning (s t : Stripe) : Type 0 where
   pub number : t.number ≡ s.number
@@ -81,8 +93,11 @@ pub record SameButFrames (s t : Stripe) : Type 0 where
   pub outbox : t.outbox ≡ s.outbox
 
 -- what the partitions' files have, as far as the stripe reads them
+abbrev pub file_in : Stripe → World → PageId → Option (List ℕ)
+file_in s world id = if s.files then stored world s.shape.page_size id else None
+
 abbrev pub file_of : Stripe → History → PageId → Option (List ℕ)
-file_of s history id = if s.files then stored history.world s.shape.page_size id else None
+file_of s history = file_in s history.world
 
 -- nothing is in hand, as between two rounds
 pub record IsAtRest (locks : LockTable) (k : Kept) : Type 0 where

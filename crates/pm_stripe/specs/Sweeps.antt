@@ -13,6 +13,7 @@ use Rattle.pm_locks.specs.Sight.{LockTable, IsFrameOf, KnowsAll}
 use Rattle.pm_stripe.specs.declared.held.Free.{Free}
 use Rattle.pm_stripe.specs.Kept.{Kept, Holds, KeepsPages, IsInHand, IsStaying, is_known}
 use Rattle.pm_stripe.specs.Met.{IsRefused, EndsWithTheft, MeetsFrames, MeetsInOrder, GoesOn}
+use Rattle.pm_stripe.specs.Sights.{KeepsSight}
 use Rattle.pm_stripe.specs.Steals.{LeavesStaying}
 
 -- a frame with this flag may be given to another page
@@ -49,8 +50,7 @@ pub record GathersFrames (locks : LockTable) (k k' : Kept) : Type 0 where
   pub staying : (id : PageId) → IsStaying k id → IsStaying k' id
   pub unmoved : LeavesStaying k k'
   pub back : (id : PageId) → IsTrue (is_known k' id) → IsTrue (is_known k id)
-  pub numbers : k'.seat.view.numbers ≡ k.seat.view.numbers
-  pub knows : KnowsAll locks k.seat.view → KnowsAll locks k'.seat.view
+  pub sight : KeepsSight locks k.seat.view k'.seat.view
 
 -- how many of these entries are of the frame
 abbrev pub entries_of : ℕ → List Met → ℕ

@@ -5,6 +5,7 @@ ghost use Rattle.pm_types.specs.declared.limits.TheConstants.{OP_PAGES};
 ghost use Rattle.pm_locks.specs.Sight.{IsFrameOf, KnowsAll};
 ghost use Rattle.pm_locks.specs.Views.{known_at};
 ghost use Rattle.pm_stripe.specs.Met.{MeetsFrame};
+ghost use Rattle.pm_stripe.specs.Sights.{KeepsSight};
 ghost use Rattle.pm_stripe.specs.Steals.{StealsFrame, ShowsWhy, IsExactly};
 ghost use Rattle.pm_stripe.specs.Kept.{Holds};
 ghost use Rattle.pm_stripe.specs.Stripes.{kept, SameButPages};
@@ -22,7 +23,7 @@ impl Stripe {
         requires room { length self.old.free.items < OP_PAGES }
         ensures steals { StealsFrame locks.now (kept self.old seat.old) (kept self.new seat.new) frame result }
         ensures exact { KnowsAll locks.now seat.old.view → IsExactly (known_at seat.old.view frame) result }
-        ensures knows { KnowsAll locks.now seat.old.view → KnowsAll locks.now seat.new.view }
+        ensures sight { KeepsSight locks.now seat.old.view seat.new.view }
         ensures meets { MeetsFrame (kept self.old seat.old) (kept self.new seat.new) frame result }
         ensures shows { ShowsWhy seat.old.view seat.new.view frame result }
         ensures same { SameButPages self.old self.new }

@@ -3,7 +3,7 @@
 ghost use Rattle.std.specs.Prelude.{◌≡◌, ◌≤◌, ◌<◌, length, drop, IfOk, MatchOption, Some, true, false};
 ghost use Rattle.std.specs.FinMap as map;
 ghost use Rattle.pm_types.specs.Shapes.{IsShape};
-ghost use Rattle.pm_stripe.specs.Stripes.{IsNewStripe, SameButOutbox, SameButRunning};
+ghost use Rattle.pm_stripe.specs.Stripes.{IsNewStripe, SameButFiles, SameButOutbox, SameButRunning};
 ghost use Rattle.pm_stripe.specs.PlacedPages.{KeepsNone};
 
 use crate::held::{Free, Held};
@@ -86,6 +86,15 @@ impl Stripe {
         ensures same { SameButOutbox self.old self.new }
     {
         self.outbox.sent(n);
+    }
+
+    /// The partitions' files have pages, as after a store's first checkpoint: from now on a page that isn't in a
+    /// frame is read from its file.
+    pub fn has_files(&mut self)
+        ensures files { self.new.files ≡ true }
+        ensures same { SameButFiles self.old self.new }
+    {
+        self.files = true;
     }
 
     /// A checkpoint's begin was appended: from now on it runs.

@@ -1,6 +1,7 @@
 //! The frame of a page is taken, however often that has to be tried.
 
 ghost use Rattle.pm_locks.specs.Sight.{IsSeatOf, IsFrameOf};
+ghost use Rattle.pm_stripe.specs.Sights.{KeepsSight};
 ghost use Rattle.pm_stripe.specs.Takes.{HasPut, Takes};
 
 use pm_locks::{Locks, PageSeat, Take};
@@ -26,6 +27,7 @@ pub(crate) fn take_frame<Q: Wait>(
     requires put { HasPut seat.old.view _number frame tag }
     ensures seat { IsSeatOf locks.now seat.new }
     ensures takes { Takes seat.old.view seat.new.view _number frame tag result }
+    ensures sight { KeepsSight locks.now seat.old.view seat.new.view }
 {
     'tries: for _ in rt.forever() {
         match locks.own_take(seat, frame, tag) {

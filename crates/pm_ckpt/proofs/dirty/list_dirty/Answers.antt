@@ -1,11 +1,9 @@
-use Rattle.std.proofs.Common.{◌≡◌, inl, inr, ◌<◌, ◌++◌, length, sym, ◌∙◌, ap, subst, arith}
-use Rattle.std.proofs.lemmas.Bool.{cases_eq}
-use Rattle.pm_locks.specs.Rounds.{IsKnown}
+use Rattle.std.proofs.Common.{◌≡◌, ◌<◌, ◌++◌, length, sym, ◌∙◌, ap, arith}
 use Rattle.pm_locks.specs.Views.{known_at, out_at}
 use Rattle.pm_locks.specs.declared.view.View.{View}
 use Rattle.pm_locks.specs.Words.{LockWord}
 use Rattle.pm_ckpt.specs.Dirty.{dirty_below, dirty_page}
-use Rattle.pm_ckpt.proofs.Listed.{below_few, below_more, looked_once, met_known, known_after, known_told, same_sight}
+use Rattle.pm_ckpt.proofs.Listed.{below_few, below_more, looked_once, met_known, known_after, same_sight}
 use Rattle.pm_ckpt.proofs.dirty.list_dirty.Goals as goal
 
 pub list_one-requires-clause-room : goal.list_one-requires-clause-room
@@ -32,11 +30,6 @@ each-preserved c =
       };
       looked = looked_once old v new f word i.looked met.view;
       words = λ g. known_after locks v new f word i.seat.knows lt met g ∙ i.words g;
-      known = λ g low. elim (cases_eq g f) [
-        | inl same ↦ subst (λ n. IsKnown old n (known_at old n)) (sym same)
-            (known_told locks old v f word i.looked c.requires.seat.knows i.seat.knows i.seat.still lt is met.told)
-        | inr other ↦ i.known g (omega (arith, low, other))
-      ];
       pages = c.list_one.ensures.pages ∙ ap (λ ps. ps ++ dirty_page c.args.stripes.now f word) i.pages
           ∙ ap (λ (w : LockWord). dirty_below c.args.stripes.now old f ++ dirty_page c.args.stripes.now f w) is ∙ sym (below_more c.args.stripes.now old f);
       capacity = c.list_one.ensures.capacity ∙ i.capacity;

@@ -10,17 +10,19 @@ use Rattle.pm_locks.specs.declared.view.View.{View}
 use Rattle.pm_locks.proofs.Facts.{page_sizes}
 use Rattle.pm_region.specs.Lease.{Leased}
 use Rattle.pm_locks.specs.Opening.{first_view}
+use Rattle.pm_stripe.specs.Sights.{AreSettled}
 use Rattle.pm_stripe.specs.Stripes.{IsNewStripe}
 use Rattle.pm_stripe.specs.declared.stripe.Stripe.{Stripe}
 use Rattle.pm_ckpt.specs.Dirty.{AreResting, IsResting}
 use Rattle.pm_bench.specs.declared.worker_pages.commands.TheConstants.{SHAPE}
 use Rattle.pm_stripe.specs.Rests.{BeginsWith}
+use Rattle.pm_stripe.proofs.FirstSeats.{first_settled}
 use Rattle.pm_stripe.proofs.NewStripes.{new_rests}
 use Rattle.pm_bench.proofs.checkpoint_tests.frames.begin.Goals as goal
 
 -- the stripe of the one worker
-one_stripe : (locks : LockTable) (shape : Shape) (seat : Sight) (stripe : Stripe) → 1 ≡ locks.workers → IsResting locks shape seat 0 stripe → AreResting locks shape seat (stripe ∷ [])
-one_stripe locks shape seat stripe one rest = record { count = one; each = at }
+one_stripe : (locks : LockTable) (shape : Shape) (seat : Sight) (stripe : Stripe) → AreSettled locks seat.view → 1 ≡ locks.workers → IsResting locks shape seat 0 stripe → AreResting locks shape seat (stripe ∷ [])
+one_stripe locks shape seat stripe settled one rest = record { settled = settled; count = one; each = at }
   where
     at : (n : ℕ) (other : Stripe) → slice_get (stripe ∷ []) n ≡ Some other → IsResting locks shape seat n other
     at zero other is = subst (IsResting locks shape seat 0) (same_Some _ _ is) rest
@@ -57,7 +59,7 @@ returns-clause-stripe c =
       rests = new.rests;
       none_logged = new.none_logged;
     })) in
-    one_stripe locks SHAPE c.in-Ok.seat s (sym made.0) (record { number = new.number_is; shaped = new.shape_is; rests = rests; idle = new.rests; sent = new.none_logged })
+    one_stripe locks SHAPE c.in-Ok.seat s (first_settled locks c.in-Ok.seat leases s.shape 0 begins) (sym made.0) (record { number = new.number_is; shaped = new.shape_is; rests = rests; idle = new.rests; sent = new.none_logged })
 
 pub returns-clause-seat : goal.returns-clause-seat
 returns-clause-seat c = record {

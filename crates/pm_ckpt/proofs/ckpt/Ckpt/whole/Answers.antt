@@ -21,7 +21,7 @@ use Rattle.pm_ckpt.proofs.DirtyPages.{pages_once, pages_apart, pages_flagged, pa
 use Rattle.pm_ckpt.proofs.Gathered.{rooms, have_frames, order_of}
 use Rattle.pm_ckpt.proofs.Listed.{below_few}
 use Rattle.pm_ckpt.proofs.Orders.{may_order, ended_order, whole_err, whole_ok}
-use Rattle.pm_ckpt.proofs.RestingStripes.{resting_after, clean_stored, clean_read}
+use Rattle.pm_ckpt.proofs.RestingStripes.{resting_after, clean_stored, page_there, stays_none, clean_read}
 use Rattle.pm_ckpt.proofs.ckpt.Ckpt.whole.Goals as goal
 
 pub gather-requires-clause-frames : goal.gather-requires-clause-frames
@@ -56,11 +56,10 @@ fill-requires-clause-once g c =
     let shape = c.args.self.now.shape in
     let pages = c.gather.new.pages.items in
     let sight = c.gather.ensures.same in
-    let known = c.gather.ensures.known in
     let resting = c.requires.stripes in
     let same = c.gather.ensures.pages in
     let whole = c.requires.seat in
-    subst AreOnce (sym (c.deref.ensures.value ∙ c.gather.ensures.names)) (pages_once locks shape seat stripes resting whole known pages same)
+    subst AreOnce (sym (c.deref.ensures.value ∙ c.gather.ensures.names)) (pages_once locks shape seat stripes resting whole pages same)
 
 pub fill-requires-clause-room : goal.fill-requires-clause-room
 fill-requires-clause-room g c =
@@ -70,7 +69,6 @@ fill-requires-clause-room g c =
     let shape = c.args.self.now.shape in
     let pages = c.gather.new.pages.items in
     let sight = c.gather.ensures.same in
-    let known = c.gather.ensures.known in
     let resting = c.requires.stripes in
     let same = c.gather.ensures.pages in
     let whole = c.requires.seat in
@@ -91,11 +89,10 @@ checkpoint_frames-requires-clause-once g c κs within =
     let shape = c.args.self.now.shape in
     let pages = c.gather.new.pages.items in
     let sight = c.gather.ensures.same in
-    let known = c.gather.ensures.known in
     let resting = c.requires.stripes in
     let same = c.gather.ensures.pages in
     let whole = c.requires.seat in
-    subst AreOnce (sym (c.deref-3.ensures.value ∙ c.gather.ensures.names)) (pages_once locks shape seat stripes resting whole known pages same)
+    subst AreOnce (sym (c.deref-3.ensures.value ∙ c.gather.ensures.names)) (pages_once locks shape seat stripes resting whole pages same)
 
 pub checkpoint_frames-requires-clause-names : goal.checkpoint_frames-requires-clause-names
 checkpoint_frames-requires-clause-names g c κs within = c.deref-3.ensures.value ∙ c.gather.ensures.names ∙ ap names_of (sym c.deref-2.ensures.value)
@@ -108,11 +105,10 @@ checkpoint_frames-requires-clause-apart g c κs within =
     let shape = c.args.self.now.shape in
     let pages = c.gather.new.pages.items in
     let sight = c.gather.ensures.same in
-    let known = c.gather.ensures.known in
     let resting = c.requires.stripes in
     let same = c.gather.ensures.pages in
     let whole = c.requires.seat in
-    subst AreApart (sym c.deref-2.ensures.value) (pages_apart locks shape seat stripes resting whole known pages same)
+    subst AreApart (sym c.deref-2.ensures.value) (pages_apart locks shape seat stripes resting whole pages same)
 
 pub checkpoint_frames-requires-clause-dirty : goal.checkpoint_frames-requires-clause-dirty
 checkpoint_frames-requires-clause-dirty g c κs within =
@@ -122,12 +118,11 @@ checkpoint_frames-requires-clause-dirty g c κs within =
     let shape = c.args.self.now.shape in
     let pages = c.gather.new.pages.items in
     let sight = c.gather.ensures.same in
-    let known = c.gather.ensures.known in
     let resting = c.requires.stripes in
     let same = c.gather.ensures.pages in
     let whole = c.requires.seat in
     subst (λ (ps : List FramePage). All (IsFlagged locks flag.Dirty c.gather.new.seat.view) ps) (sym c.deref-2.ensures.value)
-    (seen_flagged seat.view c.gather.new.seat.view sight locks flag.Dirty pages (pages_flagged locks shape seat stripes resting whole known pages same))
+    (seen_flagged seat.view c.gather.new.seat.view sight locks flag.Dirty pages (pages_flagged locks shape seat stripes resting whole pages same))
 
 pub checkpoint_frames-requires-clause-sized : goal.checkpoint_frames-requires-clause-sized
 checkpoint_frames-requires-clause-sized g c κs within =
@@ -137,14 +132,13 @@ checkpoint_frames-requires-clause-sized g c κs within =
     let shape = c.args.self.now.shape in
     let pages = c.gather.new.pages.items in
     let sight = c.gather.ensures.same in
-    let known = c.gather.ensures.known in
     let resting = c.requires.stripes in
     let same = c.gather.ensures.pages in
     let whole = c.requires.seat in
     let shape_is : shape ≡ c.next_mark-mark.result.shape = sym (ap (λ (m : Mark). m.shape) c.next_mark-mark.ensures ∙ ap (λ (k : Kept). k.shape) c.self.view_is) in
     subst (λ (s : Shape). HaveLength s.page_size c.gather.new.seat.view c.deref-2.result.now) shape_is
     (subst (λ (ps : List FramePage). HaveLength shape.page_size c.gather.new.seat.view ps) (sym c.deref-2.ensures.value)
-    (seen_sized seat.view c.gather.new.seat.view sight shape.page_size pages (pages_sized locks shape seat stripes resting whole known pages same)))
+    (seen_sized seat.view c.gather.new.seat.view sight shape.page_size pages (pages_sized locks shape seat stripes resting whole pages same)))
 
 pub checkpoint_frames-requires-clause-held : goal.checkpoint_frames-requires-clause-held
 checkpoint_frames-requires-clause-held g c κs within =
@@ -154,14 +148,13 @@ checkpoint_frames-requires-clause-held g c κs within =
     let shape = c.args.self.now.shape in
     let pages = c.gather.new.pages.items in
     let sight = c.gather.ensures.same in
-    let known = c.gather.ensures.known in
     let resting = c.requires.stripes in
     let same = c.gather.ensures.pages in
     let whole = c.requires.seat in
     let held = dirty_held locks stripes seat.view in
     let pages_at : pages ≡ c.deref-2.result.now = sym c.deref-2.ensures.value in
     let order_at : c.gather.new.order.items ≡ c.deref-3.result.now = sym c.deref-3.ensures.value in
-    let are = subst (λ (ps : List FramePage). AreInFrames held c.gather.new.seat.view ps) pages_at (seen_held seat.view c.gather.new.seat.view sight held pages (pages_held locks shape seat stripes resting whole known pages same)) in
+    let are = subst (λ (ps : List FramePage). AreInFrames held c.gather.new.seat.view ps) pages_at (seen_held seat.view c.gather.new.seat.view sight held pages (pages_held locks shape seat stripes resting whole pages same)) in
     (held, are)
 
 pub returns-in_err-checkpoint_frames-clause-steps : goal.returns-in_err-checkpoint_frames-clause-steps
@@ -174,14 +167,13 @@ returns-in_err-checkpoint_frames-clause-steps g c t wanted told s can =
     let shape = c.args.self.now.shape in
     let pages = c.gather.new.pages.items in
     let sight = c.gather.ensures.same in
-    let known = c.gather.ensures.known in
     let resting = c.requires.stripes in
     let same = c.gather.ensures.pages in
     let whole = c.requires.seat in
     let held = dirty_held locks stripes seat.view in
     let pages_at : pages ≡ c.deref-2.result.now = sym c.deref-2.ensures.value in
     let order_at : c.gather.new.order.items ≡ c.deref-3.result.now = sym c.deref-3.ensures.value in
-    let are = subst (λ (ps : List FramePage). AreInFrames held c.gather.new.seat.view ps) pages_at (seen_held seat.view c.gather.new.seat.view sight held pages (pages_held locks shape seat stripes resting whole known pages same)) in
+    let are = subst (λ (ps : List FramePage). AreInFrames held c.gather.new.seat.view ps) pages_at (seen_held seat.view c.gather.new.seat.view sight held pages (pages_held locks shape seat stripes resting whole pages same)) in
     let log = c.args.log.now in
     let named = next_mark c.args.self.now.shape c.args.self.now.mark log c.args.replay in
     let mark : c.next_mark-mark.result ≡ named = c.next_mark-mark.ensures ∙ ap (λ (k : Kept). next_mark k.shape k.mark log c.args.replay) c.self.view_is in
@@ -201,14 +193,13 @@ returns-clause-steps g c t wanted told s can =
     let shape = c.args.self.now.shape in
     let pages = c.gather.new.pages.items in
     let sight = c.gather.ensures.same in
-    let known = c.gather.ensures.known in
     let resting = c.requires.stripes in
     let same = c.gather.ensures.pages in
     let whole = c.requires.seat in
     let held = dirty_held locks stripes seat.view in
     let pages_at : pages ≡ c.deref-2.result.now = sym c.deref-2.ensures.value in
     let order_at : c.gather.new.order.items ≡ c.deref-3.result.now = sym c.deref-3.ensures.value in
-    let are = subst (λ (ps : List FramePage). AreInFrames held c.gather.new.seat.view ps) pages_at (seen_held seat.view c.gather.new.seat.view sight held pages (pages_held locks shape seat stripes resting whole known pages same)) in
+    let are = subst (λ (ps : List FramePage). AreInFrames held c.gather.new.seat.view ps) pages_at (seen_held seat.view c.gather.new.seat.view sight held pages (pages_held locks shape seat stripes resting whole pages same)) in
     let log = c.args.log.now in
     let named = next_mark c.args.self.now.shape c.args.self.now.mark log c.args.replay in
     let mark : c.next_mark-mark.result ≡ named = c.next_mark-mark.ensures ∙ ap (λ (k : Kept). next_mark k.shape k.mark log c.args.replay) c.self.view_is in
@@ -228,14 +219,13 @@ returns-clause-ended g c t may =
     let shape = c.args.self.now.shape in
     let pages = c.gather.new.pages.items in
     let sight = c.gather.ensures.same in
-    let known = c.gather.ensures.known in
     let resting = c.requires.stripes in
     let same = c.gather.ensures.pages in
     let whole = c.requires.seat in
     let held = dirty_held locks stripes seat.view in
     let pages_at : pages ≡ c.deref-2.result.now = sym c.deref-2.ensures.value in
     let order_at : c.gather.new.order.items ≡ c.deref-3.result.now = sym c.deref-3.ensures.value in
-    let are = subst (λ (ps : List FramePage). AreInFrames held c.gather.new.seat.view ps) pages_at (seen_held seat.view c.gather.new.seat.view sight held pages (pages_held locks shape seat stripes resting whole known pages same)) in
+    let are = subst (λ (ps : List FramePage). AreInFrames held c.gather.new.seat.view ps) pages_at (seen_held seat.view c.gather.new.seat.view sight held pages (pages_held locks shape seat stripes resting whole pages same)) in
     let log = c.args.log.now in
     let named = next_mark c.args.self.now.shape c.args.self.now.mark log c.args.replay in
     let mark : c.next_mark-mark.result ≡ named = c.next_mark-mark.ensures ∙ ap (λ (k : Kept). next_mark k.shape k.mark log c.args.replay) c.self.view_is in
@@ -259,29 +249,41 @@ returns-clause-frames g c = record {
       let shape = c.args.self.now.shape in
       let pages = c.gather.new.pages.items in
       let sight = c.gather.ensures.same in
-      let known = c.gather.ensures.known in
       let resting = c.requires.stripes in
       let same = c.gather.ensures.pages in
       let whole = c.requires.seat in
       let pages_at : pages ≡ c.deref-2.result.now = sym c.deref-2.ensures.value in
       let cleans = cleans_seen pages seat.view c.gather.new.seat.view c.checkpoint_frames.new.seat.view sight
       (subst (λ (ps : List FramePage). CleansFrames ps c.gather.new.seat.view c.checkpoint_frames.new.seat.view) (sym pages_at) c.in_ok-checkpoint_frames.ensures.frames.clean) in
-      are_cleaned locks shape seat stripes resting whole known pages same c.checkpoint_frames.new.seat.view cleans;
-  rests = λ passing.
+      are_cleaned locks shape seat stripes resting whole pages same c.checkpoint_frames.new.seat.view cleans;
+  rests = λ reading.
       let locks = c.args.locks.now in
       let seat = c.args.seat.now in
       let stripes = c.args.stripes.now in
       let shape = c.args.self.now.shape in
       let pages = c.gather.new.pages.items in
       let sight = c.gather.ensures.same in
-      let known = c.gather.ensures.known in
       let resting = c.requires.stripes in
       let same = c.gather.ensures.pages in
       let whole = c.requires.seat in
       let pages_at : pages ≡ c.deref-2.result.now = sym c.deref-2.ensures.value in
       let cleans = cleans_seen pages seat.view c.gather.new.seat.view c.checkpoint_frames.new.seat.view sight
       (subst (λ (ps : List FramePage). CleansFrames ps c.gather.new.seat.view c.checkpoint_frames.new.seat.view) (sym pages_at) c.in_ok-checkpoint_frames.ensures.frames.clean) in
-      resting_after locks shape seat stripes resting whole known pages same c.checkpoint_frames.new.seat c.checkpoint_frames.ensures.frames.seat cleans passing;
+      resting_after locks shape seat stripes resting whole pages same c.checkpoint_frames.new.seat c.checkpoint_frames.ensures.frames.seat cleans reading;
+  none_stays = λ n stripe id at stays.
+      let locks = c.args.locks.now in
+      let seat = c.args.seat.now in
+      let stripes = c.args.stripes.now in
+      let shape = c.args.self.now.shape in
+      let pages = c.gather.new.pages.items in
+      let sight = c.gather.ensures.same in
+      let resting = c.requires.stripes in
+      let same = c.gather.ensures.pages in
+      let whole = c.requires.seat in
+      let pages_at : pages ≡ c.deref-2.result.now = sym c.deref-2.ensures.value in
+      let cleans = cleans_seen pages seat.view c.gather.new.seat.view c.checkpoint_frames.new.seat.view sight
+      (subst (λ (ps : List FramePage). CleansFrames ps c.gather.new.seat.view c.checkpoint_frames.new.seat.view) (sym pages_at) c.in_ok-checkpoint_frames.ensures.frames.clean) in
+      stays_none locks shape seat stripes resting whole pages same c.checkpoint_frames.new.seat c.checkpoint_frames.ensures.frames.seat cleans n stripe at id stays;
   clean = λ t.
       let old = g.H.Device.history c.args.host.now in
       let new = g.H.Device.history c.checkpoint_frames.new.host in
@@ -291,14 +293,13 @@ returns-clause-frames g c = record {
       let shape = c.args.self.now.shape in
       let pages = c.gather.new.pages.items in
       let sight = c.gather.ensures.same in
-      let known = c.gather.ensures.known in
       let resting = c.requires.stripes in
       let same = c.gather.ensures.pages in
       let whole = c.requires.seat in
       let held = dirty_held locks stripes seat.view in
       let pages_at : pages ≡ c.deref-2.result.now = sym c.deref-2.ensures.value in
       let order_at : c.gather.new.order.items ≡ c.deref-3.result.now = sym c.deref-3.ensures.value in
-      let are = subst (λ (ps : List FramePage). AreInFrames held c.gather.new.seat.view ps) pages_at (seen_held seat.view c.gather.new.seat.view sight held pages (pages_held locks shape seat stripes resting whole known pages same)) in
+      let are = subst (λ (ps : List FramePage). AreInFrames held c.gather.new.seat.view ps) pages_at (seen_held seat.view c.gather.new.seat.view sight held pages (pages_held locks shape seat stripes resting whole pages same)) in
       let shape_is : shape ≡ c.next_mark-mark.result.shape = sym (ap (λ (m : Mark). m.shape) c.next_mark-mark.ensures ∙ ap (λ (k : Kept). k.shape) c.self.view_is) in
       let cleans = cleans_seen pages seat.view c.gather.new.seat.view c.checkpoint_frames.new.seat.view sight
       (subst (λ (ps : List FramePage). CleansFrames ps c.gather.new.seat.view c.checkpoint_frames.new.seat.view) (sym pages_at) c.in_ok-checkpoint_frames.ensures.frames.clean) in
@@ -307,8 +308,32 @@ returns-clause-frames g c = record {
       ((c.in_ok-checkpoint_frames.ensures.pages t held are).stored)) in
       record {
         in_files = λ n stripe at was.
-            clean_stored locks shape seat stripes resting whole known pages same c.checkpoint_frames.new.seat c.checkpoint_frames.ensures.frames.seat cleans n stripe at old new stores was;
+            clean_stored locks shape seat stripes resting whole pages same c.checkpoint_frames.new.seat c.checkpoint_frames.ensures.frames.seat cleans n stripe at old new stores was;
         read = λ n stripe at files was.
-            clean_read locks shape seat stripes resting whole known pages same c.checkpoint_frames.new.seat c.checkpoint_frames.ensures.frames.seat cleans n stripe at old new files stores was;
+            clean_read locks shape seat stripes resting whole pages same c.checkpoint_frames.new.seat c.checkpoint_frames.ensures.frames.seat cleans n stripe at old new files stores was;
       };
+  pages = λ t.
+      let old = g.H.Device.history c.args.host.now in
+      let new = g.H.Device.history c.checkpoint_frames.new.host in
+      let locks = c.args.locks.now in
+      let seat = c.args.seat.now in
+      let stripes = c.args.stripes.now in
+      let shape = c.args.self.now.shape in
+      let pages = c.gather.new.pages.items in
+      let sight = c.gather.ensures.same in
+      let resting = c.requires.stripes in
+      let same = c.gather.ensures.pages in
+      let whole = c.requires.seat in
+      let held = dirty_held locks stripes seat.view in
+      let pages_at : pages ≡ c.deref-2.result.now = sym c.deref-2.ensures.value in
+      let order_at : c.gather.new.order.items ≡ c.deref-3.result.now = sym c.deref-3.ensures.value in
+      let are = subst (λ (ps : List FramePage). AreInFrames held c.gather.new.seat.view ps) pages_at (seen_held seat.view c.gather.new.seat.view sight held pages (pages_held locks shape seat stripes resting whole pages same)) in
+      let shape_is : shape ≡ c.next_mark-mark.result.shape = sym (ap (λ (m : Mark). m.shape) c.next_mark-mark.ensures ∙ ap (λ (k : Kept). k.shape) c.self.view_is) in
+      let cleans = cleans_seen pages seat.view c.gather.new.seat.view c.checkpoint_frames.new.seat.view sight
+      (subst (λ (ps : List FramePage). CleansFrames ps c.gather.new.seat.view c.checkpoint_frames.new.seat.view) (sym pages_at) c.in_ok-checkpoint_frames.ensures.frames.clean) in
+      let stores = subst (λ (sh : Shape). StoresPages sh.page_size held (names_of pages) old.world new.world) (sym shape_is)
+      (subst (λ (ps : List PageId). StoresPages c.next_mark-mark.result.shape.page_size held ps old.world new.world) (sym order_at ∙ c.gather.ensures.names)
+      ((c.in_ok-checkpoint_frames.ensures.pages t held are).stored)) in
+      λ n stripe id bytes at own was.
+      page_there locks shape seat stripes resting whole pages same c.checkpoint_frames.new.seat c.checkpoint_frames.ensures.frames.seat cleans n stripe at old.world new.world stores id own bytes was;
 }

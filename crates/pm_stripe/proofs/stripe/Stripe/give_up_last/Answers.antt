@@ -4,7 +4,7 @@ use Rattle.pm_stripe.specs.declared.held.Free.{Free}
 use Rattle.pm_stripe.specs.GivenUp.{GivesUpHeld}
 use Rattle.pm_stripe.specs.Stripes.{kept}
 use Rattle.pm_stripe.proofs.GivenPages.{are_covered, same_flag, last_unlent, last_bare, last_is, gives_put, gives_bare, room_for_one}
-use Rattle.pm_stripe.proofs.PutPages.{last_held, is_own, is_same, may_put, empty_before, returned}
+use Rattle.pm_stripe.proofs.PutPages.{last_held, is_own, is_same, may_put, empty_before, own_sight, returned}
 use Rattle.pm_stripe.proofs.stripe.Stripe.give_up_last.Goals as goal
 
 pub push_reserved-requires : goal.push_reserved-requires
@@ -49,7 +49,7 @@ returns-clause-gives c =
     let y = c.requires.holds.kept h.page h.frame h.tag from.kept in
     gives_put c.args.locks.now k c.requires.holds c.pop.new.self.items h list c.requires.unlent (kept (record c.args.self.now { held = c.pop.new.self }) c.own_put.new.seat) refl
     (returned c.args.locks.now k c.requires.holds c.pop.new.self.items h list h.flag (same_flag h bare unlent c.if-is_read.false) c.own_put.new.seat (vec_capacity c.pop.new.self) (omega (arith, c.pop.ensures.capacity, c.requires.holds.held_room))
-    c.own_put.ensures.seat c.own_put.ensures.put c.own_put.ensures.knows (λ e. y.some (empty_before y.entry.flag h.flag (from.follows y.entry y.at) e)) c.if-is_read.false)
+    c.own_put.ensures.seat c.own_put.ensures.put (own_sight c.args.locks.now k c.requires.holds c.pop.new.self.items h list h.flag (same_flag h bare unlent c.if-is_read.false) c.own_put.new.seat c.own_put.ensures.put c.own_put.ensures.knows) (λ e. y.some (empty_before y.entry.flag h.flag (from.follows y.entry y.at) e)) c.if-is_read.false)
     c.if-is_read.false
 
 pub returns-then-is_read-clause-count : goal.returns-then-is_read-clause-count

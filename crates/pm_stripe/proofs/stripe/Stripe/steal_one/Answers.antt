@@ -5,6 +5,7 @@ use Rattle.pm_stripe.specs.Met.{MeetsFrame}
 use Rattle.pm_stripe.specs.Steals.{StealsFrame}
 use Rattle.pm_stripe.specs.Stripes.{kept}
 use Rattle.pm_stripe.proofs.MetFrames.{got_meets, not_meets}
+use Rattle.pm_stripe.proofs.SettledFrames.{stolen_sight, not_sight}
 use Rattle.pm_stripe.proofs.StolenFrames.{stolen_long, got_one, not_one}
 use Rattle.pm_stripe.proofs.stripe.Stripe.steal_one.Goals as goal
 
@@ -32,3 +33,11 @@ returns-in-Got-clause-meets c =
     subst P (sym c.push_reserved.ensures.items)
     (got_meets c.args.locks.now k c.requires.holds c.args.frame (record k { seat = c.steal.new.seat; places = c.forget.new.self; free = c.args.self.now.free.items ++ new ∷ []; free_room = vec_capacity c.push_reserved.new.self })
     c.in-Got.lease c.in-Got.tag c.in-Got.ensures.answer (record { frame = new; added = refl; is = refl }))
+
+pub returns-in-Not-clause-sight : goal.returns-in-Not-clause-sight
+returns-in-Not-clause-sight c = not_sight c.args.locks.now c.args.seat.now.view c.steal.new.seat.view c.args.self.now.number c.args.frame _ c.requires.frame c.steal.ensures.knows c.in-Not.ensures.answer
+
+pub returns-in-Got-clause-sight : goal.returns-in-Got-clause-sight
+returns-in-Got-clause-sight c =
+    let w = c.requires.holds.worker in
+    stolen_sight c.args.locks.now c.args.seat.now.view c.steal.new.seat.view c.args.self.now.number c.args.frame c.in-Got.tag c.in-Got.lease c.requires.frame (omega (arith, w.below, w.seat_of.staff)) c.in-Got.ensures.knows c.in-Got.ensures.answer

@@ -12,7 +12,7 @@ frames-preserved c =
     let room : length c.frames.self.free.items < OP_PAGES = omega (arith, x.tries.few, c.if-len.false, c.len.ensures) in
     record {
       tries = tries_then c.args.locks.now (kept c.args.self.now c.args.seat.now) k (kept c.steal_one.new.self c.steal_one.new.seat) c.args.from c.frames.frame (c.frames.frame + 1) x.after (omega arith) x.tries
-          (tries_one c.args.locks.now k (kept c.steal_one.new.self c.steal_one.new.seat) c.frames.frame c.steal_one.result y.steals y.meets room y.exact y.knows);
+          (tries_one c.args.locks.now k (kept c.steal_one.new.self c.steal_one.new.seat) c.frames.frame c.steal_one.result y.steals y.meets room y.exact y.sight);
       same = record { number = y.same.number ∙ x.same.number; shape = y.same.shape ∙ x.same.shape; files = y.same.files ∙ x.same.files; is_running = y.same.is_running ∙ x.same.is_running; outbox = y.same.outbox ∙ x.same.outbox };
       after = omega (arith, x.after);
       within = omega (arith, c.frames-test.true);

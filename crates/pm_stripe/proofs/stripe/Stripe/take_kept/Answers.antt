@@ -20,9 +20,9 @@ returns-in-Some-clause-takes g c =
     let P : List Held → Type 0 = λ hs. TakesPage c.args.locks.now k (record k { seat = c.take_frame.new.seat; held = hs; held_room = vec_capacity c.push_reserved.new.self }) c.args.page true in
     subst P (sym c.push_reserved.ensures.items)
     (taken_page c.args.locks.now k new c.take_frame.new.seat (vec_capacity c.push_reserved.new.self) c.requires.holds c.requires.away c.requires.kept c.in-Some.ensures.seat c.in-Some.ensures.takes
-    (ap (λ l. l.bytes) c.of-was.ensures) refl refl refl (omega (arith, c.push_reserved.ensures.capacity, c.requires.holds.held_room)))
+    (ap (λ l. l.bytes) c.of-was.ensures) refl refl refl (omega (arith, c.push_reserved.ensures.capacity, c.requires.holds.held_room)) c.in-Some.ensures.sight)
 
 pub returns-in-None-clause-takes : goal.returns-in-None-clause-takes
 returns-in-None-clause-takes g c =
     let k = kept c.args.self.now c.args.seat.now in
-    lost_page c.args.locks.now k c.args.page c.args.frame c.args.tag c.take_frame.new.seat c.forget.new.self c.requires.holds c.requires.away c.requires.kept c.in-None.ensures.seat c.in-None.ensures.takes c.forget.ensures.table c.forget.ensures.pages
+    lost_page c.args.locks.now k c.args.page c.args.frame c.args.tag c.take_frame.new.seat c.forget.new.self c.requires.holds c.requires.away c.requires.kept c.in-None.ensures.seat c.in-None.ensures.takes c.forget.ensures.table c.forget.ensures.pages c.in-None.ensures.sight
