@@ -13,17 +13,19 @@ use Rattle.pm_model.specs.declared.line.Line.TheVariants.{Good, Bad, Long}
 use Rattle.pm_model.specs.Eval.{Pairs, after, is_accepted}
 use Rattle.pm_model.specs.Orders.{part_of_line}
 use Rattle.pm_pages.specs.declared.plain.PlainPages.{PlainPages}
-use Rattle.pm_pages.specs.Plain.{plain_seen}
+use Rattle.pm_pages.specs.Plain.{plain_seen, ArePlain}
 use Rattle.pm_pages.specs.PlainLaws.{is_there}
 use Rattle.pm_pages.proofs.PlainSteps.{there_below}
 use Rattle.pm_core.specs.BasePages.{Partitions}
 use Rattle.pm_core.specs.Held.{AllWellFormed, pairs_in}
 use Rattle.pm_core.specs.Replays.{replayed}
 use Rattle.pm_engine.specs.PagedMaps.{PagedStore, AcceptsLine, IsPlainPartition, pages_of_list, pages_of_lists}
+use Rattle.pm_engine.specs.PageLogs.{plain_noted}
 use Rattle.pm_engine.specs.Records.{record_of_line, IsPayloadOf, logical_frame}
 use Rattle.pm_engine.specs.RunningSteps.{ChangesStore, MakesPages}
 use Rattle.pm_engine.specs.RunningStores.{StoreState, map_of}
 use Rattle.pm_engine.specs.TrackedPages.{SaysNoPage, ChangesWithin, ChangesPart, HaveFirstPages}
+use Rattle.pm_engine.proofs.ChangedFrames.{changed_below}
 use Rattle.pm_engine.proofs.LoggedLines.{logs_line}
 use Rattle.pm_engine.proofs.PlainPartitions.{all_well}
 
@@ -81,18 +83,25 @@ module _ (before now : PagedStore) (line : Line) (store : StoreState) (accepts :
     partition_is : IsPlainPartition now.shape (part_of_line before.shape line) list
     partition_is = accepts.is.partitions.each (part_of_line before.shape line) list is
 
-    pub changes_store : ChangesStore store (part_of_line before.shape line) list (pages_of_lists now.lists)
+    pub list_plain : ArePlain list
+    list_plain = partition_is.plain
+
+    pub changes_store : ChangesStore store (part_of_line before.shape line) (plain_noted list) (pages_of_lists now.lists)
     changes_store = record {
       inside = subst (λ (s : Shape). part_of_line before.shape line < s.partitions) (sym shape_is) accepts.inside;
-      plain = partition_is.plain;
-      names = record { number = partition_is.number; small = omega (arith, accepts.inside, accepts.was.is_shape.partitions_to); few = partition_is.plain.indexed };
+      names = record {
+        number = partition_is.number;
+        small = omega (arith, accepts.inside, accepts.was.is_shape.partitions_to);
+        few = partition_is.plain.indexed;
+        below = changed_below list partition_is.plain;
+      };
       within = subst (λ (q : Shape × Partitions × PlainPages). ChangesWithin q.0.page_size (q.1 (part_of_line before.shape line)) (plain_seen q.2)) {x = (before.shape, pages_of_lists before.lists, accepts.lists.list)} {y = (store.shape, store.pages, list)} (λ i. (sym shape_is i, sym pages_are i, list_is i)) accepts.lists.within;
       changes = subst (λ (q : Partitions × PlainPages). ChangesPart (part_of_line before.shape line) q.0 (pages_of_lists now.lists) (plain_seen q.1).pages) {x = (pages_of_lists before.lists, accepts.lists.list)} {y = (store.pages, list)} (λ i. (sym pages_are i, list_is i)) accepts.lists.changes;
       well_formed = subst (λ (s : Shape). AllWellFormed s (pages_of_lists now.lists)) (accepts.shape ∙ sym shape_is) (all_well now.shape now.lists accepts.is.partitions);
       first_pages = begin_with_first store.shape now.lists;
     }
 
-    pub makes_pages : (payload : List ℕ) → IsPayloadOf (record_of_line line) payload → MakesPages store (part_of_line before.shape line) list (logical_frame payload) (pages_of_lists now.lists)
+    pub makes_pages : (payload : List ℕ) → IsPayloadOf (record_of_line line) payload → MakesPages store (part_of_line before.shape line) (plain_noted list) (logical_frame payload) (pages_of_lists now.lists)
     makes_pages payload made =
         let found = logical_of before.shape line before.pairs payload accepts.accepted made in
         let logs = logs_line before.shape line before.pairs payload accepts.accepted made in

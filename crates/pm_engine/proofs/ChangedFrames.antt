@@ -12,6 +12,7 @@ use Rattle.pm_pages.specs.Asked.{entry_of, patch_of, has_bytes, is_changed}
 use Rattle.pm_pages.specs.declared.plain.PlainPages.{PlainPages}
 use Rattle.pm_pages.specs.Paged.{Paged}
 use Rattle.pm_pages.specs.Plain.{plain_seen, plain_count, ArePlain}
+use Rattle.pm_pages.specs.Rows.{bytes_of}
 use Rattle.pm_core.specs.PageSets.{has_index}
 use Rattle.pm_engine.specs.PageLogs.{page_record, frames_with, frames_of_page, frames_at, frames_below, names_at, names_below}
 use Rattle.pm_engine.proofs.PageNames.{other_name, has_index-others}
@@ -137,6 +138,19 @@ names_few seen logged zero = omega (arith, ap length (names_zero seen logged))
 names_few seen logged (suc n) =
     omega (arith, ap length (names_next seen logged n (suc n) (omega arith)), length-append (names_below seen logged n) (names_at seen logged n), few_names seen logged n, names_few seen logged n)
 
+few_frames : (patch : Option Coverage) (page : PageId) (bytes : List ℕ) (is_logged : Bool) → length (frames_with patch page bytes is_logged) ≤ (if is_changed patch then 1 else 0)
+few_frames None page bytes is_logged = omega arith
+few_frames (Some patch) page bytes is_logged = by (record_frame (page_record page bytes patch is_logged)) (has_bytes patch)
+  where
+    by : (f : Frame) (b : Bool) → length (let fs : List Frame = if b then f ∷ [] else [] in fs) ≤ (if b then 1 else 0)
+    by f true = omega arith
+    by f false = omega arith
+
+pub frames_few : (seen : Paged) (logged : List PageId) (n : ℕ) → length (frames_below seen logged n) ≤ changed_count seen.patch n
+frames_few seen logged zero = omega (arith, ap length (below_zero seen logged))
+frames_few seen logged (suc n) =
+    omega (arith, ap length (below_next seen logged n (suc n) (omega arith)), length-append (frames_below seen logged n) (frames_at seen logged n), few_frames (seen.patch n) (page_id seen.part n) (bytes_of (seen.pages n)) (has_index seen.part n logged), frames_few seen logged n)
+
 count_none : (patch : ℕ → Option Coverage) (n : ℕ) → ((i : ℕ) → is_changed (patch i) ≡ false) → changed_count patch n ≡ 0
 count_none patch zero none = refl
 count_none patch (suc n) none = omega (arith, count_none patch n none, ap {B = ℕ} (λ (b : Bool). if b then 1 else 0) (none n))
@@ -151,7 +165,7 @@ bit : (b : Bool) → (if b then 1 else 0) ≤ 1
 bit true = omega arith
 bit false = omega arith
 
-count_one : (f g : ℕ → Option Coverage) (k n : ℕ) → ((i : ℕ) → i ≢ k → f i ≡ g i) → changed_count f n ≤ changed_count g n + 1
+pub count_one : (f g : ℕ → Option Coverage) (k n : ℕ) → ((i : ℕ) → i ≢ k → f i ≡ g i) → changed_count f n ≤ changed_count g n + 1
 count_one f g k zero same = omega arith
 count_one f g k (suc n) same = elim (cases_eq n k) [
   | inl e ↦ omega (arith, count_below f g k n same (omega (arith, e)), bit (is_changed (f n)))

@@ -8,7 +8,6 @@ use Rattle.pm_model.specs.declared.line.Line.{Line}
 use Rattle.pm_model.specs.Eval.{Pairs, after, after_all}
 use Rattle.pm_model.proofs.Runs.{after_all-append}
 use Rattle.pm_records.specs.LogSteps.{Step, Force, frames_in}
-use Rattle.pm_pages.specs.declared.plain.PlainPages.{PlainPages}
 use Rattle.pm_core.specs.BasePages.{Partitions}
 use Rattle.pm_core.specs.Calls.{MakesPrefix}
 use Rattle.pm_core.specs.Held.{pairs_in}
@@ -21,7 +20,7 @@ use Rattle.pm_core.specs.States.{State}
 use Rattle.pm_core.proofs.CrashLaw.{run_grows}
 use Rattle.pm_core.proofs.Replaying.{replayed-append}
 use Rattle.pm_engine.specs.AppendRuns.{append_all_steps}
-use Rattle.pm_engine.specs.PageLogs.{change_frames}
+use Rattle.pm_engine.specs.PageLogs.{NotedPages, noted_frames}
 use Rattle.pm_engine.specs.RunningLines.{KeepsLines, HasRun, CrashHoldsLines}
 use Rattle.pm_engine.specs.RunningSteps.{appended_to, MakesPages, operation_frames, operation_names}
 use Rattle.pm_engine.specs.RunningStores.{StoreState, IsRunning, HasSegmentsFor, map_of}
@@ -77,10 +76,10 @@ module _ (wanted : Shape) (told : List ℕ → ℕ) (from : ℕ) (start : Pairs)
   }
 
   -- a line that an operation did
-  module _ (line : Line) (part : ℕ) (list : PlainPages) (frame : Frame) (pages : Partitions) (made : MakesPages store part list frame pages) (does : pairs_in store.shape.partitions pages ≡ after store.shape line (map_of store))
-      (segments : HasSegmentsFor store.log (length (operation_frames store list frame))) where
+  module _ (line : Line) (part : ℕ) (noted : NotedPages) (frame : Frame) (pages : Partitions) (made : MakesPages store part noted frame pages) (does : pairs_in store.shape.partitions pages ≡ after store.shape line (map_of store))
+      (segments : HasSegmentsFor store.log (length (operation_frames store noted frame))) where
     abbrev fs : List Frame
-    fs = operation_frames store list frame
+    fs = operation_frames store noted frame
 
     abbrev steps : List Step
     steps = append_all_steps store.log fs
@@ -88,15 +87,15 @@ module _ (wanted : Shape) (told : List ℕ → ℕ) (from : ℕ) (start : Pairs)
     abbrev next : Pairs
     next = pairs_in store.shape.partitions pages
 
-    pub line_done : HasRun wanted told from start (lines ++ line ∷ []) (appended_to store fs pages (operation_names store list)) (states (on_log steps) s w) (worlds (on_log steps) s w)
+    pub line_done : HasRun wanted told from start (lines ++ line ∷ []) (appended_to store fs pages (operation_names store noted)) (states (on_log steps) s w) (worlds (on_log steps) s w)
     line_done =
-        let says = operation_says store has.runs.is_shape part list frame pages made has.runs.frames has.runs.files has.runs.tracks has.runs.holds.once in
-        let changes = change_frames list store.logged in
-        let none = changes_no_map store has.runs.is_shape part list pages made.change has.runs.frames has.runs.files has.runs.tracks in
+        let says = operation_says store has.runs.is_shape part noted frame pages made has.runs.frames has.runs.files has.runs.tracks has.runs.holds.once in
+        let changes = noted_frames noted store.logged in
+        let none = changes_no_map store has.runs.is_shape part noted pages made.change has.runs.frames has.runs.files has.runs.tracks in
         let either = steps_either store.shape (map_of store) next store.log frame changes made.map none in
         let first : (states (on_log steps) s w).first ≡ s.first = (state_follows steps [] s w).first in
         record {
-          runs = store_append_runs wanted told store (map_of store) next s w has.runs fs pages (operation_names store list) says segments;
+          runs = store_append_runs wanted told store (map_of store) next s w has.runs fs pages (operation_names store noted) says segments;
           lasting = omega (arith, has.lasting, run_grows (on_log steps) s w);
           map = one_more line next does;
           keeps = subst (λ (p : Pairs). KeepsLines store.shape from start (lines ++ line ∷ []) p (appended (states (on_log steps) s w))) (sym first)

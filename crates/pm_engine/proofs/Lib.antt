@@ -7,7 +7,9 @@ pub mod CheckpointedStores
 pub mod CheckpointPages
 pub mod ConsoleRuns
 pub mod EditedPages
+pub mod FramedEdits
 pub mod GrownWorlds
+pub mod HandedPages
 pub mod HasRunLines
 pub mod HeldReplays
 pub mod JoinedPairs
@@ -22,6 +24,7 @@ pub mod OpenedStores
 pub mod OpeningSteps
 pub mod OperationFrames
 pub mod OperationSteps
+pub mod OutboxLoops
 pub mod PagedBatchCalls
 pub mod PagedBatching
 pub mod PagedCalls

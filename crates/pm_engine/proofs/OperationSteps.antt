@@ -14,7 +14,7 @@ use Rattle.pm_core.specs.Rounds.{on_log}
 use Rattle.pm_core.specs.States.{State}
 use Rattle.pm_core.proofs.LogCalls.{log_worlds, prefix}
 use Rattle.pm_engine.specs.AppendRuns.{append_all_steps}
-use Rattle.pm_engine.specs.PageLogs.{change_frames}
+use Rattle.pm_engine.specs.PageLogs.{change_frames, plain_noted}
 use Rattle.pm_engine.specs.RunningSteps.{operation_frames}
 use Rattle.pm_engine.specs.RunningStores.{StoreState}
 
@@ -28,8 +28,8 @@ machine_steps old new result steps s does = record {
 -- the records of an operation, appended to the log of a store
 pub operation_steps : {T E : Type 0} (old new : History) (result : Result T E) (log : LogEnd) (frame : Frame) (list : PlainPages) (logged : List PageId) (store : StoreState) (s : State)
     → DoesSteps {T = T} {E = E} old new result (append_all_steps log (frame ∷ change_frames list logged)) log.end → store.log ≡ log → store.logged ≡ logged → s.end ≡ log.end
-    → MakesSteps {T = T} {E = E} old new result (on_log (append_all_steps store.log (operation_frames store list frame))) s
+    → MakesSteps {T = T} {E = E} old new result (on_log (append_all_steps store.log (operation_frames store (plain_noted list) frame))) s
 operation_steps {T} {E} old new result log frame list logged store s does log_is logged_are end_is =
-    machine_steps old new result (append_all_steps store.log (operation_frames store list frame)) s
+    machine_steps old new result (append_all_steps store.log (operation_frames store (plain_noted list) frame)) s
     (subst (λ (q : LogEnd × List PageId × Place). DoesSteps {T = T} {E = E} old new result (append_all_steps q.0 (frame ∷ change_frames list q.1)) q.2) {x = (log, logged, log.end)} {y = (store.log, store.logged, s.end)}
     (λ i. (sym log_is i, sym logged_are i, sym end_is i)) does)

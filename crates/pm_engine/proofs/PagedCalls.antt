@@ -24,14 +24,14 @@ use Rattle.pm_core.specs.States.{State}
 use Rattle.pm_core.proofs.OnlyDisk.{logs_disk}
 use Rattle.pm_engine.specs.AppendRuns.{AppendsAll, append_all_steps, grown_all}
 use Rattle.pm_engine.specs.LoggedLists.{Logged, AddsNames}
-use Rattle.pm_engine.specs.PageLogs.{change_frames, change_names}
+use Rattle.pm_engine.specs.PageLogs.{change_frames, change_names, plain_noted}
 use Rattle.pm_engine.specs.PagedEngines.{PagedRunning, store_of, AreThere, GoesOn, KeepsEngine, DoesLine, HasRunLines, LogsOperation, number_of}
 use Rattle.pm_engine.specs.PagedMaps.{PagedStore, IsPagedStore, AcceptsLine, pages_of_lists}
 use Rattle.pm_engine.specs.Records.{record_of_line, IsPayloadOf, logical_frame}
 use Rattle.pm_engine.specs.RunningLines.{HasRun, CrashHoldsLines}
 use Rattle.pm_engine.specs.RunningSteps.{appended_to, operation_frames, operation_names}
 use Rattle.pm_engine.specs.RunningStores.{StoreState, IsMarkIn, HasSegmentsFor}
-use Rattle.pm_engine.proofs.AcceptedLines.{makes_pages}
+use Rattle.pm_engine.proofs.AcceptedLines.{list_plain}
 use Rattle.pm_engine.proofs.ChangedFrames.{names_few}
 use Rattle.pm_engine.proofs.LoggingPages.{few_changed}
 use Rattle.pm_engine.proofs.RunningLines.{crash_further, crash_wider}
@@ -42,7 +42,7 @@ use Rattle.pm_engine.proofs.PagedRuns.{line_rises, line_goes_on, line_crash, lin
 pub logs_operation : {T E : Type 0} (tells : Type 0) (old new : History) (result : Result T E) (shape : Shape) (before now : LogEnd) (was logged : Logged) (payload : List ℕ) (list other : PlainPages) → list ≡ other
     → AppendsAll {T = T} {E = E} tells old new result before now (logical_frame payload ∷ change_frames list was.pages) → OnOk result (AddsNames (change_names list was.pages) was logged)
     → (tells → (store : StoreState) (s : State) → store.log ≡ before → store.logged ≡ was.pages → s.end ≡ before.end
-    → MakesSteps {T = T} {E = E} old new result (on_log (append_all_steps store.log (operation_frames store list (logical_frame payload)))) s)
+    → MakesSteps {T = T} {E = E} old new result (on_log (append_all_steps store.log (operation_frames store (plain_noted list) (logical_frame payload)))) s)
     → LogsOperation {T = T} {E = E} tells old new result before now was logged payload other
 logs_operation {T} {E} tells old new result shape before now was logged payload list other same appends names does =
     subst (LogsOperation {T = T} {E = E} tells old new result before now was logged payload) same (record {
@@ -69,9 +69,9 @@ module _ (before new : PagedRunning) (now : PagedStore) (line : Line) (accepts :
   store = store_of before
 
   abbrev next : StoreState
-  next = appended_to store (operation_frames store list (logical_frame payload)) (pages_of_lists now.lists) (operation_names store list)
+  next = appended_to store (operation_frames store (plain_noted list) (logical_frame payload)) (pages_of_lists now.lists) (operation_names store (plain_noted list))
 
-  steps_made : tells → (s : State) → s.end ≡ before.log.end → MakesSteps {T = T} {E = E} old hist result (on_log (append_all_steps before.log (operation_frames store list (logical_frame payload)))) s
+  steps_made : tells → (s : State) → s.end ≡ before.log.end → MakesSteps {T = T} {E = E} old hist result (on_log (append_all_steps before.log (operation_frames store (plain_noted list) (logical_frame payload)))) s
   steps_made t s ends =
       subst (λ (ps : List PageId). MakesSteps {T = T} {E = E} old hist result (on_log (append_all_steps before.log (logical_frame payload ∷ change_frames list ps))) s) same (logs.makes t s ends)
 
@@ -79,7 +79,7 @@ module _ (before new : PagedRunning) (now : PagedStore) (line : Line) (accepts :
   pub call_crash : tells → (wanted : Shape) (told : List ℕ → ℕ) (from : ℕ) (start : Pairs) (lines : List Line) (s : State) → HasRun wanted told from start lines store s old.world → HasSegmentsFor before.log 33
       → AllMoments old hist (CrashHoldsLines (before.log.end.seg + 34) (number_of before.mark) wanted before.map.shape start (lines ++ line ∷ []))
   call_crash t wanted told from start lines s has segments =
-      weaker old hist (MakesPrefix (on_log (append_all_steps before.log (operation_frames store list (logical_frame payload)))) s old.world) (CrashHoldsLines (before.log.end.seg + 34) (number_of before.mark) wanted before.map.shape start (lines ++ line ∷ []))
+      weaker old hist (MakesPrefix (on_log (append_all_steps before.log (operation_frames store (plain_noted list) (logical_frame payload)))) s old.world) (CrashHoldsLines (before.log.end.seg + 34) (number_of before.mark) wanted before.map.shape start (lines ++ line ∷ []))
       (λ w some. line_crash before now line accepts list is payload made wanted told from start lines s old.world has segments w some)
       (steps_made t s has.runs.log.ends).moments
 
@@ -88,8 +88,8 @@ module _ (before new : PagedRunning) (now : PagedStore) (line : Line) (accepts :
     pub next_is : (AddsNames (change_names list was.pages) was logged) → log ≡ grown_all before.log (logical_frame payload ∷ change_frames list was.pages) → store_of new ≡ next
     next_is names grown =
         let shape_is : new.map.shape ≡ before.map.shape = ap (λ (m : PagedStore). m.shape) map_is ∙ accepts.shape in
-        let logged_now : new.logged ≡ operation_names store list = logged_is ∙ names.pages ∙ ap (λ (ps : List PageId). ps ++ change_names list ps) same in
-        let log_now : new.log ≡ grown_all before.log (operation_frames store list (logical_frame payload)) =
+        let logged_now : new.logged ≡ operation_names store (plain_noted list) = logged_is ∙ names.pages ∙ ap (λ (ps : List PageId). ps ++ change_names list ps) same in
+        let log_now : new.log ≡ grown_all before.log (operation_frames store (plain_noted list) (logical_frame payload)) =
         log_is ∙ grown ∙ ap (λ (ps : List PageId). grown_all before.log (logical_frame payload ∷ change_frames list ps)) same in
         λ i. record { shape = shape_is i; pages = pages_of_lists (map_is i).lists; logged = logged_now i; log = log_now i; mark = mark_is i }
 
@@ -119,12 +119,12 @@ module _ (before new : PagedRunning) (now : PagedStore) (line : Line) (accepts :
         logs.names
       where
         plain : ArePlain list
-        plain = (makes_pages before.map now line (store_of before) accepts refl refl list is payload made).change.plain
+        plain = list_plain before.map now line (store_of before) accepts refl refl list is
 
     pub call_lines : tells → (wanted : Shape) (told : List ℕ → ℕ) (from : ℕ) (start : Pairs) (lines : List Line) (s : State) → HasRun wanted told from start lines store s old.world → HasSegmentsFor before.log 33
         → OnOk result (HasRunLines wanted told from start (lines ++ line ∷ []) new hist.world)
     call_lines t wanted told from start lines s has segments =
-        let steps = on_log (append_all_steps before.log (operation_frames store list (logical_frame payload))) in
+        let steps = on_log (append_all_steps before.log (operation_frames store (plain_noted list) (logical_frame payload))) in
         let adds : Type 0 = AddsNames (change_names list was.pages) was logged in
         let grows : Type 0 = log ≡ grown_all before.log (logical_frame payload ∷ change_frames list was.pages) in
         on_ok_both result (store_of new ≡ next) (hist.world ≡ worlds steps s old.world) (HasRunLines wanted told from start (lines ++ line ∷ []) new hist.world)

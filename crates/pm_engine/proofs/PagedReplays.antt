@@ -19,7 +19,7 @@ use Rattle.pm_records.specs.LogSteps.{frames_in, world_after, DoesSteps}
 use Rattle.pm_records.specs.Records.{Logical}
 use Rattle.pm_segments.specs.Ends.{LogEnd, EndsThere}
 use Rattle.pm_pages.specs.declared.plain.PlainPages.{PlainPages}
-use Rattle.pm_pages.specs.Plain.{plain_seen, plain_count}
+use Rattle.pm_pages.specs.Plain.{plain_seen, plain_count, ArePlain}
 use Rattle.pm_core.specs.BasePages.{Partitions}
 use Rattle.pm_core.specs.Calls.{MakesPrefix, MakesSteps}
 use Rattle.pm_core.specs.Machine.{DiskStep, CanAll, states, worlds}
@@ -37,12 +37,12 @@ use Rattle.pm_engine.proofs.Applying.{ReplaysPut}
 use Rattle.pm_engine.specs.PagedEngines.{PagedRunning, store_of, AreThere, GoesOn, number_of}
 use Rattle.pm_engine.specs.PagedMaps.{PagedStore, AcceptsLine, pages_of_lists}
 use Rattle.pm_engine.specs.PagedReplays.{line_in, CrashHoldsMap, IsReplaying, AreLasting, ReplaysOn, GrewAtEnd, GoesOnReplaying}
-use Rattle.pm_engine.specs.PageLogs.{change_frames, change_names}
+use Rattle.pm_engine.specs.PageLogs.{change_frames, change_names, plain_noted}
 use Rattle.pm_engine.specs.Records.{logical_frame}
 use Rattle.pm_engine.specs.RunningLines.{KeepsLines, CrashHoldsLines}
 use Rattle.pm_engine.specs.RunningSteps.{appended_to, ChangesStore, SayPagesOver, operation_names}
 use Rattle.pm_engine.specs.RunningStores.{StoreState, RunsOver, IsMarkIn, HasSegmentsFor}
-use Rattle.pm_engine.proofs.AcceptedLines.{changes_store}
+use Rattle.pm_engine.proofs.AcceptedLines.{changes_store, list_plain}
 use Rattle.pm_engine.proofs.Applying.{puts_apply}
 use Rattle.pm_engine.proofs.ChangedFrames.{names_few}
 use Rattle.pm_engine.proofs.GrownWorlds.{all_grew, grew_none}
@@ -157,17 +157,20 @@ module _ (before : PagedRunning) (now : PagedStore) (line : Line) (accepts : Acc
   pages = pages_of_lists now.lists
 
   abbrev names : List PageId
-  names = operation_names store list
+  names = operation_names store (plain_noted list)
 
   -- the store after it
   abbrev next : StoreState
   next = appended_to store frames pages names
 
-  change : ChangesStore store part list pages
+  change : ChangesStore store part (plain_noted list) pages
   change = changes_store before.map now line store accepts refl refl list is
 
+  plain : ArePlain list
+  plain = list_plain before.map now line store accepts refl refl list is
+
   few : length frames ≤ 32
-  few = omega (arith, operation_few store list (logical_frame []) change.plain)
+  few = omega (arith, operation_few store list (logical_frame []) plain)
 
   all_rise : (grown_all before.log frames).end.seg ≤ before.log.end.seg + 32
   all_rise = omega (arith, all_rises before.log frames, few)
@@ -189,13 +192,13 @@ module _ (before : PagedRunning) (now : PagedStore) (line : Line) (accepts : Acc
     enough = omega (arith, segments, few)
 
     says : SayPagesOver store pairs pairs frames pages names
-    says = replay_says store so.runs.is_shape part list pages change so.runs.frames so.runs.files so.runs.tracks so.runs.holds.once pairs
+    says = replay_says store so.runs.is_shape part (plain_noted list) pages change so.runs.frames so.runs.files so.runs.tracks so.runs.holds.once pairs
 
     can : CanAll told steps s w
     can = store_append_goes wanted told store pairs pairs s w so.runs frames pages names says enough
 
     none : ChangeNoMap before.map.shape frames
-    none = changes_no_map store so.runs.is_shape part list pages change so.runs.frames so.runs.files so.runs.tracks
+    none = changes_no_map store so.runs.is_shape part (plain_noted list) pages change so.runs.frames so.runs.files so.runs.tracks
 
     keeps : KeepsLines before.map.shape 0 pairs [] s.first (appended (states steps s w))
     keeps =
@@ -268,8 +271,8 @@ module _ (before : PagedRunning) (now : PagedStore) (line : Line) (accepts : Acc
           length-append was.pages (change_names list was.pages),
           ap length same,
           names_few (plain_seen list) was.pages (plain_count list),
-          few_changed list change.plain (plain_count list),
-          change.plain.few,
+          few_changed list plain (plain_count list),
+          plain.few,
         ))
         adds
 

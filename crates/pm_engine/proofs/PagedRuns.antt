@@ -1,5 +1,5 @@
 -- What a line makes of an engine that logs its pages.
-use Rattle.std.proofs.Common.{◌≡◌, ℕ, zero, suc, ◌+◌, ◌-◌, ◌^◌, ◌<◌, ◌≤◌, Bool, true, false, List, [], ◌∷◌, ◌++◌, length, ◌⊎◌, Option, Some, None, inl, inr, refl, sym, ap, ◌∙◌, subst, arith, length-append}
+use Rattle.std.proofs.Common.{◌≡◌, ℕ, zero, suc, ◌+◌, ◌-◌, ◌^◌, ◌<◌, ◌≤◌, Bool, true, false, List, [], ◌∷◌, ◌++◌, length, ◌⊎◌, Option, Some, inl, inr, refl, sym, ap, ◌∙◌, subst, arith}
 use Rattle.std.specs.Prelude.{◌==◌, ◌&&◌, not, IsSome, slice_get, if◌then◌else◌}
 use Rattle.std.proofs.lemmas.Bool.{cases_lt, false≢true, and_parts, eqb-true}
 use Rattle.std.proofs.lemmas.Bool.Decides.{eqb_tells}
@@ -7,9 +7,8 @@ use Rattle.std.proofs.lemmas.Option.{slice_get_cases, same_Some}
 use Rattle.pm_types.specs.declared.page_id.PageId.{PageId}
 use Rattle.pm_types.specs.declared.shape.Shape.{Shape}
 use Rattle.pm_types.specs.Ids.{page_id, part_of_id, index_of_id}
-use Rattle.pm_types.specs.Spans.{Coverage}
 use Rattle.pm_frame.specs.Frames.{Frame}
-use Rattle.pm_records.specs.Logs.{is_last, record_frame}
+use Rattle.pm_records.specs.Logs.{is_last}
 use Rattle.pm_records.specs.LogSteps.{next_segment}
 use Rattle.pm_disk.specs.Worlds.{World}
 use Rattle.pm_model.specs.declared.line.Line.{Line}
@@ -19,13 +18,12 @@ use Rattle.pm_model.proofs.Runs.{after-not_accepted}
 use Rattle.pm_records.proofs.Runs.{bool_cases}
 use Rattle.pm_segments.specs.Appends.{grown, rolled}
 use Rattle.pm_segments.specs.Ends.{LogEnd, has_room, moved}
-use Rattle.pm_pages.specs.Asked.{has_bytes, is_changed}
+use Rattle.pm_pages.specs.Asked.{is_changed}
 use Rattle.pm_pages.specs.declared.plain.PlainPages.{PlainPages}
 use Rattle.pm_pages.specs.KeptPages.{IsPageOf}
 use Rattle.pm_pages.specs.Paged.{Paged}
 use Rattle.pm_pages.specs.Plain.{plain_seen, plain_count, ArePlain}
 use Rattle.pm_pages.specs.PlainLaws.{is_there}
-use Rattle.pm_pages.specs.Rows.{bytes_of}
 use Rattle.pm_pages.proofs.PlainSteps.{there_below}
 use Rattle.pm_core.specs.BasePages.{Partitions}
 use Rattle.pm_core.specs.Calls.{MakesPrefix}
@@ -36,7 +34,7 @@ use Rattle.pm_core.specs.Rounds.{on_log}
 use Rattle.pm_core.specs.States.{State}
 use Rattle.pm_engine.specs.AppendRuns.{append_all_steps, grown_all}
 use Rattle.pm_engine.specs.LoggedLists.{Logged, HasLogRoom}
-use Rattle.pm_engine.specs.PageLogs.{page_record, frames_with, frames_at, frames_below, names_at, names_below, change_names}
+use Rattle.pm_engine.specs.PageLogs.{names_at, names_below, change_names, plain_noted}
 use Rattle.pm_engine.specs.PagedEngines.{PagedRunning, store_of, AreThere, GoesOn, HasRunLines, number_of}
 use Rattle.pm_engine.specs.PagedMaps.{PagedStore, IsPagedStore, AcceptsLine, pages_of_list, pages_of_lists}
 use Rattle.pm_engine.specs.Records.{record_of_line, IsPayloadOf, logical_frame}
@@ -45,8 +43,8 @@ use Rattle.pm_engine.specs.RunningSteps.{MakesPages, appended_to, operation_fram
 use Rattle.pm_engine.specs.RunningStores.{StoreState, IsMarkIn, HasSegmentsFor, map_of}
 use Rattle.pm_engine.specs.TrackedPages.{ChangesWithin, ChangesPart}
 use Rattle.pm_engine.proofs.RisenLogs.{grown_rises}
-use Rattle.pm_engine.proofs.AcceptedLines.{makes_pages, map_after}
-use Rattle.pm_engine.proofs.ChangedFrames.{changed_count, below_zero, below_next, names_zero, names_next}
+use Rattle.pm_engine.proofs.AcceptedLines.{list_plain, makes_pages, map_after}
+use Rattle.pm_engine.proofs.ChangedFrames.{changed_count, frames_few, names_zero, names_next}
 use Rattle.pm_engine.proofs.CheckpointedLines.{between_crash}
 use Rattle.pm_engine.proofs.RunningLines.{crash_further}
 use Rattle.pm_engine.proofs.HasRunLines.{line_done, line_unchanged}
@@ -56,21 +54,8 @@ use Rattle.pm_engine.proofs.RunningOperations.{operation_says, store_append_goes
 
 -- ---- how many records an operation has
 
-few_frames : (patch : Option Coverage) (page : PageId) (bytes : List ℕ) (is_logged : Bool) → length (frames_with patch page bytes is_logged) ≤ (if is_changed patch then 1 else 0)
-few_frames None page bytes is_logged = omega arith
-few_frames (Some patch) page bytes is_logged = by (record_frame (page_record page bytes patch is_logged)) (has_bytes patch)
-  where
-    by : (f : Frame) (b : Bool) → length (let fs : List Frame = if b then f ∷ [] else [] in fs) ≤ (if b then 1 else 0)
-    by f true = omega arith
-    by f false = omega arith
-
-frames_few : (seen : Paged) (logged : List PageId) (n : ℕ) → length (frames_below seen logged n) ≤ changed_count seen.patch n
-frames_few seen logged zero = omega (arith, ap length (below_zero seen logged))
-frames_few seen logged (suc n) =
-    omega (arith, ap length (below_next seen logged n (suc n) (omega arith)), length-append (frames_below seen logged n) (frames_at seen logged n), few_frames (seen.patch n) (page_id seen.part n) (bytes_of (seen.pages n)) (has_index seen.part n logged), frames_few seen logged n)
-
 -- its logical record, and one of each page that it changed
-pub operation_few : (store : StoreState) (list : PlainPages) (frame : Frame) → ArePlain list → length (operation_frames store list frame) ≤ 33
+pub operation_few : (store : StoreState) (list : PlainPages) (frame : Frame) → ArePlain list → length (operation_frames store (plain_noted list) frame) ≤ 33
 operation_few store list frame plain = omega (arith, frames_few (plain_seen list) store.logged (plain_count list), few_changed list plain (plain_count list), plain.few)
 
 -- ---- the log after them
@@ -226,17 +211,17 @@ module _ (before : PagedRunning) (now : PagedStore) (line : Line) (accepts : Acc
   frame = logical_frame payload
 
   abbrev frames : List Frame
-  frames = operation_frames store list frame
+  frames = operation_frames store (plain_noted list) frame
 
   -- the store after it
   abbrev next : StoreState
-  next = appended_to store frames (pages_of_lists now.lists) (operation_names store list)
+  next = appended_to store frames (pages_of_lists now.lists) (operation_names store (plain_noted list))
 
-  makes : MakesPages store part list frame (pages_of_lists now.lists)
+  makes : MakesPages store part (plain_noted list) frame (pages_of_lists now.lists)
   makes = makes_pages before.map now line store accepts refl refl list is payload made
 
   few : length frames ≤ 33
-  few = operation_few store list frame makes.change.plain
+  few = operation_few store list frame (list_plain before.map now line store accepts refl refl list is)
 
   pub line_rises : (grown_all before.log frames).end.seg ≤ before.log.end.seg + 33
   line_rises = omega (arith, all_rises before.log frames, few)
@@ -258,12 +243,12 @@ module _ (before : PagedRunning) (now : PagedStore) (line : Line) (accepts : Acc
     enough = omega (arith, segments, few)
 
     line_has : HasRun wanted told from start (lines ++ line ∷ []) next (states steps s w) (worlds steps s w)
-    line_has = line_done wanted told from start lines store s w has line part list frame (pages_of_lists now.lists) makes (map_after before.map now line store accepts refl refl) enough
+    line_has = line_done wanted told from start lines store s w has line part (plain_noted list) frame (pages_of_lists now.lists) makes (map_after before.map now line store accepts refl refl) enough
 
     can : CanAll told steps s w
     can =
-        let says = operation_says store has.runs.is_shape part list frame (pages_of_lists now.lists) makes has.runs.frames has.runs.files has.runs.tracks has.runs.holds.once in
-        store_append_goes wanted told store (map_of store) (pairs_in store.shape.partitions (pages_of_lists now.lists)) s w has.runs frames (pages_of_lists now.lists) (operation_names store list) says enough
+        let says = operation_says store has.runs.is_shape part (plain_noted list) frame (pages_of_lists now.lists) makes has.runs.frames has.runs.files has.runs.tracks has.runs.holds.once in
+        store_append_goes wanted told store (map_of store) (pairs_in store.shape.partitions (pages_of_lists now.lists)) s w has.runs frames (pages_of_lists now.lists) (operation_names store (plain_noted list)) says enough
 
     pub line_crash : (now_is : World) → MakesPrefix steps s w now_is → CrashHoldsLines (before.log.end.seg + 34) (number_of before.mark) wanted before.map.shape start (lines ++ line ∷ []) now_is
     line_crash now_is some =

@@ -13,8 +13,6 @@ use Rattle.pm_records.proofs.Growing.{without_seals-append}
 use Rattle.pm_records.proofs.Writing.{frames_in-append}
 use Rattle.pm_segments.specs.Appends.{can_seal, enter_steps, append_steps, grown}
 use Rattle.pm_segments.specs.Ends.{LogEnd, has_room}
-use Rattle.pm_pages.specs.declared.plain.PlainPages.{PlainPages}
-use Rattle.pm_pages.specs.Plain.{plain_seen, plain_count}
 use Rattle.pm_core.specs.BasePages.{Partitions, rebuilt_of}
 use Rattle.pm_core.specs.Held.{pairs_in}
 use Rattle.pm_core.specs.Machine.{CanAll, states, worlds}
@@ -25,11 +23,10 @@ use Rattle.pm_core.specs.Rounds.{on_log}
 use Rattle.pm_core.specs.States.{State, AllInGrammar}
 use Rattle.pm_core.proofs.Replaying.{grammar_append, grammar_back, records_grammar}
 use Rattle.pm_engine.specs.AppendRuns.{append_all_steps}
-use Rattle.pm_engine.specs.PageLogs.{change_frames}
+use Rattle.pm_engine.specs.PageLogs.{NotedPages, noted_frames}
 use Rattle.pm_engine.specs.RunningStores.{StoreState, LogRuns, RunsOver, HoldsPages, HasSegmentsFor}
 use Rattle.pm_engine.specs.RunningSteps.{appended_to, SayPages, SayPagesOver, ChangesStore, MakesPages, operation_frames, operation_names}
 use Rattle.pm_engine.specs.TrackedPages.{TracksPages, ChangesWithin, ChangesPart}
-use Rattle.pm_engine.proofs.ChangedFrames.{changed_below}
 use Rattle.pm_engine.proofs.OperationFrames.{AllPhysical, below_physical, physical_replays, physical_frames, physical_no_map, names_once}
 use Rattle.pm_engine.proofs.RebuiltFrames.{records_there}
 use Rattle.pm_engine.proofs.RunningAppends.{frames_run}
@@ -133,16 +130,16 @@ module _ (wanted : Shape) (told : List ℕ → ℕ) (store : StoreState) (before
 
 -- ---- an operation
 
-module _ (store : StoreState) (is_shape : IsShape store.shape) (part : ℕ) (list : PlainPages) (pages : Partitions) (change : ChangesStore store part list pages) where
+module _ (store : StoreState) (is_shape : IsShape store.shape) (part : ℕ) (noted : NotedPages) (pages : Partitions) (change : ChangesStore store part noted pages) where
   abbrev changes : List Frame
-  changes = change_frames list store.logged
+  changes = noted_frames noted store.logged
 
-  rebuilds : (older : List Frame) (files : Partitions) → TracksPages store.shape older files store.pages store.logged → TracksPages store.shape (older ++ changes) files pages (operation_names store list)
+  rebuilds : (older : List Frame) (files : Partitions) → TracksPages store.shape older files store.pages store.logged → TracksPages store.shape (older ++ changes) files pages (operation_names store noted)
   rebuilds older files tracks =
       let names = change.names in
-      tracks_operation store.shape older files store.pages store.logged (plain_seen list) (omega (arith, change.inside, names.number)) (omega (arith, names.number, names.small)) is_shape.page_size
-      (subst (λ p. ChangesWithin store.shape.page_size (store.pages p) (plain_seen list)) (sym names.number) change.within) tracks (plain_count list) pages names.few (changed_below list change.plain)
-      (subst (λ p. ChangesPart p store.pages pages (plain_seen list).pages) (sym names.number) change.changes)
+      tracks_operation store.shape older files store.pages store.logged noted.seen (omega (arith, change.inside, names.number)) (omega (arith, names.number, names.small)) is_shape.page_size
+      (subst (λ p. ChangesWithin store.shape.page_size (store.pages p) noted.seen) (sym names.number) change.within) tracks noted.count pages names.few names.below
+      (subst (λ p. ChangesPart p store.pages pages noted.seen.pages) (sym names.number) change.changes)
 
   changes_grammar : (older : List Frame) (files : Partitions) → TracksPages store.shape older files store.pages store.logged → AllInGrammar changes
   changes_grammar older files tracks =
@@ -150,17 +147,17 @@ module _ (store : StoreState) (is_shape : IsShape store.shape) (part : ℕ) (lis
       grammar_back older changes (rebuilt_grammar store.shape (older ++ changes) t.rebuilt t.is)
 
   changes_physical : AllPhysical changes
-  changes_physical = below_physical (plain_seen list) store.logged (plain_count list)
+  changes_physical = below_physical noted.seen store.logged noted.count
 
-  holds_after : (fs : List Frame) → AreOnce store.logged → HoldsPages (appended_to store fs pages (operation_names store list))
+  holds_after : (fs : List Frame) → AreOnce store.logged → HoldsPages (appended_to store fs pages (operation_names store noted))
   holds_after fs once = record {
     well_formed = change.well_formed;
     first_pages = change.first_pages;
-    once = names_once (plain_seen list) store.logged (plain_count list) (omega (arith, change.names.number, change.names.small)) change.names.few once;
+    once = names_once noted.seen store.logged noted.count (omega (arith, change.names.number, change.names.small)) change.names.few once;
   }
 
   -- the records of the pages alone
-  pub replay_says : (older : List Frame) (files : Partitions) → TracksPages store.shape older files store.pages store.logged → AreOnce store.logged → (pairs : Pairs) → SayPagesOver store pairs pairs changes pages (operation_names store list)
+  pub replay_says : (older : List Frame) (files : Partitions) → TracksPages store.shape older files store.pages store.logged → AreOnce store.logged → (pairs : Pairs) → SayPagesOver store pairs pairs changes pages (operation_names store noted)
   replay_says older files tracks once pairs =
       let well = changes_grammar older files tracks in
       record {
@@ -174,16 +171,16 @@ module _ (store : StoreState) (is_shape : IsShape store.shape) (part : ℕ) (lis
   changes_no_map older files tracks = physical_no_map store.shape changes changes_physical (changes_grammar older files tracks)
 
 -- with the logical record before them
-module _ (store : StoreState) (is_shape : IsShape store.shape) (part : ℕ) (list : PlainPages) (frame : Frame) (pages : Partitions) (made : MakesPages store part list frame pages) where
-  pub operation_says : (older : List Frame) (files : Partitions) → TracksPages store.shape older files store.pages store.logged → AreOnce store.logged → SayPages store (operation_frames store list frame) pages (operation_names store list)
+module _ (store : StoreState) (is_shape : IsShape store.shape) (part : ℕ) (noted : NotedPages) (frame : Frame) (pages : Partitions) (made : MakesPages store part noted frame pages) where
+  pub operation_says : (older : List Frame) (files : Partitions) → TracksPages store.shape older files store.pages store.logged → AreOnce store.logged → SayPages store (operation_frames store noted frame) pages (operation_names store noted)
   operation_says older files tracks once =
-      let changes = change_frames list store.logged in
+      let changes = noted_frames noted store.logged in
       let next = pairs_in store.shape.partitions pages in
-      let says = replay_says store is_shape part list pages made.change older files tracks once next in
+      let says = replay_says store is_shape part noted pages made.change older files tracks once next in
       record {
         kinds = (made.kind, says.kinds);
         rebuild = λ older files tracks.
-            subst (λ (l : List Frame). TracksPages store.shape l files pages (operation_names store list)) (append_assoc older (frame ∷ []) changes)
+            subst (λ (l : List Frame). TracksPages store.shape l files pages (operation_names store noted)) (append_assoc older (frame ∷ []) changes)
             (says.rebuild (older ++ frame ∷ []) files (tracks_no_page store.shape older frame made.logical files store.pages store.logged made.logical_is made.no_page tracks));
         map = ap (all_replayed store.shape changes) made.map ∙ says.map;
         holds = record { well_formed = says.holds.well_formed; first_pages = says.holds.first_pages; once = says.holds.once };

@@ -1,8 +1,11 @@
 pub mod AppendRuns
 pub mod Batches
+pub mod FramedEdits
+pub mod HandedPages
 pub mod LoggedLists
 pub mod Merges
 pub mod OpenedStores
+pub mod OutboxLogs
 pub mod PagedBatches
 pub mod PagedEngines
 pub mod PagedMaps

@@ -7,7 +7,7 @@
 --   delta      else: the ranges of its patch, with the page's bytes there
 --
 -- A page counts as changed where its patch covers a byte. Of a page made anew the patch is the whole page.
-use Rattle.std.specs.Prelude.{◌≡◌, ◌<◌, ◌≤◌, ◌^◌, ℕ, zero, suc, Bool, ◌&&◌, not, List, [], ◌∷◌, ◌++◌}
+use Rattle.std.specs.Prelude.{◌≡◌, ◌<◌, ◌≤◌, ◌^◌, ℕ, zero, suc, Bool, true, ◌&&◌, not, List, [], ◌∷◌, ◌++◌}
 use Rattle.std.specs.Prelude.{if◌then◌else◌, Option, Some, None}
 use Rattle.pm_types.specs.declared.limits.TheConstants.{PARTITIONS_MAX}
 use Rattle.pm_types.specs.declared.page_id.PageId.{PageId}
@@ -61,7 +61,32 @@ unfoldable pub names_below : Paged → List PageId → ℕ → List PageId
 names_below seen logged zero = []
 names_below seen logged (suc n) = names_below seen logged n ++ names_at seen logged n
 
--- the frames of all pages of the partition that were changed, where these pages were logged before
+-- The pages of a partition as an operation left them, and a number above the index of each that it changed.
+pub record NotedPages : Type 0 where
+  pub seen : Paged
+  pub count : ℕ
+
+-- the frames of those that were changed, where these pages were logged before
+abbrev pub noted_frames : NotedPages → List PageId → List Frame
+noted_frames noted logged = frames_below noted.seen logged noted.count
+
+-- the names of those of them that are logged for the first time
+abbrev pub noted_names : NotedPages → List PageId → List PageId
+noted_names noted logged = names_below noted.seen logged noted.count
+
+-- The pages are those of this partition, of a number that a store may have. Each that was changed has a lower
+-- index than the count, and so a name.
+pub record AreNoted (part : ℕ) (noted : NotedPages) : Type 0 where
+  pub number : noted.seen.part ≡ part
+  pub small : part < PARTITIONS_MAX
+  pub few : noted.count ≤ 2 ^ 32
+  pub below : (index : ℕ) → is_changed (noted.seen.patch index) ≡ true → index < noted.count
+
+-- pages in memory as such: there are as many as their list has
+abbrev pub plain_noted : PlainPages → NotedPages
+plain_noted pages = record { seen = plain_seen pages; count = plain_count pages }
+
+-- the frames of all pages of the list that were changed, where these pages were logged before
 abbrev pub change_frames : PlainPages → List PageId → List Frame
 change_frames pages logged = frames_below (plain_seen pages) logged (plain_count pages)
 

@@ -6,13 +6,11 @@ use Rattle.pm_model.specs.Eval.{Pairs}
 use Rattle.pm_records.specs.LogFiles.{IsRecordFrame}
 use Rattle.pm_records.specs.Logs.{record_in}
 use Rattle.pm_records.specs.Records.{Record}
-use Rattle.pm_pages.specs.declared.plain.PlainPages.{PlainPages}
-use Rattle.pm_pages.specs.Plain.{plain_seen, ArePlain}
 use Rattle.pm_core.specs.BasePages.{Partitions}
 use Rattle.pm_core.specs.Held.{AllWellFormed, pairs_in}
 use Rattle.pm_core.specs.Replays.{replayed, all_replayed}
 use Rattle.pm_engine.specs.AppendRuns.{grown_all}
-use Rattle.pm_engine.specs.PageLogs.{change_frames, change_names, HaveNames}
+use Rattle.pm_engine.specs.PageLogs.{NotedPages, AreNoted, noted_frames, noted_names}
 use Rattle.pm_engine.specs.RunningStores.{StoreState, HoldsPages, AreRecordFrames, map_of}
 use Rattle.pm_engine.specs.TrackedPages.{TracksPages, SaysNoPage, ChangesWithin, ChangesPart, HaveFirstPages}
 
@@ -37,21 +35,19 @@ abbrev pub SayPages : StoreState → List Frame → Partitions → List PageId �
 SayPages store frames pages logged =
     SayPagesOver store (map_of store) (pairs_in store.shape.partitions pages) frames pages logged
 
--- An operation made these pages of the store's: it changed those of one partition, in a list that noted each
--- change.
-pub record ChangesStore (store : StoreState) (part : ℕ) (list : PlainPages) (pages : Partitions) : Type 0 where
+-- An operation made these pages of the store's: it changed those of one partition, and noted each change.
+pub record ChangesStore (store : StoreState) (part : ℕ) (noted : NotedPages) (pages : Partitions) : Type 0 where
   pub inside : part < store.shape.partitions
-  pub plain : ArePlain list
-  pub names : HaveNames part list
-  pub within : ChangesWithin store.shape.page_size (store.pages part) (plain_seen list)
-  pub changes : ChangesPart part store.pages pages (plain_seen list).pages
+  pub names : AreNoted part noted
+  pub within : ChangesWithin store.shape.page_size (store.pages part) noted.seen
+  pub changes : ChangesPart part store.pages pages noted.seen.pages
   pub well_formed : AllWellFormed store.shape pages
   pub first_pages : HaveFirstPages store.shape pages
 
 -- The same, and this frame is its logical record, which changes the map as it did.
-pub record MakesPages (store : StoreState) (part : ℕ) (list : PlainPages) (frame : Frame) (pages : Partitions)
+pub record MakesPages (store : StoreState) (part : ℕ) (noted : NotedPages) (frame : Frame) (pages : Partitions)
     : Type 0 where
-  pub change : ChangesStore store part list pages
+  pub change : ChangesStore store part noted pages
   pub logical : Record
   pub logical_is : record_in frame ≡ Some logical
   pub no_page : SaysNoPage logical
@@ -60,9 +56,9 @@ pub record MakesPages (store : StoreState) (part : ℕ) (list : PlainPages) (fra
       ≡ Some (pairs_in store.shape.partitions pages)
 
 -- what an operation appends: its logical record, and the records of the pages that it changed
-abbrev pub operation_frames : StoreState → PlainPages → Frame → List Frame
-operation_frames store list frame = frame ∷ change_frames list store.logged
+abbrev pub operation_frames : StoreState → NotedPages → Frame → List Frame
+operation_frames store noted frame = frame ∷ noted_frames noted store.logged
 
 -- the pages that are logged after it
-abbrev pub operation_names : StoreState → PlainPages → List PageId
-operation_names store list = store.logged ++ change_names list store.logged
+abbrev pub operation_names : StoreState → NotedPages → List PageId
+operation_names store noted = store.logged ++ noted_names noted store.logged

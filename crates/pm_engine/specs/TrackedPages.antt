@@ -1,14 +1,15 @@
 -- What the log's frames since the last CP_BEGIN or RESTART say of the pages of a store.
-use Rattle.std.specs.Prelude.{◌≡◌, ◌≢◌, ◌<◌, ℕ, true, false, List, Option, Some, IsSome}
+use Rattle.std.specs.Prelude.{◌≡◌, ◌≢◌, ◌<◌, ◌⊎◌, ℕ, true, false, List, length, Option, Some, None, IsSome}
+use Rattle.std.specs.Prelude.{IsSomeAnd}
 use Rattle.pm_types.specs.declared.page_id.PageId.{PageId}
 use Rattle.pm_types.specs.declared.shape.Shape.{Shape}
 use Rattle.pm_types.specs.Pages.{SameOutside}
 use Rattle.pm_types.specs.Spans.{Coverage, Covers, IsPatch}
 use Rattle.pm_frame.specs.Frames.{Frame}
 use Rattle.pm_records.specs.Records.{Record, Logical, Snapshot, Delta, CpBegin, Restart, Seal}
-use Rattle.pm_pages.specs.Asked.{is_changed}
+use Rattle.pm_pages.specs.Asked.{is_changed, IsPatchFor}
 use Rattle.pm_pages.specs.KeptPages.{IsPageOf}
-use Rattle.pm_pages.specs.Paged.{Paged}
+use Rattle.pm_pages.specs.Paged.{Paged, IsWhole}
 use Rattle.pm_pages.specs.Rows.{Partition}
 use Rattle.pm_core.specs.BasePages.{Partitions, rebuilt_of}
 use Rattle.pm_core.specs.PageSets.{has_index}
@@ -50,6 +51,22 @@ pub record ChangesWithin (size : ℕ) (old : Partition) (seen : Paged) : Type 0 
   pub there : (index : ℕ) → is_changed (seen.patch index) ≡ true → IsPageOf size (seen.pages index)
   pub patched : (index : ℕ) (patch : Coverage) → seen.patch index ≡ Some patch
       → IsPatchOf size patch (old index) (seen.pages index)
+
+-- the same of one page, which was `was` and is `now`
+pub record ChangesPage (size : ℕ) (was now : Option (List ℕ)) (patch : Option Coverage) : Type 0 where
+  pub unchanged : is_changed patch ≡ false → now ≡ was
+  pub there : is_changed patch ≡ true → IsPageOf size now
+  pub patched : (cover : Coverage) → patch ≡ Some cover → IsPatchOf size cover was now
+
+-- what an operation leaves of one page besides its edits, as `KeepsPages` says it of all
+pub record KeepsPage (size : ℕ) (old new : Paged) (index : ℕ) : Type 0 where
+  pub size_is : old.page_size ≡ size
+  pub sized : (was : List ℕ) → old.pages index ≡ Some was → length was ≡ size
+  pub stays : (was : List ℕ) → old.pages index ≡ Some was → IsPageOf size (new.pages index)
+  pub comes : old.pages index ≡ None
+      → ((new.pages index ≡ None) × (new.patch index ≡ None))
+      ⊎ (IsPageOf size (new.pages index) × IsSomeAnd (new.patch index) (IsWhole size))
+  pub patches : (patch : Coverage) → new.patch index ≡ Some patch → IsPatchFor size patch
 
 -- the pages of a partition are these now, and those of the other partitions are as they were
 pub record ChangesPart (part : ℕ) (old new : Partitions) (now : Partition) : Type 0 where

@@ -7,6 +7,7 @@ ghost use Rattle.pm_model.specs.Orders.{part_of_line};
 ghost use Rattle.pm_pages.specs.declared.plain.PlainPages.{PlainPages};
 ghost use Rattle.pm_core.specs.Held.{pairs_in};
 ghost use Rattle.pm_engine.specs.PagedMaps.{PagedStore, AcceptsLine, pages_of_lists};
+ghost use Rattle.pm_engine.specs.PageLogs.{plain_noted};
 ghost use Rattle.pm_engine.specs.Records.{record_of_line, IsPayloadOf, logical_frame};
 ghost use Rattle.pm_engine.specs.RunningSteps.{MakesPages};
 ghost use Rattle.pm_engine.specs.RunningStores.{StoreState, map_of};
@@ -20,7 +21,7 @@ pub fn an_accepted_line_makes_pages()
         → slice_get now.lists (part_of_line before.shape line) ≡ Some list
         → IsPayloadOf (record_of_line line) payload
         → store.shape ≡ before.shape → store.pages ≡ pages_of_lists before.lists
-        → MakesPages store (part_of_line before.shape line) list (logical_frame payload)
+        → MakesPages store (part_of_line before.shape line) (plain_noted list) (logical_frame payload)
         (pages_of_lists now.lists) }
     ensures map { (before now : PagedStore) (line : Line) (store : StoreState) → AcceptsLine line before now
         → store.shape ≡ before.shape → store.pages ≡ pages_of_lists before.lists

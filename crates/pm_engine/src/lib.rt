@@ -2,11 +2,13 @@
 #![tactic(auto)]
 
 mod accepting;
+mod handed_pages;
 mod laws;
 mod loading;
 mod logged_pages;
 mod merging;
 mod operation_log;
+mod outbox_log;
 mod page_log;
 mod page_marks;
 mod paged_batch;
@@ -25,9 +27,13 @@ mod running_lines;
 mod tracking;
 
 pub use accepting::an_accepted_line_makes_pages;
+pub use handed_pages::{
+    an_operation_hands_over_its_frames, edits_in_frames_are_noted, pages_in_hand_are_noted,
+};
 pub use laws::a_store_is_its_partitions;
 pub use logged_pages::LoggedPages;
 pub use operation_log::log_operation;
+pub use outbox_log::append_operations;
 pub use page_log::log_changes;
 pub use paged_engine::PagedEngine;
 pub use paged_map::PagedMap;

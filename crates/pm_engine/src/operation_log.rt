@@ -11,7 +11,7 @@ ghost use Rattle.pm_core.specs.States.{State};
 ghost use Rattle.pm_engine.specs.declared.page_log.TheConstants.{PAGE_NAME_LEN};
 ghost use Rattle.pm_engine.specs.AppendRuns.{AppendsAll, append_all_steps};
 ghost use Rattle.pm_engine.specs.LoggedLists.{AddsNames, HasLogRoom};
-ghost use Rattle.pm_engine.specs.PageLogs.{change_frames, change_names, HaveNames};
+ghost use Rattle.pm_engine.specs.PageLogs.{change_frames, change_names, plain_noted, HaveNames};
 ghost use Rattle.pm_engine.specs.Records.{logical_frame};
 ghost use Rattle.pm_engine.specs.RunningSteps.{operation_frames};
 ghost use Rattle.pm_engine.specs.RunningStores.{StoreState};
@@ -50,7 +50,8 @@ pub fn log_operation<L: LogFile>(
     ensures does { L.tells → (store : StoreState) (s : State) → store.log ≡ log.old
         → store.logged ≡ logged.old.pages → s.end ≡ log.old.end
         → MakesSteps (L.history dev.old) (L.history dev.new) result (on_log
-        (append_all_steps store.log (operation_frames store pages.now (logical_frame payload.now)))) s }
+        (append_all_steps store.log (operation_frames store (plain_noted pages.now)
+        (logical_frame payload.now)))) s }
     ensures logged { OnOk result (AddsNames (change_names pages.now logged.old.pages) logged.old logged.new) }
     ensures cause { HasCause (L.state dev.old) (L.state dev.new) result }
 {

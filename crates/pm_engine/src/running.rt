@@ -9,7 +9,6 @@ ghost use Rattle.pm_frame.specs.declared.limits.TheConstants.{FRAME_END_MAX};
 ghost use Rattle.pm_frame.specs.Frames.{Frame};
 ghost use Rattle.pm_disk.specs.Images.{NothingPending};
 ghost use Rattle.pm_disk.specs.Worlds.{World};
-ghost use Rattle.pm_pages.specs.declared.plain.PlainPages.{PlainPages};
 ghost use Rattle.pm_core.specs.BasePages.{Partitions, pages_of};
 ghost use Rattle.pm_model.specs.Eval.{Pairs};
 ghost use Rattle.pm_records.specs.FirstRecords.{restart_frame};
@@ -29,7 +28,7 @@ ghost use Rattle.pm_ckpt.specs.Writes.{IsHeld, Writing};
 ghost use Rattle.pm_engine.specs.RunningStores.{StoreState, RunsOver, IsRunning, HasSegmentsFor};
 ghost use Rattle.pm_engine.specs.RunningStores.{map_of, mark_after};
 ghost use Rattle.pm_engine.specs.AppendRuns.{append_all_steps};
-ghost use Rattle.pm_engine.specs.PageLogs.{change_frames};
+ghost use Rattle.pm_engine.specs.PageLogs.{NotedPages, noted_frames};
 ghost use Rattle.pm_engine.specs.OpenedStores.{BeginWithFirst, IsRestoredStore, opened_store};
 ghost use Rattle.pm_engine.specs.RunningStores.{checkpointed};
 ghost use Rattle.pm_engine.specs.RunningSteps.{appended_to, SayPages, SayPagesOver, MakesPages};
@@ -81,13 +80,13 @@ pub fn a_running_store_may_append()
 /// pages say it alone.
 pub fn an_operation_says_its_pages()
     ensures done { (wanted : Shape) (told : List ℕ → ℕ) (store : StoreState) (s : State) (world : World)
-        (part : ℕ) (list : PlainPages) (frame : Frame) (pages : Partitions)
-        → IsRunning wanted told store s world → MakesPages store part list frame pages
-        → SayPages store (operation_frames store list frame) pages (operation_names store list) }
+        (part : ℕ) (noted : NotedPages) (frame : Frame) (pages : Partitions)
+        → IsRunning wanted told store s world → MakesPages store part noted frame pages
+        → SayPages store (operation_frames store noted frame) pages (operation_names store noted) }
     ensures replayed { (wanted : Shape) (told : List ℕ → ℕ) (store : StoreState) (pairs : Pairs) (s : State)
-        (world : World) (part : ℕ) (list : PlainPages) (pages : Partitions)
-        → RunsOver wanted told store pairs s world → ChangesStore store part list pages
-        → SayPagesOver store pairs pairs (change_frames list store.logged) pages (operation_names store list) }
+        (world : World) (part : ℕ) (noted : NotedPages) (pages : Partitions)
+        → RunsOver wanted told store pairs s world → ChangesStore store part noted pages
+        → SayPagesOver store pairs pairs (noted_frames noted store.logged) pages (operation_names store noted) }
 {}
 
 /// The log of a store that runs may be forced, and the store runs then. All that was appended is lasting, and

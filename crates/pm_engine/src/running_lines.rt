@@ -8,7 +8,6 @@ ghost use Rattle.pm_disk.specs.Worlds.{World};
 ghost use Rattle.pm_model.specs.declared.line.Line.{Line};
 ghost use Rattle.pm_model.specs.Eval.{Pairs, after};
 ghost use Rattle.pm_records.specs.LogSteps.{Force};
-ghost use Rattle.pm_pages.specs.declared.plain.PlainPages.{PlainPages};
 ghost use Rattle.pm_core.specs.BasePages.{Partitions};
 ghost use Rattle.pm_core.specs.Calls.{MakesPrefix};
 ghost use Rattle.pm_core.specs.Held.{pairs_in};
@@ -20,6 +19,7 @@ ghost use Rattle.pm_ckpt.specs.Marked.{number_after};
 ghost use Rattle.pm_ckpt.specs.Writes.{Writing};
 ghost use Rattle.pm_engine.specs.AppendRuns.{append_all_steps};
 ghost use Rattle.pm_engine.specs.PagedEngines.{number_of};
+ghost use Rattle.pm_engine.specs.PageLogs.{NotedPages};
 ghost use Rattle.pm_engine.specs.RunningLines.{HasRun, CrashHoldsLines, SameDisk, says_nothing};
 ghost use Rattle.pm_engine.specs.RunningStores.{StoreState, IsRunning, HasSegmentsFor, map_of, mark_after};
 ghost use Rattle.pm_engine.specs.RunningStores.{checkpointed};
@@ -39,15 +39,15 @@ pub fn a_running_store_does_lines()
         → after store.shape line (map_of store) ≡ map_of store
         → HasRun wanted told from start (lines ++ line ∷ []) store s world }
     ensures done { (wanted : Shape) (told : List ℕ → ℕ) (from : ℕ) (start : Pairs) (lines : List Line)
-        (store : StoreState) (s : State) (world : World) (line : Line) (part : ℕ) (list : PlainPages)
+        (store : StoreState) (s : State) (world : World) (line : Line) (part : ℕ) (noted : NotedPages)
         (frame : Frame) (pages : Partitions)
-        → HasRun wanted told from start lines store s world → MakesPages store part list frame pages
+        → HasRun wanted told from start lines store s world → MakesPages store part noted frame pages
         → pairs_in store.shape.partitions pages ≡ after store.shape line (map_of store)
-        → HasSegmentsFor store.log (length (operation_frames store list frame))
+        → HasSegmentsFor store.log (length (operation_frames store noted frame))
         → HasRun wanted told from start (lines ++ line ∷ [])
-        (appended_to store (operation_frames store list frame) pages (operation_names store list))
-        (states (on_log (append_all_steps store.log (operation_frames store list frame))) s world)
-        (worlds (on_log (append_all_steps store.log (operation_frames store list frame))) s world) }
+        (appended_to store (operation_frames store noted frame) pages (operation_names store noted))
+        (states (on_log (append_all_steps store.log (operation_frames store noted frame))) s world)
+        (worlds (on_log (append_all_steps store.log (operation_frames store noted frame))) s world) }
     ensures forced { (wanted : Shape) (told : List ℕ → ℕ) (from : ℕ) (start : Pairs) (lines : List Line)
         (store : StoreState) (s : State) (world : World) → HasRun wanted told from start lines store s world
         → HasRun wanted told from start lines store (states (on_log (Force ∷ [])) s world)

@@ -11,15 +11,17 @@ ghost use Rattle.pm_pages.specs.declared.plain.PlainPages.{PlainPages};
 ghost use Rattle.pm_pages.specs.Edits.{EditsPages};
 ghost use Rattle.pm_pages.specs.KeptPages.{KeepsPages};
 ghost use Rattle.pm_pages.specs.Paged.{Paged};
-ghost use Rattle.pm_pages.specs.Plain.{plain_seen, ArePlain};
 ghost use Rattle.pm_core.specs.BasePages.{Partitions, laid_over};
 ghost use Rattle.pm_core.specs.Calls.{AreRebuilt};
 ghost use Rattle.pm_core.specs.States.{AllInGrammar};
 ghost use Rattle.pm_ckpt.specs.Writes.{IsHeld, held_in, named_of};
 ghost use Rattle.pm_engine.specs.PagedMaps.{pages_of_lists};
-ghost use Rattle.pm_engine.specs.PageLogs.{change_frames, change_names, HaveNames};
+ghost use Rattle.pm_engine.specs.PageLogs.{NotedPages, AreNoted, noted_frames, noted_names};
 ghost use Rattle.pm_engine.specs.TrackedPages.{TracksPages, SaysNoPage, ChangesWithin, ChangesPart};
+ghost use Rattle.pm_engine.specs.TrackedPages.{KeepsPage, ChangesPage};
 ghost use Rattle.pm_engine.specs.TrackedPages.{AreAsFiles, HaveFirstPages};
+
+use pm_pages::Pages;
 
 /// Where the pages are as the partitions' files have them, no page is logged: since a checkpoint whose pages
 /// are in the files there is no frame, and a RESTART voids the frames before it.
@@ -38,21 +40,25 @@ pub fn tracking_goes_on()
         (files pages : Partitions) (logged : List PageId)
         → record_in frame ≡ Some rec → SaysNoPage rec → TracksPages shape frames files pages logged
         → TracksPages shape (frames ++ frame ∷ []) files pages logged }
-    ensures operation { (shape : Shape) (frames : List Frame) (part : ℕ) (pages : PlainPages)
+    ensures operation { (shape : Shape) (frames : List Frame) (part : ℕ) (noted : NotedPages)
         (files old new : Partitions) (logged : List PageId)
-        → IsShape shape → part < shape.partitions → ArePlain pages → HaveNames part pages
-        → ChangesWithin shape.page_size (old part) (plain_seen pages)
-        → ChangesPart part old new (plain_seen pages).pages → TracksPages shape frames files old logged
-        → TracksPages shape (frames ++ change_frames pages logged) files new
-        (logged ++ change_names pages logged) }
+        → IsShape shape → part < shape.partitions → AreNoted part noted
+        → ChangesWithin shape.page_size (old part) noted.seen
+        → ChangesPart part old new noted.seen.pages → TracksPages shape frames files old logged
+        → TracksPages shape (frames ++ noted_frames noted logged) files new
+        (logged ++ noted_names noted logged) }
 {}
 
-/// Calls on pages in memory that noted their edits, as code over any pages says it did, changed each page
-/// within its patch.
-pub fn edits_are_noted()
-    ensures { (size most : ℕ) (old new : Paged)
-        → EditsPages (Unit {0}) old new (λ j. IsTrue (new.asked j)) most → KeepsPages size old new
+/// Calls that noted their edits, as code over any pages says it did, changed each page within its patch: where
+/// the content of pages is told, as it is of pages in memory, all of them, and in any case those that were at
+/// hand before.
+pub fn edits_are_noted<P: Pages>()
+    ensures told { (size most : ℕ) (old new : Paged) → P.tells
+        → EditsPages P.tells old new (λ j. IsTrue (new.asked j)) most → KeepsPages size old new
         → ChangesWithin size old.pages new }
+    ensures at_hand { (size most index : ℕ) (old new : Paged)
+        → EditsPages P.tells old new (λ j. IsTrue (new.asked j)) most → KeepsPage size old new index
+        → IsTrue (old.known index) → ChangesPage size (old.pages index) (new.pages index) (new.patch index) }
 {}
 
 /// SEALs make no difference: frames that are the same but for them rebuild the same pages.

@@ -23,7 +23,7 @@ returns-clause-within c =
     let p = c.args.pages.now in
     let q = c.run.new.pages in
     let kept = c.in-Ok.ensures.kept in
-    edited_within (plain_seen p).page_size (plain_seen p) (plain_seen q) (λ j. IsTrue ((plain_seen q).asked j)) 32 c.in-Ok.ensures.changes
+    edited_within (Unit {0}) (plain_seen p).page_size (plain_seen p) (plain_seen q) (λ j. IsTrue ((plain_seen q).asked j)) 32 c.in-Ok.ensures.changes tt
     (keeps_pages p q c.requires.ready.ordered (kept.ready c.requires.ready).ordered kept)
 
 pub returns-clause-refused : goal.returns-clause-refused

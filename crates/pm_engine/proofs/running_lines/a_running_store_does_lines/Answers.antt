@@ -9,8 +9,8 @@ pub returns-clause-unchanged : goal.returns-clause-unchanged
 returns-clause-unchanged c = λ wanted told from start lines store s world line has same. line_unchanged wanted told from start lines store s world has line same
 
 pub returns-clause-done : goal.returns-clause-done
-returns-clause-done c = λ wanted told from start lines store s world line part list frame pages has made does segments.
-    line_done wanted told from start lines store s world has line part list frame pages made does segments
+returns-clause-done c = λ wanted told from start lines store s world line part noted frame pages has made does segments.
+    line_done wanted told from start lines store s world has line part noted frame pages made does segments
 
 pub returns-clause-forced : goal.returns-clause-forced
 returns-clause-forced c = λ wanted told from start lines store s world has. line_forced wanted told from start lines store s world has
