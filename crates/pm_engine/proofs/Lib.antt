@@ -7,7 +7,14 @@ pub mod CheckpointedStores
 pub mod CheckpointPages
 pub mod ConsoleRuns
 pub mod EditedPages
+pub mod FrameAnswers
+pub mod FrameChains
+pub mod FrameChanges
 pub mod FramedEdits
+pub mod FrameMaps
+pub mod FrameReads
+pub mod FrameRuns
+pub mod FrameSteps
 pub mod GrownWorlds
 pub mod HandedPages
 pub mod HasRunLines

@@ -1,6 +1,9 @@
 pub mod AppendRuns
 pub mod Batches
+pub mod FrameCommands
 pub mod FramedEdits
+pub mod FrameLines
+pub mod FrameRounds
 pub mod HandedPages
 pub mod LoggedLists
 pub mod Merges

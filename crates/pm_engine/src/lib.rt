@@ -2,6 +2,9 @@
 #![tactic(auto)]
 
 mod accepting;
+mod frame_commands;
+mod frame_lines;
+mod frame_rounds;
 mod handed_pages;
 mod laws;
 mod loading;
@@ -27,6 +30,9 @@ mod running_lines;
 mod tracking;
 
 pub use accepting::an_accepted_line_makes_pages;
+pub use frame_commands::run_in_frames;
+pub use frame_lines::{Stop, line_in_frames};
+pub use frame_rounds::{RoundEnd, lines_in_frames};
 pub use handed_pages::{
     an_operation_hands_over_its_frames, edits_in_frames_are_noted, pages_in_hand_are_noted,
 };

@@ -178,8 +178,8 @@ impl PagedMap {
     }
 }
 
-// Whether a command, whose reply was appended last, was accepted.
-fn was_accepted(cmd: &Cmd, replies: &Replies) -> bool
+/// Whether a command, whose reply was appended last, was accepted.
+pub(crate) fn was_accepted(cmd: &Cmd, replies: &Replies) -> bool
     requires { 0 < length replies.now.replies }
     ensures { (before : List Reply) (reply : Reply) → replies.now.replies ≡ before ++ reply ∷ []
         → result ≡ accepts cmd.now reply }
