@@ -4,7 +4,8 @@ use Rattle.pm_types.specs.declared.page_id.PageId.{PageId}
 use Rattle.pm_types.specs.declared.fault.PageFault.{PageFault}
 use Rattle.pm_types.specs.declared.fault.PageFault.TheVariants.{Failed, BadPage}
 use Rattle.pm_types.specs.Counts.{HasRisen}
-use Rattle.pm_pages.specs.Paged.{Paged, IsTold, PassesIn, CoversByte, TakesRoom, SamePartition, IsLent}
+use Rattle.pm_pages.specs.PageLists.{ReadsAt}
+use Rattle.pm_pages.specs.Paged.{Paged, IsTold, CoversByte, TakesRoom, SamePartition, IsLent}
 use Rattle.pm_pages.specs.Paged.{IsBadPage}
 
 -- one byte of page i was set, and its patch covers that byte; every other page is as it was
@@ -14,8 +15,7 @@ pub record SetsByte (T : Type 0) (old new : Paged) (i at byte : ℕ) : Type 0 wh
   pub lends : IsLent new i
   pub others : (j : ℕ) → j ≢ i → IsTold T old j → new.pages j ≡ old.pages j
   pub known : (j : ℕ) → IsTrue (old.known j) → IsTrue (new.known j)
-  pub passes : (j : ℕ) → j ≢ i → IsTrue (new.known j)
-      → IsTrue (old.known j) ⊎ IsSomeAnd (new.pages j) (PassesIn old j)
+  pub reads : (j : ℕ) → j ≢ i → IsTrue (new.known j) → IsTrue (old.known j) ⊎ IsSomeAnd (new.pages j) (ReadsAt j)
   pub lent : (j : ℕ) → IsTrue (old.lent j) → IsTrue (new.lent j)
   pub covers : CoversByte (new.patch i) at
   pub room : TakesRoom old new i
