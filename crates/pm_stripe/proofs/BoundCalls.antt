@@ -140,7 +140,7 @@ module _ {Q R : Type 0} (tells : Type 0) (history : R → History) (state : R �
           patched = held.patched;
           unlent = λ e. absurd (cc e);
           from_frame = λ e. let y = held.from_frame e in record { kept = y.kept; follows = y.follows; last = y.last; taken = y.taken };
-          from_file = λ e. let y = held.from_file e in record { unkept = y.unkept; bare = y.bare; empty = y.empty; reads = y.reads };
+          from_file = λ e. let y = held.from_file e in record { unkept = y.unkept; bare = y.bare; empty = y.empty; passes = y.passes };
         })
         (λ all. all))
 
@@ -173,7 +173,7 @@ module _ {Q R : Type 0} (tells : Type 0) (history : R → History) (state : R �
         patched = joined_size b.stripe.shape.page_size x.page.patch patch x.joined held.patched size x.joins;
         unlent = λ e. absurd (let bad : true ≡ false = sym lent ∙ ap is_lent x.is.at ∙ e in cc bad);
         from_frame = λ e. let y = held.from_frame e in record { kept = y.kept; follows = y.follows; last = y.last; taken = y.taken };
-        from_file = λ e. let y = held.from_file e in record { unkept = y.unkept; bare = y.bare; empty = y.empty; reads = λ c. y.reads (x.changed c) };
+        from_file = λ e. let y = held.from_file e in record { unkept = y.unkept; bare = y.bare; empty = y.empty; passes = λ c. y.passes (x.changed c) };
       })
       (joined_all b.stripe.shape.page_size x.page.patch patch x.joined x.joins)
 

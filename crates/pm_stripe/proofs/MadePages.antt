@@ -185,7 +185,7 @@ module _ (locks : LockTable) (k : Kept) (holds : Holds locks k) (frames : HasFra
     patched = whole.size;
     unlent = λ e. absurd (cc e);
     from_frame = λ e. let y = held.from_frame e in record { kept = y.kept; follows = y.follows; last = y.last; taken = y.taken };
-    from_file = λ e. let y = held.from_file e in record { unkept = y.unkept; bare = y.bare; empty = y.empty; reads = λ c. absurd (whole_changed k.shape.page_size patch whole c) };
+    from_file = λ e. let y = held.from_file e in record { unkept = y.unkept; bare = y.bare; empty = y.empty; passes = λ c. absurd (whole_changed k.shape.page_size patch whole c) };
   }
 
   pub made_in_hand : MakesAnew locks k (record k { held = set k.held (place_at k.held id.0) h'; held_room = room' }) id
@@ -260,7 +260,7 @@ module _ (locks : LockTable) (k : Kept) (holds : Holds locks k) (frames : HasFra
     patched = subst (λ (o : Option Coverage). IfSome o (λ p. p.page_size ≡ k.shape.page_size)) (sym patched) whole.size;
     unlent = λ e. absurd (let bad : true ≡ false = sym lent ∙ e in cc bad);
     from_frame = λ e. absurd (let bad : true ≡ false = sym is_read ∙ e in cc bad);
-    from_file = λ _. record { unkept = unkept.none; bare = bare_frame locks k holds frames rest s list (zeroed s.lease) z_same z_long new room' room free_room' free_room away frame_is is_read; empty = empty; reads = λ c. absurd (unchanged c) };
+    from_file = λ _. record { unkept = unkept.none; bare = bare_frame locks k holds frames rest s list (zeroed s.lease) z_same z_long new room' room free_room' free_room away frame_is is_read; empty = empty; passes = λ c. absurd (unchanged c) };
   }
 
   bytes_else : (file : PageId → Option (List ℕ)) (j : PageId) → j.0 ≢ new.page.0 → page_bytes file k₂ j ≡ page_bytes file k j

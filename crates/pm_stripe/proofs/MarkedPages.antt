@@ -126,7 +126,7 @@ module _ (locks : LockTable) (k : Kept) (holds : Holds locks k) (at : ℕ) (h : 
           patched = whole.size;
           unlent = λ e. absurd (let bad : true ≡ false = sym lent ∙ e in cc bad);
           from_frame = λ e. let y = x.from_frame e in record { kept = y.kept; follows = y.follows; last = y.last; taken = y.taken };
-          from_file = λ e. let y = x.from_file e in record { unkept = y.unkept; bare = y.bare; empty = y.empty; reads = λ c. absurd (let bad : true ≡ false = sym (whole_changed patch whole.whole) ∙ c in cc bad) };
+          from_file = λ e. let y = x.from_file e in record { unkept = y.unkept; bare = y.bare; empty = y.empty; passes = λ c. absurd (let bad : true ≡ false = sym (whole_changed patch whole.whole) ∙ c in cc bad) };
         };
         covered = record {
           size = x.out.long ∙ sym x.was_long;

@@ -75,6 +75,7 @@ module _ (line : ℕ) (logical : Option Record) (held : List Held) (first pages 
     line_is = refl;
     listed = writes.listed;
     lists = writes.lists;
+    fit = writes.fit;
     records_are = refl;
     is_operation = record { numbered = small; records_are = all_spelled.0; short = omega (arith, short, ap length all_spelled.1) };
   }

@@ -38,6 +38,7 @@ use Rattle.pm_stripe.specs.PlacedPages.{forgotten}
 use Rattle.pm_stripe.specs.HandLaws.{set_else}
 use Rattle.pm_stripe.proofs.SettledFrames.{IsPutPlain, put_sight}
 use Rattle.pm_stripe.proofs.PlacedPages.{same_page, get_put, get_other, get_removed, get_rest}
+use Rattle.pm_stripe.proofs.ReadPages.{passes_reads}
 use Rattle.pm_stripe.proofs.Hands.{or_else, held_push, held_push_else, one_here, one_else, found_at}
 
 some_bytes : (n : ℕ) → 0 < n → nat_lt 0 n ≡ false → ⊥
@@ -189,7 +190,7 @@ module _ (locks : LockTable) (k : Kept) (holds : Holds locks k) (others : List H
   clean_by now (Read c r l) e =
       let x = last_held.from_file r in
       let same = (last_held.unlent (lent_or_stays h.flag (ap stays x.empty) l)).0 in
-      (subst (Reads h.page) (sym same) (x.reads c), c, same, inl r)
+      (subst (Reads h.page) (sym same) (passes_reads k.shape h.page h.was.value.bytes (x.passes c)), c, same, inl r)
   clean_by now (Same c r l) e =
       let x = last_held.from_frame r in
       let y = holds.kept h.page h.frame h.tag x.kept in

@@ -17,7 +17,13 @@ use Rattle.pm_locks.specs.Answers.{IsSameLease}
 use Rattle.pm_locks.specs.declared.view.Out.{Out}
 use Rattle.pm_locks.specs.Sight.{LockTable}
 use Rattle.pm_locks.proofs.Pushing.{slice_get-pushed, slice_get-push, slice_get-front}
+use Rattle.pm_disk.specs.Moments.{History}
+use Rattle.pm_disk.specs.States.{DeviceState}
+use Rattle.pm_stripe.specs.declared.bound.Bound.{Bound}
 use Rattle.pm_stripe.specs.declared.held.Held.{Held}
+use Rattle.pm_stripe.specs.Bounds.{IsBound}
+use Rattle.pm_stripe.specs.ChangedPages.{is_changed}
+use Rattle.pm_stripe.specs.FilePages.{FilePagesPass}
 use Rattle.pm_stripe.specs.declared.held.Free.{Free}
 use Rattle.pm_stripe.specs.Reads.{Passes, Reads, ReadsPage}
 use Rattle.pm_stripe.specs.Fetches.{IsUnkept, ReadsFrame}
@@ -25,7 +31,7 @@ use Rattle.pm_stripe.specs.Kept.{Kept, held_at, place_of, page_at, out_of, bytes
 use Rattle.pm_stripe.proofs.Hands.{once_push, or_else, held_push, held_push_else, one_here, one_else, none_named, read_push}
 
 -- a page that passes its check reads as what it says
-passes_reads : (shape : Shape) (id : PageId) (bytes : List ℕ) → Passes shape id bytes → Reads id bytes
+pub passes_reads : (shape : Shape) (id : PageId) (bytes : List ℕ) → Passes shape id bytes → Reads id bytes
 passes_reads shape id = passes_read shape.page_size shape.max_rows (part_of_id id) (index_of_id id)
 
 -- an empty frame with other bytes
@@ -204,7 +210,7 @@ module _ (locks : LockTable) (k : Kept) (holds : Holds locks k) (ready : HasFram
       patched = subst (λ (o : Option Coverage). IfSome o (λ patch. patch.page_size ≡ k.shape.page_size)) (sym bare) tt;
       unlent = λ _. (ap (λ (l : Leased). l.bytes) lease_is ∙ sym was_is, bare);
       from_frame = λ e. absurd (let q : true ≡ false = sym is_read ∙ e in cc q);
-      from_file = λ _. record { unkept = unkept.none; bare = bare_frame new room' room free_room' free_room away frame_is is_read; empty = empty; reads = λ _. subst (Reads new.page) (sym was_is) (passes_reads k.shape new.page lease.bytes passes) };
+      from_file = λ _. record { unkept = unkept.none; bare = bare_frame new room' room free_room' free_room away frame_is is_read; empty = empty; passes = λ _. subst (Passes k.shape new.page) (sym was_is) passes };
     }
 
     -- the new page alone isn't as it was, where it isn't what its file has
@@ -258,3 +264,14 @@ module _ (locks : LockTable) (k : Kept) (holds : Holds locks k) (ready : HasFram
 -- the last empty frame is as long as a page
 pub last_long : (locks : LockTable) (k : Kept) → Holds locks k → (rest : List Free) (s : Free) → k.free ≡ rest ++ s ∷ [] → length s.lease.bytes ≡ k.shape.page_size
 last_long locks k holds rest s list = (holds.free (length rest) s (ap (λ fs. slice_get fs (length rest)) list ∙ slice_get-push rest s)).out.long
+
+-- what was read from its file passes its check, until it is lent
+module _ {Q R : Type 0} (tells : Type 0) (history : R → History) (state : R → DeviceState) where
+  passes_in_hand : (b : Bound Q R) → IsBound tells history state b → (i : ℕ) (h : Held) → slice_get b.stripe.held.items i ≡ Some h → h.is_read ≡ true → h.is_lent ≡ false → Passes b.stripe.shape h.page h.lease.bytes
+  passes_in_hand b bound i h at read unlent =
+      let x = bound.holds.held i h at in
+      let y = x.unlent unlent in
+      subst (Passes b.stripe.shape h.page) (sym y.0) ((x.from_file read).passes (ap is_changed y.1))
+
+  pub file_pages_pass : FilePagesPass Q R tells history state
+  file_pages_pass = record { passes = passes_in_hand }

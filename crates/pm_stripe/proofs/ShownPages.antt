@@ -373,6 +373,7 @@ module _ (locks : LockTable) (tells : Type 0) (file file' : PageId → Option (L
       pages = λ j ne. ⊎_elim (λ t. given_bytes j (inl t)) (λ known. given_bytes j (inr (g.only j (not_in_hand op.alone j ne) ∙ known)));
     };
     bases = bases_given locks tells file file' k k' holds (unlent_same holds unlent) none given_bytes g.back;
+    staying = g.staying;
   }
 
 -- none of the pages in hand was lent, where none of the partition was

@@ -6,13 +6,13 @@ use Rattle.std.proofs.lemmas.List.{map-append}
 use Rattle.std.proofs.lemmas.List.Elements.{Contains-append_left, Contains-push, Contains-push_cases}
 use Rattle.std.proofs.lemmas.Bool.{cases_lt}
 use Rattle.std.proofs.lemmas.Option.{get_or_from_slice_get}
-use Rattle.pm_types.specs.Spans.{Coverage}
+use Rattle.pm_types.specs.Spans.{Coverage, IsPatch}
 use Rattle.pm_frame.specs.Frames.{Frame}
 use Rattle.pm_records.specs.Operations.{SpellRecords, record_bytes}
 use Rattle.pm_stripe.specs.declared.limits.TheConstants.{PAGE_EXTRA}
 use Rattle.pm_stripe.specs.declared.held.Held.{Held}
 use Rattle.pm_stripe.specs.ChangedPages.{ChangedPage, page_record, frame_for, has_bytes, is_changed, as_changed}
-use Rattle.pm_stripe.specs.Listings.{RiseByName, IsChangedPage, AreLoggable, pages_room, NoneFrom, IsNextFrom, WritesPage, WritesPages}
+use Rattle.pm_stripe.specs.Listings.{RiseByName, IsChangedPage, AreLoggable, pages_room, NoneFrom, IsNextFrom, WritesPage, WritesPages, HavePatches}
 use Rattle.pm_stripe.proofs.PageRooms.{rooms_from, rooms_after, rooms_all}
 use Rattle.pm_stripe.proofs.Spelling.{spell_append, spell_one}
 
@@ -40,6 +40,7 @@ pub record AreWritten (held : List Held) (into : List ℕ) (end low : ℕ) : Typ
   pub rise : RiseTo 0 listed low
   pub all : (p : ChangedPage) → IsChangedPage held p → p.page.0 < low → Contains listed p
   pub only : (p : ChangedPage) → Contains listed p → IsChangedPage held p
+  pub fit : HavePatches listed
   pub spelled : SpellRecords (take end into) (frames_of listed)
 
 pub none_written : (held : List Held) (into : List ℕ) → pages_room held ≤ length into → AreWritten held into 0 0
@@ -50,6 +51,7 @@ none_written held into within = record {
   rise = omega arith;
   all = λ p is below. absurd (omega (arith, below));
   only = λ p has. absurd (let k : has.0 < 0 = has.1 in omega (arith, k));
+  fit = λ p has. absurd (let k : has.0 < 0 = has.1 in omega (arith, k));
   spelled = (tt, refl);
 }
 
@@ -102,6 +104,10 @@ module _ (held : List Held) (into into' : List ℕ) (end end' low place : ℕ) (
         (λ old. was.only p old)
         (λ new. subst (IsChangedPage held) new is_page)
         (Contains-push_cases was.listed page p has);
+    fit = λ p has. ⊎_elim
+        (λ old. was.fit p old)
+        (λ new. subst (λ (x : ChangedPage). IsPatch x.patch) new writes.fits)
+        (Contains-push_cases was.listed page p has);
     spelled = subst (λ (x : List Frame). SpellRecords (take end' into') x) (sym (map-append (λ (p : ChangedPage). frame_for (page_record p)) was.listed (page ∷ [])))
         (subst (λ (x : List ℕ). SpellRecords x (frames_of was.listed ++ frames_of (page ∷ []))) (sym (cut ∙ ap (λ x. take end into ++ x) writes.spelled))
         (spell_append (take end into) (record_bytes (frame_for (page_record page))) (frames_of was.listed) (frames_of (page ∷ [])) was.spelled (spell_one (frame_for (page_record page)) writes.logged)));
@@ -116,6 +122,7 @@ all_written held into end low was none = record {
     all = λ p is. was.all p is (let name : p.page.0 ≡ is.page.page.0 = ap (λ (x : ChangedPage). x.page.0) is.is in omega (arith, name, none is.place is.page is.at (changed_of is.page.patch is.patch is.patched is.some)));
     only = was.only;
   };
+  fit = was.fit;
   spelled = was.spelled;
 }
 

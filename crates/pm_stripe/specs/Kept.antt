@@ -22,7 +22,7 @@ use Rattle.pm_stripe.specs.declared.places.Places.{Places}
 use Rattle.pm_stripe.specs.declared.held.Held.{Held}
 use Rattle.pm_stripe.specs.declared.held.Free.{Free}
 use Rattle.pm_stripe.specs.ChangedPages.{is_changed}
-use Rattle.pm_stripe.specs.Reads.{Reads}
+use Rattle.pm_stripe.specs.Reads.{Passes, Reads}
 use Rattle.pm_stripe.specs.Sights.{KeepsSight}
 
 -- What a worker keeps of its pages.
@@ -151,13 +151,13 @@ pub record IsFromFrame (place : Option (ℕ × ℕ)) (put : Option Entry) (held 
   pub last : (e : Entry) → put ≡ Some e → h.was.value.bytes ≡ e.bytes
   pub taken : (out : Out) → held ≡ Some out → h.was.value.bytes ≡ out.lease.bytes
 
--- A page was read from its file or made, in a frame that keeps none. What was read reads as what
--- it says.
-pub record IsFromFile (place : Option (ℕ × ℕ)) (page : Option (Option PageId)) (h : Held) : Type 0 where
+-- A page was read from its file or made, in a frame that keeps none. What was read passed its check.
+pub record IsFromFile (shape : Shape) (place : Option (ℕ × ℕ)) (page : Option (Option PageId)) (h : Held)
+    : Type 0 where
   pub unkept : place ≡ None
   pub bare : page ≡ Some None
   pub empty : h.flag ≡ flag.Empty
-  pub reads : is_changed h.patch ≡ false → Reads h.page h.was.value.bytes
+  pub passes : is_changed h.patch ≡ false → Passes shape h.page h.was.value.bytes
 
 -- A page in hand, by what is known of its name and its frame.
 pub record IsHeldPage (locks : LockTable) (shape : Shape) (n : ℕ) (place : Option (ℕ × ℕ))
@@ -170,7 +170,7 @@ pub record IsHeldPage (locks : LockTable) (shape : Shape) (n : ℕ) (place : Opt
   -- until it is lent nobody writes it
   pub unlent : h.is_lent ≡ false → (h.lease.bytes ≡ h.was.value.bytes) × (h.patch ≡ None)
   pub from_frame : h.is_read ≡ false → IsFromFrame place put held h
-  pub from_file : h.is_read ≡ true → IsFromFile place page h
+  pub from_file : h.is_read ≡ true → IsFromFile shape place page h
 
 -- An empty frame in hand.
 pub record IsFreeFrame (locks : LockTable) (size n : ℕ) (page : Option (Option PageId)) (held : Option Out)

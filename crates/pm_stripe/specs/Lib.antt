@@ -7,6 +7,7 @@ pub mod Covers
 pub mod Dones
 pub mod Ends
 pub mod Fetches
+pub mod FilePages
 pub mod Forgets
 pub mod Frees
 pub mod GivenUp

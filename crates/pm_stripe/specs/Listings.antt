@@ -3,7 +3,7 @@ use Rattle.std.specs.Prelude.{◌≡◌, ℕ, ◌+◌, ◌<◌, ◌≤◌, List,
 use Rattle.std.specs.Prelude.{IsTrue, IfSome, slice_get}
 use Rattle.std.specs.List.{Contains, sum_by}
 use Rattle.pm_types.specs.PageSizes.{IsPageSize}
-use Rattle.pm_types.specs.Spans.{Coverage}
+use Rattle.pm_types.specs.Spans.{Coverage, IsPatch}
 use Rattle.pm_records.specs.PageNames.{IsPageName}
 use Rattle.pm_records.specs.Records.{Record, Logical, Snapshot, Delta, CpBegin, Restart, Seal, IsLogical}
 use Rattle.pm_records.specs.declared.record.LogRecord.{LogRecord}
@@ -76,13 +76,19 @@ pub record IsNextFrom (held : List Held) (low place : ℕ) : Type 0 where
 pub record WritesPage (h : Held) (bytes : List ℕ) : Type 0 where
   pub patch : Coverage
   pub patched : h.patch ≡ Some patch
+  pub fits : IsPatch patch
   pub logged : IsLogged (frame_for (page_record (as_changed h patch)))
   pub spelled : bytes ≡ record_bytes (frame_for (page_record (as_changed h patch)))
+
+-- what is said of each of these pages is a patch
+abbrev pub HavePatches : List ChangedPage → Type 0
+HavePatches listed = (p : ChangedPage) → Contains listed p → IsPatch p.patch
 
 -- the records of the pages that were changed, by rising name
 pub record WritesPages (held : List Held) (bytes : List ℕ) : Type 0 where
   pub listed : List ChangedPage
   pub lists : ListsChanged held listed
+  pub fit : HavePatches listed
   pub spelled : SpellRecords bytes (map (λ p. frame_for (page_record p)) listed)
 
 -- a logical record, or none
@@ -112,6 +118,7 @@ pub record IsOperationOf (line : ℕ) (logical : Option Record) (held : List Hel
   pub line_is : operation.line ≡ line
   pub listed : List ChangedPage
   pub lists : ListsChanged held listed
+  pub fit : HavePatches listed
   pub records_are : operation.records
       ≡ after_logical logical (map (λ p. frame_for (page_record p)) listed)
   pub is_operation : IsOperation operation

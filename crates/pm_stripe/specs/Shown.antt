@@ -11,7 +11,7 @@ use Rattle.pm_pages.specs.Paged.{Paged}
 use Rattle.pm_stripe.specs.declared.held.Held.{Held}
 use Rattle.pm_stripe.specs.declared.bound.Bound.{Bound}
 use Rattle.pm_stripe.specs.Bases.{KeepsBases}
-use Rattle.pm_stripe.specs.Kept.{Kept, held_at, page_bytes, is_known}
+use Rattle.pm_stripe.specs.Kept.{Kept, held_at, page_bytes, is_known, IsStaying}
 use Rattle.pm_stripe.specs.Moves.{HasOperation}
 use Rattle.pm_stripe.specs.Sights.{KeepsSight}
 use Rattle.pm_stripe.specs.Stripes.{kept, file_of, SameButPages}
@@ -79,6 +79,8 @@ module _ {Q R : Type 0} where
     pub others : KeepsOthers tells (file_by history b) (file_by history c) b.part (kept_by b) (kept_by c)
     pub bases : KeepsBases b.stripe.shape.page_size tells (file_by history b) (file_by history c) (kept_by b)
         (kept_by c)
+    -- what stays in its frame does so still
+    pub staying : (id : PageId) → IsStaying (kept_by b) id → IsStaying (kept_by c) id
 
   -- What no call on a page changes: the locks, the partition that is meant, the outbox and all else of the
   -- stripe but its pages, and the files. The reader may read what it might read, and the seat knows what it knew.

@@ -58,6 +58,7 @@ pub record IsInOrder (locks : LockTable) (tells : Type 0) (file file' : PageId �
   pub operates : HasOperation locks part k'
   pub others : KeepsOthers tells file file' part k k'
   pub bases : KeepsBases k.shape.page_size tells file file' k k'
+  pub staying : (id : PageId) → IsStaying k id → IsStaying k' id
 
 pub clean_file : (file file' : PageId → Option (List ℕ)) (k : Kept) → ((j : PageId) → file' j ≡ file j)
     → AreClean file k → AreClean file' k
@@ -113,6 +114,7 @@ after_moved locks tells file file' state state' part k k' id same later reads cl
   };
   bases = bases_file k.shape.page_size tells file file' k k' same
       (bases_told k.shape.page_size (tells × AreClean file k) tells file file k k' (λ t. (t, clean t)) m.bases);
+  staying = m.staying;
 }
 
 module _ {Q R : Type 0} (tells : Type 0) (history : R → History) (state : R → DeviceState) where
@@ -154,6 +156,7 @@ module _ {Q R : Type 0} (tells : Type 0) (history : R → History) (state : R �
           };
           others = x.others;
           bases = x.bases;
+          staying = x.staying;
         };
   }
 
@@ -170,6 +173,7 @@ module _ {Q R : Type 0} (tells : Type 0) (history : R → History) (state : R �
       ready = ready;
       others = record { known = λ j ne. refl; pages = λ j ne told. refl };
       bases = bases_refl b.stripe.shape.page_size tells (file_by history b) (kept_by b);
+      staying = λ id is. is;
     };
   }
 
@@ -209,6 +213,7 @@ module _ {Q R : Type 0} (tells : Type 0) (history : R → History) (state : R �
               (file_by history d) (kept_by b) (kept_by c) (kept_by d) p.bases
               (subst (λ (s : Shape). KeepsBases s.page_size tells (file_by history c) (file_by history d)
               (kept_by c) (kept_by d)) x.same.shape q.bases);
+          staying = λ id is. q.staying id (p.staying id is);
         };
   }
 
@@ -258,7 +263,7 @@ rewritten_held locks k h w lent same x = record {
       record { kept = y.kept; follows = y.follows; last = y.last; taken = y.taken };
   from_file = λ e.
       let y = x.from_file e in
-      record { unkept = y.unkept; bare = y.bare; empty = y.empty; reads = y.reads };
+      record { unkept = y.unkept; bare = y.bare; empty = y.empty; passes = y.passes };
 }
 
 module _ {Q R : Type 0} (tells : Type 0) (history : R → History) (state : R → DeviceState) (b : Bound Q R)

@@ -1,6 +1,7 @@
 //! What those who call a worker's pages may rest on.
 
 ghost use Rattle.pm_stripe.specs.Covers.{CoversPages};
+ghost use Rattle.pm_stripe.specs.FilePages.{FilePagesPass};
 ghost use Rattle.pm_stripe.specs.Readable.{ReadsByParts, KeepsReading};
 ghost use Rattle.pm_stripe.specs.Rests.{NewStripesRest, FirstSeatsSettle, StripesRestOnFiles};
 
@@ -39,4 +40,9 @@ pub fn pages_at_hand_are_those_of_partitions()
 /// pages says so of the one partition that is meant.
 pub fn pages_at_hand_stay_readable<Q, R: PageReader>()
     ensures { KeepsReading Q R R.tells R.history R.state }
+{}
+
+/// A page in hand that was read from its file passes its check, until it is lent to be written.
+pub fn pages_from_files_pass<Q, R: PageReader>()
+    ensures { FilePagesPass Q R R.tells R.history R.state }
 {}

@@ -33,6 +33,7 @@ pub use bound::Bound;
 pub use halt::Halt;
 pub use laws::{
     a_new_stripe_rests, a_stripe_rests_on_files, edits_are_covered,
-    pages_at_hand_are_those_of_partitions, pages_at_hand_stay_readable, the_first_seat_is_settled,
+    pages_at_hand_are_those_of_partitions, pages_at_hand_stay_readable, pages_from_files_pass,
+    the_first_seat_is_settled,
 };
 pub use stripe::Stripe;

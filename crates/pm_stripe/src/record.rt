@@ -3,6 +3,7 @@
 ghost use Rattle.std.specs.Prelude.{◌≡◌, ◌+◌, ◌≤◌, ◌⊎◌, ◌++◌, false, length, take, IsTrue};
 ghost use Rattle.std.specs.Int.{w64, to_le_bytes};
 ghost use Rattle.pm_types.specs.PageSizes.{IsPageSize};
+ghost use Rattle.pm_types.specs.Spans.{IsPatch};
 ghost use Rattle.pm_records.specs.PageNames.{IsPageName};
 ghost use Rattle.pm_records.specs.Records.{Delta, IsRecord, payload_of};
 ghost use Rattle.pm_records.specs.Views.{record_view};
@@ -74,7 +75,10 @@ pub(crate) fn write_page(
       patch = patch.now;
       is_logged = is_logged;
     }))) }
+    ensures fits { IsPatch patch.now }
 {
+    // What every patch keeps.
+    let _ranges = patch.len();
     if is_logged && !patch.is_whole() {
         write_delta(page, bytes, patch, into)
     } else {
