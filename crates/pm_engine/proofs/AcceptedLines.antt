@@ -30,12 +30,12 @@ use Rattle.pm_engine.proofs.LoggedLines.{logs_line}
 use Rattle.pm_engine.proofs.PlainPartitions.{all_well}
 
 -- the record of a line that was accepted, which says nothing of a page
-record LogicalOf (payload : List ℕ) : Type 0 where
-  logical : Record
-  is : record_in (logical_frame payload) ≡ Some logical
-  no_page : SaysNoPage logical
+pub record LogicalOf (payload : List ℕ) : Type 0 where
+  pub logical : Record
+  pub is : record_in (logical_frame payload) ≡ Some logical
+  pub no_page : SaysNoPage logical
 
-logical_of : (shape : Shape) (line : Line) (pairs : Pairs) (payload : List ℕ) → is_accepted shape line pairs ≡ true → IsPayloadOf (record_of_line line) payload → LogicalOf payload
+pub logical_of : (shape : Shape) (line : Line) (pairs : Pairs) (payload : List ℕ) → is_accepted shape line pairs ≡ true → IsPayloadOf (record_of_line line) payload → LogicalOf payload
 logical_of shape (Good (Put cache key value)) pairs payload is made = record {
   logical = Logical PUT cache key value;
   is = ap (record_of LOGICAL) made.1 ∙ record_of-payload (Logical PUT cache key value) made.0;

@@ -18,6 +18,7 @@ use Rattle.pm_records.specs.LogFiles.{HasLasting, IsQuietBut, forced_contents}
 use Rattle.pm_records.specs.LogSteps.{Step, DropSegment, ForceSegment, frames_in, step_world}
 use Rattle.pm_records.specs.Logs.{place, all_frames, after_frames, next_place, is_over, HasNoSeal, HasFrames}
 use Rattle.pm_records.specs.Records.{CpBegin}
+use Rattle.pm_records.proofs.QuietLog.{steps_change}
 use Rattle.pm_records.proofs.Runs.{option_cases, after_frames-append, next_rises, over-append, run_last}
 use Rattle.pm_segments.specs.Appends.{grown}
 use Rattle.pm_segments.specs.Drops.{is_there, drop_steps, drop_before_steps}
@@ -35,6 +36,7 @@ use Rattle.pm_core.specs.Stands.{Stands, IsGood, IsViewOf, BeginIsLasting, Marks
 use Rattle.pm_core.specs.Starts.{appended}
 use Rattle.pm_core.specs.States.{State, View}
 use Rattle.pm_core.proofs.CrashLaw.{run_stands}
+use Rattle.pm_core.proofs.LogCalls.{log_worlds}
 use Rattle.pm_core.proofs.Making.{worlds_join}
 use Rattle.pm_core.proofs.Ranges.{page_within}
 use Rattle.pm_ckpt.specs.Checkpoints.{CanCheckpoint, IsStateAfter, IsBegunLog, whole_steps}
@@ -452,3 +454,17 @@ module _ (wanted : Shape) (told : List ℕ → ℕ) (store : StoreState) (pairs 
         (record { stays = λ index page is. page_stays part inside index page is; comes = λ index is. page_comes part inside index is });
     holds = record { well_formed = runs.holds.well_formed; first_pages = runs.holds.first_pages; once = tt };
   }
+
+  -- ---- its files
+
+  files_quiet : v.pages ≡ w5.pages
+  files_quiet = ap (λ (u : World). u.pages) v_is ∙ ap (λ (u : World). u.pages) (log_worlds drops s7 w7) ∙ (steps_change drops s7.end w7).pages
+
+  front_shape : s5.shape ≡ store.shape
+  front_shape = ap (λ (r : State). r.shape) front_state ∙ begun.shape
+
+  -- the pages that count are all that the partitions' files have
+  pub t_files_are : (part index : ℕ) → t.files part index ≡ page_in_file store.shape.page_size (v.pages part).forced index
+  t_files_are part index =
+      ap (λ (p : Partitions). p part index) t_files
+      ∙ (λ i. page_in_file (front_shape i).page_size (sym files_quiet i part).forced index)

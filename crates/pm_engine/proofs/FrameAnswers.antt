@@ -23,14 +23,16 @@ use Rattle.pm_part.specs.Commands.{accepts}
 use Rattle.pm_core.specs.BasePages.{Partitions, counted}
 use Rattle.pm_core.specs.Held.{AllWellFormed}
 use Rattle.pm_stripe.specs.declared.bound.Bound.{Bound}
+use Rattle.pm_stripe.specs.declared.held.Held.{Held}
 use Rattle.pm_stripe.specs.Begins.{MakesReady}
-use Rattle.pm_stripe.specs.Kept.{held_at, page_bytes, is_known, IsStaying}
+use Rattle.pm_stripe.specs.Moves.{HasOperation}
+use Rattle.pm_stripe.specs.Kept.{Holds, held_at, page_bytes, is_known, IsStaying}
 use Rattle.pm_stripe.specs.Listings.{GrowsByOperation}
 use Rattle.pm_stripe.specs.Shown.{kept_by, file_by}
 use Rattle.pm_stripe.specs.SightLaws.{sight_refl, sight_then}
 use Rattle.pm_stripe.specs.Sights.{KeepsSight}
 use Rattle.pm_stripe.proofs.BasePages.{staying_known}
-use Rattle.pm_engine.specs.FrameCommands.{RunsLineOn, ChangesAsNoted, noted_in, frame_pages, IsSameWorker, IsBetweenLines, ChangesNothing, HandsOverChange}
+use Rattle.pm_engine.specs.FrameCommands.{RunsLineOn, ChangesAsNoted, noted_in, frame_pages, IsSameWorker, IsBetweenLines, KeepsSeat, ChangesNothing, EndsFrom, HandsOverChange}
 use Rattle.pm_engine.specs.FrameLines.{EvaluatesLine}
 use Rattle.pm_engine.specs.PagedStores.{part_map, RunsOnPart}
 use Rattle.pm_engine.specs.Records.{record_of_line}
@@ -78,7 +80,21 @@ module _ {Q R : Type 0} (tells : Type 0) (history : R → History) (state : R �
           ∙ cut_same b.stripe.shape part index (page_bytes (file_by history c) (kept_by c) id) (page_bytes (file_by history b) (kept_by b) id) (λ _ _. same id)
 
   pub nothing_refl : (b : Bound Q R) → ChangesNothing tells history b b
-  nothing_refl b = record { shape = refl; outbox = refl; staying = λ id is. is; pages = λ id told. refl; told = λ t. refl }
+  nothing_refl b = record {
+    seat = record { locks = refl; shape = refl; sight = sight_refl b.locks.now b.seat.view };
+    outbox = refl;
+    staying = λ id is. is;
+    still = λ id is. is;
+    pages = λ id told. refl;
+    told = λ t. refl;
+  }
+
+  seat_then : (b m c : Bound Q R) → KeepsSeat b m → KeepsSeat m c → KeepsSeat b c
+  seat_then b m c x y = record {
+    locks = y.locks ∙ x.locks;
+    shape = y.shape ∙ x.shape;
+    sight = sight_then b.locks.now b.seat.view m.seat.view c.seat.view x.sight (subst (λ l. KeepsSight l.now m.seat.view c.seat.view) x.locks y.sight);
+  }
 
   -- what is at hand between two lines stays in its frame
   stays_between : (c : Bound Q R) → c.stripe.held.items ≡ [] → (id : PageId) → IsTrue (is_known (kept_by c) id) → IsStaying (kept_by c) id
@@ -90,24 +106,43 @@ module _ {Q R : Type 0} (tells : Type 0) (history : R → History) (state : R �
 
     pub nothing_then : ChangesNothing tells history m c → ChangesNothing tells history b c
     nothing_then x = record {
-      shape = x.shape ∙ first.shape;
+      seat = seat_then b m c first.seat x.seat;
       outbox = x.outbox ∙ first.outbox;
       staying = λ id is. first.staying id (x.staying id is);
+      still = λ id is. x.still id (first.still id is);
       pages = λ id told. x.pages id told ∙ first.pages id (known_then x.staying id told);
       told = λ t. x.told t ∙ first.told t;
     }
 
+    ends_then : (part : ℕ) (held : List Held) → EndsFrom tells history part held m c → EndsFrom tells history part held b c
+    ends_then part held x = record {
+      kept = x.kept;
+      held_are = x.held_are;
+      shape = x.shape ∙ first.seat.shape;
+      holds = subst (λ l. Holds l.now x.kept) first.seat.locks x.holds;
+      operates = subst (λ l. HasOperation l.now part x.kept) first.seat.locks x.operates;
+      sight = sight_then b.locks.now b.seat.view m.seat.view x.kept.seat.view first.seat.sight (subst (λ l. KeepsSight l.now m.seat.view x.kept.seat.view) first.seat.locks x.sight);
+      stayed = λ id is. first.staying id (x.stayed id is);
+      still = λ id is. x.still id (first.still id is);
+      files = x.files;
+      pages = x.pages;
+    }
+
     pub hands_then : (line : ℕ) (rec : Record) (part : ℕ) → HandsOverChange tells history line rec part m c → HandsOverChange tells history line rec part b c
     hands_then line rec part x = record {
+      seat = seat_then b m c first.seat x.seat;
+      logical = x.logical;
       held = x.held;
+      before = ends_then part x.held x.before;
+      still = λ id is. x.still id (first.still id is);
       grows = subst (λ (out : List ℕ). GrowsByOperation line (Some rec) x.held out c.stripe.outbox) first.outbox x.grows;
       changed = λ page is.
           let y = x.changed page is in
-          record { name = y.name; long = y.long ∙ ap (λ s. s.page_size) first.shape; staying = y.staying; bytes = y.bytes; logged = λ on. first.staying page.page (y.logged on) };
+          record { name = y.name; long = y.long ∙ ap (λ s. s.page_size) first.seat.shape; staying = y.staying; bytes = y.bytes; logged = λ on. first.staying page.page (y.logged on) };
       staying = λ id is. ⊎_elim (λ was. inl (first.staying id was)) (λ on. inr on) (x.staying id is);
       others = λ id un told. x.others id un told ∙ first.pages id (⊎_elim (λ t. inl t) (λ known.
           inr (⊎_elim (λ was. staying_known (kept_by m) id was) (λ on. absurd (un on)) (x.staying id (stays_between c none id known)))) told);
-      noted = λ t. subst (λ (p : ℕ × Partitions). ChangesAsNoted p.0 (p.1 part) (frame_pages history c part) (noted_in x.held part)) (λ i. ((first.shape i).page_size, first.told t i)) (x.noted t);
+      noted = λ t. subst (λ (p : ℕ × Partitions). ChangesAsNoted p.0 (p.1 part) (frame_pages history c part) (noted_in x.held part)) (λ i. ((first.seat.shape i).page_size, first.told t i)) (x.noted t);
       elsewhere = λ t other index ne. x.elsewhere t other index ne ∙ ap (λ (p : Partitions). p other index) (first.told t);
     }
 
@@ -141,8 +176,9 @@ module _ {Q R : Type 0} (tells : Type 0) (history : R → History) (state : R �
 
     pub ready_nothing : ChangesNothing tells history b m
     ready_nothing = record {
-      shape = made.same.shape;
+      seat = record { locks = made.locks; shape = made.same.shape; sight = made.sight };
       outbox = made.same.outbox;
+      still = made.staying;
       staying = λ id is. known_staying (kept_by b) id (away id) (was_known id (staying_known (kept_by m) id is));
       pages = made.pages;
       told = λ t. frames_same b m made.same.shape (λ id. made.pages id (inl t));

@@ -50,7 +50,7 @@ module _ {Q R : Type 0} (tells : Type 0) (history : R → History) (state : R �
         record {
           rec = y.rec;
           is = y.is;
-          change = subst (λ (s : Shape). HandsOverChange tells history number y.rec (part_of_line s line) b c) first.shape (hands_then tells history state b m c none first number y.rec (part_of_line m.stripe.shape line) y.change);
+          change = subst (λ (s : Shape). HandsOverChange tells history number y.rec (part_of_line s line) b c) first.seat.shape (hands_then tells history state b m c none first number y.rec (part_of_line m.stripe.shape line) y.change);
         };
   }
 
@@ -59,8 +59,8 @@ module _ {Q R : Type 0} (tells : Type 0) (history : R → History) (state : R �
     accepted = x.accepted;
     does = line_then number line b m c x.accepted none first x.does;
     evaluates = λ t all.
-        let there = subst (λ (p : Shape × Partitions). AllWellFormed p.0 p.1) (λ i. (sym first.shape i, sym (first.told t) i)) all in
-        subst (λ (p : Shape × Partitions). EvaluatesLine p.0 line p.1 (frame_pages history c) was now x.accepted) (λ i. (first.shape i, first.told t i)) (x.evaluates t there);
+        let there = subst (λ (p : Shape × Partitions). AllWellFormed p.0 p.1) (λ i. (sym first.seat.shape i, sym (first.told t) i)) all in
+        subst (λ (p : Shape × Partitions). EvaluatesLine p.0 line p.1 (frame_pages history c) was now x.accepted) (λ i. (first.seat.shape i, first.told t i)) (x.evaluates t there);
   }
 
   -- nothing changed after lines
@@ -189,6 +189,7 @@ module _ {Q R : Type 0} (tells : Type 0) (history : R → History) (state : R �
     so_far_stops stop x = record {
       inside = omega (arith, so_far.above, inside);
       all = λ e. absurd (no_stop stop e);
+      room = omega (arith, so_far.above, so_far.room, ap (λ (list : ReplyList). list.spare) x.replied);
       leaves = leaves_stop stop x;
       cause = λ e.
           let risen = x.cause (ap Err (same_stop stop (Faulted Failed) e)) in
@@ -203,6 +204,7 @@ module _ {Q R : Type 0} (tells : Type 0) (history : R → History) (state : R �
   so_far_ends b m was mid at so_far is = record {
     inside = omega (arith, so_far.above, is);
     all = λ e. omega (arith, so_far.above, is);
+    room = omega (arith, so_far.above, so_far.room, is);
     leaves = subst (λ n. HasDone tells history state (first + from) (lines_from from (n - from) lines) b m was mid) is so_far.done;
     cause = λ e. absurd cc;
     sound = λ t all id e. cc;

@@ -84,7 +84,7 @@ known_staying k id none known = by_place (place_of k id) refl
     by_place (Some p) is = by_entry p is (ap (λ o. known_by None o k.seat.view.entries k.number) (sym is) ∙ entries)
 
 -- a page in hand whose flag says so stays in its frame
-held_stays : (locks : LockTable) (k : Kept) (h : Held) → Holds locks k → IsHeldIn locks k h → IsTrue (stays h.flag) → IsStaying k h.page
+pub held_stays : (locks : LockTable) (k : Kept) (h : Held) → Holds locks k → IsHeldIn locks k h → IsTrue (stays h.flag) → IsStaying k h.page
 held_stays locks k h holds held stay = by_read h.is_read refl
   where
     by_read : (read : Bool) → h.is_read ≡ read → IsStaying k h.page

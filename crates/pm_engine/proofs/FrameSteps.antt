@@ -27,8 +27,8 @@ use Rattle.pm_stripe.specs.ChangedPages.{ChangedPage}
 use Rattle.pm_stripe.specs.Covers.{NotesChanges}
 use Rattle.pm_stripe.specs.Dones.{EndsOperation}
 use Rattle.pm_stripe.specs.Kept.{Kept, held_at, page_bytes, is_known, known_by, place_of, Holds, IsStaying}
-use Rattle.pm_stripe.specs.Listings.{GrowsByOperation, IsChangedPage}
-use Rattle.pm_stripe.specs.Moves.{AreOfPart}
+use Rattle.pm_stripe.specs.Listings.{GrowsByOperation, IsChangedPage, MayBeLogical}
+use Rattle.pm_stripe.specs.Moves.{AreOfPart, HasOperation}
 use Rattle.pm_stripe.specs.Puts.{AreToldCovered}
 use Rattle.pm_stripe.specs.Reads.{stored, stored_at}
 use Rattle.pm_stripe.specs.Shown.{kept_by, file_by, paged, patch_of, shown, KeepsOthers, IsReady, KeepsBound}
@@ -40,7 +40,7 @@ use Rattle.pm_stripe.proofs.Hands.{found_at}
 use Rattle.pm_stripe.proofs.MarkedPages.{found}
 use Rattle.pm_stripe.proofs.PlacedPages.{same_page}
 use Rattle.pm_stripe.specs.HandLaws.{held_is}
-use Rattle.pm_engine.specs.FrameCommands.{IsChangedIn, ChangesAsNoted, noted_in, frame_pages, part_seen, AreReadable, IsSameWorker, IsBetweenLines, ChangesNothing, IsHandedOver, HandsOverChange}
+use Rattle.pm_engine.specs.FrameCommands.{IsChangedIn, ChangesAsNoted, noted_in, frame_pages, part_seen, AreReadable, IsSameWorker, IsBetweenLines, KeepsSeat, ChangesNothing, IsHandedOver, EndsFrom, HandsOverChange}
 use Rattle.pm_engine.proofs.FrameChanges.{page_stays, page_now, page_long, page_name, page_logged, staying_back, others_same, noted_change, patch_size, at_end, long}
 use Rattle.pm_engine.proofs.FrameReads.{readable_still, readable_beside}
 
@@ -114,6 +114,7 @@ module _ {Q R : Type 0} (tells : Type 0) (history : R → History) (state : R �
     pub others : KeepsOthers tells (file_by history b) (file_by history m) part (kept_by b) (kept_by m)
     pub bases : KeepsBases b.stripe.shape.page_size tells (file_by history b) (file_by history m) (kept_by b) (kept_by m)
     pub covered : AreToldCovered tells m.stripe.held.items
+    pub staying : (id : PageId) → IsStaying (kept_by b) id → IsStaying (kept_by m) id
 
   -- where a partition was named
   module _ (part : ℕ) (b n : Bound Q R) (same : SameButPart b n) (at : n.part ≡ part) where
@@ -161,6 +162,7 @@ module _ {Q R : Type 0} (tells : Type 0) (history : R → History) (state : R �
           others = subst (λ (p : (PageId → Option (List ℕ)) × ℕ × Kept). KeepsOthers tells p.0 (file_by history m) p.1 p.2 (kept_by m)) (λ i. (file_same part b n same at i, at i, kept_same part b n same at i)) leaves.others;
           bases = subst (λ (p : ℕ × (PageId → Option (List ℕ)) × Kept). KeepsBases p.0 tells p.1 (file_by history m) p.2 (kept_by m)) (λ i. ((same.stripe i).shape.page_size, file_same part b n same at i, kept_same part b n same at i)) leaves.bases;
           covered = are_covered tells history state n m ready (ap (λ (s : Stripe). s.held.items) same.stripe ∙ begins.none_held) keeps notes;
+          staying = subst (λ (k : Kept). (id : PageId) → IsStaying k id → IsStaying (kept_by m) id) (kept_same part b n same at) leaves.staying;
         }
 
   module _ (part : ℕ) (b m c : Bound Q R) (called : HasCalled part b m) (ends : EndsOperation tells history state m c) where
@@ -238,6 +240,12 @@ module _ {Q R : Type 0} (tells : Type 0) (history : R → History) (state : R �
     stays_back : (id : PageId) → IsStaying k2 id → IsStaying k id ⊎ IsChangedIn held id
     stays_back = staying_back b.locks.now tells file file' part k k' called.none_held called.same.shape called.holds holds_then called.bases alone called.covered (file_long b.stripe (history b.reader)) file2 k2 ends.none_held ends.pages ends.only ends.put
 
+    keeps_seat : KeepsSeat b c
+    keeps_seat = record { locks = same_worker.locks; shape = same_worker.shape; sight = same_worker.sight }
+
+    stays_still : (id : PageId) → IsStaying k id → IsStaying k2 id
+    stays_still id is = ends.staying id (called.staying id is)
+
     frame_same : (q index : ℕ) → (q < b.stripe.shape.partitions → index < 2 ^ 32 → page_bytes file2 k2 (page_id q index) ≡ page_bytes file k (page_id q index)) → frame_pages history c q index ≡ frame_pages history b q index
     frame_same q index same =
         ap (λ (s : Shape). cut s q index (page_bytes file2 k2 (page_id q index))) shape_then
@@ -245,8 +253,9 @@ module _ {Q R : Type 0} (tells : Type 0) (history : R → History) (state : R �
 
     pub nothing_changed : ((id : PageId) → IsChangedIn held id → ⊥) → c.stripe.outbox ≡ b.stripe.outbox → ChangesNothing tells history b c
     nothing_changed none outbox = record {
-      shape = shape_then;
+      seat = keeps_seat;
       outbox = outbox;
+      still = stays_still;
       staying = λ id stay. ⊎_elim (λ was. was) (λ on. absurd (none id on)) (stays_back id stay);
       pages = λ id told. others_kept id (none id) told;
       told = λ t i q index. frame_same q index (λ _ _. others_kept (page_id q index) (none (page_id q index)) (inl t)) i;
@@ -342,9 +351,28 @@ module _ {Q R : Type 0} (tells : Type 0) (history : R → History) (state : R �
     pub elsewhere : tells → (q index : ℕ) → q ≢ part → frame_pages history c q index ≡ frame_pages history b q index
     elsewhere t q index ne = frame_same q index (λ below low. others_kept (page_id q index) (other_unchanged q index ne below low) (inl t))
 
-    pub hands_over : (line : ℕ) (rec : Record) → GrowsByOperation line (Some rec) held m.stripe.outbox c.stripe.outbox → HandsOverChange tells history line rec part b c
-    hands_over line rec grows = record {
+    -- what it kept right before its end
+    ends_from : EndsFrom tells history part held b c
+    ends_from = record {
+      kept = k';
+      held_are = refl;
+      shape = called.same.shape;
+      holds = holds_then;
+      operates = subst (λ (p : LockTable × ℕ). HasOperation p.0 p.1 k') {x = (m.locks.now, m.part)} {y = (b.locks.now, part)} (λ i. ((called.same.locks i).now, called.part_is i)) called.ready.operates;
+      sight = called.same.sight;
+      stayed = λ id is. (called.bases.stay id is).0;
+      still = called.staying;
+      files = file';
+      pages = λ t id. ends.pages id (inl t);
+    }
+
+    pub hands_over : (line : ℕ) (rec : Record) → MayBeLogical (Some rec) → GrowsByOperation line (Some rec) held m.stripe.outbox c.stripe.outbox → HandsOverChange tells history line rec part b c
+    hands_over line rec logical grows = record {
+      seat = keeps_seat;
+      logical = logical;
       held = held;
+      before = ends_from;
+      still = stays_still;
       grows = subst (λ (out : List ℕ). GrowsByOperation line (Some rec) held out c.stripe.outbox) called.outbox grows;
       changed = handed_over;
       staying = stays_back;

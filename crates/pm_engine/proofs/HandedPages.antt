@@ -32,10 +32,10 @@ use Rattle.pm_engine.proofs.ChangedFrames.{NoneBetween, changed_count, count_one
 
 -- ---- lists
 
-contains_here : (x : ChangedPage) (xs : List ChangedPage) → Contains (x ∷ xs) x
+pub contains_here : (x : ChangedPage) (xs : List ChangedPage) → Contains (x ∷ xs) x
 contains_here x xs = (0, omega arith, refl)
 
-contains_later : (x y : ChangedPage) (xs : List ChangedPage) → Contains xs y → Contains (x ∷ xs) y
+pub contains_later : (x y : ChangedPage) (xs : List ChangedPage) → Contains xs y → Contains (x ∷ xs) y
 contains_later x y xs has = (suc has.0, omega (arith, has.1), has.2)
 
 contains_none : (y : ChangedPage) → Contains [] y → ⊥
@@ -107,7 +107,7 @@ module _ (file : PageId → Option (List ℕ)) (faults part : ℕ) (k : Kept) (l
     covers_at : one.patch ≡ p.patch
     covers_at = sym (ap (λ (q : ChangedPage). q.patch) one.is)
 
-    changed_at : is_changed (seen.patch index) ≡ true
+    pub changed_at : is_changed (seen.patch index) ≡ true
     changed_at = ap is_changed patch_at ∙ one.some
 
     frame_at : frames_at seen logged index ≡ frame_for (page_record p) ∷ []
@@ -125,12 +125,12 @@ module _ (file : PageId → Option (List ℕ)) (faults part : ℕ) (k : Kept) (l
         by false = refl
 
   -- a page that is seen as changed is one of them
-  record ChangedAt (index : ℕ) : Type 0 where
-    page : ChangedPage
-    is_one : IsChangedPage k.held page
-    at : index_of_id page.page ≡ index
+  pub record ChangedAt (index : ℕ) : Type 0 where
+    pub page : ChangedPage
+    pub is_one : IsChangedPage k.held page
+    pub at : index_of_id page.page ≡ index
 
-  changed_page : (index : ℕ) → is_changed (seen.patch index) ≡ true → ChangedAt index
+  pub changed_page : (index : ℕ) → is_changed (seen.patch index) ≡ true → ChangedAt index
   changed_page index changed = by (held_at k.held (page_id part index).0) refl changed
     where
       some_patch : (h : Held) (o : Option Coverage) → h.patch ≡ o → is_changed o ≡ true → (patch : Coverage) × (h.patch ≡ Some patch) × (has_bytes patch ≡ true)

@@ -1,44 +1,21 @@
 -- The record of an accepted line, as it is applied again.
-use Rattle.std.proofs.Common.{◌≡◌, inl, inr, ℕ, ◌<◌, ◌≤◌, List, [], ◌∷◌, ◌++◌, length, take, Option, Some, None, refl, sym}
-use Rattle.std.proofs.Common.{◌∙◌, ap, subst, arith, Bool, true, false, append_assoc, append-nil, length-append}
+use Rattle.std.proofs.Common.{◌≡◌, ℕ, ◌≤◌, List, [], ◌∷◌, length, Option, Some, None, refl, sym}
+use Rattle.std.proofs.Common.{◌∙◌, ap, arith, Bool, true}
 use Rattle.std.specs.Prelude.{if◌then◌else◌}
-use Rattle.std.specs.FinMap.{empty}
-use Rattle.std.proofs.lemmas.List.{take_all, take-append-le}
-use Rattle.std.proofs.Math.Seq.{take-length}
-use Rattle.pm_types.specs.declared.place.Place.{Place}
 use Rattle.pm_types.specs.declared.shape.Shape.{Shape}
-use Rattle.pm_types.specs.Shapes.{IsShape}
 use Rattle.pm_frame.specs.declared.kinds.TheConstants.{LOGICAL}
 use Rattle.pm_frame.specs.declared.limits.TheConstants.{PAYLOAD_MAX}
 use Rattle.pm_frame.specs.Frames.{Frame}
-use Rattle.pm_records.proofs.HeldLog.{held_log}
-use Rattle.pm_records.proofs.FrameGrammar.{frame_laws}
 use Rattle.pm_records.specs.declared.limits.TheConstants.{PUT, REMOVE}
-use Rattle.pm_records.specs.Records.{Record, Logical, Seal, IsRecord, kind_of, record_of, payload_of}
-use Rattle.pm_records.proofs.Growing.{grows_none}
+use Rattle.pm_records.specs.Records.{Record, Logical, IsRecord, kind_of, record_of, payload_of}
 use Rattle.pm_records.proofs.RecordOf.{record_of-payload, payload_of-short}
-use Rattle.pm_disk.specs.Worlds.{World, log_forced}
 use Rattle.pm_model.specs.declared.line.Cmd.TheVariants.{Put, Get, Remove, Scan, Checkpoint}
 use Rattle.pm_model.specs.declared.line.Line.{Line}
 use Rattle.pm_model.specs.declared.line.Line.TheVariants.{Good, Bad, Long}
-use Rattle.pm_model.specs.Eval.{Pairs, is_accepted, after, after_all}
-use Rattle.pm_model.proofs.Runs.{after_all-append, after-not_accepted}
-use Rattle.pm_records.specs.LogFiles.{contents, LogGrowsBy, Written, IsWritten, IsRecordFrame, IsQuietBut}
-use Rattle.pm_records.specs.LogSteps.{Step, end_after, Force, world_after, DoesPrefix, next_written, written_after, frames_in}
-use Rattle.pm_records.specs.Logs.{all_frames, IsLogFrom, without_seals, record_in, place, seal_frame}
-use Rattle.pm_records.proofs.QuietLog.{forced_quiet}
-use Rattle.pm_records.proofs.Tracing.{prefix_none, prefix_all}
-use Rattle.pm_records.proofs.Writing.{CanAll, frames_after, lasting_after}
-use Rattle.pm_segments.specs.Appends.{room_steps, append_steps, steps_of, grown}
-use Rattle.pm_segments.proofs.AppendLaw.{append_written}
-use Rattle.pm_segments.proofs.OpenLog.{room_frames, append_frames, grown_end, grown_seg, append_open, force_written, force_open}
-use Rattle.pm_segments.proofs.Quiet.{append_quiet}
-use Rattle.pm_core.proofs.Replaying.{replayed-append}
+use Rattle.pm_model.specs.Eval.{Pairs, is_accepted, after}
+use Rattle.pm_records.specs.Logs.{record_in}
 use Rattle.pm_engine.specs.Records.{record_of_line, IsPayloadOf, logical_frame, frames_of_record, line_frames}
-use Rattle.pm_core.specs.LogAlone.{IsHeld}
-use Rattle.pm_core.specs.Replays.{replayed, then_replayed}
-use Rattle.pm_core.proofs.LogCrash.{LeavesFrames, crash_leaves}
-use Rattle.pm_core.proofs.LogStands.{WrittenHolds, held_shape}
+use Rattle.pm_core.specs.Replays.{replayed}
 
 -- the frame of a line that is accepted replays the line
 pub record LogsLine (shape : Shape) (line : Line) (pairs : Pairs) (payload : List ℕ) : Type 0 where

@@ -1,8 +1,9 @@
 -- The records of an outbox, appended one after the other.
-use Rattle.std.proofs.Common.{◌≡◌, ℕ, ◌+◌, ◌^◌, ◌<◌, List, [], ◌∷◌, ◌++◌, length, take, drop, get_or, Result, Ok, refl, sym, ap, ◌∙◌, subst, arith, append_assoc, append-nil, length-append}
+use Rattle.std.proofs.Common.{◌≡◌, ℕ, ◌+◌, ◌^◌, ◌<◌, ◌≤◌, List, [], ◌∷◌, ◌++◌, length, take, drop, get_or, Result, Ok, Err, refl, sym, ap, ◌∙◌, subst, arith, append_assoc, append-nil, length-append}
 use Rattle.std.specs.Int.{w32, from_le_bytes}
-use Rattle.std.specs.Prelude.{OnOk}
+use Rattle.std.specs.Prelude.{OnOk, IsErr}
 use Rattle.std.proofs.lemmas.List.{take_at, drop_at}
+use Rattle.std.proofs.Math.Seq.{take-length}
 use Rattle.std.proofs.lemmas.Nat.{from_le_bytes-to_le_bytes_4}
 use Rattle.pm_disk.specs.Moments.{History, IsHistory}
 use Rattle.pm_disk.specs.declared.failed.Failed.{Failed}
@@ -11,7 +12,7 @@ use Rattle.pm_frame.proofs.Bytes.{cells}
 use Rattle.pm_records.specs.Operations.{Operation, IsOperation, AreOperations, IsLogged, SpellRecords, operation_head, operation_bytes, operations_bytes, record_head, record_bytes, records_bytes}
 use Rattle.pm_segments.specs.Ends.{LogEnd, EndsThere}
 use Rattle.pm_engine.specs.AppendRuns.{AppendsAll}
-use Rattle.pm_engine.specs.OutboxLogs.{SpellOperationRecords, records_of}
+use Rattle.pm_engine.specs.OutboxLogs.{SpellOperationRecords, records_of, numbers_of, SpellNumbers, NotesNumbers}
 use Rattle.pm_engine.proofs.AppendChains.{appends_none, appends_then, appends_part}
 
 -- ---- bytes
@@ -28,6 +29,10 @@ record_head_long kind len = refl
 pub len_said : (line len : ℕ) (more : List ℕ) → len < 2 ^ 32 → from_le_bytes w32 (cells 4 4 (operation_head line len ++ more)) ≡ len
 unfolding operation_head
 len_said line len more small = from_le_bytes-to_le_bytes_4 len small
+
+pub line_said : (line len : ℕ) (more : List ℕ) → line < 2 ^ 32 → from_le_bytes w32 (cells 0 4 (operation_head line len ++ more)) ≡ line
+unfolding operation_head
+line_said line len more small = from_le_bytes-to_le_bytes_4 line small
 
 pub payload_said : (kind len : ℕ) (more : List ℕ) → len < 2 ^ 32 → from_le_bytes w32 (cells 1 4 (record_head kind len ++ more)) ≡ len
 unfolding record_head
@@ -191,3 +196,101 @@ module _ (Has : List ℕ → List Frame → Type 0) (tells : Type 0) (old mid : 
       subst (AppendsAll {T = S} {E = F} tells old new answer before now) all
       (appends_part tells old new answer before now (so_far.done ++ fs) others fails
       (appends_then tells old mid new result answer before log now so_far.done fs (λ P holds. fails P) so_far.appends appends))
+
+-- ---- the numbers of operations
+
+-- so many of these numbers were put into an order, and the bytes that are left have the others
+pub record NotesSome (rest numbers was now : List ℕ) : Type 0 where
+  pub done : List ℕ
+  pub left : List ℕ
+  pub whole : numbers ≡ done ++ left
+  pub others : SpellNumbers rest left
+  pub is : now ≡ was ++ done
+
+-- what stands at the front
+pub record FrontNumber (rest left : List ℕ) : Type 0 where
+  pub operation : Operation
+  pub more : List ℕ
+  pub is : IsOperation operation
+  pub bytes : rest ≡ operation_bytes operation ++ more
+  pub others : List ℕ
+  pub split : left ≡ operation.line ∷ others
+  pub later : SpellNumbers more others
+
+pub front_number : (rest left : List ℕ) → 0 < length rest → SpellNumbers rest left → FrontNumber rest left
+front_number rest left some spell = by spell.operations spell.are spell.bytes_are spell.numbers_are
+  where
+    by : (os : List Operation) → AreOperations os → rest ≡ operations_bytes os → left ≡ numbers_of os → FrontNumber rest left
+    by [] are bytes numbers = absurd (omega (arith, some, ap length bytes))
+    by (o ∷ os) are bytes numbers = record {
+      operation = o;
+      more = operations_bytes os;
+      is = are.0;
+      bytes = bytes;
+      others = numbers_of os;
+      split = numbers;
+      later = record { operations = os; are = are.1; bytes_are = refl; numbers_are = refl };
+    }
+
+none_numbered : (rest left : List ℕ) → length rest ≡ 0 → SpellNumbers rest left → left ≡ []
+none_numbered rest left none spell = by spell.operations spell.are spell.bytes_are spell.numbers_are
+  where
+    by : (os : List Operation) → AreOperations os → rest ≡ operations_bytes os → left ≡ numbers_of os → left ≡ []
+    by [] are bytes numbers = numbers
+    by (o ∷ os) are bytes numbers = absurd (omega (arith, whole_long rest o (operations_bytes os) are.0 bytes, none))
+
+pub notes_begin : (rest numbers was : List ℕ) → SpellNumbers rest numbers → NotesSome rest numbers was was
+notes_begin rest numbers was spell = record { done = []; left = numbers; whole = refl; others = spell; is = sym (append-nil was) }
+
+-- there is room for one more
+pub notes_room : (rest numbers was now : List ℕ) (capacity : ℕ) → 0 < length rest → length was + length numbers ≤ capacity → NotesSome rest numbers was now → length now < capacity
+notes_room rest numbers was now capacity some fits so_far =
+    let front = front_number rest so_far.left some so_far.others in
+    omega (arith, fits, ap length so_far.whole, length-append so_far.done so_far.left, ap length front.split, ap length so_far.is, length-append was so_far.done)
+
+module _ (rest numbers was now : List ℕ) (some : 0 < length rest) (so_far : NotesSome rest numbers was now) where
+  front : FrontNumber rest so_far.left
+  front = front_number rest so_far.left some so_far.others
+
+  -- the next one was
+  module _ (number : ℕ) (then_now after : List ℕ) (number_is : (o : Operation) (more : List ℕ) → IsOperation o → rest ≡ operation_bytes o ++ more → number ≡ o.line) (pushed : then_now ≡ now ++ number ∷ []) where
+    pushed_is : then_now ≡ was ++ (so_far.done ++ front.operation.line ∷ [])
+    pushed_is = pushed ∙ (λ i. so_far.is i ++ number_is front.operation front.more front.is front.bytes i ∷ []) ∙ append_assoc was so_far.done (front.operation.line ∷ [])
+
+    split_is : numbers ≡ (so_far.done ++ front.operation.line ∷ []) ++ front.others
+    split_is = so_far.whole ∙ ap (λ (l : List ℕ). so_far.done ++ l) front.split ∙ sym (append_assoc so_far.done (front.operation.line ∷ []) front.others)
+
+    pub notes_more : ((o : Operation) (more : List ℕ) → IsOperation o → rest ≡ operation_bytes o ++ more → after ≡ more) → NotesSome after numbers was then_now
+    notes_more after_is = record {
+      done = so_far.done ++ front.operation.line ∷ [];
+      left = front.others;
+      whole = split_is;
+      others = subst (λ (bs : List ℕ). SpellNumbers bs front.others) (sym (after_is front.operation front.more front.is front.bytes)) front.later;
+      is = pushed_is;
+    }
+
+    -- and its records weren't appended
+    pub notes_part : {T E : Type 0} (result : Result T E) → IsErr result → NotesNumbers {T = T} {E = E} numbers was then_now result
+    notes_part result err =
+        let done = so_far.done ++ front.operation.line ∷ [] in
+        record {
+          count = length done;
+          within = omega (arith, ap length split_is, length-append done front.others);
+          is = pushed_is ∙ ap (λ (l : List ℕ). was ++ l) (sym (ap (take (length done)) split_is ∙ take_at done front.others (length done) refl));
+          all = fails result err;
+        }
+      where
+        fails : {T E : Type 0} (r : Result T E) → IsErr r → OnOk r (length (so_far.done ++ front.operation.line ∷ []) ≡ length numbers)
+        fails (Ok x) is = absurd cc
+        fails (Err e) is = tt
+
+-- all were
+pub notes_all : (rest numbers was now : List ℕ) → length rest ≡ 0 → NotesSome rest numbers was now → NotesNumbers {T = Unit {0}} {E = Failed} numbers was now (Ok tt)
+notes_all rest numbers was now none so_far =
+    let done_is : numbers ≡ so_far.done = so_far.whole ∙ ap (λ (l : List ℕ). so_far.done ++ l) (none_numbered rest so_far.left none so_far.others) ∙ append-nil so_far.done in
+    record {
+      count = length numbers;
+      within = omega arith;
+      is = so_far.is ∙ ap (λ (l : List ℕ). was ++ l) (sym (take-length numbers ∙ done_is));
+      all = refl;
+    }

@@ -1,6 +1,8 @@
 -- What holds where a call gave `Ok`.
-use Rattle.std.proofs.Common.{◌≡◌, Result, Ok, Err, subst}
-use Rattle.std.specs.Prelude.{OnOk, IsErr}
+use Rattle.std.proofs.Common.{◌≡◌, Result, Ok, Err, false, sym, subst}
+use Rattle.std.specs.Prelude.{OnOk, OnErr, IfOk, IsErr}
+use Rattle.std.specs.Result.{is_err}
+use Rattle.std.proofs.lemmas.Bool.{false≢true}
 
 pub on_ok_both : {T E : Type 0} (r : Result T E) (P Q R : Type 0) → (P → Q → R) → OnOk r P → OnOk r Q → OnOk r R
 on_ok_both (Ok x) P Q R f p q = f p q
@@ -19,3 +21,15 @@ ok_holds r x P is holds = subst (λ q. OnOk q P) is holds
 pub ok_anyway : {T E : Type 0} (r : Result T E) (P : Type 0) → P → OnOk r P
 ok_anyway (Ok x) P p = p
 ok_anyway (Err e) P p = tt
+
+pub if_ok_holds : {T E : Type 0} (r : Result T E) (x : T) (P : T → Type 0) → r ≡ Ok x → IfOk r P → P x
+if_ok_holds r x P is holds = subst (λ q. IfOk q P) is holds
+
+-- what an `Err` promises
+pub err_holds : {T E : Type 0} (r : Result T E) (e : E) (P : Type 0) → r ≡ Err e → OnErr r P → P
+err_holds r e P is holds = subst (λ q. OnErr q P) is holds
+
+-- what holds where it is no `Err`
+pub unless_err : {T E : Type 0} (r : Result T E) (P : Type 0) → is_err r ≡ false → OnOk r P → P
+unless_err (Ok x) P is p = p
+unless_err (Err e) P is p = absurd (false≢true (sym is))

@@ -1,15 +1,11 @@
 -- How far a log goes on by a frame.
-use Rattle.std.proofs.Common.{◌≡◌, ◌≢◌, ℕ, zero, suc, ◌+◌, ◌<◌, ◌≤◌, List, [], ◌∷◌, ◌++◌, length, take, Bool, true, false, refl, sym, ◌∙◌, ap, subst, arith}
+use Rattle.std.proofs.Common.{◌≡◌, ℕ, ◌+◌, ◌<◌, ◌≤◌, length, Bool, true, false, ap, arith}
 use Rattle.std.specs.Prelude.{◌^◌, if◌then◌else◌}
 use Rattle.std.proofs.lemmas.Bool.Decides.{nat_tests}
-use Rattle.pm_types.specs.declared.place.Place.{Place}
-use Rattle.pm_disk.specs.Files.{Write, Cut, Drop, with_change, all_forced}
-use Rattle.pm_disk.specs.Worlds.{World}
-use Rattle.pm_disk.proofs.Families.{file_there}
-use Rattle.pm_frame.specs.Frames.{Frame, frame_bytes}
-use Rattle.pm_records.specs.Logs.{is_last, seal_frame}
-use Rattle.pm_records.specs.LogSteps.{Step, CutTail, Append, Force, NextSegment, DropSegment, ForceSegment, next_segment, step_end, step_world, world_after, DoesPrefix, cut_steps}
-use Rattle.pm_segments.specs.Appends.{can_seal, enter_steps, grown, steps_of}
+use Rattle.pm_frame.specs.Frames.{Frame}
+use Rattle.pm_records.specs.Logs.{is_last}
+use Rattle.pm_records.specs.LogSteps.{next_segment}
+use Rattle.pm_segments.specs.Appends.{grown}
 use Rattle.pm_segments.specs.Ends.{LogEnd, has_room, moved}
 use Rattle.pm_segments.specs.Appends.{rolled}
 

@@ -1,5 +1,5 @@
 -- What an outbox holds, as records of the log.
-use Rattle.std.specs.Prelude.{◌≡◌, ℕ, List, [], ◌∷◌, ◌++◌}
+use Rattle.std.specs.Prelude.{◌≡◌, ◌≤◌, ◌+◌, ℕ, List, [], ◌∷◌, ◌++◌, length, take, Result, OnOk}
 use Rattle.pm_frame.specs.Frames.{Frame}
 use Rattle.pm_records.specs.Operations.{Operation, IsOperation, AreOperations, operation_bytes, operations_bytes}
 use Rattle.pm_records.specs.Operations.{IsLogged, record_bytes}
@@ -8,6 +8,11 @@ use Rattle.pm_records.specs.Operations.{IsLogged, record_bytes}
 abbrev pub records_of : List Operation → List Frame
 records_of [] = []
 records_of (operation ∷ operations) = operation.records ++ records_of operations
+
+-- the numbers of their lines
+abbrev pub numbers_of : List Operation → List ℕ
+numbers_of [] = []
+numbers_of (operation ∷ operations) = operation.line ∷ numbers_of operations
 
 -- these bytes are operations and nothing else, with these records
 pub record SpellOperationRecords (bytes : List ℕ) (frames : List Frame) : Type 0 where
@@ -29,3 +34,23 @@ BeginsWithOperation bytes =
 abbrev pub BeginsWithRecord : List ℕ → Type 0
 BeginsWithRecord bytes =
     (frame : Frame) × (more : List ℕ) × IsLogged frame × (bytes ≡ record_bytes frame ++ more)
+
+-- these bytes are operations and nothing else, of lines with these numbers
+pub record SpellNumbers (bytes numbers : List ℕ) : Type 0 where
+  pub operations : List Operation
+  pub are : AreOperations operations
+  pub bytes_are : bytes ≡ operations_bytes operations
+  pub numbers_are : numbers ≡ numbers_of operations
+
+-- these bytes are operations and nothing else, and with their numbers an order that has so many has no more than this
+pub record HasNumberRoom (bytes : List ℕ) (count capacity : ℕ) : Type 0 where
+  pub numbers : List ℕ
+  pub spelled : SpellNumbers bytes numbers
+  pub fits : count + length numbers ≤ capacity
+
+-- these numbers were put at the end of an order; at an `Err` a prefix of them
+pub record NotesNumbers {T E : Type 0} (numbers was now : List ℕ) (result : Result T E) : Type 0 where
+  pub count : ℕ
+  pub within : count ≤ length numbers
+  pub is : now ≡ was ++ take count numbers
+  pub all : OnOk result (count ≡ length numbers)

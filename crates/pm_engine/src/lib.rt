@@ -2,11 +2,23 @@
 #![tactic(auto)]
 
 mod accepting;
+mod frame_checkpoint;
 mod frame_commands;
+mod frame_engine;
+mod frame_engine_checkpoint;
+mod frame_engine_forcing;
+mod frame_engine_lines;
+mod frame_host;
 mod frame_lines;
+mod frame_outbox;
 mod frame_rounds;
+mod frame_running;
+mod frame_scans;
+mod frame_store;
+mod framed_stores;
 mod handed_pages;
 mod laws;
+mod line_chains;
 mod loading;
 mod logged_pages;
 mod merging;
@@ -33,10 +45,18 @@ pub use accepting::an_accepted_line_makes_pages;
 pub use frame_commands::run_in_frames;
 pub use frame_lines::{Stop, line_in_frames};
 pub use frame_rounds::{RoundEnd, lines_in_frames};
+pub use frame_running::{
+    a_checkpoint_leaves_a_store_in_frames, a_checkpoint_writes_what_stays,
+    a_store_in_frames_may_be_checkpointed,
+};
+pub use frame_scans::{ScanStop, pairs_in_frames};
+pub use frame_store::FrameStore;
+pub use framed_stores::done_lines_are_steps;
 pub use handed_pages::{
     an_operation_hands_over_its_frames, edits_in_frames_are_noted, pages_in_hand_are_noted,
 };
 pub use laws::a_store_is_its_partitions;
+pub use line_chains::{a_running_store_does_all_lines, logged_pages_have_no_order};
 pub use logged_pages::LoggedPages;
 pub use operation_log::log_operation;
 pub use outbox_log::append_operations;

@@ -22,14 +22,14 @@ impl MergePredicate<(Key, Value)> for ByKey {
     }
 }
 
-/// Joins lists of pairs, each by rising key, by rising key. Keys and values are moved, none is copied:
+/// Joins lists of pairs: where each is by rising key, all pairs are then. Keys and values are moved, none is copied:
 /// of `n` pairs in `k` lists each takes about as many comparisons as `k` has bits.
 pub(crate) fn join_by_key(
     alloc: Global,
     lists: Vec<Vec<(Key, Value)>>,
 ) -> Result<Vec<(Key, Value)>, AllocError>
-    requires { All (λ list. HasRisingKeys list.items) lists.items }
-    ensures { IfOk result (λ pairs. JoinsByKey (map (λ list. list.items) lists.items) pairs.items) }
+    ensures { All (λ list. HasRisingKeys list.items) lists.items
+        → IfOk result (λ pairs. JoinsByKey (map (λ list. list.items) lists.items) pairs.items) }
 {
     let merged = lists.into_iter().kmerge_by(alloc, ByKey)?;
     merged.collect_vec(alloc)

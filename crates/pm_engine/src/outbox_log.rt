@@ -1,6 +1,6 @@
 //! What an outbox holds, appended to the log.
 
-ghost use Rattle.std.specs.Prelude.{◌≡◌, ◌≤◌, ◌<◌, ◌^◌, ◌++◌, ℕ, List, length};
+ghost use Rattle.std.specs.Prelude.{◌≡◌, ◌≤◌, ◌<◌, ◌^◌, ◌++◌, ℕ, List, length, vec_capacity};
 ghost use Rattle.pm_frame.specs.Frames.{Frame};
 ghost use Rattle.pm_disk.specs.States.{HasCause, IsUsable};
 ghost use Rattle.pm_records.specs.Operations.{Operation, IsOperation, AreRecords, SpellRecords, IsLogged};
@@ -10,6 +10,7 @@ ghost use Rattle.pm_segments.specs.Ends.{EndsThere};
 ghost use Rattle.pm_engine.specs.AppendRuns.{AppendsAll};
 ghost use Rattle.pm_engine.specs.OutboxLogs.{SpellOperationRecords, AreOperationBytes};
 ghost use Rattle.pm_engine.specs.OutboxLogs.{BeginsWithOperation, BeginsWithRecord};
+ghost use Rattle.pm_engine.specs.OutboxLogs.{SpellNumbers, HasNumberRoom, NotesNumbers};
 
 use pm_disk::{Failed, LogFile};
 use pm_segments::Log;
@@ -19,22 +20,32 @@ const OPERATION_HEAD_LEN: usize = 8;
 /// The bytes of a record before its payload: its kind, and the payload's length.
 const RECORD_HEAD_LEN: usize = 5;
 
-/// Appends the records of the operations that these bytes are, as those of an outbox, one after the other. It
-/// takes no memory.
+/// Appends the records of the operations that these bytes are, as those of an outbox, one after the other. The number
+/// of each operation is put into `order` before its records are appended. It takes no memory.
 ///
 /// After `Failed` a prefix of the records was appended, the last of them in part or not at all. Nothing is to
 /// be appended any more.
-pub fn append_operations<L: LogFile>(dev: &mut L, log: &mut Log, bytes: &[u8]) -> Result<(), Failed>
+pub fn append_operations<L: LogFile>(
+    dev: &mut L,
+    log: &mut Log,
+    bytes: &[u8],
+    order: &mut Vec<u32>,
+) -> Result<(), Failed>
     requires usable { IsUsable (L.state dev.old) }
     requires operations { AreOperationBytes bytes.now }
+    requires room { HasNumberRoom bytes.now (length order.old.items) (vec_capacity order.old) }
     requires end { L.tells → EndsThere log.old (L.history dev.old).world }
     ensures appends { (frames : List Frame) → SpellOperationRecords bytes.now frames
         → AppendsAll L.tells (L.history dev.old) (L.history dev.new) result log.old log.new frames }
+    ensures order { (numbers : List ℕ) → SpellNumbers bytes.now numbers
+        → NotesNumbers numbers order.old.items order.new.items result }
     ensures cause { HasCause (L.state dev.old) (L.state dev.new) result }
 {
     let mut rest = bytes;
     'each: while !rest.is_empty() {
+        let number = operation_number(rest);
         let (records, after) = split_operation(rest);
+        order.push_reserved(number);
         append_records(dev, log, records)?;
         rest = after;
     }
@@ -86,6 +97,15 @@ fn split_record(bytes: &[u8]) -> (u8, &[u8], &[u8])
     let (head, after) = bytes.split_at(RECORD_HEAD_LEN);
     let (payload, rest) = after.split_at(len as usize);
     (head[0], payload, rest)
+}
+
+// The number of its line that an operation's head says.
+fn operation_number(bytes: &[u8]) -> u32
+    requires { OPERATION_HEAD_LEN ≤ length bytes.now }
+    ensures { (line len : ℕ) (more : List ℕ) → line < 2 ^ 32 → bytes.now ≡ operation_head line len ++ more
+        → result ≡ line }
+{
+    u32::from_le_bytes([bytes[0], bytes[1], bytes[2], bytes[3]])
 }
 
 // The length of its records that an operation's head says.

@@ -130,7 +130,7 @@ returns-in-Ok-clause-does g c =
           let nothing : GrowsByOperation c.args.line None held m.stripe.outbox e.stripe.outbox = subst (λ (q : Bool). GrowsByOperation c.args.line (let o : Option Record = if q then Some given else None in o) held m.stripe.outbox e.stripe.outbox) off grows in
           nothing_changed tells history state part b m e called ends (λ id x. none x.page x.changed) (nothing_handed c.args.line held m.stripe.outbox e.stripe.outbox none nothing ∙ called.outbox);
       hands = λ on.
-          hands_over tells history state part b m e called ends c.args.line given
+          hands_over tells history state part b m e called ends c.args.line given c.requires.logical
           (subst (λ (q : Bool). GrowsByOperation c.args.line (let o : Option Record = if q then Some given else None in o) held m.stripe.outbox e.stripe.outbox) on grows);
     }
 

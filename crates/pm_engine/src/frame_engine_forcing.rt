@@ -1,0 +1,60 @@
+//! How the engine over page frames forces its log.
+
+ghost use Rattle.std.specs.Prelude.{◌≡◌, ◌+◌, ℕ, List, true, OnOk, OnErr};
+ghost use Rattle.pm_types.specs.declared.shape.Shape.{Shape};
+ghost use Rattle.pm_disk.specs.Moments.{AllMoments};
+ghost use Rattle.pm_disk.specs.States.{HasCause, IsUsable};
+ghost use Rattle.pm_segments.specs.Ends.{EndsThere};
+ghost use Rattle.pm_model.specs.declared.line.Line.{Line};
+ghost use Rattle.pm_model.specs.Eval.{Pairs};
+ghost use Rattle.pm_core.specs.Calls.{ChangesDisk};
+ghost use Rattle.pm_engine.specs.FrameEngines.{HasDoneLines, HasLastingLinesIn, closed_engine};
+ghost use Rattle.pm_engine.specs.FrameStores.{pages_in_frames, HasCleanPages};
+ghost use Rattle.pm_engine.specs.PagedEngines.{number_of};
+ghost use Rattle.pm_engine.specs.RunningLines.{CrashHoldsLines};
+
+use crate::frame_engine::FrameEngine;
+use pm_disk::{Failed, Host};
+
+impl FrameEngine {
+    /// Forces the log up to its end, so that all its lines last. It takes no memory.
+    ///
+    /// After `Failed` the engine is open no more, and what was appended since the last force may last or not.
+    pub(crate) fn force<H: Host>(&mut self, host: &mut H) -> Result<(), Failed>
+        requires usable { IsUsable (H.Device.state host.old) }
+        requires open { self.old.store.is_open ≡ true }
+        requires end { H.Device.tells → EndsThere self.old.log (H.Device.history host.old).world }
+        ensures same { OnOk result (self.new ≡ self.old) }
+        ensures closed { OnErr result (self.new ≡ closed_engine self.old) }
+        ensures ends { H.Device.tells → OnOk result (EndsThere self.new.log (H.Device.history host.new).world) }
+
+        // The partitions' files are as they were.
+        ensures pages { H.Device.tells → OnOk result (pages_in_frames self.new.store (H.Device.history host.new).world
+            ≡ pages_in_frames self.old.store (H.Device.history host.old).world) }
+        ensures clean { H.Device.tells → HasCleanPages self.old.store (H.Device.history host.old).world
+            → OnOk result (HasCleanPages self.new.store (H.Device.history host.new).world) }
+
+        // Whatever lines the store has done, it has done them still, and a crash holds all of them from then on.
+        ensures lasts { H.Device.tells → (wanted : Shape) (told : List ℕ → ℕ) (low : ℕ) (start : Pairs)
+            (lines : List Line)
+            → HasDoneLines wanted told low start lines self.old (H.Device.history host.old).world
+            → OnOk result (HasLastingLinesIn wanted told low start lines self.new (H.Device.history host.new).world) }
+        ensures crash { H.Device.tells → (wanted : Shape) (told : List ℕ → ℕ) (low : ℕ) (start : Pairs)
+            (lines : List Line)
+            → HasDoneLines wanted told low start lines self.old (H.Device.history host.old).world
+            → AllMoments (H.Device.history host.old) (H.Device.history host.new)
+            (CrashHoldsLines (self.old.log.end.seg + 1) (number_of self.old.ckpt.mark)
+            wanted self.old.store.shape start lines) }
+        ensures disk { H.Device.tells → AllMoments (H.Device.history host.old) (H.Device.history host.new)
+            (ChangesDisk (H.Device.history host.old).world) }
+        ensures cause { HasCause (H.Device.state host.old) (H.Device.state host.new) result }
+    {
+        match self.log.force(host) {
+            Err(failed) => {
+                self.pages.shut();
+                Err(failed)
+            }
+            Ok(()) => Ok(()),
+        }
+    }
+}
