@@ -7,6 +7,7 @@ use pm_top::top;
 use std::env;
 use std::io::ErrorKind;
 use std::process::ExitCode;
+use std::sync::Wait;
 
 // The statuses that `main` itself gives, as `top` does.
 const USAGE: u8 = 1;
@@ -16,11 +17,12 @@ const FAILED: u8 = 3;
 const OUT_OF_MEMORY: u8 = 4;
 
 fn main(rt: HostRuntime) -> ExitCode {
-    ExitCode::from(run(&rt))
+    ExitCode::from(run(&rt, &rt))
 }
 
-// Does what the words of the process ask for, and says why where that isn't done.
-fn run(rt: &HostRuntime) -> u8 {
+// Does what the words of the process ask for, and says why where that isn't done. `waiting` is the same
+// runtime, by which a wait for a page frame may last.
+fn run(rt: &HostRuntime, waiting: &(impl AllocGlobal + Wait)) -> u8 {
     let words = match read_words(rt) {
         Ok(words) => words,
         Err(status) => return explained(rt, status),
@@ -29,7 +31,7 @@ fn run(rt: &HostRuntime) -> u8 {
         return explained(rt, OUT_OF_MEMORY);
     };
     let mut host = FsHost::new(outside);
-    let status = top(rt, &words, &mut host).status;
+    let status = top(waiting, &words, &mut host).status;
     match host.first_failure() {
         Some(failure) if status == FAILED => {
             let _ = eprintln!(rt; "pagemem: {failure}");
@@ -72,9 +74,7 @@ fn reason(status: u8) -> Option<&'static str> {
         2 => Some("the folder's configuration is refused: the field is named on standard output"),
         FAILED => Some("a call on the disk, the input or the output failed"),
         OUT_OF_MEMORY => Some("memory ran out"),
-        5 => Some(
-            "the store has a bad record or page, named on standard output; nothing was changed",
-        ),
+        5 => Some("the store has a bad record or page, named on standard output"),
         _ => Some(
             "the script passes 4,000,000 lines or 17,179,869,184 bytes; the lines before that are answered",
         ),

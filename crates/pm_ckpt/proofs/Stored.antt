@@ -23,7 +23,7 @@ use Rattle.pm_core.proofs.LogCalls.{log_worlds}
 use Rattle.pm_core.proofs.Making.{worlds_join}
 use Rattle.pm_ckpt.specs.Checkpoints.{opening_steps}
 use Rattle.pm_ckpt.specs.Marked.{begin_log}
-use Rattle.pm_ckpt.specs.Writes.{Writing, written_page, page_of, page_written, IsHeld, HaveGaps, StoresPages}
+use Rattle.pm_ckpt.specs.Writes.{Writing, written_page, page_of, page_written, IsHeld, HaveGaps, LeavesFilesAlone, StoresPages}
 use Rattle.pm_ckpt.proofs.Home.{all_home, stays_written}
 use Rattle.pm_ckpt.proofs.Written.{after_writes}
 
@@ -59,12 +59,36 @@ others_stay size held (x ∷ xs) w are gaps part index bytes none was =
     others_stay size held xs (page_written held x w) (All-tail (IsHeld size held) x.page pages are) gaps.1 part index bytes parts.1
     (one_other size held x w (All-head (IsHeld size held) x.page pages are) gaps.0 part index bytes parts.0 was)
 
+-- neither of the first one's partition nor of the others'
+pub none_first : (part : ℕ) (page : PageId) (pages : List PageId) → has_part part (page ∷ pages) ≡ false → ((part_of_id page == part) ≡ false) × (has_part part pages ≡ false)
+none_first part page pages is = by (part_of_id page == part) refl is
+  where
+    by : (b : Bool) → (part_of_id page == part) ≡ b → (if b then true else has_part part pages) ≡ false → ((part_of_id page == part) ≡ false) × (has_part part pages ≡ false)
+    by true p is = absurd cc
+    by false p is = (p, is)
+
+one_alone : (held : Partitions) (x : Writing) (w : World) (part : ℕ) → (part_of_id x.page == part) ≡ false → pages_in (page_written held x w) part ≡ pages_in w part
+one_alone held x w part apart =
+    let own = part_of_id x.page in
+    let change = gapped (pages_in w own) (page_at x.page (length (page_of held x.page))) x.gap (page_of held x.page) in
+    let P : ℕ → File → Type 0 = λ k file. (own == k) ≡ false → content file ≡ pages_in w k in
+    file_cases w.pages own (with_change (w.pages own) change) P
+    (λ not_it. let e = sym (eq-eqb own own refl) ∙ not_it in absurd cc)
+    (λ k away not_it. refl) part apart
+
+files_alone : (held : Partitions) (xs : List Writing) (w : World) → LeavesFilesAlone (map written_page xs) w (after_writes held xs w)
+files_alone held [] w part none = refl
+files_alone held (x ∷ xs) w part none =
+    let parts = none_first part x.page (map written_page xs) none in
+    files_alone held xs (page_written held x w) part parts.1 ∙ one_alone held x w part parts.0
+
 -- ---- and those that are
 
 pub stored_writes : (size : ℕ) (held : Partitions) (xs : List Writing) (w : World) → All (IsHeld size held) (map written_page xs) → HaveGaps held xs w → StoresPages size held (map written_page xs) w (after_writes held xs w)
 stored_writes size held xs w are gaps = record {
   there = λ part index bytes has is. all_home size held xs w are gaps part index bytes is (inr has);
   others = others_stay size held xs w are gaps;
+  alone = files_alone held xs w;
 }
 
 -- ---- other steps keep what files have
@@ -77,6 +101,7 @@ stored_as size held order old new before after first last stores = record {
   others = λ part index bytes none was.
       ap (λ o. page_in_file size o index) (last part)
       ∙ stores.others part index bytes none (ap (λ o. page_in_file size o index) (sym (first part)) ∙ was);
+  alone = λ part none. last part ∙ stores.alone part none ∙ sym (first part);
 }
 
 forced_same : (part : ℕ) (s : State) (w : World) (k : ℕ) → pages_in (next_world (ForcePages part) s w) k ≡ pages_in w k

@@ -26,7 +26,7 @@ use Rattle.pm_ckpt.specs.declared.frame_page.FramePage.{FramePage}
 use Rattle.pm_ckpt.specs.Checkpoints.{MayCheckpoint, IsEnded}
 use Rattle.pm_ckpt.specs.Frames.{names_of, frame_bytes, IsWholeSeat}
 use Rattle.pm_ckpt.specs.Marked.{Kept, log_after, with_mark}
-use Rattle.pm_ckpt.specs.Writes.{page_of, StoresPages}
+use Rattle.pm_ckpt.specs.Writes.{page_of, LeavesFilesAlone, StoresPages}
 
 -- whether it is Dirty
 abbrev pub is_dirty : Flag → Bool
@@ -145,7 +145,8 @@ AreThere locks shape old new before after stripes =
 
 -- What a checkpoint leaves of frames and stripes: nothing is out of the seat, also after a failure. At `Ok` each frame
 -- that was Dirty is Clean, so no page stays in its frame; each stripe is at rest, where each page that was written reads
--- as what it says; what is Clean is as the files have it, where it was; and each page has the bytes that it had.
+-- as what it says; what is Clean is as the files have it, where it was; and each page has the bytes that it had. The
+-- files of partitions of which no frame was Dirty are as they were.
 pub record LeavesFrames {T E : Type 0} (tells : Type 0) (locks : LockTable) (shape : Shape) (old new : History)
     (result : Result T E) (before after : Sight) (stripes : List Stripe) : Type 0 where
   pub seat : IsWholeSeat locks after
@@ -155,6 +156,8 @@ pub record LeavesFrames {T E : Type 0} (tells : Type 0) (locks : LockTable) (sha
   pub none_stays : OnOk result (NoneStays after stripes)
   pub clean : tells → OnOk result (StayClean old new before after stripes)
   pub pages : tells → OnOk result (AreThere locks shape old.world new.world before after stripes)
+  pub alone : tells
+      → OnOk result (LeavesFilesAlone (dirty_pages locks stripes before.view) old.world new.world)
 
 -- What a checkpoint with this mark leaves of what is kept for checkpoints, and where the log ends then.
 pub record IsNext (mark : Mark) (before now : Kept) (was log : LogEnd) : Type 0 where

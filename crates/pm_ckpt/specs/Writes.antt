@@ -14,7 +14,7 @@ use Rattle.pm_pages.specs.Plain.{plain_seen}
 use Rattle.pm_core.specs.BasePages.{Partitions, page_in_file}
 use Rattle.pm_core.specs.Calls.{MakesSteps, finish_steps}
 use Rattle.pm_core.specs.Machine.{DiskStep, WritePage}
-use Rattle.pm_core.specs.PageSets.{has_index}
+use Rattle.pm_core.specs.PageSets.{has_index, has_part}
 use Rattle.pm_core.specs.States.{State}
 
 -- the pages of partitions, of which the first has number 0
@@ -94,10 +94,16 @@ pub record AreHome (size : ℕ) (held : Partitions) (dirty : List PageId) (world
   pub stand : All (λ page. page_in_file size (world.pages (part_of_id page)).forced (index_of_id page)
       ≡ held (part_of_id page) (index_of_id page)) dirty
 
--- Each of these pages is in its file with these bytes, and each other page that was in its file is there still.
+-- the file of each partition that has none of these pages is as it was
+abbrev pub LeavesFilesAlone : List PageId → World → World → Type 0
+LeavesFilesAlone pages old new = (part : ℕ) → has_part part pages ≡ false → pages_in new part ≡ pages_in old part
+
+-- Each of these pages is in its file with these bytes, and each other page that was in its file is there still. The
+-- files of partitions that have none of them are as they were.
 pub record StoresPages (size : ℕ) (held : Partitions) (order : List PageId) (old new : World) : Type 0 where
   pub there : (part index : ℕ) (bytes : List ℕ) → has_index part index order ≡ true
       → held part index ≡ Some bytes → page_in_file size (pages_in new part) index ≡ Some bytes
   pub others : (part index : ℕ) (bytes : List ℕ) → has_index part index order ≡ false
       → page_in_file size (pages_in old part) index ≡ Some bytes
       → page_in_file size (pages_in new part) index ≡ Some bytes
+  pub alone : LeavesFilesAlone order old new

@@ -51,7 +51,7 @@ use Rattle.pm_engine.proofs.RunningCheckpoints.{may_checkpoint}
 use Rattle.pm_engine.proofs.RunningForces.{pages_quiet}
 use Rattle.pm_engine.proofs.RunningLines.{crash_further}
 
-bool_same : (a b : Bool) → (a ≡ true → b ≡ true) → (b ≡ true → a ≡ true) → a ≡ b
+pub bool_same : (a b : Bool) → (a ≡ true → b ≡ true) → (b ≡ true → a ≡ true) → a ≡ b
 bool_same true b to back = sym (to refl)
 bool_same false true to back = back refl
 bool_same false false to back = refl
@@ -66,7 +66,7 @@ cut_inside shape part index o page e = by (nat_lt part shape.partitions) (nat_lt
     by false b p i is = absurd (let bad : None ≡ Some page = is in cc bad)
 
 -- and one of a higher index isn't there
-cut_past : (shape : Shape) (part index : ℕ) (o : Option (List ℕ)) → 2 ^ 32 ≤ index → cut shape part index o ≡ None
+pub cut_past : (shape : Shape) (part index : ℕ) (o : Option (List ℕ)) → 2 ^ 32 ≤ index → cut shape part index o ≡ None
 cut_past shape part index o past = elim (option_cases (cut shape part index o)) [
   | inl none ↦ none
   | inr some ↦ absurd (omega (arith, past, (cut_inside shape part index o some.0 some.1).1))

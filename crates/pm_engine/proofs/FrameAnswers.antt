@@ -1,5 +1,5 @@
 -- What a line over a worker's page frames leaves, where its pages were made ready before.
-use Rattle.std.proofs.Common.{◌≡◌, ◌≢◌, ℕ, ◌<◌, Bool, true, false, List, [], ◌∷◌, ◌⊎◌, ⊎_elim, inl, inr, None, Some, sym, refl, ap, subst, ◌∙◌, arith}
+use Rattle.std.proofs.Common.{◌≡◌, ◌≢◌, ℕ, ◌<◌, Bool, true, false, List, [], ◌∷◌, ◌⊎◌, ⊎_elim, inl, inr, Option, None, Some, sym, refl, ap, subst, ◌∙◌, arith}
 use Rattle.std.specs.Prelude.{IsTrue}
 use Rattle.std.proofs.lemmas.Bool.{false≢true, cases_eq}
 use Rattle.pm_types.specs.declared.page_id.PageId.{PageId}
@@ -128,14 +128,14 @@ module _ {Q R : Type 0} (tells : Type 0) (history : R → History) (state : R �
       pages = x.pages;
     }
 
-    pub hands_then : (line : ℕ) (rec : Record) (part : ℕ) → HandsOverChange tells history line rec part m c → HandsOverChange tells history line rec part b c
+    pub hands_then : (line : ℕ) (rec : Option Record) (part : ℕ) → HandsOverChange tells history line rec part m c → HandsOverChange tells history line rec part b c
     hands_then line rec part x = record {
       seat = seat_then b m c first.seat x.seat;
       logical = x.logical;
       held = x.held;
       before = ends_then part x.held x.before;
       still = λ id is. x.still id (first.still id is);
-      grows = subst (λ (out : List ℕ). GrowsByOperation line (Some rec) x.held out c.stripe.outbox) first.outbox x.grows;
+      grows = subst (λ (out : List ℕ). GrowsByOperation line rec x.held out c.stripe.outbox) first.outbox x.grows;
       changed = λ page is.
           let y = x.changed page is in
           record { name = y.name; long = y.long ∙ ap (λ s. s.page_size) first.seat.shape; staying = y.staying; bytes = y.bytes; logged = λ on. first.staying page.page (y.logged on) };

@@ -50,7 +50,7 @@ module _ {Q R : Type 0} (tells : Type 0) (history : R → History) (state : R �
         record {
           rec = y.rec;
           is = y.is;
-          change = subst (λ (s : Shape). HandsOverChange tells history number y.rec (part_of_line s line) b c) first.seat.shape (hands_then tells history state b m c none first number y.rec (part_of_line m.stripe.shape line) y.change);
+          change = subst (λ (s : Shape). HandsOverChange tells history number (Some y.rec) (part_of_line s line) b c) first.seat.shape (hands_then tells history state b m c none first number (Some y.rec) (part_of_line m.stripe.shape line) y.change);
         };
   }
 
@@ -134,11 +134,12 @@ module _ {Q R : Type 0} (tells : Type 0) (history : R → History) (state : R �
 -- ---- the lines of a round
 
 module _ {Q R : Type 0} (tells : Type 0) (history : R → History) (state : R → DeviceState) (first from : ℕ) (lines : List Line) where
-  -- The lines before this one are done, and there is room for the replies of the others.
+  -- The lines before this one are done, each took room for one reply, and there is room for the replies of the others.
   pub record RoundSoFar (b m : Bound Q R) (was mid : ReplyList) (at : ℕ) : Type 0 where
     pub above : from ≤ at
     pub done : HasDone tells history state (first + from) (lines_from from (at - from) lines) b m was mid
     pub room : length lines ≤ at + mid.spare
+    pub spare : was.spare + from ≤ at + mid.spare
 
   pub so_far_begins : (b : Bound Q R) (was : ReplyList) → IsBetweenLines tells history state b → length lines ≤ from + was.spare → RoundSoFar b b was was from
   so_far_begins b was between room =
@@ -147,6 +148,7 @@ module _ {Q R : Type 0} (tells : Type 0) (history : R → History) (state : R �
         above = omega arith;
         done = subst (λ n. HasDone tells history state (first + from) (lines_from from n lines) b b was was) none (done_none tells history state (first + from) b was between);
         room = room;
+        spare = omega arith;
       }
 
   module _ (b m c : Bound Q R) (was mid now : ReplyList) (at number : ℕ) (line : Line) (so_far : RoundSoFar b m was mid at) (inside : at < length lines) (is : number ≡ first + at) where
@@ -173,6 +175,7 @@ module _ {Q R : Type 0} (tells : Type 0) (history : R → History) (state : R �
       done = subst (λ (ls : List Line). HasDone tells history state (first + from) ls b c was now) (sym (one_more here))
           (done_more tells history state (first + from) (lines_from from count lines) b m c was mid now so_far.done number line accepted number_is x);
       room = omega (arith, so_far.room, inside, ap (λ (list : ReplyList). list.spare) x.replied.appended);
+      spare = omega (arith, so_far.spare, ap (λ (list : ReplyList). list.spare) x.replied.appended);
     }
 
     leaves_stop : (stop : Stop) → AnswersInFrames tells history state number line m c mid now (Err stop) → LeavesRound tells history state (first + from) (lines_from from count lines) b c was now (Some stop)
@@ -190,6 +193,7 @@ module _ {Q R : Type 0} (tells : Type 0) (history : R → History) (state : R �
       inside = omega (arith, so_far.above, inside);
       all = λ e. absurd (no_stop stop e);
       room = omega (arith, so_far.above, so_far.room, ap (λ (list : ReplyList). list.spare) x.replied);
+      spare = omega (arith, so_far.above, so_far.spare, ap (λ (list : ReplyList). list.spare) x.replied);
       leaves = leaves_stop stop x;
       cause = λ e.
           let risen = x.cause (ap Err (same_stop stop (Faulted Failed) e)) in
@@ -205,6 +209,7 @@ module _ {Q R : Type 0} (tells : Type 0) (history : R → History) (state : R �
     inside = omega (arith, so_far.above, is);
     all = λ e. omega (arith, so_far.above, is);
     room = omega (arith, so_far.above, so_far.room, is);
+    spare = omega (arith, so_far.above, so_far.spare, is);
     leaves = subst (λ n. HasDone tells history state (first + from) (lines_from from (n - from) lines) b m was mid) is so_far.done;
     cause = λ e. absurd cc;
     sound = λ t all id e. cc;

@@ -1,8 +1,8 @@
 -- A checkpoint of an open store leaves one.
 use Rattle.std.proofs.Common.{◌≡◌, ◌≢◌, ℕ, zero, suc, ◌<◌, ◌%◌, List, [], ◌∷◌, None, Option, Some, Result, Ok, true, false, refl, sym, ap, subst, ◌∙◌, arith}
 use Rattle.std.specs.Option.{option_map}
-use Rattle.std.specs.Prelude.{◌≤◌, ◌^◌, IsTrue, slice_get}
-use Rattle.std.proofs.lemmas.Bool.{false≢true}
+use Rattle.std.specs.Prelude.{◌≤◌, ◌^◌, ◌==◌, ◌&&◌, Bool, if◌then◌else◌, IsTrue, slice_get}
+use Rattle.std.proofs.lemmas.Bool.{false≢true, eq-eqb}
 use Rattle.std.proofs.lemmas.Option.{same_Some}
 use Rattle.std.proofs.Math.Nat.{mod-one}
 use Rattle.pm_types.specs.declared.flag.Flag.{Flag}
@@ -18,6 +18,7 @@ use Rattle.pm_locks.specs.Sight.{Sight, LockTable}
 use Rattle.pm_locks.specs.declared.view.Entry.{Entry}
 use Rattle.pm_segments.specs.Ends.{LogEnd}
 use Rattle.pm_core.specs.BasePages.{Partitions, page_in_file}
+use Rattle.pm_core.specs.PageSets.{has_index, has_part}
 use Rattle.pm_core.specs.States.{State}
 use Rattle.pm_stripe.specs.declared.stripe.Stripe.{Stripe}
 use Rattle.pm_stripe.specs.Kept.{Kept, AreClean, IsPageOf, IsStaying, held_at, place_of, bytes_by, page_bytes, stays}
@@ -32,8 +33,8 @@ use Rattle.pm_ckpt.specs.Frames.{IsWholeSeat}
 use Rattle.pm_ckpt.proofs.RestingStripes.{stored_is}
 use Rattle.pm_ckpt.proofs.StayingPages.{dirty_stays, stay_at_rest}
 use Rattle.pm_engine.specs.FrameCheckpoints.{IsCheckpointed}
-use Rattle.pm_engine.specs.FrameDirty.{dirty_names, dirty_bytes}
-use Rattle.pm_engine.specs.FrameStores.{FrameStoreView, IsOpenStore, IsFrameStore, HasCleanPages}
+use Rattle.pm_engine.specs.FrameDirty.{ListsDirty, dirty_names, dirty_bytes}
+use Rattle.pm_engine.specs.FrameStores.{FrameStoreView, IsOpenStore, IsFrameStore, IsDirtyPage, HasCleanPages}
 use Rattle.pm_engine.specs.OutboxLogs.{AreOperationBytes}
 use Rattle.pm_engine.proofs.FrameSteps.{cut_same, cut_some, cut_there}
 use Rattle.pm_engine.proofs.PageNames.{is_named, part_named, index_named}
@@ -86,6 +87,27 @@ page_by_file locks k file rest none clean id = by (place_of k id) refl
         let x = rest.holds.kept id f tag at in
         let c : x.entry.flag ≡ flag.Clean = is_clean x.entry.flag x.some (λ s. none id (record { frame = f; tag = tag; entry = x.entry; kept = at; at = x.at; stay = s })) in
         (λ i. bytes_by (held i) (at i) k.seat.view.entries k.number (file id)) ∙ ap (option_map (λ (e : Entry). e.bytes)) x.at ∙ sym (clean.kept id f tag x.entry at x.at c)
+
+-- where none of these pages has an index of a partition, none is of the partition
+no_part : (part : ℕ) (pages : List PageId) → ((index : ℕ) → has_index part index pages ≡ true → ⊥) → has_part part pages ≡ false
+no_part part [] none = refl
+no_part part (page ∷ pages) none = by (part_of_id page == part) refl (no_part part pages (λ index has. none index (later index has)))
+  where
+    here : (part_of_id page == part) ≡ true → has_index part (index_of_id page) (page ∷ pages) ≡ true
+    here own =
+        ap (λ (b : Bool). if b && (index_of_id page == index_of_id page) then true else has_index part (index_of_id page) pages) own
+        ∙ ap (λ (b : Bool). if b then true else has_index part (index_of_id page) pages) (eq-eqb (index_of_id page) (index_of_id page) refl)
+
+    later : (index : ℕ) → has_index part index pages ≡ true → has_index part index (page ∷ pages) ≡ true
+    later index has = among (part_of_id page == part && index_of_id page == index) has
+      where
+        among : (b : Bool) → has_index part index pages ≡ true → (if b then true else has_index part index pages) ≡ true
+        among true has = refl
+        among false has = has
+
+    by : (b : Bool) → (part_of_id page == part) ≡ b → has_part part pages ≡ false → has_part part (page ∷ pages) ≡ false
+    by true own rest = absurd (none (index_of_id page) (here own))
+    by false other rest = ap (λ (b : Bool). if b then true else has_part part pages) other ∙ rest
 
 -- a page of the store belongs to its one worker
 pub own_page : (workers partitions number part index : ℕ) → workers ≡ 1 → number ≡ 0 → partitions ≤ 64 → part < partitions → index < 2 ^ 32 → IsPageOf workers partitions number (page_id part index)
@@ -166,8 +188,13 @@ module _ {T E : Type 0} (tells : Type 0) (before after : History) (u : T) (shape
       ∙ ap (λ (f : PageId → Option (List ℕ)). f id) read_now ∙ stored_is after.world old.stripe.shape.page_size id
       ∙ (λ i. page_in_file (on.shaped i).page_size (pages_in after.world (part_is i)) (index_is i))
 
-  pub checkpointed : IsCheckpointed tells before.world after.world old new
-  checkpointed = record {
+  -- a partition of which no page is Dirty has none that is written
+  none_named : ListsDirty old (dirty_names old) (dirty_bytes old) → (part : ℕ) → part < old.shape.partitions → ((index : ℕ) → index < 2 ^ 32 → IsDirtyPage old (page_id part index) → ⊥) → has_part part (dirty_names old) ≡ false
+  none_named listed part below none =
+      no_part part (dirty_names old) (λ index has. let at = listed.inside part index has in none index at.1 ((listed.names_are.each part index below at.1).0 has))
+
+  pub checkpointed : ListsDirty old (dirty_names old) (dirty_bytes old) → IsCheckpointed tells before.world after.world old new
+  checkpointed listed = record {
     shape = refl;
     region = refl;
     locks = refl;
@@ -181,6 +208,7 @@ module _ {T E : Type 0} (tells : Type 0) (before after : History) (u : T) (shape
         let y = page_bytes (file_in t after.world) (kept t seat) id in
         let found : x ≡ Some bytes = cut_some old.shape part index x bytes was in
         cut_same old.shape part index y x (λ below low. there told part index below low bytes found ∙ sym found) ∙ was;
+    alone = λ told part below none. leaves.alone told part (none_named listed part below none);
     clean = clean_now;
     as_files = λ told clean part index below low.
         cut_there old.shape part index (page_bytes (file_in t after.world) (kept t seat) (page_id part index)) below low

@@ -19,12 +19,12 @@ use Rattle.pm_core.specs.Machine.{DiskStep, states, worlds}
 use Rattle.pm_core.specs.Rounds.{on_log}
 use Rattle.pm_core.specs.States.{State}
 use Rattle.pm_core.proofs.OnlyDisk.{disk_same, none_disk}
-use Rattle.pm_engine.specs.FrameEngines.{FrameRunning, IsFrameEngine, running_in, HasDoneLines, HasLastingLinesIn, closed_engine}
+use Rattle.pm_engine.specs.FrameEngines.{FrameRunning, IsFrameEngine, running_in, HasDoneLines, HasLastingLinesIn, AllLastIn, closed_engine}
 use Rattle.pm_engine.specs.FrameStores.{pages_in_frames, HasCleanPages}
 use Rattle.pm_engine.specs.PagedEngines.{number_of}
 use Rattle.pm_engine.specs.RunningLines.{HasRun, CrashHoldsLines}
 use Rattle.pm_engine.proofs.CheckpointedLines.{between_crash}
-use Rattle.pm_engine.proofs.HasRunLines.{line_forced}
+use Rattle.pm_engine.proofs.HasRunLines.{line_forced, rest_has_run}
 use Rattle.pm_engine.proofs.RunningForces.{store_force_goes, store_force_quiet}
 
 module _ (engine : FrameRunning) (old new : History) (sound : IsHistory old) {T E : Type 0} (result : Result T E) (call : Does {T = T} {E = E} old new result (log_forced engine.log.end.seg old.world)) where
@@ -74,6 +74,23 @@ module _ (engine : FrameRunning) (old new : History) (sound : IsHistory old) {T 
     pub forced_lasts : OnOk result (HasLastingLinesIn wanted told low start lines engine new.world)
     forced_lasts = on_ok_weaker result
         (λ is. subst (HasLastingLinesIn wanted told low start lines engine) (sym is) then_lasts)
+        (force_makes s has.has.runs.log.ends).all
+
+    -- whatever a crash leaves then holds the map
+    pub forced_rests : OnOk result (AllLastIn wanted told engine new.world)
+    forced_rests = on_ok_weaker result
+        (λ is. subst (AllLastIn wanted told engine) (sym is) (record {
+          low = length (states forces s old.world).order;
+          lasts = record {
+            done = record {
+              state = states forces s old.world;
+              logged = has.logged;
+              names = has.names;
+              has = rest_has_run wanted told (running_in engine old.world has.logged) (states forces s old.world) (worlds forces s old.world) then_has.runs refl;
+            };
+            quiet = then_lasts.quiet;
+          };
+        }))
         (force_makes s has.has.runs.log.ends).all
 
     pub forced_crash : AllMoments old new (CrashHoldsLines (engine.log.end.seg + 1) (number_of engine.ckpt.mark) wanted engine.store.shape start lines)

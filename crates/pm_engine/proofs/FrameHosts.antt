@@ -51,7 +51,7 @@ use Rattle.pm_engine.proofs.FrameReads.{part_readable}
 -- ---- outboxes
 
 -- operations and what one more hands over are operations
-grown_bytes : (old new : List ℕ) (o : Operation) (records : List Frame) → o.records ≡ records → IsOperation o → AreOperationBytes old → new ≡ old ++ handed_bytes_by records o → AreOperationBytes new
+pub grown_bytes : (old new : List ℕ) (o : Operation) (records : List Frame) → o.records ≡ records → IsOperation o → AreOperationBytes old → new ≡ old ++ handed_bytes_by records o → AreOperationBytes new
 grown_bytes old new o [] at is was bytes = subst AreOperationBytes (sym (bytes ∙ append-nil old)) was
 grown_bytes old new o (frame ∷ more) at is (told, was) bytes = (
   records_of (was.operations ++ o ∷ []),
@@ -122,10 +122,10 @@ hand_bytes None (Some q) es n x y known = refl
 hand_bytes None None es n x y known = absurd (false≢true known)
 
 -- those at hand are the same whatever the files have
-any_file : (f g : PageId → Option (List ℕ)) (k : Kept) (id : PageId) → is_known k id ≡ true → page_bytes f k id ≡ page_bytes g k id
+pub any_file : (f g : PageId → Option (List ℕ)) (k : Kept) (id : PageId) → is_known k id ≡ true → page_bytes f k id ≡ page_bytes g k id
 any_file f g k id known = hand_bytes (held_at k.held id.0) (place_of k id) k.seat.view.entries k.number (f id) (g id) known
 
-any_reads : (f g : PageId → Option (List ℕ)) (workers : ℕ) (k : Kept) → ReadsAtHand f workers k → ReadsAtHand g workers k
+pub any_reads : (f g : PageId → Option (List ℕ)) (workers : ℕ) (k : Kept) → ReadsAtHand f workers k → ReadsAtHand g workers k
 any_reads f g workers k reads id own known = subst (λ o. IfSome o (Reads id)) (any_file f g k id known) (reads id own known)
 
 -- ---- lines of a store are lines of a round
@@ -141,7 +141,7 @@ key_below shape Long some has = absurd has
 
 module _ {Q R : Type 0} (tells : Type 0) (history : R → History) (state : R → DeviceState) where
   -- a worker that has these bytes has these pages
-  pages_are : (store : FrameStoreView) (world : World) (b : Bound Q R) → b.stripe.shape ≡ store.shape
+  pub pages_are : (store : FrameStoreView) (world : World) (b : Bound Q R) → b.stripe.shape ≡ store.shape
       → ((id : PageId) → page_bytes (file_by history b) (kept_by b) id ≡ page_bytes (file_in store.stripe world) (kept store.stripe store.seat) id) → frame_pages history b ≡ pages_in_frames store world
   pages_are store world b shape each = λ i part index. if nat_lt part (shape i).partitions && nat_lt index (2 ^ 32) then each (page_id part index) i else None
 

@@ -366,14 +366,14 @@ module _ {Q R : Type 0} (tells : Type 0) (history : R → History) (state : R �
       pages = λ t id. ends.pages id (inl t);
     }
 
-    pub hands_over : (line : ℕ) (rec : Record) → MayBeLogical (Some rec) → GrowsByOperation line (Some rec) held m.stripe.outbox c.stripe.outbox → HandsOverChange tells history line rec part b c
+    pub hands_over : (line : ℕ) (rec : Option Record) → MayBeLogical rec → GrowsByOperation line rec held m.stripe.outbox c.stripe.outbox → HandsOverChange tells history line rec part b c
     hands_over line rec logical grows = record {
       seat = keeps_seat;
       logical = logical;
       held = held;
       before = ends_from;
       still = stays_still;
-      grows = subst (λ (out : List ℕ). GrowsByOperation line (Some rec) held out c.stripe.outbox) called.outbox grows;
+      grows = subst (λ (out : List ℕ). GrowsByOperation line rec held out c.stripe.outbox) called.outbox grows;
       changed = handed_over;
       staying = stays_back;
       others = others_kept;

@@ -32,7 +32,7 @@ use Rattle.pm_stripe.specs.declared.bound.Bound.{Bound}
 use Rattle.pm_stripe.specs.declared.held.Held.{Held}
 use Rattle.pm_stripe.specs.ChangedPages.{ChangedPage, as_changed, is_logged, frame_for}
 use Rattle.pm_stripe.specs.Kept.{Kept, Holds, held_at, place_of, last_put, page_bytes, stays, IsStaying}
-use Rattle.pm_stripe.specs.Listings.{GrowsByOperation, IsChangedPage, MayBeLogical}
+use Rattle.pm_stripe.specs.Listings.{GrowsByOperation, IsChangedPage, MayBeLogical, after_logical}
 use Rattle.pm_stripe.specs.Shown.{kept_by, file_by, paged, patch_of}
 use Rattle.pm_stripe.specs.Sights.{AreSettled}
 use Rattle.pm_stripe.proofs.Hands.{found_at}
@@ -47,7 +47,7 @@ use Rattle.pm_engine.specs.OutboxLogs.{SpellOperationRecords}
 use Rattle.pm_engine.specs.PageLogs as log
 use Rattle.pm_engine.specs.PageLogs.{NotedPages, AreNoted, frames_with, frames_at, frames_below, names_at, names_below, noted_frames, noted_names}
 use Rattle.pm_engine.specs.Records.{record_of_line, IsPayloadOf, logical_frame}
-use Rattle.pm_engine.specs.RunningSteps.{appended_to, MakesPages, operation_frames, operation_names}
+use Rattle.pm_engine.specs.RunningSteps.{appended_to, ChangesStore, MakesPages, operation_frames, operation_names}
 use Rattle.pm_engine.specs.RunningStores.{StoreState, map_of}
 use Rattle.pm_engine.specs.TrackedPages.{ChangesWithin, ChangesPart, HaveFirstPages}
 use Rattle.pm_engine.proofs.AcceptedLines.{logical_of}
@@ -238,7 +238,7 @@ logical_record (CpBegin number replay) may = absurd may
 logical_record (Restart shape) may = absurd may
 logical_record Seal may = absurd may
 
-module _ {Q R : Type 0} (tells : Type 0) (history : R → History) (t : tells) (store : StoreState) (b c : Bound Q R) (has : HasStore history store b) (number : ℕ) (rec : Record) (part : ℕ) (x : HandsOverChange tells history number rec part b c) where
+module _ {Q R : Type 0} (tells : Type 0) (history : R → History) (t : tells) (store : StoreState) (b c : Bound Q R) (has : HasStore history store b) (number : ℕ) (rec : Option Record) (part : ℕ) (x : HandsOverChange tells history number rec part b c) where
   abbrev k : Kept
   k = x.before.kept
 
@@ -256,8 +256,8 @@ module _ {Q R : Type 0} (tells : Type 0) (history : R → History) (t : tells) (
 
   -- ---- what was handed over, by what the worker kept
 
-  grows : GrowsByOperation number (Some rec) k.held b.stripe.outbox c.stripe.outbox
-  grows = subst (λ (hs : List Held). GrowsByOperation number (Some rec) hs b.stripe.outbox c.stripe.outbox) (sym x.before.held_are) x.grows
+  grows : GrowsByOperation number rec k.held b.stripe.outbox c.stripe.outbox
+  grows = subst (λ (hs : List Held). GrowsByOperation number rec hs b.stripe.outbox c.stripe.outbox) (sym x.before.held_are) x.grows
 
   changed : (page : ChangedPage) → IsChangedPage k.held page → IsHandedOver history part b c page
   changed page is = x.changed page (subst (λ (hs : List Held). IsChangedPage hs page) x.before.held_are is)
@@ -365,7 +365,7 @@ module _ {Q R : Type 0} (tells : Type 0) (history : R → History) (t : tells) (
 
   -- ---- the line
 
-  module _ (line : Line) (is_line : record_of_line line ≡ Some rec) (part_is : part_of_line store.shape line ≡ part) (accepted : is_accepted store.shape line (map_of store) ≡ true)
+  module _ (line : Line) (part_is : part_of_line store.shape line ≡ part) (accepted : is_accepted store.shape line (map_of store) ≡ true)
       (map : pairs_in store.shape.partitions (frame_pages history c) ≡ after store.shape line (map_of store)) (well : AllWellFormed store.shape (frame_pages history c)) where
     first_here : IsSome (frame_pages history c part 0)
     first_here = subst (λ p. IsSome (frame_pages history c p 0)) part_is
@@ -380,48 +380,24 @@ module _ {Q R : Type 0} (tells : Type 0) (history : R → History) (t : tells) (
           some_same (store.pages q 0) (frame_pages history c q 0) (sym (changes.elsewhere q 0 ne)) was
     ]
 
-    made_of : IsPayloadOf (record_of_line line) (payload_of rec)
-    made_of = subst (λ o. IsPayloadOf o (payload_of rec)) (sym is_line) ((logical_record rec x.logical).0, refl)
-
-    abbrev pub frame : Frame
-    frame = logical_frame (payload_of rec)
-
-    pub makes : MakesPages store part made frame (frame_pages history c)
-    makes =
-        let found = logical_of store.shape line (map_of store) (payload_of rec) accepted made_of in
-        let logs = logs_line store.shape line (map_of store) (payload_of rec) accepted made_of in
-        record {
-          change = record {
-            inside = subst (λ (s : Shape). part < s.partitions) (sym has.shape) there;
-            names = are_noted;
-            within = within;
-            changes = changes;
-            well_formed = well;
-            first_pages = first_pages;
-          };
-          logical = found.logical;
-          logical_is = found.is;
-          no_page = found.no_page;
-          kind = record { known_from = omega arith; known_to = omega arith; short = logs.short };
-          map = logs.again ∙ ap (λ (pairs : Pairs). Some pairs) (sym map);
-        }
-
-    pub operates_line : OperatesForLine store line (operation_frames store made frame) (frame_pages history c) (operation_names store made)
-    operates_line = record {
-      part = part;
-      noted = made;
-      frame = frame;
-      makes = makes;
-      frames_are = refl;
-      logged_are = refl;
-      few = omega (arith, ap length frames_same, frames_in_hand x.before.files 0 part (2 ^ 32) k store.logged operates_on);
-      map = map;
+    pub change : ChangesStore store part made (frame_pages history c)
+    change = record {
+      inside = subst (λ (s : Shape). part < s.partitions) (sym has.shape) there;
+      names = are_noted;
+      within = within;
+      changes = changes;
+      well_formed = well;
+      first_pages = first_pages;
     }
 
-    pub hands_frames : (old : List Frame) → SpellOperationRecords b.stripe.outbox old → SpellOperationRecords c.stripe.outbox (old ++ operation_frames store made frame)
-    hands_frames old were =
-        subst (λ (q : Frame × List Frame). SpellOperationRecords c.stripe.outbox (old ++ q.0 ∷ q.1)) {x = (frame_for rec, noted_frames base store.logged)} {y = (frame, noted_frames made store.logged)} (λ i. ((logical_record rec x.logical).1 i, sym frames_same i))
-        (bytes_grow x.before.files 0 part k store.logged operates_on (2 ^ 32) base_noted number (Some rec) b.stripe.outbox c.stripe.outbox old were grows)
+    pub few_frames : length (noted_frames made store.logged) ≤ 32
+    few_frames = omega (arith, ap length frames_same, frames_in_hand x.before.files 0 part (2 ^ 32) k store.logged operates_on)
+
+    -- what was handed over are its record, if there is one, and the records of its pages
+    pub hands_after : (old : List Frame) → SpellOperationRecords b.stripe.outbox old → SpellOperationRecords c.stripe.outbox (old ++ after_logical rec (noted_frames made store.logged))
+    hands_after old were =
+        subst (λ (fs : List Frame). SpellOperationRecords c.stripe.outbox (old ++ after_logical rec fs)) (sym frames_same)
+        (bytes_grow x.before.files 0 part k store.logged operates_on (2 ^ 32) base_noted number rec b.stripe.outbox c.stripe.outbox old were grows)
 
     -- ---- the pages that are logged then
 
@@ -470,8 +446,8 @@ module _ {Q R : Type 0} (tells : Type 0) (history : R → History) (t : tells) (
                 ap (λ p. has_index p i names) q_is
                 ∙ named_all made.seen store.logged (omega (arith, are_noted.small)) i (2 ^ 32) (omega arith) low on (ap (λ p. has_index p i store.logged) (sym q_is) ∙ new)
 
-    pub has_then : HasStore history (appended_to store (operation_frames store made frame) (frame_pages history c) (operation_names store made)) c
-    has_then = record {
+    pub has_after : (frames : List Frame) → HasStore history (appended_to store frames (frame_pages history c) (operation_names store made)) c
+    has_after frames = record {
       shape = has.shape ∙ sym x.seat.shape;
       pages = refl;
       logged = λ q i below low.
@@ -485,10 +461,53 @@ module _ {Q R : Type 0} (tells : Type 0) (history : R → History) (t : tells) (
       settled = subst (λ l. AreSettled l.now c.seat.view) (sym x.seat.locks) (x.seat.sight.settled has.settled);
     }
 
+    -- ---- it has a record
+
+    module _ (given : Record) (is_given : rec ≡ Some given) (is_line : record_of_line line ≡ Some given) where
+      logical : MayBeLogical (Some given)
+      logical = subst (λ (o : Option Record). MayBeLogical o) is_given x.logical
+
+      made_of : IsPayloadOf (record_of_line line) (payload_of given)
+      made_of = subst (λ o. IsPayloadOf o (payload_of given)) (sym is_line) ((logical_record given logical).0, refl)
+
+      abbrev pub frame : Frame
+      frame = logical_frame (payload_of given)
+
+      pub makes : MakesPages store part made frame (frame_pages history c)
+      makes =
+          let found = logical_of store.shape line (map_of store) (payload_of given) accepted made_of in
+          let logs = logs_line store.shape line (map_of store) (payload_of given) accepted made_of in
+          record {
+            change = change;
+            logical = found.logical;
+            logical_is = found.is;
+            no_page = found.no_page;
+            kind = record { known_from = omega arith; known_to = omega arith; short = logs.short };
+            map = logs.again ∙ ap (λ (pairs : Pairs). Some pairs) (sym map);
+          }
+
+      pub operates_line : OperatesForLine store line (operation_frames store made frame) (frame_pages history c) (operation_names store made)
+      operates_line = record {
+        part = part;
+        noted = made;
+        frame = frame;
+        makes = makes;
+        frames_are = refl;
+        logged_are = refl;
+        few = few_frames;
+        map = map;
+      }
+
+      pub hands_frames : (old : List Frame) → SpellOperationRecords b.stripe.outbox old → SpellOperationRecords c.stripe.outbox (old ++ operation_frames store made frame)
+      hands_frames old were =
+          subst (λ (fs : List Frame). SpellOperationRecords c.stripe.outbox (old ++ fs)) {x = after_logical rec (noted_frames made store.logged)} {y = operation_frames store made frame}
+          (ap (λ (o : Option Record). after_logical o (noted_frames made store.logged)) is_given ∙ ap (λ (f : Frame). f ∷ noted_frames made store.logged) (logical_record given logical).1)
+          (hands_after old were)
+
 -- ---- one line
 
 -- nothing changed: the worker has the same store
-nothing_has : {Q R : Type 0} (tells : Type 0) (history : R → History) (t : tells) (store : StoreState) (b c : Bound Q R) (frames : List Frame) → HasStore history store b → ChangesNothing tells history b c → HasStore history (appended_to store frames (frame_pages history c) store.logged) c
+pub nothing_has : {Q R : Type 0} (tells : Type 0) (history : R → History) (t : tells) (store : StoreState) (b c : Bound Q R) (frames : List Frame) → HasStore history store b → ChangesNothing tells history b c → HasStore history (appended_to store frames (frame_pages history c) store.logged) c
 nothing_has tells history t store b c frames has none = record {
   shape = has.shape ∙ sym none.seat.shape;
   pages = refl;
@@ -511,7 +530,7 @@ record StepsOne {Q R : Type 0} (history : R → History) (line : Line) (store : 
   has : HasStore history (appended_to store frames (frame_pages history c) logged) c
   hands : (old : List Frame) → SpellOperationRecords b.stripe.outbox old → SpellOperationRecords c.stripe.outbox (old ++ frames)
 
-same_outbox : (out out' : List ℕ) (old : List Frame) → out' ≡ out → SpellOperationRecords out old → SpellOperationRecords out' (old ++ [])
+pub same_outbox : (out out' : List ℕ) (old : List Frame) → out' ≡ out → SpellOperationRecords out old → SpellOperationRecords out' (old ++ [])
 same_outbox out out' old same were = subst (λ (q : List ℕ × List Frame). SpellOperationRecords q.0 q.1) {x = (out, old)} {y = (out', old ++ [])} (λ i. (sym same i, sym (append-nil old) i)) were
 
 module _ {Q R : Type 0} (tells : Type 0) (history : R → History) (t : tells) where
@@ -545,14 +564,14 @@ module _ {Q R : Type 0} (tells : Type 0) (history : R → History) (t : tells) w
           let part = part_of_line b.stripe.shape line in
           let part_is : part_of_line store.shape line ≡ part = ap (λ (s : Shape). part_of_line s line) has.shape in
           let accepted : is_accepted store.shape line (map_of store) ≡ true = sym evaluates.accepted_is ∙ on in
-          let noted = made tells history t store b c has number h.rec part h.change in
+          let noted = made tells history t store b c has number (Some h.rec) part h.change in
           let fs = operation_frames store noted (logical_frame (payload_of h.rec)) in
           record {
             frames = fs;
             logged = operation_names store noted;
-            step = inr (operates_line tells history t store b c has number h.rec part h.change line h.is part_is accepted evaluates.map evaluates.well_formed);
-            has = has_then tells history t store b c has number h.rec part h.change line h.is part_is accepted evaluates.map evaluates.well_formed;
-            hands = hands_frames tells history t store b c has number h.rec part h.change line h.is part_is accepted evaluates.map evaluates.well_formed;
+            step = inr (operates_line tells history t store b c has number (Some h.rec) part h.change line part_is accepted evaluates.map evaluates.well_formed h.rec refl h.is);
+            has = has_after tells history t store b c has number (Some h.rec) part h.change line part_is accepted evaluates.map evaluates.well_formed fs;
+            hands = hands_frames tells history t store b c has number (Some h.rec) part h.change line part_is accepted evaluates.map evaluates.well_formed h.rec refl h.is;
           }
 
   -- ---- all of them

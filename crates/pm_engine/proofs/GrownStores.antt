@@ -21,7 +21,7 @@ use Rattle.pm_engine.specs.RunningStores.{StoreState, LogRuns, RunsOver, IsRunni
 abbrev pub unlogged : StoreState → Partitions → StoreState
 unlogged store pages = record store { pages = pages; logged = [] }
 
-log_grown : (wanted : Shape) (told : List ℕ → ℕ) (store : StoreState) (was now : Partitions) (frames : List Frame) (pairs : Pairs) (s : State) (w : World) → LogRuns wanted told (unlogged store was) frames pairs s w → LogRuns wanted told (unlogged store now) frames pairs s w
+pub log_grown : (wanted : Shape) (told : List ℕ → ℕ) (store : StoreState) (was now : Partitions) (frames : List Frame) (pairs : Pairs) (s : State) (w : World) → LogRuns wanted told (unlogged store was) frames pairs s w → LogRuns wanted told (unlogged store now) frames pairs s w
 log_grown wanted told store was now frames pairs s w runs = record {
   stands = runs.stands;
   shape = runs.shape;
@@ -38,7 +38,7 @@ log_grown wanted told store was now frames pairs s w runs = record {
 }
 
 -- where a page is there, the first one is
-first_grown : (old new : Partition) (index : ℕ) → Grows old new → (IsSome (old index) → IsSome (old 0)) → IsSome (new index) → IsSome (new 0)
+pub first_grown : (old new : Partition) (index : ℕ) → Grows old new → (IsSome (old index) → IsSome (old 0)) → IsSome (new index) → IsSome (new 0)
 first_grown old new index grows first some = elim (option_cases (old index)) [
   | inl none ↦ elim (grows.comes index none) [
     | inl still ↦ absurd (none_some (new index) still some)

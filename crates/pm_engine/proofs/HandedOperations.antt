@@ -81,7 +81,7 @@ without_in h hs low (p ∷ ps) rise all = by (without_in h hs (p.page.0 + 1) ps 
       rest,
     )
 
-few_in_hand : (hs : List Held) (low : ℕ) (ps : List ChangedPage) → RiseByName low ps → AllInHand hs ps → length ps ≤ length hs
+pub few_in_hand : (hs : List Held) (low : ℕ) (ps : List ChangedPage) → RiseByName low ps → AllInHand hs ps → length ps ≤ length hs
 few_in_hand [] low [] rise all = omega arith
 few_in_hand [] low (p ∷ ps) rise all = absurd all.0
 few_in_hand (h ∷ hs) low ps rise all =
@@ -92,7 +92,7 @@ name_in_hand [] i h at = absurd (cc at)
 name_in_hand (x ∷ hs) zero h at = inl (ap (λ (y : Held). y.page.0) (same_Some x h at))
 name_in_hand (x ∷ hs) (suc i) h at = inr (name_in_hand hs i h at)
 
-all_in_hand : (hs : List Held) (ps : List ChangedPage) → ((p : ChangedPage) → Contains ps p → IsChangedPage hs p) → AllInHand hs ps
+pub all_in_hand : (hs : List Held) (ps : List ChangedPage) → ((p : ChangedPage) → Contains ps p → IsChangedPage hs p) → AllInHand hs ps
 all_in_hand hs [] only = tt
 all_in_hand hs (p ∷ ps) only =
     let one = only p (contains_here p ps) in (

@@ -30,7 +30,7 @@ pub clean_there : (store : FrameStoreView) (v w : World) → w.pages ≡ v.pages
 clean_there store v w same clean = subst (λ file. AreClean file (kept store.stripe store.seat)) (sym (same_files store.stripe v w same)) clean
 
 module _ {Q R : Type 0} (tells : Type 0) (history : R → History) (state : R → DeviceState) where
-  pages_there : (store : FrameStoreView) (v w : World) (b : Bound Q R) → (tells → w.pages ≡ v.pages) → HasPagesOf tells history store w b → HasPagesOf tells history store v b
+  pub pages_there : (store : FrameStoreView) (v w : World) (b : Bound Q R) → (tells → w.pages ≡ v.pages) → HasPagesOf tells history store w b → HasPagesOf tells history store v b
   pages_there store v w b same x = record {
     locks = x.locks;
     shape = x.shape;

@@ -31,7 +31,7 @@ use Rattle.pm_engine.proofs.RunningOperations.{operation_says, store_append_goes
 
 -- ---- the same names in another order
 
-tracks_renamed : (shape : Shape) (frames : List Frame) (files pages : Partitions) (logged names : List PageId) → NameTheSame logged names → TracksPages shape frames files pages logged → TracksPages shape frames files pages names
+pub tracks_renamed : (shape : Shape) (frames : List Frame) (files pages : Partitions) (logged names : List PageId) → NameTheSame logged names → TracksPages shape frames files pages logged → TracksPages shape frames files pages names
 tracks_renamed shape frames files pages logged names same t = record {
   rebuilt = t.rebuilt;
   is = t.is;
@@ -40,7 +40,7 @@ tracks_renamed shape frames files pages logged names same t = record {
   clean = λ part index lt none. t.clean part index lt (sym (same part index) ∙ none);
 }
 
-log_renamed : (wanted : Shape) (told : List ℕ → ℕ) (store : StoreState) (names : List PageId) (frames : List Frame) (pairs : Pairs) (s : State) (w : World) → LogRuns wanted told store frames pairs s w → LogRuns wanted told (renamed store names) frames pairs s w
+pub log_renamed : (wanted : Shape) (told : List ℕ → ℕ) (store : StoreState) (names : List PageId) (frames : List Frame) (pairs : Pairs) (s : State) (w : World) → LogRuns wanted told store frames pairs s w → LogRuns wanted told (renamed store names) frames pairs s w
 log_renamed wanted told store names frames pairs s w runs = record {
   stands = runs.stands;
   shape = runs.shape;

@@ -1,9 +1,8 @@
 -- The records of an outbox, appended one after the other.
-use Rattle.std.proofs.Common.{◌≡◌, ℕ, ◌+◌, ◌^◌, ◌<◌, ◌≤◌, List, [], ◌∷◌, ◌++◌, length, take, drop, get_or, Result, Ok, Err, refl, sym, ap, ◌∙◌, subst, arith, append_assoc, append-nil, length-append}
+use Rattle.std.proofs.Common.{◌≡◌, ℕ, ◌+◌, ◌^◌, ◌<◌, ◌≤◌, List, [], ◌∷◌, ◌++◌, length, take, drop, get_or, Result, Ok, refl, sym, ap, ◌∙◌, subst, arith, append_assoc, append-nil, length-append}
 use Rattle.std.specs.Int.{w32, from_le_bytes}
-use Rattle.std.specs.Prelude.{OnOk, IsErr}
+use Rattle.std.specs.Prelude.{OnOk}
 use Rattle.std.proofs.lemmas.List.{take_at, drop_at}
-use Rattle.std.proofs.Math.Seq.{take-length}
 use Rattle.std.proofs.lemmas.Nat.{from_le_bytes-to_le_bytes_4}
 use Rattle.pm_disk.specs.Moments.{History, IsHistory}
 use Rattle.pm_disk.specs.declared.failed.Failed.{Failed}
@@ -12,7 +11,7 @@ use Rattle.pm_frame.proofs.Bytes.{cells}
 use Rattle.pm_records.specs.Operations.{Operation, IsOperation, AreOperations, IsLogged, SpellRecords, operation_head, operation_bytes, operations_bytes, record_head, record_bytes, records_bytes}
 use Rattle.pm_segments.specs.Ends.{LogEnd, EndsThere}
 use Rattle.pm_engine.specs.AppendRuns.{AppendsAll}
-use Rattle.pm_engine.specs.OutboxLogs.{SpellOperationRecords, records_of, numbers_of, SpellNumbers, NotesNumbers}
+use Rattle.pm_engine.specs.OutboxLogs.{SpellOperationRecords, records_of, numbers_of, SpellNumbers}
 use Rattle.pm_engine.proofs.AppendChains.{appends_none, appends_then, appends_part}
 
 -- ---- bytes
@@ -269,28 +268,8 @@ module _ (rest numbers was now : List ℕ) (some : 0 < length rest) (so_far : No
       is = pushed_is;
     }
 
-    -- and its records weren't appended
-    pub notes_part : {T E : Type 0} (result : Result T E) → IsErr result → NotesNumbers {T = T} {E = E} numbers was then_now result
-    notes_part result err =
-        let done = so_far.done ++ front.operation.line ∷ [] in
-        record {
-          count = length done;
-          within = omega (arith, ap length split_is, length-append done front.others);
-          is = pushed_is ∙ ap (λ (l : List ℕ). was ++ l) (sym (ap (take (length done)) split_is ∙ take_at done front.others (length done) refl));
-          all = fails result err;
-        }
-      where
-        fails : {T E : Type 0} (r : Result T E) → IsErr r → OnOk r (length (so_far.done ++ front.operation.line ∷ []) ≡ length numbers)
-        fails (Ok x) is = absurd cc
-        fails (Err e) is = tt
-
 -- all were
-pub notes_all : (rest numbers was now : List ℕ) → length rest ≡ 0 → NotesSome rest numbers was now → NotesNumbers {T = Unit {0}} {E = Failed} numbers was now (Ok tt)
+pub notes_all : (rest numbers was now : List ℕ) → length rest ≡ 0 → NotesSome rest numbers was now → now ≡ was ++ numbers
 notes_all rest numbers was now none so_far =
     let done_is : numbers ≡ so_far.done = so_far.whole ∙ ap (λ (l : List ℕ). so_far.done ++ l) (none_numbered rest so_far.left none so_far.others) ∙ append-nil so_far.done in
-    record {
-      count = length numbers;
-      within = omega arith;
-      is = so_far.is ∙ ap (λ (l : List ℕ). was ++ l) (sym (take-length numbers ∙ done_is));
-      all = refl;
-    }
+    so_far.is ∙ ap (λ (l : List ℕ). was ++ l) (sym done_is)

@@ -81,7 +81,7 @@ module _ (last highest : ℕ) (wanted : Shape) (told : List ℕ → ℕ) (shape 
       ∙ ap (λ (l : List Frame). all_replayed s.shape l (Some s.first)) (ap (λ (l : List Frame). s.order ++ l) store.nothing_pending ∙ append-nil s.order)
       ∙ store.stands.since_first ∙ ap (λ (p : Pairs). Some p) holding.map
 
-  keeps_from_first : KeepsLines shape 0 pairs [] s.first (all_appended t)
+  pub keeps_from_first : KeepsLines shape 0 pairs [] s.first (all_appended t)
   keeps_from_first =
       subst (λ (l : List Frame). KeepsLines shape 0 pairs [] s.first l) (sym (appended_on steps s w))
       (keeps_still shape 0 pairs [] s.first pairs (all_appended s) (frames_in steps) holding.keeps whole refl
@@ -112,7 +112,7 @@ module _ (last highest : ℕ) (wanted : Shape) (told : List ℕ → ℕ) (shape 
   lasts : HasLasting all_frames w.log s.low s.at (replay_at mark) records
   lasts = subst (λ (p : Place). HasLasting all_frames w.log s.low s.at p records) (ap replay_of store.checkpoint ∙ replay_is mark) (good wanted told shape log mark s w store segments).replay
 
-  run_here : HasFrames all_frames (contents w.log) (replay_at mark) records
+  pub run_here : HasFrames all_frames (contents w.log) (replay_at mark) records
   run_here =
       let held = held_log all_frames frame_laws w.log s.low (replay_at mark) s.at records s.pending s.tail (record { files = store.stands.log; leads = lasts }) in
       subst (HasFrames all_frames (contents w.log) (replay_at mark)) (ap (λ (l : List Frame). records ++ l) store.nothing_pending ∙ append-nil records) held.log.run

@@ -124,11 +124,11 @@ bad_next {T} tells t can scan later before now old new at made fails_so applies 
 
 -- ---- frames that stand ahead
 
-stands_on : (scan : Scanned) (w : World) → scan.is_over ≡ false → frame_ahead scan w ≡ frame_at scan.next (bytes_after scan.next w)
+pub stands_on : (scan : Scanned) (w : World) → scan.is_over ≡ false → frame_ahead scan w ≡ frame_at scan.next (bytes_after scan.next w)
 stands_on scan w going = ap (λ (b : Bool). if b then None else frame_at scan.next (bytes_after scan.next w)) going
 
 -- frames that stand one after the other, and are as the first of others
-front_run : (bytes : ℕ → List ℕ) (p : Place) (xs ys : List Frame) → HasFrames all_frames bytes p (xs ++ ys) → HasFrames all_frames bytes p xs
+pub front_run : (bytes : ℕ → List ℕ) (p : Place) (xs ys : List Frame) → HasFrames all_frames bytes p (xs ++ ys) → HasFrames all_frames bytes p xs
 front_run bytes p [] ys run = tt
 front_run bytes p (x ∷ xs) ys run = (run.0, λ ends. none xs (run.1 ends), front_run bytes (next_place p x) xs ys run.2)
   where
@@ -137,7 +137,7 @@ front_run bytes p (x ∷ xs) ys run = (run.0, λ ends. none xs (run.1 ends), fro
     none (f ∷ fs) is = absurd cc
 
 -- they stand where they stood when the segments from theirs on grew
-run_on : (old new : ℕ → List ℕ) (p : Place) (fs : List Frame) (most : ℕ) → ((seg : ℕ) → p.seg ≤ seg → seg ≤ most → Extends (old seg) (new seg)) → (after_frames p fs).seg ≤ most → HasFrames all_frames old p fs → HasFrames all_frames new p fs
+pub run_on : (old new : ℕ → List ℕ) (p : Place) (fs : List Frame) (most : ℕ) → ((seg : ℕ) → p.seg ≤ seg → seg ≤ most → Extends (old seg) (new seg)) → (after_frames p fs).seg ≤ most → HasFrames all_frames old p fs → HasFrames all_frames new p fs
 run_on old new p [] most more le run = tt
 run_on old new p (f ∷ fs) most more le run =
     let low : p.seg ≤ most = omega (arith, rises_from p (f ∷ fs), le) in (
@@ -232,7 +232,7 @@ none_crowded engine config none =
     let few : length engine.logged ≡ 0 = ap length none in
     grind (arith, nat_tests)
 
-or_false : (b : Bool) → (b || false) ≡ b
+pub or_false : (b : Bool) → (b || false) ≡ b
 or_false true = refl
 or_false false = refl
 
@@ -292,7 +292,7 @@ applies_all from end before now scan was w keeps reads at ends = record {
 -- ---- records that make a map
 
 -- frames that lead on from the first one's end are lasting as well
-lasts_next : (p : Place) (f : Frame) (fs : List Frame) (shape : Shape) (pairs : Pairs) (s : State) (w : World) → AreLasting p (f ∷ fs) shape pairs s w → AreLasting (next_place p f) fs shape pairs s w
+pub lasts_next : (p : Place) (f : Frame) (fs : List Frame) (shape : Shape) (pairs : Pairs) (s : State) (w : World) → AreLasting p (f ∷ fs) shape pairs s w → AreLasting (next_place p f) fs shape pairs s w
 lasts_next p f fs shape pairs s w lasts = record {
   later = lasts.later;
   leads = record {

@@ -2,7 +2,6 @@
 use Rattle.std.proofs.Common.{◌≡◌, ℕ, zero, suc, ◌+◌, ◌*◌, ◌<◌, ◌≤◌, true, List, [], ◌∷◌, ◌++◌, length, take, drop, Option, Some, None, Result, Ok, Err, refl, sym, ap, ◌∙◌, subst, arith}
 use Rattle.std.specs.Prelude.{◌↔◌, if◌then◌else◌}
 use Rattle.std.proofs.lemmas.Bool.{false≢true}
-use Rattle.std.proofs.Math.Seq.{take-length}
 use Rattle.pm_types.specs.declared.fault.PageFault.TheVariants.{BadPage}
 use Rattle.pm_types.specs.declared.page_id.PageId.{PageId}
 use Rattle.pm_types.specs.declared.place.Place.{Place}
@@ -44,7 +43,7 @@ use Rattle.pm_engine.specs.FramedStores.{HasStore, StepsStore}
 use Rattle.pm_engine.specs.FrameHosts.{RunsRound, SendsOutbox, ChangesNoWorld, may_go_on}
 use Rattle.pm_engine.specs.FrameRounds.{HasDone, LeavesRound, EvaluatesLines, lines_from}
 use Rattle.pm_engine.specs.FrameStores.{FrameStoreView, pages_in_frames, IsDirtyPage, HasCleanPages, shut}
-use Rattle.pm_engine.specs.OutboxLogs.{SpellOperationRecords, SpellNumbers, HasNumberRoom, NotesNumbers, records_of, numbers_of}
+use Rattle.pm_engine.specs.OutboxLogs.{SpellOperationRecords, SpellNumbers, HasNumberRoom, records_of, numbers_of}
 use Rattle.pm_engine.specs.PagedEngines.{number_of}
 use Rattle.pm_engine.specs.RunningLines.{HasRun, CrashHoldsLines}
 use Rattle.pm_engine.specs.RunningSteps.{appended_to}
@@ -65,7 +64,7 @@ take_few zero xs = omega arith
 take_few (suc n) [] = omega arith
 take_few (suc n) (x ∷ xs) = omega (arith, take_few n xs)
 
-numbers_long : (os : List Operation) → length (numbers_of os) ≡ length os
+pub numbers_long : (os : List Operation) → length (numbers_of os) ≡ length os
 numbers_long [] = refl
 numbers_long (o ∷ os) = ap (λ n. suc n) (numbers_long os)
 
@@ -170,6 +169,13 @@ module _ {Q R : Type 0} (tells rtells : Type 0) (history : R → History) (state
       steps_few : length steps.frames ≤ 33 * length lines
       steps_few = omega (arith, all_few xs store steps.frames (frame_pages history upto) steps.logged steps.steps, few_lines, round.answers.inside)
 
+  -- ---- their numbers were noted
+
+  all_noted : (order : List ℕ) → ((numbers : List ℕ) → SpellNumbers mid.stripe.outbox numbers → order ≡ before.order ++ numbers)
+      → tells → AllWellFormed before.store.shape (pages_in_frames before.store h0.world) → order ≡ before.order ++ accepted before.store.shape (first + from) xs (map_in before h0.world)
+  all_noted order notes t well =
+      notes (numbers_of operations) numbers_handed ∙ ap (λ (ns : List ℕ). before.order ++ ns) (numbers_are t well)
+
   -- ---- and it was appended, or not
 
   module _ {T E : Type 0} (h2 : History) (result : Result T E) (log : LogEnd) (appends : (frames : List Frame) → SpellOperationRecords mid.stripe.outbox frames → AppendsAll {T = T} {E = E} tells h1 h2 result before.log log frames) where
@@ -180,12 +186,6 @@ module _ {Q R : Type 0} (tells rtells : Type 0) (history : R → History) (state
     round_disk t =
         joined h0 h1 h2 (ChangesDisk h0.world) (same_disk h0 h1 (quiet t).moments)
         (subst (λ (w : World). AllMoments h1 h2 (ChangesDisk w)) (quiet t).world (logs_disk h1 h2 (append_all_steps before.log (records_of operations)) before.log.end (handed_appends.steps t).moments))
-
-    pub round_order : tells → AllWellFormed before.store.shape (pages_in_frames before.store h0.world) → (order : List ℕ) → ((numbers : List ℕ) → SpellNumbers mid.stripe.outbox numbers → NotesNumbers {T = T} {E = E} numbers before.order order result)
-        → (count : ℕ) × (order ≡ before.order ++ take count (accepted before.store.shape (first + from) xs (map_in before h0.world)))
-    round_order t well order notes =
-        let x = notes (numbers_of operations) numbers_handed in
-        (x.count, x.is ∙ ap (λ (ns : List ℕ). before.order ++ take x.count ns) (numbers_are t well))
 
     module _ (t : tells) (wanted : Shape) (says : List ℕ → ℕ) (low : ℕ) (pairs : Pairs) (done : List Line) (has : HasDoneLines wanted says low pairs done before h0.world) (segments : HasSegmentsFor before.log (33 * length lines)) where
       abbrev there : StoreState
@@ -228,7 +228,7 @@ module _ {Q R : Type 0} (tells rtells : Type 0) (history : R → History) (state
   -- ---- it wasn't
 
   pub loses_lines : (h2 : History) (failed : Failed) (log : LogEnd) (order : List ℕ) → ((frames : List Frame) → SpellOperationRecords mid.stripe.outbox frames → AppendsAll {T = Unit {0}} {E = Failed} tells h1 h2 (Err failed) before.log log frames)
-      → ((numbers : List ℕ) → SpellNumbers mid.stripe.outbox numbers → NotesNumbers {T = Unit {0}} {E = Failed} numbers before.order order (Err failed))
+      → ((numbers : List ℕ) → SpellNumbers mid.stripe.outbox numbers → order ≡ before.order ++ numbers)
       → LosesRoundLines tells h0 h2 first from lines before (record { store = shut mid; log = log; ckpt = before.ckpt; began = before.began; order = order })
   loses_lines h2 failed log order appends notes = record {
     tried = end.done;
@@ -237,7 +237,7 @@ module _ {Q R : Type 0} (tells rtells : Type 0) (history : R → History) (state
     ckpt = refl;
     began = refl;
     is_open = refl;
-    order = λ t well. round_order h2 (Err failed) log appends t well order notes;
+    order = all_noted order notes;
     crash = λ t wanted says low pairs done has segments. round_crash h2 (Err failed) log appends t wanted says low pairs done has segments;
     disk = round_disk h2 (Err failed) log appends;
   }
@@ -255,7 +255,7 @@ module _ {Q R : Type 0} (tells rtells : Type 0) (history : R → History) (state
   -- ---- it was
 
   module _ (h2 : History) (log : LogEnd) (order : List ℕ) (after : FrameStoreView) (appends : (frames : List Frame) → SpellOperationRecords mid.stripe.outbox frames → AppendsAll {T = Unit {0}} {E = Failed} tells h1 h2 (Ok tt) before.log log frames)
-      (notes : (numbers : List ℕ) → SpellNumbers mid.stripe.outbox numbers → NotesNumbers {T = Unit {0}} {E = Failed} numbers before.order order (Ok tt)) (sends : SendsOutbox mid after) where
+      (notes : (numbers : List ℕ) → SpellNumbers mid.stripe.outbox numbers → order ≡ before.order ++ numbers) (sends : SendsOutbox mid after) where
     abbrev engine : FrameRunning
     engine = record { store = after; log = log; ckpt = before.ckpt; began = before.began; order = order }
 
@@ -277,11 +277,6 @@ module _ {Q R : Type 0} (tells rtells : Type 0) (history : R → History) (state
 
     shape_then : after.shape ≡ before.store.shape
     shape_then = sends.same.shape ∙ round.same.shape
-
-    order_then : tells → AllWellFormed before.store.shape (pages_in_frames before.store h0.world) → order ≡ before.order ++ accepted before.store.shape (first + from) xs (map_in before h0.world)
-    order_then t well =
-        let x = notes (numbers_of operations) numbers_handed in
-        x.is ∙ ap (λ (ns : List ℕ). before.order ++ ns) (ap (λ n. take n (numbers_of operations)) x.all ∙ take-length (numbers_of operations) ∙ numbers_are t well)
 
     -- the frames are as they were
     same_file : (w : World) → file_in after.stripe w ≡ file_in mid.stripe w
@@ -352,6 +347,7 @@ module _ {Q R : Type 0} (tells rtells : Type 0) (history : R → History) (state
       inside = round.answers.inside;
       all = round.answers.all;
       room = round.answers.room;
+      spare = round.answers.spare;
       same = record { shape = shape_then; region = sends.same.region ∙ round.same.region; locks = sends.same.locks ∙ round.same.locks };
       ckpt = refl;
       began = refl;
@@ -361,7 +357,7 @@ module _ {Q R : Type 0} (tells rtells : Type 0) (history : R → History) (state
       clean = λ t on. clean_after t;
       ends = λ t. handed_all.ends t;
       evaluates = λ t on well. evaluates_all t on well;
-      order = order_then;
+      order = all_noted order notes;
       runs = λ t on wanted says low pairs done has segments. runs_all t on wanted says low pairs done has segments;
       crash = λ t wanted says low pairs done has segments. round_crash h2 (Ok tt) log appends t wanted says low pairs done has segments;
       disk = round_disk h2 (Ok tt) log appends;

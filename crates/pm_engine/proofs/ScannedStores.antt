@@ -87,8 +87,9 @@ module _ {Q R : Type 0} (tells : Type 0) (history : R → History) (state : R �
     as_round result cause sound = record {
       inside = omega arith;
       all = λ e. refl;
-      leaves = leaves_by result;
       room = omega arith;
+      spare = omega arith;
+      leaves = leaves_by result;
       cause = λ e. cause (fault_by result Failed e);
       sound = λ t all id e. sound t all id (fault_by result (BadPage id) e);
     }

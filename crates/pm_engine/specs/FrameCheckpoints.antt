@@ -1,13 +1,15 @@
 -- A checkpoint of the pages of an open store in page frames.
 use Rattle.std.specs.Prelude.{◌≡◌, ◌<◌, ◌^◌, ℕ, true, false, List, Some}
 use Rattle.pm_types.specs.declared.page_id.PageId.{PageId}
+use Rattle.pm_types.specs.Ids.{page_id}
 use Rattle.pm_disk.specs.Worlds.{World, pages_in}
 use Rattle.pm_core.specs.BasePages.{page_in_file}
 use Rattle.pm_engine.specs.FrameStores.{FrameStoreView, pages_in_frames, IsDirtyPage, HasCleanPages}
 
 -- What a checkpoint that was made leaves of a store: no page is Dirty, and the partitions' files have pages. Each
--- page that was there is there with its bytes, by what the files have now. Where what was Clean was as the files had
--- it, it is so still, and so each page is as its partition's file has it.
+-- page that was there is there with its bytes, by what the files have now, and the file of a partition of which no page
+-- was Dirty is as it was. Where what was Clean was as the files had it, it is so still, and so each page is as its
+-- partition's file has it.
 pub record IsCheckpointed (tells : Type 0) (before after : World) (old new : FrameStoreView) : Type 0 where
   pub shape : new.shape ≡ old.shape
   pub region : new.region ≡ old.region
@@ -18,6 +20,9 @@ pub record IsCheckpointed (tells : Type 0) (before after : World) (old new : Fra
   pub none_dirty : (id : PageId) → IsDirtyPage new id → ⊥
   pub pages : tells → (part index : ℕ) (bytes : List ℕ) → pages_in_frames old before part index ≡ Some bytes
       → pages_in_frames new after part index ≡ Some bytes
+  pub alone : tells → (part : ℕ) → part < old.shape.partitions
+      → ((index : ℕ) → index < 2 ^ 32 → IsDirtyPage old (page_id part index) → ⊥)
+      → pages_in after part ≡ pages_in before part
   pub clean : tells → HasCleanPages old before → HasCleanPages new after
   pub as_files : tells → HasCleanPages old before → (part index : ℕ) → part < old.shape.partitions → index < 2 ^ 32
       → pages_in_frames new after part index ≡ page_in_file old.shape.page_size (pages_in after part) index

@@ -171,17 +171,17 @@ module _ {Q R : Type 0} where
     pub files : PageId → Option (List ℕ)
     pub pages : tells → (id : PageId) → page_bytes (file_by history c) (kept_by c) id ≡ page_bytes files kept id
 
-  -- An operation on this partition ended. It handed over this record, and one of each page that it changed. Of the
-  -- pages that stay in their frames each did before, or was changed, and each that did stays. No other page changed
+  -- An operation on this partition ended. It handed over this record, if there is one, and one of each page that it
+  -- changed. Of the pages that stay in their frames each did before, or was changed, and each that did stays. No other page changed
   -- than those that were handed over, and none of another partition.
-  pub record HandsOverChange (tells : Type 0) (history : R → History) (line : ℕ) (rec : Record) (part : ℕ)
-      (b c : Bound Q R) : Type 0 where
+  pub record HandsOverChange (tells : Type 0) (history : R → History) (line : ℕ) (logged : Option Record)
+      (part : ℕ) (b c : Bound Q R) : Type 0 where
     pub seat : KeepsSeat b c
-    pub logical : MayBeLogical (Some rec)
+    pub logical : MayBeLogical logged
     -- the pages that were in hand at its end, and what the worker kept then
     pub held : List Held
     pub before : EndsFrom tells history part held b c
-    pub grows : GrowsByOperation line (Some rec) held b.stripe.outbox c.stripe.outbox
+    pub grows : GrowsByOperation line logged held b.stripe.outbox c.stripe.outbox
     pub changed : (page : ChangedPage) → IsChangedPage held page → IsHandedOver history part b c page
     pub staying : (id : PageId) → IsStaying (kept_by c) id → IsStaying (kept_by b) id ⊎ IsChangedIn held id
     pub still : (id : PageId) → IsStaying (kept_by b) id → IsStaying (kept_by c) id
@@ -193,9 +193,9 @@ module _ {Q R : Type 0} where
         → frame_pages history c other index ≡ frame_pages history b other index
 
   -- A command of this partition was done, and whether it was accepted is said as its reply says it. One that wasn't
-  -- changed nothing; one that was handed over this record and what it changed, as the operation of this line.
-  pub record DoesCommand (tells : Type 0) (history : R → History) (line : ℕ) (rec : Record) (part : ℕ) (cmd : Cmd)
-      (b c : Bound Q R) (was now : ReplyList) (accepted : Bool) : Type 0 where
+  -- changed nothing; one that was handed over this record, if there is one, and what it changed, as the operation of this line.
+  pub record DoesCommand (tells : Type 0) (history : R → History) (line : ℕ) (logged : Option Record)
+      (part : ℕ) (cmd : Cmd) (b c : Bound Q R) (was now : ReplyList) (accepted : Bool) : Type 0 where
     pub said : (reply : Reply) → now ≡ with_replies (reply ∷ []) was → accepted ≡ accepts cmd reply
     pub refused : accepted ≡ false → ChangesNothing tells history b c
-    pub hands : accepted ≡ true → HandsOverChange tells history line rec part b c
+    pub hands : accepted ≡ true → HandsOverChange tells history line logged part b c

@@ -1,5 +1,5 @@
 -- What contracts see of an engine over page frames, and how its lines stand over the disk.
-use Rattle.std.specs.Prelude.{◌≡◌, ◌≤◌, ◌<◌, ◌+◌, ◌*◌, ◌^◌, ◌↔◌, ◌++◌, ℕ, List, [], length, take, true, false}
+use Rattle.std.specs.Prelude.{◌≡◌, ◌≤◌, ◌<◌, ◌+◌, ◌*◌, ◌^◌, ◌↔◌, ◌++◌, ℕ, List, [], length, true, false}
 use Rattle.std.specs.Prelude.{Some, None}
 use Rattle.pm_types.specs.declared.fault.PageFault.TheVariants.{BadPage}
 use Rattle.pm_types.specs.declared.limits.TheConstants.{OP_PAGES, SEGMENT_BYTES_MAX}
@@ -28,8 +28,9 @@ use Rattle.pm_engine.specs.RunningLines.{HasRun, CrashHoldsLines}
 use Rattle.pm_engine.specs.RunningStores.{StoreState, IsMarkIn, HasSegmentsFor}
 
 -- An engine over page frames: its pages, where its log ends, what is kept for checkpoints, and the numbers of the
--- lines whose records were handed to the log. `began` is how many bytes of frames its log had appended when the last
--- CP_BEGIN was, or when it was opened. It is open until a fault ends a round or a call on the disk fails.
+-- lines whose records were handed to the log, whether they could be appended or not. `began` is how many bytes of
+-- frames its log had appended when the last CP_BEGIN was, or when it was opened. It is open until a fault ends a round
+-- or a call on the disk fails.
 pub record FrameRunning : Type 0 where
   pub store : FrameStoreView
   pub log : LogEnd
@@ -86,6 +87,12 @@ pub record HasLastingLinesIn (wanted : Shape) (told : List ℕ → ℕ) (from : 
   pub done : HasDoneLines wanted told from start lines engine world
   pub quiet : NothingPending world
 
+-- In some state of the disk machine the engine's store runs, and all its lines last: whatever a crash leaves now holds
+-- its map.
+pub record AllLastIn (wanted : Shape) (told : List ℕ → ℕ) (engine : FrameRunning) (world : World) : Type 0 where
+  pub low : ℕ
+  pub lasts : HasLastingLinesIn wanted told low (map_in engine world) [] engine world
+
 -- what neither lines nor checkpoints change of an engine
 pub record IsSameEngine (before now : FrameRunning) : Type 0 where
   pub shape : now.store.shape ≡ before.store.shape
@@ -101,8 +108,9 @@ pub record DoesRoundLines (tells : Type 0) (old new : History) (first from : ℕ
     (before now : FrameRunning) (was replies : ReplyList) (end : RoundEnd) : Type 0 where
   pub inside : from + end.done ≤ length lines
   pub all : end.stop ≡ None → from + end.done ≡ length lines
-  -- there is room for the replies to the lines after them
+  -- there is room for the replies to the lines after them, and each line took room for one
   pub room : length lines ≤ from + end.done + replies.spare
+  pub spare : was.spare ≤ end.done + replies.spare
   pub same : IsSameEngine before now
   pub ckpt : now.ckpt ≡ before.ckpt
   pub began : now.began ≡ before.began
@@ -132,9 +140,9 @@ pub record DoesRoundLines (tells : Type 0) (old new : History) (first from : ℕ
   pub sound : tells → AllWellFormed before.store.shape (pages_in_frames before.store old.world) → (id : PageId)
       → end.stop ≡ Some (Faulted (BadPage id)) → ⊥
 
--- What the lines of a round handed over couldn't be appended, and the engine is open no more. Whatever a crash leaves
--- holds a prefix of the lines that were done before and of those that the round did, and the order has the numbers of
--- a prefix of the accepted ones.
+-- What the lines of a round handed over couldn't be appended whole, and the engine is open no more. Whatever a crash
+-- leaves holds a prefix of the lines that were done before and of those that the round did. The order has the numbers
+-- of all accepted ones of these, as where all was appended.
 pub record LosesRoundLines (tells : Type 0) (old new : History) (first from : ℕ) (lines : List Line)
     (before now : FrameRunning) : Type 0 where
   pub tried : ℕ
@@ -143,9 +151,9 @@ pub record LosesRoundLines (tells : Type 0) (old new : History) (first from : �
   pub ckpt : now.ckpt ≡ before.ckpt
   pub began : now.began ≡ before.began
   pub is_open : now.store.is_open ≡ false
-  pub order : tells → AllWellFormed before.store.shape (pages_in_frames before.store old.world) → (count : ℕ)
-      × (now.order ≡ before.order ++ take count
-      (accepted before.store.shape (first + from) (lines_from from tried lines) (map_in before old.world)))
+  pub order : tells → AllWellFormed before.store.shape (pages_in_frames before.store old.world)
+      → now.order ≡ before.order
+      ++ accepted before.store.shape (first + from) (lines_from from tried lines) (map_in before old.world)
   pub crash : tells → (wanted : Shape) (told : List ℕ → ℕ) (low : ℕ) (start : Pairs) (done : List Line)
       → HasDoneLines wanted told low start done before old.world
       → HasSegmentsFor before.log ((OP_PAGES + 1) * length lines)

@@ -78,7 +78,7 @@ module _ {Q R : Type 0} where
       : Type 0 where
     pub rec : Record
     pub is : record_of_line line ≡ Some rec
-    pub change : HandsOverChange tells history number rec (part_of_line b.stripe.shape line) b c
+    pub change : HandsOverChange tells history number (Some rec) (part_of_line b.stripe.shape line) b c
 
   -- A line was done. One that wasn't accepted changed nothing.
   pub record DoesLine (tells : Type 0) (history : R → History) (number : ℕ) (line : Line) (b c : Bound Q R)

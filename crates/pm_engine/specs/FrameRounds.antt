@@ -80,12 +80,13 @@ module _ {Q R : Type 0} where
       EndsAtFault tells history state number lines b c was now
 
   -- So many of these lines were done, from one of them on. The first of all has the number `first`. There is room for
-  -- the replies to those after them still.
+  -- the replies to those after them still, and each that was done took room for one.
   pub record AnswersRound (tells : Type 0) (history : R → History) (state : R → DeviceState) (first from : ℕ)
       (lines : List Line) (b c : Bound Q R) (was now : ReplyList) (end : RoundEnd) : Type 0 where
     pub inside : from + end.done ≤ length lines
     pub all : end.stop ≡ None → from + end.done ≡ length lines
     pub room : length lines ≤ from + end.done + now.spare
+    pub spare : was.spare ≤ end.done + now.spare
     pub leaves : LeavesRound tells history state (first + from) (lines_from from end.done lines) b c was now
         end.stop
     pub cause : end.stop ≡ Some (Faulted Failed) → HasRisen (state b.reader).faults (state c.reader).faults

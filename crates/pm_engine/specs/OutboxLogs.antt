@@ -1,5 +1,5 @@
 -- What an outbox holds, as records of the log.
-use Rattle.std.specs.Prelude.{◌≡◌, ◌≤◌, ◌+◌, ℕ, List, [], ◌∷◌, ◌++◌, length, take, Result, OnOk}
+use Rattle.std.specs.Prelude.{◌≡◌, ◌≤◌, ◌+◌, ℕ, List, [], ◌∷◌, ◌++◌, length}
 use Rattle.pm_frame.specs.Frames.{Frame}
 use Rattle.pm_records.specs.Operations.{Operation, IsOperation, AreOperations, operation_bytes, operations_bytes}
 use Rattle.pm_records.specs.Operations.{IsLogged, record_bytes}
@@ -47,10 +47,3 @@ pub record HasNumberRoom (bytes : List ℕ) (count capacity : ℕ) : Type 0 wher
   pub numbers : List ℕ
   pub spelled : SpellNumbers bytes numbers
   pub fits : count + length numbers ≤ capacity
-
--- these numbers were put at the end of an order; at an `Err` a prefix of them
-pub record NotesNumbers {T E : Type 0} (numbers was now : List ℕ) (result : Result T E) : Type 0 where
-  pub count : ℕ
-  pub within : count ≤ length numbers
-  pub is : now ≡ was ++ take count numbers
-  pub all : OnOk result (count ≡ length numbers)

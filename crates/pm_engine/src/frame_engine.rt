@@ -20,7 +20,8 @@ pub struct FrameEngine {
     pub(crate) ckpt: Ckpt,
     // The bytes that the log had appended when the last CP_BEGIN was, or when the store was opened.
     pub(crate) began: u64,
-    // The numbers of the accepted lines whose records were handed to the log, in the order in which they were.
+    // The numbers of the accepted lines whose records were handed to the log, in the order in which they were. A line's
+    // is there also where its records couldn't be appended whole.
     pub(crate) order: Vec<u32>,
 }
 
@@ -78,7 +79,7 @@ impl FrameEngine {
     }
 
     /// Gives the memory of the page frames back, and the numbers of the accepted lines whose records were handed to
-    /// the log, in the order in which they were.
+    /// the log, in the order in which they were, whether they could be appended or not.
     pub fn close(self) -> Vec<u32>
         ensures { result.items ≡ self.order }
     {

@@ -78,8 +78,8 @@ impl FrameEngine {
     }
 }
 
-// Where the next CP_BEGIN goes.
-fn begin_place(log: &Log) -> Place
+/// Where the next CP_BEGIN goes.
+pub(crate) fn begin_place(log: &Log) -> Place
     ensures is { result ≡ begin_of log.now }
     ensures numbered { result.seg < 2 ^ 64 }
 {

@@ -8,7 +8,7 @@ ghost use Rattle.pm_segments.specs.Ends.{EndsThere};
 ghost use Rattle.pm_model.specs.declared.line.Line.{Line};
 ghost use Rattle.pm_model.specs.Eval.{Pairs};
 ghost use Rattle.pm_core.specs.Calls.{ChangesDisk};
-ghost use Rattle.pm_engine.specs.FrameEngines.{HasDoneLines, HasLastingLinesIn, closed_engine};
+ghost use Rattle.pm_engine.specs.FrameEngines.{HasDoneLines, HasLastingLinesIn, AllLastIn, closed_engine};
 ghost use Rattle.pm_engine.specs.FrameStores.{pages_in_frames, HasCleanPages};
 ghost use Rattle.pm_engine.specs.PagedEngines.{number_of};
 ghost use Rattle.pm_engine.specs.RunningLines.{CrashHoldsLines};
@@ -20,7 +20,7 @@ impl FrameEngine {
     /// Forces the log up to its end, so that all its lines last. It takes no memory.
     ///
     /// After `Failed` the engine is open no more, and what was appended since the last force may last or not.
-    pub(crate) fn force<H: Host>(&mut self, host: &mut H) -> Result<(), Failed>
+    pub fn force<H: Host>(&mut self, host: &mut H) -> Result<(), Failed>
         requires usable { IsUsable (H.Device.state host.old) }
         requires open { self.old.store.is_open ≡ true }
         requires end { H.Device.tells → EndsThere self.old.log (H.Device.history host.old).world }
@@ -39,6 +39,10 @@ impl FrameEngine {
             (lines : List Line)
             → HasDoneLines wanted told low start lines self.old (H.Device.history host.old).world
             → OnOk result (HasLastingLinesIn wanted told low start lines self.new (H.Device.history host.new).world) }
+        ensures rests { H.Device.tells → (wanted : Shape) (told : List ℕ → ℕ) (low : ℕ) (start : Pairs)
+            (lines : List Line)
+            → HasDoneLines wanted told low start lines self.old (H.Device.history host.old).world
+            → OnOk result (AllLastIn wanted told self.new (H.Device.history host.new).world) }
         ensures crash { H.Device.tells → (wanted : Shape) (told : List ℕ → ℕ) (low : ℕ) (start : Pairs)
             (lines : List Line)
             → HasDoneLines wanted told low start lines self.old (H.Device.history host.old).world

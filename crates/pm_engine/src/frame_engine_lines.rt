@@ -25,7 +25,8 @@ impl FrameEngine {
     ///
     /// A fault of the round is said by `RoundEnd::stop`: the lines before it are in the log, and the engine is open no
     /// more. `Failed` comes where a record couldn't be appended: the engine is open no more, and nothing is said of
-    /// the replies. `Memory` leaves the engine, the replies and the disk as they were.
+    /// the replies. In both cases the order has the numbers of all accepted lines that the round did. `Memory` leaves
+    /// the engine, the replies and the disk as they were.
     pub(crate) fn run_lines<Q: Wait, H: Host>(
         self,
         rt: &Q,

@@ -118,7 +118,7 @@ fn key_in_frames<'a, Q: Wait, R: PageReader>(
         Err(halt) => Err(Stop::Halted(halt)),
         Ok(()) => {
             let part = Part::new(shape, part_of(key, shape.partitions));
-            match run_in_frames(bound, &part, cmd, rec, number, replies) {
+            match run_in_frames(bound, &part, cmd, Some(rec), number, replies) {
                 Ok(accepted) => Ok(accepted),
                 Err(fault) => Err(Stop::Faulted(fault)),
             }

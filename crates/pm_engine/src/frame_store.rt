@@ -4,8 +4,8 @@ ghost use Rattle.std.specs.Prelude.{◌≡◌, ◌≤◌, IfOk, [], true, length
 ghost use Rattle.pm_types.specs.declared.page_id.PageId.{PageId};
 ghost use Rattle.pm_types.specs.Shapes.{IsShape};
 ghost use Rattle.pm_disk.specs.Worlds.{World};
-ghost use Rattle.pm_engine.specs.FrameStores.{pages_in_frames, pages_in_files, IsDirtyPage, IsFrameStore};
-ghost use Rattle.pm_engine.specs.FrameStores.{shut};
+ghost use Rattle.pm_engine.specs.FrameStores.{pages_in_frames, pages_in_files, IsDirtyPage, HasCleanPages};
+ghost use Rattle.pm_engine.specs.FrameStores.{IsFrameStore, shut};
 
 use pm_locks::{Locks, PageSeat};
 use pm_ptable::FRAMES_MAX;
@@ -78,6 +78,7 @@ impl FrameStore {
         ensures pages { IfOk result (λ store. (world : World)
             → pages_in_frames store world ≡ pages_in_files shape.now store.stripe world) }
         ensures clean { IfOk result (λ store. (id : PageId) → IsDirtyPage store id → ⊥) }
+        ensures as_files { IfOk result (λ store. (world : World) → HasCleanPages store world) }
         ensures open { IfOk result (λ store. store.is_open ≡ true) }
         ensures outbox { IfOk result (λ store. store.stripe.outbox ≡ []) }
         ensures rests { IfOk result IsFrameStore }

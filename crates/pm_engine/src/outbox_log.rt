@@ -1,4 +1,4 @@
-//! What an outbox holds, appended to the log.
+//! What an outbox holds, appended to the log, and its numbers, put into the order.
 
 ghost use Rattle.std.specs.Prelude.{◌≡◌, ◌≤◌, ◌<◌, ◌^◌, ◌++◌, ℕ, List, length, vec_capacity};
 ghost use Rattle.pm_frame.specs.Frames.{Frame};
@@ -10,7 +10,7 @@ ghost use Rattle.pm_segments.specs.Ends.{EndsThere};
 ghost use Rattle.pm_engine.specs.AppendRuns.{AppendsAll};
 ghost use Rattle.pm_engine.specs.OutboxLogs.{SpellOperationRecords, AreOperationBytes};
 ghost use Rattle.pm_engine.specs.OutboxLogs.{BeginsWithOperation, BeginsWithRecord};
-ghost use Rattle.pm_engine.specs.OutboxLogs.{SpellNumbers, HasNumberRoom, NotesNumbers};
+ghost use Rattle.pm_engine.specs.OutboxLogs.{SpellNumbers, HasNumberRoom};
 
 use pm_disk::{Failed, LogFile};
 use pm_segments::Log;
@@ -20,32 +20,37 @@ const OPERATION_HEAD_LEN: usize = 8;
 /// The bytes of a record before its payload: its kind, and the payload's length.
 const RECORD_HEAD_LEN: usize = 5;
 
-/// Appends the records of the operations that these bytes are, as those of an outbox, one after the other. The number
-/// of each operation is put into `order` before its records are appended. It takes no memory.
-///
-/// After `Failed` a prefix of the records was appended, the last of them in part or not at all. Nothing is to
-/// be appended any more.
-pub fn append_operations<L: LogFile>(
-    dev: &mut L,
-    log: &mut Log,
-    bytes: &[u8],
-    order: &mut Vec<u32>,
-) -> Result<(), Failed>
-    requires usable { IsUsable (L.state dev.old) }
-    requires operations { AreOperationBytes bytes.now }
-    requires room { HasNumberRoom bytes.now (length order.old.items) (vec_capacity order.old) }
-    requires end { L.tells → EndsThere log.old (L.history dev.old).world }
-    ensures appends { (frames : List Frame) → SpellOperationRecords bytes.now frames
-        → AppendsAll L.tells (L.history dev.old) (L.history dev.new) result log.old log.new frames }
-    ensures order { (numbers : List ℕ) → SpellNumbers bytes.now numbers
-        → NotesNumbers numbers order.old.items order.new.items result }
-    ensures cause { HasCause (L.state dev.old) (L.state dev.new) result }
+/// Puts the number of each operation that these bytes are, as those of an outbox, at the end of `order`, one after the
+/// other. It takes no memory.
+pub fn note_operations(bytes: &[u8], order: &mut Vec<u32>)
+    requires { HasNumberRoom bytes.now (length order.old.items) (vec_capacity order.old) }
+    ensures { (numbers : List ℕ) → SpellNumbers bytes.now numbers → order.new.items ≡ order.old.items ++ numbers }
 {
     let mut rest = bytes;
     'each: while !rest.is_empty() {
         let number = operation_number(rest);
-        let (records, after) = split_operation(rest);
+        let (_, after) = split_operation(rest);
         order.push_reserved(number);
+        rest = after;
+    }
+}
+
+/// Appends the records of the operations that these bytes are, as those of an outbox, one after the other. It takes no
+/// memory.
+///
+/// After `Failed` a prefix of the records was appended, the last of them in part or not at all. Nothing is to
+/// be appended any more.
+pub fn append_operations<L: LogFile>(dev: &mut L, log: &mut Log, bytes: &[u8]) -> Result<(), Failed>
+    requires usable { IsUsable (L.state dev.old) }
+    requires operations { AreOperationBytes bytes.now }
+    requires end { L.tells → EndsThere log.old (L.history dev.old).world }
+    ensures appends { (frames : List Frame) → SpellOperationRecords bytes.now frames
+        → AppendsAll L.tells (L.history dev.old) (L.history dev.new) result log.old log.new frames }
+    ensures cause { HasCause (L.state dev.old) (L.state dev.new) result }
+{
+    let mut rest = bytes;
+    'each: while !rest.is_empty() {
+        let (records, after) = split_operation(rest);
         append_records(dev, log, records)?;
         rest = after;
     }

@@ -205,8 +205,12 @@ fn load_engine<H: Host>(
     Ok(PagedEngine::new(alloc, map, log, mark)?)
 }
 
-// Appends the RESTART.
-fn append_restart<H: Host>(host: &mut H, log: &mut Log, shape: &Shape) -> Result<(), Failed>
+/// Appends the RESTART.
+pub(crate) fn append_restart<H: Host>(
+    host: &mut H,
+    log: &mut Log,
+    shape: &Shape,
+) -> Result<(), Failed>
     requires usable { IsUsable (H.Device.state host.old) }
     requires there { H.Device.tells → EndsThere log.old (H.Device.history host.old).world }
     ensures appends { AppendsAll H.Device.tells (H.Device.history host.old) (H.Device.history host.new) result

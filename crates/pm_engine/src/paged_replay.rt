@@ -222,7 +222,7 @@ fn line_of(alloc: Global, op: u8, cache: u8, key: &[u8], value: &[u8]) -> Result
 }
 
 // Makes room for one reply. Only a list that memory ran out for has none after it was cleared.
-fn make_room(alloc: Global, replies: &mut Replies) -> Result<(), AllocError>
+pub(crate) fn make_room(alloc: Global, replies: &mut Replies) -> Result<(), AllocError>
     ensures { OnOk result (0 < replies.new.spare) }
 {
     replies.clear(alloc)?;

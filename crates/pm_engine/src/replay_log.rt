@@ -137,8 +137,8 @@ pub(crate) fn has_numbers(end: Place) -> bool
     end.seg < LAST_LOOK
 }
 
-// Whether a frame may stand at a place of the log, so that a marker may name it.
-fn may_stand(at: Place) -> bool
+/// Whether a frame may stand at a place of the log, so that a marker may name it.
+pub(crate) fn may_stand(at: Place) -> bool
     requires { 1 ≤ at.seg }
     ensures yes { result ≡ true → IsMarkPlace at }
     ensures no { result ≡ false → FRAME_END_MAX < at.off }
@@ -208,12 +208,12 @@ fn apply_next<H: Host>(
     }
 }
 
-// Makes a scan go on over the log, which ended there and may have grown since by an operation's records. What
-// was read ahead stays where the scan is no further than that segment.
-fn keep_ahead(scan: &mut Scan, before: Place)
+/// Makes a scan go on over the log, which ended there and may have grown since by an operation's records. What
+/// was read ahead stays where the scan is no further than that segment.
+pub(crate) fn keep_ahead(scan: &mut Scan, before: Place)
     ensures stays { StaysAt scan.old scan.new }
     ensures ahead { (old new : World) → IsAhead scan.old old
-        → (before.seg + OP_PAGES + 1 < 2 ^ 64 → (seg : ℕ) → seg ≤ before.seg
+        → (before.seg + OP_PAGES + 1 < 2 ^ 64 → (seg : ℕ) → scan.old.next.seg ≤ seg → seg ≤ before.seg
         → (more : List ℕ) × (contents new.log seg ≡ contents old.log seg ++ more))
         → IsAhead scan.new new }
 {
@@ -232,8 +232,8 @@ fn stays_ahead(before: Place, next: Place) -> bool
     before.seg < LAST_LOOK && next.seg <= before.seg
 }
 
-// The segment of a place: a number below 2^64, so that a log ends.
-fn segment_of(at: Place) -> u64
+/// The segment of a place: a number below 2^64, so that a log ends.
+pub(crate) fn segment_of(at: Place) -> u64
     ensures { result ≡ at.seg }
 {
     at.seg

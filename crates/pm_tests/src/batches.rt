@@ -8,6 +8,7 @@ use crate::runs::{
 };
 use crate::scripts::run_in_pieces;
 use std::process::Abort;
+use std::sync::Wait;
 
 /// What has come of a script whose call of the first number is refused: how many lines were answered, which
 /// were accepted, what was said, and how many bytes of the log each crash leaves.
@@ -90,7 +91,7 @@ static AT_ONCE: [Row; 2] = [
 
 /// Runs a script in pieces of this size, where the call of this row is refused, and looks at what the run
 /// reported and said, at what lasts, and that it made no call more.
-fn look_at_row(rt: &(impl Abort + AllocGlobal), script: &[u8], piece: usize, row: Row)
+fn look_at_row(rt: &(impl Abort + AllocGlobal + Wait), script: &[u8], piece: usize, row: Row)
     requires { 0 < piece }
 {
     let (refused, lines, order, said, lasting) = row;
@@ -102,7 +103,7 @@ fn look_at_row(rt: &(impl Abort + AllocGlobal), script: &[u8], piece: usize, row
 }
 
 /// Looks at the runs of these rows.
-fn look_at_rows(rt: &(impl Abort + AllocGlobal), script: &[u8], piece: usize, rows: &[Row])
+fn look_at_rows(rt: &(impl Abort + AllocGlobal + Wait), script: &[u8], piece: usize, rows: &[Row])
     requires { 0 < piece }
 {
     for row in rows {
@@ -132,7 +133,7 @@ fn gets(rt: &(impl Abort + AllocGlobal), lines: usize) -> Vec<u8> {
 /// Runs so many gets, where the call of this number is refused if there is one, and looks at how many were
 /// answered and how many calls that took.
 fn look_at_gets(
-    rt: &(impl Abort + AllocGlobal),
+    rt: &(impl Abort + AllocGlobal + Wait),
     lines: usize,
     refused: u64,
     answered: u64,

@@ -9,24 +9,25 @@ use crate::runs::{
 };
 use pm_disk_mem::Pick;
 use std::process::Abort;
+use std::sync::Wait;
 
 /// The files of a store of one segment.
 static FILES: [&str; 5] = [SEGMENT, STARTS, ENDS, PAGES, OTHER_PAGES];
 
 /// The file of start markers.
-const STARTS: &str = "cp.start";
+pub const STARTS: &str = "cp.start";
 
 /// The file of end markers.
 const ENDS: &str = "cp.end";
 
 /// The file of the first partition's pages.
-const PAGES: &str = "part-000.pages";
+pub const PAGES: &str = "part-000.pages";
 
 /// The file of the second partition's pages.
-const OTHER_PAGES: &str = "part-001.pages";
+pub const OTHER_PAGES: &str = "part-001.pages";
 
 /// Looks at what a command prints over a disk.
-fn look(rt: &(impl Abort + AllocGlobal), word: &str, disk: Disk, said: &[u8]) {
+fn look(rt: &(impl Abort + AllocGlobal + Wait), word: &str, disk: Disk, said: &[u8]) {
     let run = call_over(rt, word, b"", disk);
     look_at_reply(rt, &run, 0, said, &word);
 }
@@ -69,7 +70,7 @@ static RUNS: [(&[u8], &[u8], &[u8], &[u8]); 4] = [
 /// Runs a script over a disk, and looks at what it says, at what is listed then and at what is counted. Answers
 /// the disk that a power failure leaves, without the log's first segment.
 fn run_next(
-    rt: &(impl Abort + AllocGlobal),
+    rt: &(impl Abort + AllocGlobal + Wait),
     row: (&[u8], &[u8], &[u8], &[u8]),
     disk: Disk,
 ) -> Disk {
@@ -153,7 +154,7 @@ fn puts_of(rt: &(impl Abort + AllocGlobal), puts: usize) -> Vec<u8> {
 
 /// Whether a run that puts so many of the keys makes a checkpoint.
 fn is_checkpointed(
-    rt: &(impl Abort + AllocGlobal),
+    rt: &(impl Abort + AllocGlobal + Wait),
     config: &[u8],
     puts: usize,
     rest: &[u8],
@@ -180,7 +181,7 @@ fn a_checkpoint_is_made_where_one_is_due(rt: HostRuntime) {
 
 /// What is wrong with a file.
 #[derive(Clone, Copy)]
-enum Damage {
+pub enum Damage {
     /// These bits of the byte at this offset are turned.
     Turned(usize, u8),
     /// It has so many bytes, which are all 238.
@@ -246,7 +247,7 @@ fn without(rt: &(impl Abort + AllocGlobal), disk: &Disk, file: &str) -> Disk {
 }
 
 /// A disk of which one file is damaged.
-fn make_damage(rt: &(impl Abort + AllocGlobal), disk: &Disk, file: &str, how: Damage) -> Disk {
+pub fn make_damage(rt: &(impl Abort + AllocGlobal), disk: &Disk, file: &str, how: Damage) -> Disk {
     let mut left = without(rt, disk, file);
     if let Some(bytes) = damaged(rt, file_bytes(disk, file), how) {
         put_file(rt, &mut left, file, &bytes);
@@ -261,7 +262,7 @@ fn make_damage(rt: &(impl Abort + AllocGlobal), disk: &Disk, file: &str, how: Da
 const SCRIPT: &[u8] = b"put 0 a 1\ncheckpoint\nput 0 a 2\ncheckpoint\nput 0 a 3\n";
 
 /// The run of that script.
-fn run_whole(rt: &(impl Abort + AllocGlobal)) -> Run {
+fn run_whole(rt: &(impl Abort + AllocGlobal + Wait)) -> Run {
     run_anew(rt, SCRIPT)
 }
 
@@ -277,7 +278,7 @@ fn disk_damaged(rt: &(impl Abort + AllocGlobal), left: &Run, damages: &[(&str, D
 /// Looks at what a command reports and prints over the store that a run left, of which files are damaged. Answers
 /// what it leaves after a power failure.
 fn look_damaged(
-    rt: &(impl Abort + AllocGlobal),
+    rt: &(impl Abort + AllocGlobal + Wait),
     left: &Run,
     damages: &[(&str, Damage)],
     word: &str,
@@ -294,7 +295,7 @@ const BEGUN: &[u8] = b"1:12483 put 0 a 2\n1:12513 snapshot 0001000000000001\n1:1
 1:16679 put 0 a 3\n1:16709 snapshot 0001000000000001\nend 1:20834\n";
 
 /// Looks at a store whose second start marker has another byte: the checkpoint before counts.
-fn look_at_start(rt: &(impl Abort + AllocGlobal), left: &Run, at: usize) {
+fn look_at_start(rt: &(impl Abort + AllocGlobal + Wait), left: &Run, at: usize) {
     let start = [(STARTS, Damage::Turned(at, 16))];
     look_damaged(rt, left, &start, "run", 0, b"value 3\n");
     look_damaged(rt, left, &start, "wal", 0, BEGUN);
@@ -315,7 +316,7 @@ fn look_at_file(rt: &(impl Abort + AllocGlobal), left: &Run, ended: &Disk, file:
 
 /// Looks at a store whose second end marker has another byte: the checkpoint is ended from the log. Of its pages,
 /// which is one, a half is torn besides.
-fn look_at_end(rt: &(impl Abort + AllocGlobal), left: &Run, at: usize) {
+fn look_at_end(rt: &(impl Abort + AllocGlobal + Wait), left: &Run, at: usize) {
     let end = [
         (ENDS, Damage::Turned(at, 16)),
         (PAGES, Damage::Overwritten(4_096, 6_144)),
@@ -362,8 +363,8 @@ static DAMAGES: [(&str, Damage, &str, u8, &[u8]); 11] = [
     (PAGES, Damage::Cut(8_192), "run", 5, LAST),
     (PAGES, Damage::Cut(8_192), "verify", 5, LAST),
     (PAGES, Damage::Turned(168, 3), "verify", 5, META),
-    // A file of a partition without rows, which has a page or a part of one.
-    (OTHER_PAGES, Damage::Filled(4_096), "run", 5, OTHER),
+    // A file of a partition without rows, which has a page or a part of one. No line reads it.
+    (OTHER_PAGES, Damage::Filled(4_096), "run", 0, b"value 3\n"),
     (OTHER_PAGES, Damage::Filled(4_096), "verify", 5, OTHER),
     (OTHER_PAGES, Damage::Filled(4_095), "run", 0, b"value 3\n"),
 ];

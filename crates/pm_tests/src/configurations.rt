@@ -9,6 +9,7 @@ use pm_disk_mem::Pick;
 use pm_frame::LOGICAL;
 use std::fmt::Debug;
 use std::process::Abort;
+use std::sync::Wait;
 
 /// Configurations that are refused, each with what is printed.
 static REFUSED: [(&[u8], &[u8]); 12] = [
@@ -33,13 +34,13 @@ static REFUSED: [(&[u8], &[u8]); 12] = [
 ];
 
 /// Runs a script over an empty disk with a configuration.
-fn run_fresh(rt: &(impl Abort + AllocGlobal), config: &[u8], script: &[u8]) -> Run {
+fn run_fresh(rt: &(impl Abort + AllocGlobal + Wait), config: &[u8], script: &[u8]) -> Run {
     run_configured(rt, config, script, no_files(rt))
 }
 
 /// Looks at a run whose configuration is refused: the folder was bound, the configuration read and
 /// the fault printed, and no other call was made.
-fn look_at_refused(rt: &(impl Abort + AllocGlobal), config: &[u8], wanted: &[u8]) {
+fn look_at_refused(rt: &(impl Abort + AllocGlobal + Wait), config: &[u8], wanted: &[u8]) {
     let run = run_fresh(rt, config, b"put 0 a 1\n");
     look_at_run(rt, &run, 2, 0, wanted, &config);
     look_at_order(rt, &run, &[], &config);
@@ -63,7 +64,7 @@ fn with_blanks(rt: &(impl Abort + AllocGlobal), count: usize) -> Vec<u8> {
 }
 
 /// Looks at the longest configuration that is taken.
-fn look_at_longest(rt: &(impl Abort + AllocGlobal)) {
+fn look_at_longest(rt: &(impl Abort + AllocGlobal + Wait)) {
     let longest = with_blanks(rt, 65_534);
     same(rt, "length", longest.len() as u64, 65_536, &"longest");
     look_at_status(rt, &run_fresh(rt, &longest, b""), 0, &"longest");
@@ -94,7 +95,12 @@ fn look_at_same_log(rt: &(impl Abort + AllocGlobal), run: &Run, earlier: &Run, c
 
 /// Looks at a run over the store that another run left, whose configuration asks for another shape:
 /// its first field that differs is named, and the log is as it was.
-fn look_at_differing(rt: &(impl Abort + AllocGlobal), earlier: &Run, config: &[u8], wanted: &[u8]) {
+fn look_at_differing(
+    rt: &(impl Abort + AllocGlobal + Wait),
+    earlier: &Run,
+    config: &[u8],
+    wanted: &[u8],
+) {
     let run = run_configured(rt, config, b"put 0 b 2\n", earlier.disk(rt));
     look_at_run(rt, &run, 2, 0, wanted, &config);
     look_at_same_log(rt, &run, earlier, &config);
@@ -118,7 +124,7 @@ static DIFFERING: [(&[u8], &[u8]); 4] = [
 ];
 
 /// Looks at a run over the store whose configuration asks for the same shape.
-fn look_at_same_shape(rt: &(impl Abort + AllocGlobal), earlier: &Run) {
+fn look_at_same_shape(rt: &(impl Abort + AllocGlobal + Wait), earlier: &Run) {
     let config = b"{\"max_rows\": 7, \"workers\": 3}".as_slice();
     let run = run_configured(rt, config, b"get 0 a\n", earlier.disk(rt));
     look_at_reply(rt, &run, 0, b"value 1\n", &config);
@@ -138,14 +144,14 @@ fn a_store_keeps_its_shape(rt: HostRuntime) {
 const ONE_ROW: &[u8] = b"{\"max_rows\": 1, \"partitions\": 1}";
 
 /// A log that ends with a record that meets a full partition: another key's put.
-fn overfull_log(rt: &(impl Abort + AllocGlobal)) -> Vec<u8> {
+fn overfull_log(rt: &(impl Abort + AllocGlobal + Wait)) -> Vec<u8> {
     let first = run_fresh(rt, ONE_ROW, b"put 0 a 1\n");
     with_frame(rt, &log_left(rt, &first, Pick::Kept), LOGICAL, OTHER_PUT)
 }
 
 /// Looks at the status of a run over a log with this configuration, and at what it says.
 fn look_at_log(
-    rt: &(impl Abort + AllocGlobal),
+    rt: &(impl Abort + AllocGlobal + Wait),
     log: &[u8],
     config: &[u8],
     status: u8,

@@ -8,10 +8,12 @@ use crate::runs::{
 };
 use pm_disk_mem::Pick;
 use std::process::Abort;
+use std::sync::Wait;
 
 /// Two partitions, and the shortest segments: the log goes on into the second one before the second checkpoint,
-/// which drops the first one.
-pub const CONFIG: &[u8] = b"{\"partitions\": 2, \"page_size\": 8192, \"segment_bytes\": 65536}";
+/// which drops the first one. There are few page frames, since each of the many openings makes them.
+pub const CONFIG: &[u8] = b"{\"partitions\": 2, \"page_size\": 8192, \"segment_bytes\": 65536, \
+\"workers\": 1, \"frames\": 64}";
 
 /// The run's script: twelve lines that are accepted, of which one is a remove, and eleven that are
 /// not. Two of these ask for checkpoints and one is a scan, each a batch by itself.
@@ -101,7 +103,7 @@ fn is_within(said: &[u8], bounds: Bounds) -> bool {
 }
 
 /// Restarts over what a crash left, and looks at the answers, which go on from what an earlier restart said.
-fn restart(rt: &(impl Abort + AllocGlobal), disk: Disk, bounds: Bounds, earlier: &[u8]) {
+fn restart(rt: &(impl Abort + AllocGlobal + Wait), disk: Disk, bounds: Bounds, earlier: &[u8]) {
     let run = run_configured(rt, CONFIG, QUESTIONS, disk);
     let said = run.said();
     look_at_status(rt, &run, 0, &said);
@@ -110,7 +112,7 @@ fn restart(rt: &(impl Abort + AllocGlobal), disk: Disk, bounds: Bounds, earlier:
 }
 
 /// Restarts again over each crash of a restart.
-fn restart_again(rt: &(impl Abort + AllocGlobal), stopped: &Run, bounds: Bounds) {
+fn restart_again(rt: &(impl Abort + AllocGlobal + Wait), stopped: &Run, bounds: Bounds) {
     for pick in &PICKS {
         restart(rt, stopped.crashed(rt, *pick), bounds, stopped.said());
     }
@@ -119,7 +121,7 @@ fn restart_again(rt: &(impl Abort + AllocGlobal), stopped: &Run, bounds: Bounds)
 /// Restarts over what this crash left of the script's run, stopped at this call, and again over each crash of
 /// that. Answers whether it was done.
 fn restart_stopped(
-    rt: &(impl Abort + AllocGlobal),
+    rt: &(impl Abort + AllocGlobal + Wait),
     run: &Run,
     pick: Pick,
     bounds: Bounds,
@@ -131,7 +133,12 @@ fn restart_stopped(
 }
 
 /// Restarts over what this crash left of the script's run, stopped at each call.
-fn restart_at_each_stop(rt: &(impl Abort + AllocGlobal), run: &Run, pick: Pick, bounds: Bounds) {
+fn restart_at_each_stop(
+    rt: &(impl Abort + AllocGlobal + Wait),
+    run: &Run,
+    pick: Pick,
+    bounds: Bounds,
+) {
     for stop in 0..CALLS_MAX {
         if restart_stopped(rt, run, pick, bounds, stop) {
             return holds(rt, "the restart is done late", stop > 12, &stop);
@@ -141,14 +148,14 @@ fn restart_at_each_stop(rt: &(impl Abort + AllocGlobal), run: &Run, pick: Pick, 
 }
 
 /// Checks the store that this crash of a run left.
-fn check_store(rt: &(impl Abort + AllocGlobal), run: &Run, pick: Pick) {
+fn check_store(rt: &(impl Abort + AllocGlobal + Wait), run: &Run, pick: Pick) {
     let checked = call_over(rt, "verify", b"", run.crashed(rt, pick));
     look_at_status(rt, &checked, 0, &pick);
 }
 
 /// Checks the store that each crash of one run left and restarts over it, and, where that is asked for, restarts
 /// over some of them stopped at each call.
-fn crash(rt: &(impl Abort + AllocGlobal), run: &Run, stops: bool) {
+fn crash(rt: &(impl Abort + AllocGlobal + Wait), run: &Run, stops: bool) {
     let bounds = bounds_of(run);
     for pick in &picks_of(rt, run) {
         check_store(rt, run, *pick);
@@ -160,12 +167,12 @@ fn crash(rt: &(impl Abort + AllocGlobal), run: &Run, stops: bool) {
 }
 
 /// Runs the script over an empty disk, up to a stop.
-fn run_stopped(rt: &(impl Abort + AllocGlobal), stop: Option<u64>) -> Run {
+fn run_stopped(rt: &(impl Abort + AllocGlobal + Wait), stop: Option<u64>) -> Run {
     run_until(rt, CONFIG, SCRIPT, no_files(rt), stop)
 }
 
 /// How many calls the run of the script makes, which drops the log's first segment.
-fn count_calls(rt: &(impl Abort + AllocGlobal)) -> u64 {
+fn count_calls(rt: &(impl Abort + AllocGlobal + Wait)) -> u64 {
     let run = run_stopped(rt, None);
     look_at_status(rt, &run, 0, &"whole");
     look_at_lines(rt, &run, 23, &"whole");
@@ -175,7 +182,7 @@ fn count_calls(rt: &(impl Abort + AllocGlobal)) -> u64 {
 }
 
 /// Crashes the run that is stopped at this call, of so many.
-fn crash_at(rt: &(impl Abort + AllocGlobal), stop: u64, calls: u64) {
+fn crash_at(rt: &(impl Abort + AllocGlobal + Wait), stop: u64, calls: u64) {
     let run = run_stopped(rt, Some(stop));
     let status = if stop == calls { 0 } else { 3 };
     look_at_status(rt, &run, status, &stop);

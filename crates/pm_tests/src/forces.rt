@@ -13,6 +13,7 @@ use pm_disk::{Host, MarkFile};
 use std::fs;
 use std::process::Abort;
 use std::rt::Files;
+use std::sync::Wait;
 
 /// The folder of the store.
 const FOLDER: &str = "lasts";
@@ -39,7 +40,7 @@ const DEEP_SEGMENT: &str = "deep/down/store/wal-0000000000000001.seg";
 static ABOVE: [&str; 3] = [".", "deep", "deep/down"];
 
 /// Makes a run over a folder, and looks at the status.
-pub fn run_over<H: Host>(rt: &(impl Abort + AllocGlobal), host: &mut H, folder: &str)
+pub fn run_over<H: Host>(rt: &(impl Abort + AllocGlobal + Wait), host: &mut H, folder: &str)
     requires { (H.state host.old).access.is_lent ≡ false }
 {
     let report = call_with(rt, &["run", folder], host);

@@ -4,6 +4,7 @@ use crate::looks::holds;
 use crate::runs::{Disk, Run, has_file, look_at_status, no_files, run_configured, run_until};
 use pm_disk_mem::Pick;
 use std::process::Abort;
+use std::sync::Wait;
 
 /// The keys a to k are of different partitions of 64, so that the first put of each logs three pages of 8,192
 /// bytes: three puts take more than a segment, and less than two.
@@ -23,7 +24,7 @@ const CALLS_MAX: u64 = 30;
 
 /// Runs a script, up to a stop, over what a power failure after another run left.
 fn run_after(
-    rt: &(impl Abort + AllocGlobal),
+    rt: &(impl Abort + AllocGlobal + Wait),
     before: &Run,
     script: &[u8],
     stop: Option<u64>,
@@ -47,7 +48,7 @@ fn has_all(were: [bool; 5], are: [bool; 5]) -> bool {
 }
 
 /// Runs a script over what another run left, and stops it right before a segment is gone for good.
-fn run_until_dropped(rt: &(impl Abort + AllocGlobal), before: &Run, script: &[u8]) -> Run {
+fn run_until_dropped(rt: &(impl Abort + AllocGlobal + Wait), before: &Run, script: &[u8]) -> Run {
     let whole = run_after(rt, before, script, None);
     let were = segments_there(rt, before);
     for left in 1..CALLS_MAX {
@@ -68,7 +69,7 @@ fn look_at_segments(rt: &(impl Abort + AllocGlobal), run: &Run, there: [bool; 5]
 
 /// The same, where it leaves these of the first segments.
 fn run_stopped(
-    rt: &(impl Abort + AllocGlobal),
+    rt: &(impl Abort + AllocGlobal + Wait),
     before: &Run,
     script: &[u8],
     there: [bool; 5],
@@ -80,7 +81,7 @@ fn run_stopped(
 
 /// A whole checkpoint, and two that are stopped before they remove a segment. The first begins in segment 2, the
 /// second one in segment 3, and the third one in segment 4: its start marker doesn't name segment 2.
-fn run_twice_stopped(rt: &(impl Abort + AllocGlobal)) -> Run {
+fn run_twice_stopped(rt: &(impl Abort + AllocGlobal + Wait)) -> Run {
     let first = b"put 0 a 1\nput 0 b 1\nput 0 c 1\ncheckpoint\n";
     let second = b"put 0 d 1\nput 0 e 1\nput 0 f 1\ncheckpoint\n";
     let third = b"put 0 g 1\nput 0 h 1\nput 0 i 1\ncheckpoint\n";

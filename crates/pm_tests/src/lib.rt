@@ -3,6 +3,8 @@
 #![tactic(auto)]
 
 #[cfg(test)]
+mod bad_pages;
+#[cfg(test)]
 mod batches;
 #[cfg(test)]
 mod calls;
@@ -18,6 +20,8 @@ mod crashes;
 mod drawn;
 #[cfg(test)]
 mod evaluation;
+#[cfg(test)]
+mod few_frames;
 #[cfg(test)]
 mod file_buffers;
 #[cfg(test)]
@@ -44,6 +48,8 @@ mod log_writers;
 #[cfg(test)]
 mod logs;
 #[cfg(test)]
+mod long_logs;
+#[cfg(test)]
 mod looks;
 #[cfg(test)]
 mod memory_calls;
@@ -53,6 +59,10 @@ mod memory_hosts;
 mod memory_images;
 #[cfg(test)]
 mod noted;
+#[cfg(test)]
+mod page_hosts;
+#[cfg(test)]
+mod page_reads;
 pub mod pages;
 #[cfg(test)]
 mod pairs;
@@ -67,6 +77,8 @@ mod refusals;
 #[cfg(test)]
 mod replies;
 pub mod rounds;
+#[cfg(test)]
+mod rows;
 #[cfg(test)]
 mod runs;
 #[cfg(test)]

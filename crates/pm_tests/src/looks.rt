@@ -25,3 +25,18 @@ pub fn same_bytes(rt: &impl Abort, what: &str, found: &[u8], wanted: &[u8], case
 pub fn same_lines(rt: &impl Abort, found: &[u32], wanted: &[u32], case: &impl Debug) {
     assert_eq!(rt; found, wanted, "accepted lines: {case:?}");
 }
+
+/// Where bytes differ first from those that are wanted.
+fn first_difference(found: &[u8], wanted: &[u8]) -> Option<usize> {
+    found
+        .iter()
+        .zip(wanted)
+        .position(|(found, wanted)| found != wanted)
+}
+
+/// Looks that a long text is the one that is wanted, and says where it differs.
+pub fn same_text(rt: &impl Abort, what: &str, found: &[u8], wanted: &[u8], case: &impl Debug) {
+    let lens = (found.len(), wanted.len());
+    let first = first_difference(found, wanted);
+    assert!(rt; found == wanted, "{what}: {case:?} {lens:?} {first:?}");
+}

@@ -10,6 +10,7 @@ use pm_disk_mem::Pick;
 use pm_frame::{CP_BEGIN, DELTA, LOGICAL, RESTART, SEAL, SNAPSHOT};
 use std::fmt::Debug;
 use std::process::Abort;
+use std::sync::Wait;
 
 /// A shape: pages of 4,096 bytes, one partition of one row, and segments of 65,536 bytes.
 const ONE_ROW: &[u8] = &[0, 16, 0, 0, 1, 0, 1, 0, 1, 0, 0, 0, 0, 0, 1, 0];
@@ -83,7 +84,13 @@ fn look_at_log(
 
 /// Runs over a store with this log, and looks that it is refused at this place, and that so many bytes were
 /// appended.
-fn refuse(rt: &(impl Abort + AllocGlobal), config: &[u8], log: &[u8], said: &[u8], added: u64) {
+fn refuse(
+    rt: &(impl Abort + AllocGlobal + Wait),
+    config: &[u8],
+    log: &[u8],
+    said: &[u8],
+    added: u64,
+) {
     let run = run_configured(rt, config, b"put 0 a 2\nget 0 a\n", disk_of(rt, log));
     look_at_run(rt, &run, 5, 0, said, &said);
     look_at_order(rt, &run, &[], &said);
@@ -92,7 +99,7 @@ fn refuse(rt: &(impl Abort + AllocGlobal), config: &[u8], log: &[u8], said: &[u8
 
 /// Runs over stores whose log ends with one of these frames, and looks that each is refused.
 fn refuse_after(
-    rt: &(impl Abort + AllocGlobal),
+    rt: &(impl Abort + AllocGlobal + Wait),
     log: &[u8],
     frames: &[(u8, &[u8])],
     said: &[u8],
@@ -117,7 +124,7 @@ fn a_record_that_cannot_stand_there_is_refused(rt: HostRuntime) {
 }
 
 /// Looks at a run over a log of a shape of one row.
-fn look_at_one_row(rt: &(impl Abort + AllocGlobal), log: &[u8]) {
+fn look_at_one_row(rt: &(impl Abort + AllocGlobal + Wait), log: &[u8]) {
     let script = b"put 0 a 1\nput 0 b 2\nput 0 a 3\n";
     let run = run_configured(rt, ONE_ROW_ASKED, script, disk_of(rt, log));
     look_at_reply(rt, &run, 0, b"ok\nerror full\nok\n", &"one row");

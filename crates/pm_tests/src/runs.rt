@@ -9,6 +9,7 @@ use pm_frame::sum;
 use pm_top::{Report, top};
 use std::fmt::Debug;
 use std::process::Abort;
+use std::sync::Wait;
 
 /// The file of the log's first segment.
 pub const SEGMENT: &str = "wal-0000000000000001.seg";
@@ -165,7 +166,11 @@ fn owned(rt: &(impl Abort + AllocGlobal), words: &[&str]) -> Vec<String> {
 }
 
 /// What the top call reports that is made with these words.
-pub fn call_with<H: Host>(rt: &(impl Abort + AllocGlobal), words: &[&str], host: &mut H) -> Report
+pub fn call_with<H: Host>(
+    rt: &(impl Abort + AllocGlobal + Wait),
+    words: &[&str],
+    host: &mut H,
+) -> Report
     requires { (H.state host.old).access.is_lent ≡ false }
 {
     let words = owned(rt, words);
@@ -189,7 +194,7 @@ pub fn host_over(
 }
 
 /// Makes the call of these words over a host.
-pub fn run_host(rt: &(impl Abort + AllocGlobal), words: &[&str], host: MemHost) -> Run
+pub fn run_host(rt: &(impl Abort + AllocGlobal + Wait), words: &[&str], host: MemHost) -> Run
     requires { host.is_lent ≡ false }
 {
     let mut host = host;
@@ -199,7 +204,7 @@ pub fn run_host(rt: &(impl Abort + AllocGlobal), words: &[&str], host: MemHost) 
 
 /// Runs a script over a disk with a configuration, up to a stop.
 pub fn run_until(
-    rt: &(impl Abort + AllocGlobal),
+    rt: &(impl Abort + AllocGlobal + Wait),
     config: &[u8],
     script: &[u8],
     disk: Disk,
@@ -214,7 +219,7 @@ pub fn run_until(
 
 /// Runs a script over a disk with a configuration.
 pub fn run_configured(
-    rt: &(impl Abort + AllocGlobal),
+    rt: &(impl Abort + AllocGlobal + Wait),
     config: &[u8],
     script: &[u8],
     disk: Disk,
@@ -223,22 +228,27 @@ pub fn run_configured(
 }
 
 /// Makes the call that this word names over a disk, beside this input.
-pub fn call_over(rt: &(impl Abort + AllocGlobal), word: &str, input: &[u8], disk: Disk) -> Run {
+pub fn call_over(
+    rt: &(impl Abort + AllocGlobal + Wait),
+    word: &str,
+    input: &[u8],
+    disk: Disk,
+) -> Run {
     run_host(rt, &[word, "d"], host_over(rt, input, b"", disk, &[], None))
 }
 
 /// Runs a script over a disk.
-pub fn run_over(rt: &(impl Abort + AllocGlobal), script: &[u8], disk: Disk) -> Run {
+pub fn run_over(rt: &(impl Abort + AllocGlobal + Wait), script: &[u8], disk: Disk) -> Run {
     call_over(rt, "run", script, disk)
 }
 
 /// Runs a script over an empty disk.
-pub fn run_anew(rt: &(impl Abort + AllocGlobal), script: &[u8]) -> Run {
+pub fn run_anew(rt: &(impl Abort + AllocGlobal + Wait), script: &[u8]) -> Run {
     run_over(rt, script, no_files(rt))
 }
 
 /// The log's bytes after a script over an empty disk.
-pub fn log_after(rt: &(impl Abort + AllocGlobal), script: &[u8]) -> Vec<u8> {
+pub fn log_after(rt: &(impl Abort + AllocGlobal + Wait), script: &[u8]) -> Vec<u8> {
     log_left(rt, &run_anew(rt, script), Pick::Kept)
 }
 

@@ -5,9 +5,11 @@ ghost use Rattle.std.specs.Prelude.{◌≡◌, ◌<◌, false};
 use crate::looks::{holds, same};
 use crate::pieces::PieceHost;
 use crate::runs::{
-    Run, add, call_with, copy_of, host_over, look_at_lines, look_at_run, look_at_status, no_files,
+    Disk, Run, add, call_with, copy_of, host_over, look_at_lines, look_at_run, look_at_status,
+    no_files,
 };
 use std::process::Abort;
+use std::sync::Wait;
 
 /// A host over an empty disk that gives this input in pieces of this size, and refuses the calls of
 /// these numbers.
@@ -25,7 +27,7 @@ fn host_of(
 }
 
 /// Makes the call of these words over a host that gives its input in pieces.
-fn run_pieces(rt: &(impl Abort + AllocGlobal), words: &[&str], pieces: PieceHost) -> Run
+fn run_pieces(rt: &(impl Abort + AllocGlobal + Wait), words: &[&str], pieces: PieceHost) -> Run
     requires { pieces.host.is_lent ≡ false }
 {
     let mut pieces = pieces;
@@ -36,7 +38,7 @@ fn run_pieces(rt: &(impl Abort + AllocGlobal), words: &[&str], pieces: PieceHost
 
 /// The top call over an input in pieces of this size, where the calls of these numbers are refused.
 pub fn run_in_pieces(
-    rt: &(impl Abort + AllocGlobal),
+    rt: &(impl Abort + AllocGlobal + Wait),
     words: &[&str],
     input: &[u8],
     piece: usize,
@@ -47,8 +49,28 @@ pub fn run_in_pieces(
     run_pieces(rt, words, host_of(rt, input, piece, refused))
 }
 
+/// Runs a script in pieces of this size over a disk with a configuration.
+pub fn run_pieces_over(
+    rt: &(impl Abort + AllocGlobal + Wait),
+    config: &[u8],
+    script: &[u8],
+    piece: usize,
+    disk: Disk,
+) -> Run
+    requires { 0 < piece }
+{
+    let host = host_over(rt, script, config, disk, &[], None);
+    run_pieces(rt, &["run", "d"], PieceHost { host, piece })
+}
+
 /// Runs a script in pieces of this size, and looks at how many lines were answered and at what was said.
-fn answer(rt: &(impl Abort + AllocGlobal), script: &[u8], piece: usize, lines: u64, wanted: &[u8])
+fn answer(
+    rt: &(impl Abort + AllocGlobal + Wait),
+    script: &[u8],
+    piece: usize,
+    lines: u64,
+    wanted: &[u8],
+)
     requires { 0 < piece }
 {
     let run = run_in_pieces(rt, &["run", "d"], script, piece, &[]);
@@ -117,7 +139,12 @@ static SCRIPTS: [(&[u8], &[u8], u64); 21] = [
 ];
 
 /// Runs a script in pieces of one byte, of three, and at once.
-fn answer_in_pieces(rt: &(impl Abort + AllocGlobal), script: &[u8], lines: u64, wanted: &[u8]) {
+fn answer_in_pieces(
+    rt: &(impl Abort + AllocGlobal + Wait),
+    script: &[u8],
+    lines: u64,
+    wanted: &[u8],
+) {
     answer(rt, script, 1, lines, wanted);
     answer(rt, script, 3, lines, wanted);
     answer(rt, script, 65_536, lines, wanted);
@@ -139,7 +166,7 @@ fn put_of_length(rt: &(impl Abort + AllocGlobal), length: usize) -> Vec<u8> {
 }
 
 /// Puts a line of so many bytes and reads its key, and looks at how the replies begin.
-fn measure(rt: &(impl Abort + AllocGlobal), length: usize, piece: usize, wanted: &[u8])
+fn measure(rt: &(impl Abort + AllocGlobal + Wait), length: usize, piece: usize, wanted: &[u8])
     requires { 0 < piece }
 {
     let script = put_of_length(rt, length);
@@ -168,7 +195,7 @@ fn lines_are_measured_to_the_byte(rt: HostRuntime) {
 
 /// Runs other words, and looks at the status and at what is said, where the call of this number is refused.
 fn refuse_words(
-    rt: &(impl Abort + AllocGlobal),
+    rt: &(impl Abort + AllocGlobal + Wait),
     words: &[&str],
     refused: u64,
     status: u8,
@@ -226,7 +253,7 @@ fn other_words_are_refused(rt: HostRuntime) {
 
 /// Runs so many empty lines, of which the first 4,000,000 are answered, and looks for this status
 /// and for how the replies end.
-fn run_to_the_limit(rt: &(impl Abort + AllocGlobal), lines: usize, status: u8, tail: &[u8]) {
+fn run_to_the_limit(rt: &(impl Abort + AllocGlobal + Wait), lines: usize, status: u8, tail: &[u8]) {
     let script = vec![in rt.alloc(); b'\n'; lines].expect(rt, "a script");
     let run = run_in_pieces(rt, &["run", "d"], &script, 65_536, &[]);
     look_at_status(rt, &run, status, &lines);

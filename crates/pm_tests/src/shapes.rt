@@ -4,9 +4,10 @@
 use crate::looks::holds;
 use crate::runs::{Run, add, look_at_lines, look_at_status, no_files, run_configured};
 use std::process::Abort;
+use std::sync::Wait;
 
 /// How many lines the script has before its scans.
-const LINES: u32 = 12_000;
+const LINES: u32 = 6_000;
 
 /// How many keys each cache may have.
 const KEYS: u32 = 1_500;
@@ -16,7 +17,7 @@ const FIRST: &[u8] = b"{\"partitions\": 4, \"page_size\": 4096}";
 
 /// Other numbers of partitions with its size of page, and each other size with one number of partitions. The
 /// last ones begin a checkpoint after 64 KiB of log, where one percent of the frames is logged, and where the
-/// frames run short.
+/// frames run short: there segments are short too, so that those before each checkpoint are gone.
 static OTHERS: [&[u8]; 10] = [
     b"{\"partitions\": 1, \"page_size\": 4096}",
     b"{\"partitions\": 3, \"page_size\": 4096}",
@@ -27,11 +28,11 @@ static OTHERS: [&[u8]; 10] = [
     b"{\"partitions\": 3, \"page_size\": 16384}",
     b"{\"page_size\": 1024, \"segment_bytes\": 65536, \"checkpoint_bytes\": 65536}",
     b"{\"page_size\": 2048, \"segment_bytes\": 1048576, \"dirty_percent\": 1}",
-    b"{\"workers\": 1, \"frames\": 64, \"buffer_pages\": 32, \"dirty_percent\": 100}",
+    b"{\"workers\": 1, \"frames\": 64, \"buffer_pages\": 32, \"dirty_percent\": 100, \"segment_bytes\": 65536}",
 ];
 
 /// The next draw of a generator.
-fn next_draw(draw: u32) -> u32 {
+pub fn next_draw(draw: u32) -> u32 {
     draw.wrapping_mul(1_664_525).wrapping_add(1_013_904_223)
 }
 
@@ -63,7 +64,7 @@ fn script(rt: &(impl Abort + AllocGlobal)) -> Vec<u8> {
 }
 
 /// Runs the script over an empty store with this configuration.
-fn run_to_its_end(rt: &(impl Abort + AllocGlobal), config: &[u8], script: &[u8]) -> Run {
+fn run_to_its_end(rt: &(impl Abort + AllocGlobal + Wait), config: &[u8], script: &[u8]) -> Run {
     let run = run_configured(rt, config, script, no_files(rt));
     look_at_status(rt, &run, 0, &config);
     look_at_lines(rt, &run, u64::from(LINES) + 2, &config);
@@ -71,7 +72,12 @@ fn run_to_its_end(rt: &(impl Abort + AllocGlobal), config: &[u8], script: &[u8])
 }
 
 /// Looks that a run with another configuration says the same as the first one.
-fn look_at_other(rt: &(impl Abort + AllocGlobal), first: &Run, config: &[u8], script: &[u8]) {
+fn look_at_other(
+    rt: &(impl Abort + AllocGlobal + Wait),
+    first: &Run,
+    config: &[u8],
+    script: &[u8],
+) {
     let run = run_to_its_end(rt, config, script);
     holds(rt, "the same replies", run.said() == first.said(), &config);
 }

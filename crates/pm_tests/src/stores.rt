@@ -10,6 +10,7 @@ use crate::runs::{
 use pm_disk_mem::Pick;
 use pm_frame::{CP_BEGIN, DELTA, LOGICAL, SNAPSHOT};
 use std::process::Abort;
+use std::sync::Wait;
 
 /// Scripts that are run one after another, each with what it says, and with how long the log is then, where no
 /// page is logged by its ranges. A RESTART has 37 bytes, a put of one byte each of key and value 30, the begin
@@ -61,7 +62,7 @@ static RUNS: [(&[u8], &[u8], Option<usize>); 11] = [
 /// Runs a script over a disk, and looks at what it says and at how long the log is, of which nothing is
 /// pending. Answers the disk that it leaves.
 fn run_next(
-    rt: &(impl Abort + AllocGlobal),
+    rt: &(impl Abort + AllocGlobal + Wait),
     script: &[u8],
     disk: Disk,
     said: &[u8],
@@ -100,7 +101,7 @@ fn an_empty_script_leaves_a_restart_and_nothing_pending(rt: HostRuntime) {
 }
 
 /// A run that reads two keys over this log.
-fn read_two(rt: &(impl Abort + AllocGlobal), log: &[u8]) -> Run {
+fn read_two(rt: &(impl Abort + AllocGlobal + Wait), log: &[u8]) -> Run {
     let run = run_over(rt, b"get 0 a\nget 0 b\n", disk_of(rt, log));
     look_at_status(rt, &run, 0, &"read two");
     run
@@ -120,7 +121,7 @@ fn told_by(whole: usize) -> (&'static [u8], usize) {
 
 /// Looks at what is answered over a log of which the first so many bytes are whole frames, and at the log that
 /// is left: a RESTART stands after those, and the pages of each put that is replayed.
-fn look_at(rt: &(impl Abort + AllocGlobal), log: &[u8], whole: usize) {
+fn look_at(rt: &(impl Abort + AllocGlobal + Wait), log: &[u8], whole: usize) {
     let run = read_two(rt, log);
     let (said, puts) = told_by(whole);
     look_at_said(rt, &run, said, &whole);
@@ -141,14 +142,14 @@ fn with_other_byte(rt: &(impl Abort + AllocGlobal), log: &[u8], at: usize) -> Ve
 }
 
 /// Looks at a log that is cut at this byte, and at one in which the byte is another.
-fn look_at_byte(rt: &(impl Abort + AllocGlobal), log: &[u8], at: usize) {
+fn look_at_byte(rt: &(impl Abort + AllocGlobal + Wait), log: &[u8], at: usize) {
     let whole = whole_within(&FRAMES, at);
     look_at(rt, &log[..at.min(log.len())], whole);
     look_at(rt, &with_other_byte(rt, log, at), whole);
 }
 
 /// The log of two puts.
-fn log_of_two(rt: &(impl Abort + AllocGlobal)) -> Vec<u8> {
+fn log_of_two(rt: &(impl Abort + AllocGlobal + Wait)) -> Vec<u8> {
     let log = log_after(rt, b"put 0 a 1\nput 0 b 2\n");
     let whole = whole_within(&FRAMES, log.len());
     same(rt, "log", log.len() as u64, whole as u64, &"two puts");
@@ -171,7 +172,7 @@ fn a_log_ends_before_its_first_torn_or_damaged_frame(rt: HostRuntime) {
 }
 
 /// Looks at a log of a RESTART and a frame of another place.
-fn look_at_other_place(rt: &(impl Abort + AllocGlobal)) {
+fn look_at_other_place(rt: &(impl Abort + AllocGlobal + Wait)) {
     let mut log = copy_of(rt, &FIRST_FRAME);
     add(rt, &mut log, &frame(rt, LOGICAL, 38, PUT));
     look_at(rt, &log, 37);

@@ -12,6 +12,7 @@ use crate::lasting::{count_calls, refuse_another};
 use crate::recorded::recorded_host;
 use pm_disk::Host;
 use std::process::Abort;
+use std::sync::Wait;
 
 /// Something that is done over a host that isn't bound yet.
 #[derive(Clone, Copy)]
@@ -27,7 +28,7 @@ pub enum Task {
 }
 
 fn do_task<H: Host>(
-    rt: &(impl Abort + AllocGlobal),
+    rt: &(impl Abort + AllocGlobal + Wait),
     real: &HostRuntime,
     host: &mut H,
     task: Task,
@@ -46,7 +47,7 @@ fn do_task<H: Host>(
 /// Does it over a new host over real files that write the trace, beside a console with this input. The folder
 /// is that of a run.
 pub fn over_files(
-    rt: &(impl Abort + AllocGlobal),
+    rt: &(impl Abort + AllocGlobal + Wait),
     real: &HostRuntime,
     input: &'static [u8],
     task: Task,

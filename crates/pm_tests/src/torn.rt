@@ -7,10 +7,11 @@ use crate::runs::{
 };
 use pm_disk_mem::Pick;
 use std::process::Abort;
+use std::sync::Wait;
 
 /// Runs a script over this log, stopped at the force of its only batch: of a run's last calls that one is
 /// followed by the print of the replies, the read of the script's end, and the log's last force.
-fn stop_before_force(rt: &(impl Abort + AllocGlobal), script: &[u8], log: &[u8]) -> Run {
+fn stop_before_force(rt: &(impl Abort + AllocGlobal + Wait), script: &[u8], log: &[u8]) -> Run {
     let whole = run_over(rt, script, disk_of(rt, log));
     let stop = whole.calls().saturating_sub(4);
     let run = run_until(rt, b"", script, disk_of(rt, log), Some(stop));
@@ -19,7 +20,7 @@ fn stop_before_force(rt: &(impl Abort + AllocGlobal), script: &[u8], log: &[u8])
 }
 
 /// Restarts over a disk, and looks at what it says of two keys, and at how long the log is then.
-fn look_at_keys(rt: &(impl Abort + AllocGlobal), disk: Disk, wanted: &[u8], len: usize) {
+fn look_at_keys(rt: &(impl Abort + AllocGlobal + Wait), disk: Disk, wanted: &[u8], len: usize) {
     let run = run_over(rt, b"get 0 a\nget 0 b\n", disk);
     look_at_reply(rt, &run, 0, wanted, &len);
     same(rt, "lasting", lasting_len(rt, &run), len as u64, &len);
@@ -37,7 +38,7 @@ const SECOND_LEN: usize = 37 + FIRST_PAGES + 30;
 
 /// Looks at the crash of the second run that keeps so many of its pending bytes: its put is there exactly where
 /// its frame is whole, and a restart goes on where the last frame ends that is.
-fn look_at_cut(rt: &(impl Abort + AllocGlobal), second: &Run, pick: Pick, count: usize) {
+fn look_at_cut(rt: &(impl Abort + AllocGlobal + Wait), second: &Run, pick: Pick, count: usize) {
     let disk = second.crashed(rt, pick);
     let replayed = FIRST_LEN
         .saturating_add(whole_within(&SECOND, count))
@@ -51,7 +52,7 @@ fn look_at_cut(rt: &(impl Abort + AllocGlobal), second: &Run, pick: Pick, count:
 }
 
 /// The second run, over the log of one put.
-fn run_second(rt: &(impl Abort + AllocGlobal)) -> Run {
+fn run_second(rt: &(impl Abort + AllocGlobal + Wait)) -> Run {
     let first = log_after(rt, b"put 0 a 1\n");
     same(
         rt,
@@ -68,7 +69,7 @@ fn run_second(rt: &(impl Abort + AllocGlobal)) -> Run {
 }
 
 /// Looks at each crash of the second run that keeps none of its pending bytes.
-fn look_at_no_bytes(rt: &(impl Abort + AllocGlobal), second: &Run) {
+fn look_at_no_bytes(rt: &(impl Abort + AllocGlobal + Wait), second: &Run) {
     for pick in &[Pick::Lost, Pick::Fill(0), Pick::Fill(5), Pick::Fill(238)] {
         look_at_cut(rt, second, *pick, 0);
     }
@@ -98,7 +99,7 @@ fn make_zeros(bytes: &mut [u8], from: usize, to: usize) {
 
 /// The log of three puts that weren't forced, of which the first one's frame has zeros in place of its bytes 37
 /// to 73.
-fn log_without_first(rt: &(impl Abort + AllocGlobal)) -> Vec<u8> {
+fn log_without_first(rt: &(impl Abort + AllocGlobal + Wait)) -> Vec<u8> {
     let script = b"put 0 a 12345678\nput 0 b 2\nput 0 c 3\n";
     let run = stop_before_force(rt, script, b"");
     let mut log = log_left(rt, &run, Pick::Kept);
@@ -109,7 +110,7 @@ fn log_without_first(rt: &(impl Abort + AllocGlobal)) -> Vec<u8> {
 }
 
 /// Restarts over what a crash left, and looks that neither of the later puts is there.
-fn look_for_none(rt: &(impl Abort + AllocGlobal), stopped: &Run, stop: u64, pick: Pick) {
+fn look_for_none(rt: &(impl Abort + AllocGlobal + Wait), stopped: &Run, stop: u64, pick: Pick) {
     let run = run_over(rt, b"get 0 b\nget 0 c\n", stopped.crashed(rt, pick));
     let case = (stop, pick);
     look_at_reply(rt, &run, 0, b"none\nnone\n", &case);
@@ -128,7 +129,7 @@ static PICKS: [Pick; 7] = [
 ];
 
 /// Restarts over the log, stopped at this call, and again over each crash of that.
-fn restart_until(rt: &(impl Abort + AllocGlobal), log: &[u8], script: &[u8], stop: u64) {
+fn restart_until(rt: &(impl Abort + AllocGlobal + Wait), log: &[u8], script: &[u8], stop: u64) {
     let stopped = run_until(rt, b"", script, disk_of(rt, log), Some(stop));
     for pick in &PICKS {
         look_for_none(rt, &stopped, stop, *pick);
@@ -136,7 +137,7 @@ fn restart_until(rt: &(impl Abort + AllocGlobal), log: &[u8], script: &[u8], sto
 }
 
 /// How many calls a run of the script over the log makes.
-fn count_calls(rt: &(impl Abort + AllocGlobal), log: &[u8], script: &[u8]) -> u64 {
+fn count_calls(rt: &(impl Abort + AllocGlobal + Wait), log: &[u8], script: &[u8]) -> u64 {
     let whole = run_over(rt, script, disk_of(rt, log));
     look_at_status(rt, &whole, 0, &"whole");
     whole.calls()

@@ -1,5 +1,5 @@
 -- How replies are counted one after the other.
-use Rattle.std.proofs.Common.{◌≡◌, ℕ, zero, suc, ◌+◌, ◌≤◌, List, [], ◌∷◌, ◌++◌, length, take, Some, true, false, refl, ◌∙◌, ap, add-one, arith}
+use Rattle.std.proofs.Common.{◌≡◌, ℕ, zero, suc, ◌+◌, ◌<◌, ◌≤◌, List, [], ◌∷◌, ◌++◌, length, take, Some, true, false, refl, ◌∙◌, ap, add-one, arith}
 use Rattle.std.specs.Prelude.{slice_get}
 use Rattle.pm_model.specs.declared.reply.Reply.{Reply}
 use Rattle.pm_model.specs.declared.reply.Reply.TheVariants as reply
@@ -43,3 +43,14 @@ one_at_most counts LongLine = omega arith
 pub counted_at_most : (counts : ReplyCounts) (replies : List Reply) → counted_in (with_all counts replies) ≤ counted_in counts + length replies
 counted_at_most counts [] = omega arith
 counted_at_most counts (reply ∷ replies) = omega (arith, one_at_most counts reply, counted_at_most (with_reply counts reply) replies)
+
+-- the first ones, up to a number that is that of all where there are no more
+pub take_few : (replies : List Reply) (i most : ℕ) → i ≤ most → (i < length replies → most ≤ i) → take i replies ≡ take most replies
+take_few [] zero zero le far = refl
+take_few [] zero (suc most) le far = refl
+take_few [] (suc i) zero le far = absurd (omega (arith, le))
+take_few [] (suc i) (suc most) le far = refl
+take_few (reply ∷ replies) zero zero le far = refl
+take_few (reply ∷ replies) zero (suc most) le far = absurd (omega (arith, far (omega arith)))
+take_few (reply ∷ replies) (suc i) zero le far = absurd (omega (arith, le))
+take_few (reply ∷ replies) (suc i) (suc most) le far = ap (λ others. reply ∷ others) (take_few replies i most (omega (arith, le)) (λ few. omega (arith, far (omega (arith, few)))))

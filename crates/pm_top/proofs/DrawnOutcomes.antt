@@ -16,14 +16,13 @@ use Rattle.pm_model.specs.Orders.{HasTried, after_numbers}
 use Rattle.pm_model.proofs.OrderLaws.{as_many_has, script_tried}
 use Rattle.pm_core.specs.Calls.{ChangesDisk}
 use Rattle.pm_core.specs.LogAlone.{image_of}
-use Rattle.pm_engine.specs.PagedEngines.{PagedRunning, store_of}
-use Rattle.pm_engine.specs.RunningStores.{map_of}
+use Rattle.pm_engine.specs.FrameEngines.{FrameRunning, map_in}
 use Rattle.pm_top.specs.Crashes.{CrashKeeps, SoundUpTo}
 use Rattle.pm_top.specs.DrawnRuns.{CrashHoldsDrawn, DrawnIsCutShort, DrawnIsDone, DrawnIsLeft, DrawnOutcomeIs, summarized, summary_of}
 use Rattle.pm_top.specs.DrawnSteps.{EndsDrawn, TriesDrawn}
-use Rattle.pm_top.specs.PagedRests.{PagedAtRest}
+use Rattle.pm_top.specs.FrameRests.{FrameAtRest}
 use Rattle.pm_top.specs.declared.status.Status.{Status}
-use Rattle.pm_top.specs.declared.status.Status.TheVariants.{Done, Failed, Memory}
+use Rattle.pm_top.specs.declared.status.Status.TheVariants.{Done, Failed, Memory, Damaged, Long}
 use Rattle.pm_top.specs.Promises.{SaysPart}
 use Rattle.pm_top.specs.RunCauses.{HasScriptCause}
 use Rattle.pm_top.specs.Runs.{CanRun, SameConsole}
@@ -33,7 +32,7 @@ use Rattle.pm_top.proofs.AnsweredLines.{both, rest_crash}
 use Rattle.pm_top.proofs.Lasting.{accepted_parts, held_by, keeps_said, only_map, take_take}
 use Rattle.pm_top.proofs.Ordered.{same_after}
 use Rattle.pm_top.proofs.Orders.{after_accepted, fault_line, take_none}
-use Rattle.pm_top.proofs.PagedRests.{rest_of_last}
+use Rattle.pm_top.proofs.DrawnRunning.{drawn_map}
 use Rattle.pm_top.proofs.ScriptCauses.{ends_done, ends_failed, ends_memory}
 use Rattle.pm_top.proofs.QuietStores.{world_is_true, world_leaves}
 
@@ -123,38 +122,42 @@ module _ (wanted : Shape) (last number : ℕ) (script : List Line) (old : World)
 
 -- ---- a run
 
-module _ {tells : Type 0} {old mid : History} {script : List Line} {before now : PagedRunning} where
+module _ {tells : Type 0} {old mid : History} {script : List Line} {before now : FrameRunning} (t : tells) (wanted : Shape) (last number : ℕ) (can : CanRun wanted last number before old.world) where
   -- while lines are run, and after a fault
-  pub tried_moments : (start : World) → SameConsole start old.world → TriesDrawn tells old mid script before now → tells → (wanted : Shape) (last number : ℕ) → CanRun wanted last number before old.world
-      → AllMoments old mid (CrashHoldsDrawn wanted last number script start before.map.shape before.map.pairs now.order)
-  tried_moments start same tries t wanted last number can =
-      let Q : World → Type 0 = CrashKeeps wanted last number before.map.shape before.map.pairs (take tries.tried script) in
-      weaker old mid (λ w. Q w × ChangesDisk old.world w) (CrashHoldsDrawn wanted last number script start before.map.shape before.map.pairs now.order)
-      (λ w is. running_drawn wanted last number script start before.map.shape before.map.pairs w tries.tried now.order tries.within tries.order (says_none start w (is.1.said ∙ same.said)) is.0)
+  pub tried_moments : (start : World) → SameConsole start old.world → TriesDrawn tells old mid script before now
+      → AllMoments old mid (CrashHoldsDrawn wanted last number script start before.store.shape (map_in before old.world) now.order)
+  tried_moments start same tries =
+      let pairs = map_in before old.world in
+      let Q : World → Type 0 = CrashKeeps wanted last number before.store.shape pairs (take tries.tried script) in
+      weaker old mid (λ w. Q w × ChangesDisk old.world w) (CrashHoldsDrawn wanted last number script start before.store.shape pairs now.order)
+      (λ w is. running_drawn wanted last number script start before.store.shape pairs w tries.tried now.order tries.within (tries.order t wanted last number can) (says_none start w (is.1.said ∙ same.said)) is.0)
       (both old mid Q (ChangesDisk old.world) (tries.keeps.crash t wanted last number can) (tries.keeps.disk t))
 
   -- the run ended before the summary was said whole
   pub tried_cut : (start new : World) (tail : List ℕ) (lines : ℕ) → TriesDrawn tells old mid script before now → new.said ≡ start.said ++ tail → new.input ≡ start.input → lines ≡ 0 → (tail ≡ [])
-      → DrawnIsCutShort script start new before.map.shape before.map.pairs lines now.order tail
-  tried_cut start new tail lines tries said unread none empty = record {
-    said = said;
-    unread = unread;
-    none = none;
-    many = tries.many;
-    within = omega (arith, tries.from, tries.within);
-    order_is = subst (λ (ns : List ℕ). HasTried before.map.shape 1 script before.map.pairs tries.many BATCH_LINES_MAX ns) (sym tries.order) (script_tried before.map.shape 1 script before.map.pairs tries.many BATCH_LINES_MAX tries.tried tries.from tries.to);
-    whole = λ some. absurd (omega (arith, some, ap (λ (l : List ℕ). length l) empty));
-  }
+      → DrawnIsCutShort script start new before.store.shape (map_in before old.world) lines now.order tail
+  tried_cut start new tail lines tries said unread none empty =
+      let pairs = map_in before old.world in
+      record {
+        said = said;
+        unread = unread;
+        none = none;
+        many = tries.many;
+        within = omega (arith, tries.from, tries.within);
+        order_is = subst (λ (ns : List ℕ). HasTried before.store.shape 1 script pairs tries.many BATCH_LINES_MAX ns) (sym (tries.order t wanted last number can)) (script_tried before.store.shape 1 script pairs tries.many BATCH_LINES_MAX tries.tried tries.from tries.to);
+        whole = λ some. absurd (omega (arith, some, ap (λ (l : List ℕ). length l) empty));
+      }
 
   module _ (ends : EndsDrawn tells old mid script before now) where
-    its_order : (more : ℕ) → HasTried before.map.shape 1 script before.map.pairs (length script) more now.order
+    its_order : (more : ℕ) → HasTried before.store.shape 1 script (map_in before old.world) (length script) more now.order
     its_order more =
         let whole : take (length script) script ≡ script = take_all (length script) script (omega arith) in
-        subst (λ (ns : List ℕ). HasTried before.map.shape 1 script before.map.pairs (length script) more ns) (ap (λ ls. accepted before.map.shape 1 ls before.map.pairs) whole ∙ sym ends.ran.order)
-        (script_tried before.map.shape 1 script before.map.pairs (length script) more (length script) (omega arith) (omega arith))
+        let pairs = map_in before old.world in
+        subst (λ (ns : List ℕ). HasTried before.store.shape 1 script pairs (length script) more ns) (ap (λ ls. accepted before.store.shape 1 ls pairs) whole ∙ sym (ends.ran.order t wanted last number can))
+        (script_tried before.store.shape 1 script pairs (length script) more (length script) (omega arith) (omega arith))
 
     -- all lines were run, and not all of the summary was said
-    pub ended_cut : (start new : World) (tail : List ℕ) (lines : ℕ) → new.said ≡ start.said ++ tail → new.input ≡ start.input → lines ≡ 0 → DrawnIsCutShort script start new before.map.shape before.map.pairs lines now.order tail
+    pub ended_cut : (start new : World) (tail : List ℕ) (lines : ℕ) → new.said ≡ start.said ++ tail → new.input ≡ start.input → lines ≡ 0 → DrawnIsCutShort script start new before.store.shape (map_in before old.world) lines now.order tail
     ended_cut start new tail lines said unread none = record {
       said = said;
       unread = unread;
@@ -166,90 +169,98 @@ module _ {tells : Type 0} {old mid : History} {script : List Line} {before now :
     }
 
     -- all of it was said
-    pub ended_done : (start new : World) (lines : ℕ) → new.said ≡ start.said ++ summary_of script before.map.shape before.map.pairs → new.input ≡ start.input → lines ≡ length script
-        → DrawnIsDone script start new before.map.shape before.map.pairs lines now.order
+    pub ended_done : (start new : World) (lines : ℕ) → new.said ≡ start.said ++ summary_of script before.store.shape (map_in before old.world) → new.input ≡ start.input → lines ≡ length script
+        → DrawnIsDone script start new before.store.shape (map_in before old.world) lines now.order
     ended_done start new lines said unread all = record { said = said; unread = unread; all = all; order_is = its_order 0 }
 
-    module _ (t : tells) (wanted : Shape) (last number : ℕ) (can : CanRun wanted last number before old.world) where
-      ended_rest : PagedAtRest wanted now mid.world
-      ended_rest =
-          let runs = ends.ran.runs t wanted last number can in
-          let map : map_of (store_of now) ≡ now.map.pairs = runs.has.map ∙ ap (λ (s : Shape). after_all s script before.map.pairs) ends.ran.shape ∙ sym ends.ran.map in
-          rest_of_last wanted now mid.world map (ends.lasts t wanted last number can)
+    ended_rest : FrameAtRest wanted now mid.world
+    ended_rest = let lasts = ends.lasts t wanted last number can in record { from = lasts.low; has = lasts.lasts.done }
 
-      -- a crash leaves the map after all lines
-      ended_crash : CrashKeeps wanted last number before.map.shape (after_all before.map.shape script before.map.pairs) [] mid.world
-      ended_crash =
-          subst (λ (x : Shape × Pairs). CrashKeeps wanted last number x.0 x.1 [] mid.world) (λ i. (ends.ran.shape i, ends.ran.map i))
-          (rest_crash wanted last number 2048 now mid.world (ends.within last number can.within) ended_rest)
+    -- a crash leaves the map after all lines
+    ended_crash : CrashKeeps wanted last number before.store.shape (after_all before.store.shape script (map_in before old.world)) [] mid.world
+    ended_crash =
+        subst (λ (x : Shape × Pairs). CrashKeeps wanted last number x.0 x.1 [] mid.world) (λ i. (ends.ran.same.shape i, drawn_map ends.ran t wanted last number can i))
+        (rest_crash wanted last number 2048 now mid.world (ends.within last number can.within) ended_rest)
 
-      -- while the summary is said
-      pub ended_moments : (start : World) → SameConsole start old.world → (new : History) (text : List ℕ) → TriesDrawn tells old mid script before now → AllMoments mid new (SaysPart text mid.world)
-          → AllMoments old new (CrashHoldsDrawn wanted last number script start before.map.shape before.map.pairs now.order)
-      ended_moments start same new text tries says =
-          let K : World → Type 0 = CrashHoldsDrawn wanted last number script start before.map.shape before.map.pairs now.order in
-          joined old mid new K (tried_moments start same tries t wanted last number can)
-          (weaker mid new (SaysPart text mid.world) K
-          (λ w part. subst K (sym part.1) (ended_drawn wanted last number script start before.map.shape before.map.pairs (with_said (take part.0 text) mid.world) now.order ends.ran.order
-          (keeps_said wanted last number before.map.shape (after_all before.map.shape script before.map.pairs) [] (take part.0 text) mid.world ended_crash))) says)
+    -- while the summary is said
+    pub ended_moments : (start : World) → SameConsole start old.world → (new : History) (text : List ℕ) → TriesDrawn tells old mid script before now → AllMoments mid new (SaysPart text mid.world)
+        → AllMoments old new (CrashHoldsDrawn wanted last number script start before.store.shape (map_in before old.world) now.order)
+    ended_moments start same new text tries says =
+        let shape = before.store.shape in
+        let pairs = map_in before old.world in
+        let K : World → Type 0 = CrashHoldsDrawn wanted last number script start shape pairs now.order in
+        joined old mid new K (tried_moments start same tries)
+        (weaker mid new (SaysPart text mid.world) K
+        (λ w part. subst K (sym part.1) (ended_drawn wanted last number script start shape pairs (with_said (take part.0 text) mid.world) now.order (ends.ran.order t wanted last number can)
+        (keeps_said wanted last number shape (after_all shape script pairs) [] (take part.0 text) mid.world ended_crash))) says)
 
-      -- what is left, whatever was said
-      pub ended_left : (text : List ℕ) → DrawnIsLeft wanted last number script (with_said text mid.world) before.map.shape before.map.pairs
-      ended_left text =
-          let lasts = ends.lasts t wanted last number can in
-          let image = image_of mid.world in
-          let held = held_by (ended_crash image (world_leaves mid.world lasts.quiet) (world_is_true mid.world)) in
-          let here : SoundUpTo wanted last number image before.map.shape (after_all before.map.shape script before.map.pairs) = only_map wanted last number before.map.shape (after_all before.map.shape script before.map.pairs) image held in
-          record {
-            sound = here.0;
-            up_to = here.1;
-            quiet = record { log = lasts.quiet.log; pages = lasts.quiet.pages; starts = lasts.quiet.starts; ends = lasts.quiet.ends };
-          }
+    -- what is left, whatever was said
+    pub ended_left : (text : List ℕ) → DrawnIsLeft wanted last number script (with_said text mid.world) before.store.shape (map_in before old.world)
+    ended_left text =
+        let quiet = (ends.lasts t wanted last number can).lasts.quiet in
+        let image = image_of mid.world in
+        let after = after_all before.store.shape script (map_in before old.world) in
+        let held = held_by (ended_crash image (world_leaves mid.world quiet) (world_is_true mid.world)) in
+        let here : SoundUpTo wanted last number image before.store.shape after = only_map wanted last number before.store.shape after image held in
+        record {
+          sound = here.0;
+          up_to = here.1;
+          quiet = record { log = quiet.log; pages = quiet.pages; starts = quiet.starts; ends = quiet.ends };
+        }
 
 -- ---- how the call ends
 
-module _ {tells : Type 0} {old mid : History} {script : List Line} {before now : PagedRunning} (start : World) (said : mid.world.said ≡ start.said) (unread : mid.world.input ≡ start.input) (lines : ℕ) where
+module _ {tells : Type 0} {old mid : History} {script : List Line} {before now : FrameRunning} (t : tells) (wanted : Shape) (last number : ℕ) (can : CanRun wanted last number before old.world)
+    (start : World) (said : mid.world.said ≡ start.said) (unread : mid.world.input ≡ start.input) (lines : ℕ) where
   -- a call failed, or memory ran out, before all lines were run
   pub fault_outcome : TriesDrawn tells old mid script before now → (status : Status) → (status ≡ Failed) ⊎ (status ≡ Memory) → lines ≡ 0
-      → DrawnOutcomeIs script status start mid.world before.map.shape before.map.pairs lines now.order
+      → DrawnOutcomeIs script status start mid.world before.store.shape (map_in before old.world) lines now.order
   fault_outcome tries status cases none =
-      let P : Status → Type 0 = λ s. DrawnOutcomeIs script s start mid.world before.map.shape before.map.pairs lines now.order in
-      let cut : DrawnIsCutShort script start mid.world before.map.shape before.map.pairs lines now.order [] = tried_cut start mid.world [] lines tries (said ∙ sym (append-nil start.said)) unread none refl in
+      let shape = before.store.shape in
+      let pairs = map_in before old.world in
+      let P : Status → Type 0 = λ s. DrawnOutcomeIs script s start mid.world shape pairs lines now.order in
+      let cut : DrawnIsCutShort script start mid.world shape pairs lines now.order [] = tried_cut t wanted last number can start mid.world [] lines tries (said ∙ sym (append-nil start.said)) unread none refl in
       elim cases [
-        | inl is ↦ subst P (sym is) (record { count = 0; cut = subst (DrawnIsCutShort script start mid.world before.map.shape before.map.pairs lines now.order) (sym (take_none (summary_of script before.map.shape before.map.pairs))) cut })
+        | inl is ↦ subst P (sym is) (record { count = 0; cut = subst (DrawnIsCutShort script start mid.world shape pairs lines now.order) (sym (take_none (summary_of script shape pairs))) cut })
         | inr is ↦ subst P (sym is) cut
       ]
 
   -- all lines were run, and the summary was said or is to be said
-  pub summary_outcome : EndsDrawn tells old mid script before now → (new : World) (text : List ℕ) → text ≡ summary_of script before.map.shape before.map.pairs → (status : Status) → (status ≡ Done) ⊎ (status ≡ Failed) ⊎ (status ≡ Memory)
+  pub summary_outcome : EndsDrawn tells old mid script before now → (new : World) (text : List ℕ) → text ≡ summary_of script before.store.shape (map_in before old.world) → (status : Status) → (status ≡ Done) ⊎ (status ≡ Failed) ⊎ (status ≡ Memory)
       → (status ≡ Done → new ≡ with_said text mid.world) → SaysPart text mid.world new → (status ≡ Memory → new ≡ mid.world) → (status ≡ Done → lines ≡ length script) → (status ≢ Done → lines ≡ 0)
-      → DrawnOutcomeIs script status start new before.map.shape before.map.pairs lines now.order
+      → DrawnOutcomeIs script status start new before.store.shape (map_in before old.world) lines now.order
   summary_outcome ends new text is status cases done part memory all none =
-      let P : Status → Type 0 = λ s. DrawnOutcomeIs script s start new before.map.shape before.map.pairs lines now.order in
+      let shape = before.store.shape in
+      let pairs = map_in before old.world in
+      let P : Status → Type 0 = λ s. DrawnOutcomeIs script s start new shape pairs lines now.order in
       elim cases [
-        | inl e ↦ subst P (sym e) (ended_done ends start new lines (ap (λ (w : World). w.said) (done e) ∙ ap (λ (s : List ℕ). s ++ text) said ∙ ap (λ (u : List ℕ). start.said ++ u) is) (ap (λ (w : World). w.input) (done e) ∙ unread) (all e))
+        | inl e ↦ subst P (sym e) (ended_done t wanted last number can ends start new lines (ap (λ (w : World). w.said) (done e) ∙ ap (λ (s : List ℕ). s ++ text) said ∙ ap (λ (u : List ℕ). start.said ++ u) is) (ap (λ (w : World). w.input) (done e) ∙ unread) (all e))
         | inr more ↦ elim more [
           | inl e ↦
               subst P (sym e) (record {
                 count = part.0;
-                cut = ended_cut ends start new (take part.0 (summary_of script before.map.shape before.map.pairs)) lines
+                cut = ended_cut t wanted last number can ends start new (take part.0 (summary_of script shape pairs)) lines
                     (ap (λ (w : World). w.said) part.1 ∙ ap (λ (s : List ℕ). s ++ take part.0 text) said ∙ ap (λ (u : List ℕ). start.said ++ take part.0 u) is) (ap (λ (w : World). w.input) part.1 ∙ unread)
                     (none (λ d. (let clash : 3 ≡ 0 = ap code_of (sym e ∙ d) in omega (arith, clash))));
               })
           | inr e ↦
-              subst P (sym e) (ended_cut ends start new [] lines (ap (λ (w : World). w.said) (memory e) ∙ said ∙ sym (append-nil start.said)) (ap (λ (w : World). w.input) (memory e) ∙ unread)
+              subst P (sym e) (ended_cut t wanted last number can ends start new [] lines (ap (λ (w : World). w.said) (memory e) ∙ said ∙ sym (append-nil start.said)) (ap (λ (w : World). w.input) (memory e) ∙ unread)
               (none (λ d. (let clash : 4 ≡ 0 = ap code_of (sym e ∙ d) in omega (arith, clash)))))
         ]
       ]
 
+-- the host's state after one run of calls more
+later_both : (a b c : DeviceState) → IsLaterState a b → IsLaterState b c → IsLaterState a c
+later_both a b c first second = record {
+  later = omega (arith, first.later, second.later);
+  access = second.access ∙ first.access;
+  usable = λ usable. second.usable (first.usable usable);
+}
+
 -- when the call ends so
 pub summary_cause : (status : Status) (old mid new : DeviceState) → IsLaterState old mid → (status ≡ Done) ⊎ (status ≡ Failed) ⊎ (status ≡ Memory) → (status ≡ Failed → Rose mid new) → IsLaterState mid new → HasScriptCause status old new
 summary_cause status old mid new ran cases failed said =
-    let later : IsLaterState old new = record {
-      later = omega (arith, ran.later, said.later);
-      access = said.access ∙ ran.access;
-      usable = λ usable. said.usable (ran.usable usable);
-    } in
+    let later : IsLaterState old new = later_both old mid new ran said in
     let P : Status → Type 0 = λ s. HasScriptCause s old new in
     elim cases [
       | inl e ↦ subst P (sym e) (ends_done old new later)
@@ -258,3 +269,24 @@ summary_cause status old mid new ran cases failed said =
         | inr e ↦ subst P (sym e) (ends_memory old new later)
       ]
     ]
+
+-- ---- which statuses don't come
+
+-- one of these statuses is none of the others, by its number
+pub two_arent : (status other : Status) (n : ℕ) → (status ≡ Failed) ⊎ (status ≡ Memory) → code_of other ≡ n → (n ≡ 3 → ⊥) → (n ≡ 4 → ⊥) → status ≡ other → ⊥
+two_arent status other n cases is three four same = elim cases [
+  | inl e ↦ three (sym is ∙ ap code_of (sym same ∙ e))
+  | inr e ↦ four (sym is ∙ ap code_of (sym same ∙ e))
+]
+
+pub three_arent : (status good other : Status) (m n : ℕ) → (status ≡ good) ⊎ (status ≡ Failed) ⊎ (status ≡ Memory) → code_of good ≡ m → code_of other ≡ n → (n ≡ m → ⊥) → (n ≡ 3 → ⊥) → (n ≡ 4 → ⊥) → status ≡ other → ⊥
+three_arent status good other m n cases its is one three four same = elim cases [
+  | inl e ↦ one (sym is ∙ ap code_of (sym same ∙ e) ∙ its)
+  | inr more ↦ two_arent status other n more is three four same
+]
+
+pub summary_short : (status : Status) → (status ≡ Done) ⊎ (status ≡ Failed) ⊎ (status ≡ Memory) → status ≢ Long
+summary_short status cases = three_arent status Done Long 0 6 cases refl refl (λ e. omega (arith, e)) (λ e. omega (arith, e)) (λ e. omega (arith, e))
+
+pub page_short : (status : Status) → (status ≡ Damaged) ⊎ (status ≡ Failed) ⊎ (status ≡ Memory) → status ≢ Long
+page_short status cases = three_arent status Damaged Long 5 6 cases refl refl (λ e. omega (arith, e)) (λ e. omega (arith, e)) (λ e. omega (arith, e))

@@ -17,30 +17,17 @@ use Rattle.pm_engine.specs.PagedReplays.{CrashHoldsMap}
 use Rattle.pm_engine.specs.RunningLines.{SameDisk}
 use Rattle.pm_top.specs.Configurations.{config_fault, fault_config, wanted_in}
 use Rattle.pm_top.specs.Crashes.{opened_number, opened_to}
-use Rattle.pm_top.specs.DrawnRuns.{CrashHoldsDrawn, DrawnIsCutShort, DrawnIsLeft, DrawnOutcomeIs, DrawnOver, GenCompletes, GenHolds, GenIsSafe, summary_of}
+use Rattle.pm_top.specs.DrawnRuns.{CrashHoldsDrawn, DrawnIsCutShort, DrawnIsLeft, DrawnOutcomeIs, GenCompletes, GenHolds, GenIsSafe, summary_of}
 use Rattle.pm_top.specs.declared.status.Status.{Status}
 use Rattle.pm_top.specs.declared.status.Status.TheVariants.{Done, Usage, Misconfigured, Failed, Memory, Damaged, Long}
 use Rattle.pm_top.specs.Promises.{CanOpen, IsDamaged, IsMisconfigured, IsStart, NamesBadOpening, RunHolds, SaysPart, last_after, number_after}
-use Rattle.pm_top.specs.Statuses.{code_of}
+use Rattle.pm_top.specs.StoreChecks.{SaysLine}
 use Rattle.pm_top.proofs.AnsweredLines.{both}
-use Rattle.pm_top.proofs.DrawnOutcomes.{idle_drawn, says_fault, says_none}
+use Rattle.pm_top.proofs.DrawnOutcomes.{idle_drawn, says_fault, says_none, three_arent, two_arent}
 use Rattle.pm_top.proofs.Lasting.{keeps_said}
 use Rattle.pm_top.proofs.Opened.{map_keeps, rest_keeps}
 use Rattle.pm_top.proofs.Orders.{fault_line, take_none}
 use Rattle.pm_top.proofs.Refusing.{AnswersNone, damaged_run, field_refused_run, idle_run, same_disk}
-
--- one of these statuses is none of the others, by its number
-two_arent : (status other : Status) (n : ℕ) → (status ≡ Failed) ⊎ (status ≡ Memory) → code_of other ≡ n → (n ≡ 3 → ⊥) → (n ≡ 4 → ⊥) → status ≡ other → ⊥
-two_arent status other n cases is three four same = elim cases [
-  | inl e ↦ three (sym is ∙ ap code_of (sym same ∙ e))
-  | inr e ↦ four (sym is ∙ ap code_of (sym same ∙ e))
-]
-
-three_arent : (status first other : Status) (m n : ℕ) → (status ≡ first) ⊎ (status ≡ Failed) ⊎ (status ≡ Memory) → code_of first ≡ m → code_of other ≡ n → (n ≡ m → ⊥) → (n ≡ 3 → ⊥) → (n ≡ 4 → ⊥) → status ≡ other → ⊥
-three_arent status first other m n cases its is one three four same = elim cases [
-  | inl e ↦ one (sym is ∙ ap code_of (sym same ∙ e) ∙ its)
-  | inr more ↦ two_arent status other n more is three four same
-]
 
 -- ---- a run that ends before it runs a line
 
@@ -49,7 +36,7 @@ none_run_drawn : (script : List Line) (old new : History) (status : Status) (lin
     → ((shape : Shape) (pairs : Pairs) → CanOpen old.world shape pairs → DrawnOutcomeIs script status old.world new.world shape pairs lines order) → GenHolds script old new status lines order
 none_run_drawn script old new status lines order run isnt short outcome = record {
   outcome = outcome;
-  opened = λ is. absurd (isnt is);
+  configured = λ is. absurd (isnt is);
   untouched = run.untouched;
   leaves = λ is. absurd (isnt is);
   misconfigured = run.misconfigured;
@@ -92,11 +79,11 @@ field_refused_gen script old new status lines order field is cases said all none
     (λ shape pairs can. absurd (let both : Some field ≡ None = sym is ∙ can.configured in cc))
 
 -- a record or a page is bad
-pub damaged_gen : (script : List Line) (old mid new : History) (status : Status) (lines : ℕ) (order text : List ℕ) → config_fault old.world ≡ None → ((shape : Shape) (pairs : Pairs) → IsStart (wanted_in old.world) old.world shape pairs → ⊥)
-    → ChangesDisk old.world mid.world → NamesBadOpening old.world mid.world text → (status ≡ Damaged) ⊎ (status ≡ Failed) ⊎ (status ≡ Memory) → (status ≡ Damaged → new.world ≡ with_said text mid.world) → lines ≡ 0 → order ≡ []
+pub damaged_gen : (script : List Line) (old mid new : History) (status : Status) (lines : ℕ) (order : List ℕ) → config_fault old.world ≡ None → ((shape : Shape) (pairs : Pairs) → IsStart (wanted_in old.world) old.world shape pairs → ⊥)
+    → ChangesDisk old.world mid.world → (status ≡ Damaged) ⊎ (status ≡ Failed) ⊎ (status ≡ Memory) → (status ≡ Damaged → SaysLine (NamesBadOpening old.world mid.world) mid.world new.world) → lines ≡ 0 → order ≡ []
     → GenHolds script old new status lines order
-damaged_gen script old mid new status lines order text alike unsound restored bad cases said none no_order =
-    none_run_drawn script old new status lines order (damaged_run old mid new status lines order text alike unsound restored bad cases said none no_order)
+damaged_gen script old mid new status lines order alike unsound restored cases named none no_order =
+    none_run_drawn script old new status lines order (damaged_run old mid new status lines order alike unsound restored cases named none no_order)
     (three_arent status Damaged Done 5 0 cases refl refl (λ e. omega (arith, e)) (λ e. omega (arith, e)) (λ e. omega (arith, e))) (three_arent status Damaged Long 5 6 cases refl refl (λ e. omega (arith, e)) (λ e. omega (arith, e)) (λ e. omega (arith, e)))
     (λ shape pairs can. absurd (unsound shape pairs can.start))
 
@@ -105,7 +92,7 @@ damaged_gen script old mid new status lines order text alike unsound restored ba
 pub gen_from : (script : List Line) (old mid new : History) (status : Status) (lines : ℕ) (order : List ℕ) → AllMoments old mid (IsSame old.world) → mid.world ≡ old.world → GenHolds script mid new status lines order → GenHolds script old new status lines order
 gen_from script old mid new status lines order first same run = record {
   outcome = subst (λ (w : World). (shape : Shape) (pairs : Pairs) → CanOpen w shape pairs → DrawnOutcomeIs script status w new.world shape pairs lines order) same run.outcome;
-  opened = λ is. subst (λ (w : World). DrawnOver script status w new.world lines order) same (run.opened is);
+  configured = λ is. ap config_fault (sym same) ∙ run.configured is;
   untouched = λ field refused.
       joined old mid new (SameDisk old.world) (same_disk old mid first)
       (subst (λ (w : World). (f : Field) → config_fault w ≡ Some f → AllMoments mid new (SameDisk w)) same run.untouched field refused);
@@ -171,7 +158,7 @@ whole_or_memory Long script old new shape pairs lines order outcome sound = absu
 -- where a field is refused, and with no failure, that is reported, or memory runs out
 field_or_memory : (status : Status) (script : List Line) (old new : History) (lines : ℕ) (order : List ℕ) (field : Field) → GenHolds script old new status lines order → config_fault old.world ≡ Some field → (status ≡ Failed → ⊥) → (status ≡ Usage → ⊥)
     → (status ≡ Misconfigured) ⊎ (status ≡ Memory)
-field_or_memory Done script old new lines order field run is sound known = absurd (let both : Some field ≡ None = sym is ∙ (run.opened refl).configured in cc)
+field_or_memory Done script old new lines order field run is sound known = absurd (let both : Some field ≡ None = sym is ∙ run.configured refl in cc)
 field_or_memory Usage script old new lines order field run is sound known = absurd (known refl)
 field_or_memory Misconfigured script old new lines order field run is sound known = inl refl
 field_or_memory Failed script old new lines order field run is sound known = absurd (sound refl)

@@ -46,5 +46,11 @@ answers_said old mid new result text sound so_far call =
     let here = at_last old mid (OnlyAnswers old.world) sound so_far in
     says old mid new result text (OnlyAnswers old.world) so_far call (λ k le. record { config = here.config; input = here.input })
 
+pub answers_then : (old mid new : History) → IsHistory mid → AllMoments old mid (OnlyAnswers old.world) → AllMoments mid new (OnlyAnswers mid.world) → AllMoments old new (OnlyAnswers old.world)
+answers_then old mid new sound first second =
+    let here = at_last old mid (OnlyAnswers old.world) sound first in
+    joined old mid new (OnlyAnswers old.world) first
+    (weaker mid new (OnlyAnswers mid.world) (OnlyAnswers old.world) (λ w is. record { config = is.config ∙ here.config; input = is.input ∙ here.input }) second)
+
 pub config_answers : (old new : History) → AllMoments old new (OnlyAnswers old.world) → AllMoments old new (SameConfig old.world)
 config_answers old new only = weaker old new (OnlyAnswers old.world) (SameConfig old.world) (λ w is. is.config) only

@@ -8,11 +8,11 @@ use Rattle.pm_disk.specs.Images.{Image}
 use Rattle.pm_model.specs.declared.line.Line.{Line}
 use Rattle.pm_model.specs.Eval.{Pairs, replies_to, after_all, accepted}
 use Rattle.pm_model.proofs.Runs.{after_all-append, replies_to-append, length-replies_to, accepted-append}
-use Rattle.pm_script.specs.Reading.{OnlyTakes}
 use Rattle.pm_script.specs.Texts.{texts_of}
 use Rattle.pm_top.specs.declared.run.Run.{Run}
 use Rattle.pm_top.specs.ScriptOrder.{CrashHoldsAcknowledged, HoldsAfter, after_numbers, acknowledged_count}
-use Rattle.pm_engine.specs.RunningLines.{HoldsPrefix}
+use Rattle.pm_engine.specs.FrameEngines.{map_in}
+use Rattle.pm_engine.specs.RunningLines.{HoldsPrefix, SameDisk}
 use Rattle.pm_top.specs.Crashes.{CrashKeeps, SoundUpTo, begun}
 use Rattle.pm_top.specs.Promises.{replies_of}
 use Rattle.pm_top.specs.ScriptOrder.{IsOrder}
@@ -22,6 +22,7 @@ use Rattle.pm_top.specs.Crashes as whole
 use Rattle.pm_model.specs.Orders as orders
 use Rattle.std.specs.List.{All, Contains}
 use Rattle.pm_top.specs.Served.{script_of}
+use Rattle.pm_top.proofs.FrameRests.{is_beside}
 use Rattle.pm_top.proofs.Orders.{after_accepted, begun-texts, begun_nothing, begun_within, take_none, none_acknowledged, BeginsNone, fault_line}
 use Rattle.pm_top.proofs.Progressing.{parted, script_len, take_more, order_so_far, order_more, first_ones, accepted_are, texts_are}
 
@@ -89,8 +90,8 @@ keeps_said wanted last number shape pairs lines bytes w keeps image leaves hones
     (record { frames = honest.frames; starts = honest.starts; ends = honest.ends })
 
 -- nor is the input
-pub keeps_taken : (wanted : Shape) (last number : ℕ) (shape : Shape) (pairs : Pairs) (lines : List Line) (old w : World) → OnlyTakes old w → CrashKeeps wanted last number shape pairs lines old → CrashKeeps wanted last number shape pairs lines w
-keeps_taken wanted last number shape pairs lines old w takes keeps = subst (CrashKeeps wanted last number shape pairs lines) (sym takes.1) (λ image leaves honest.
+pub keeps_beside : (wanted : Shape) (last number : ℕ) (shape : Shape) (pairs : Pairs) (lines : List Line) (old w : World) → SameDisk old w → CrashKeeps wanted last number shape pairs lines old → CrashKeeps wanted last number shape pairs lines w
+keeps_beside wanted last number shape pairs lines old w same keeps = subst (CrashKeeps wanted last number shape pairs lines) (is_beside old w same) (λ image leaves honest.
     keeps image (record { log = leaves.log; pages = leaves.pages; starts = leaves.starts; ends = leaves.ends })
     (record { frames = honest.frames; starts = honest.starts; ends = honest.ends }))
 
@@ -142,80 +143,80 @@ module _ {start now : World} {left : List Line} {shape : Shape} {pairs : Pairs} 
 
   -- how many replies began
   pub begun_since : (w : World) (tail : List ℕ) → w.said ≡ now.said ++ tail
-      → begun (replies_of shape start.input pairs) (drop (length start.said) w.said) ≡ run.lines + begun (replies_to shape left run.engine.map.pairs) tail
+      → begun (replies_of shape start.input pairs) (drop (length start.said) w.said) ≡ run.lines + begun (replies_to shape left (map_in run.engine now)) tail
   begun_since w tail is =
       let replies = replies_to shape progress.done pairs in
-      let more = replies_to shape left run.engine.map.pairs in
+      let more = replies_to shape left (map_in run.engine now) in
       ap (begun (replies_of shape start.input pairs)) (said_since w tail is)
       ∙ ap (λ r. begun r (texts_of replies ++ tail)) (parted progress)
       ∙ begun-texts replies more tail
       ∙ ap (λ n. n + begun more tail) (length-replies_to shape progress.done pairs ∙ progress.count)
 
   -- no more lines are acknowledged
-  acknowledged_within : (w : World) (tail : List ℕ) (k : ℕ) → w.said ≡ now.said ++ tail → run.lines + begun (replies_to shape left run.engine.map.pairs) tail ≤ k → k ≤ length (script_of start.input)
+  acknowledged_within : (w : World) (tail : List ℕ) (k : ℕ) → w.said ≡ now.said ++ tail → run.lines + begun (replies_to shape left (map_in run.engine now)) tail ≤ k → k ≤ length (script_of start.input)
       → acknowledged_count start shape pairs w ≤ length (accepted shape 1 (take k (script_of start.input)) pairs)
   acknowledged_within w tail k is le within =
       accepted_le shape (script_of start.input) pairs (begun (replies_of shape start.input pairs) (drop (length start.said) w.said)) k (omega (arith, le, begun_since w tail is)) within
 
   -- the map after so many more lines
-  map_more : (n : ℕ) → after_all shape (take (run.lines + n) (script_of start.input)) pairs ≡ after_all shape (take n left) run.engine.map.pairs
+  map_more : (n : ℕ) → after_all shape (take (run.lines + n) (script_of start.input)) pairs ≡ after_all shape (take n left) (map_in run.engine now)
   map_more n = ap (λ ls. after_all shape ls pairs) (take_more progress n) ∙ after_all-append shape progress.done (take n left) pairs ∙ ap (after_all shape (take n left)) (sym progress.map)
 
   -- between two batches
-  pub keeps_rest : (wanted : Shape) (last number : ℕ) (w : World) → w.said ≡ now.said → CrashKeeps wanted last number run.engine.map.shape run.engine.map.pairs [] w → CrashHoldsAcknowledged wanted last number start shape pairs run.engine.order w
+  pub keeps_rest : (wanted : Shape) (last number : ℕ) (w : World) → w.said ≡ now.said → CrashKeeps wanted last number run.engine.store.shape (map_in run.engine now) [] w → CrashHoldsAcknowledged wanted last number start shape pairs run.engine.order w
   keeps_rest wanted last number w same keeps image leaves honest =
-      let map : after_all shape (take (run.lines + 0) (script_of start.input)) pairs ≡ run.engine.map.pairs = map_more 0 ∙ ap (λ ls. after_all shape ls run.engine.map.pairs) (take_none left) in
-      let holds = only_map wanted last number shape run.engine.map.pairs image (subst (λ s. (count : ℕ) × (count ≤ 0) × SoundUpTo wanted last number image s (after_all s (take count []) run.engine.map.pairs)) progress.shape_is (held_by (keeps image leaves honest))) in
+      let map : after_all shape (take (run.lines + 0) (script_of start.input)) pairs ≡ (map_in run.engine now) = map_more 0 ∙ ap (λ ls. after_all shape ls (map_in run.engine now)) (take_none left) in
+      let holds = only_map wanted last number shape (map_in run.engine now) image (subst (λ s. (count : ℕ) × (count ≤ 0) × SoundUpTo wanted last number image s (after_all s (take count []) (map_in run.engine now))) progress.shape_is (held_by (keeps image leaves honest))) in
       let here : run.lines + 0 ≡ run.lines = omega arith in
       let there : run.lines ≡ run.lines + 0 + 0 = omega arith in
       holds_after wanted last number start shape pairs run.engine.order w image (run.lines + 0) 0 (omega (arith, script_len progress)) (subst (λ n. IsOrder shape start.input pairs n run.engine.order) there (order_so_far progress))
-      (acknowledged_within w [] (run.lines + 0) (same ∙ sym (append-nil now.said)) (omega (arith, begun_nothing (replies_to shape left run.engine.map.pairs))) (omega (arith, script_len progress)))
+      (acknowledged_within w [] (run.lines + 0) (same ∙ sym (append-nil now.said)) (omega (arith, begun_nothing (replies_to shape left (map_in run.engine now)))) (omega (arith, script_len progress)))
       (subst (SoundUpTo wanted last number image shape) (sym map) holds)
 
 -- ---- while a batch is done
 
 module _ {start now : World} {shape : Shape} {pairs : Pairs} {run : Run} (lines left : List Line) (progress : Progress start now (lines ++ left) shape pairs run) (count : ℕ) (within : count ≤ length lines) (order : List ℕ)
-    (is : order ≡ run.engine.order ++ accepted run.engine.map.shape (run.lines + 1) (take count lines) run.engine.map.pairs) where
+    (is : order ≡ run.engine.order ++ accepted run.engine.store.shape (run.lines + 1) (take count lines) (map_in run.engine now)) where
   its_order : IsOrder shape start.input pairs (run.lines + count) order
   its_order = order_more progress count order
-      (is ∙ ap (λ o. run.engine.order ++ o) (accepted_are lines left progress (run.lines + 1) (take count lines) ∙ ap (λ ls. accepted shape (run.lines + 1) ls run.engine.map.pairs) (sym (first_ones lines left progress count within))))
+      (is ∙ ap (λ o. run.engine.order ++ o) (accepted_are lines left progress (run.lines + 1) (take count lines) ∙ ap (λ ls. accepted shape (run.lines + 1) ls (map_in run.engine now)) (sym (first_ones lines left progress count within))))
 
   long : run.lines + count ≤ length (script_of start.input)
   long = omega (arith, within, script_len progress, length-append lines left)
 
   -- before anything is said
-  pub keeps_doing : (wanted : Shape) (last number : ℕ) (w : World) → w.said ≡ now.said → CrashKeeps wanted last number run.engine.map.shape run.engine.map.pairs (take count lines) w → CrashHoldsAcknowledged wanted last number start shape pairs order w
+  pub keeps_doing : (wanted : Shape) (last number : ℕ) (w : World) → w.said ≡ now.said → CrashKeeps wanted last number run.engine.store.shape (map_in run.engine now) (take count lines) w → CrashHoldsAcknowledged wanted last number start shape pairs order w
   keeps_doing wanted last number w same keeps image leaves honest =
-      let h = subst (λ s. (m : ℕ) × (m ≤ length (take count lines)) × SoundUpTo wanted last number image s (after_all s (take m (take count lines)) run.engine.map.pairs)) progress.shape_is (held_by (keeps image leaves honest)) in
+      let h = subst (λ s. (m : ℕ) × (m ≤ length (take count lines)) × SoundUpTo wanted last number image s (after_all s (take m (take count lines)) (map_in run.engine now))) progress.shape_is (held_by (keeps image leaves honest)) in
       let m = h.0 in
       let few : m ≤ count = omega (arith, h.1, length-take count lines) in
       let nested : take m (take count lines) ≡ take m (lines ++ left) = take_take m count lines few ∙ sym (first_ones lines left progress m (omega (arith, few, within))) in
-      let map : after_all shape (take (run.lines + m) (script_of start.input)) pairs ≡ after_all shape (take m (take count lines)) run.engine.map.pairs = map_more progress m ∙ ap (λ ls. after_all shape ls run.engine.map.pairs) (sym nested) in
+      let map : after_all shape (take (run.lines + m) (script_of start.input)) pairs ≡ after_all shape (take m (take count lines)) (map_in run.engine now) = map_more progress m ∙ ap (λ ls. after_all shape ls (map_in run.engine now)) (sym nested) in
       let sum : run.lines + count ≡ run.lines + m + (count - m) = omega (arith, few) in
       holds_after wanted last number start shape pairs order w image (run.lines + m) (count - m) (omega (arith, long, few)) (subst (λ n. IsOrder shape start.input pairs n order) sum its_order)
-      (acknowledged_within progress w [] (run.lines + m) (same ∙ sym (append-nil now.said)) (omega (arith, begun_nothing (replies_to shape (lines ++ left) run.engine.map.pairs))) (omega (arith, long, few)))
+      (acknowledged_within progress w [] (run.lines + m) (same ∙ sym (append-nil now.said)) (omega (arith, begun_nothing (replies_to shape (lines ++ left) (map_in run.engine now)))) (omega (arith, long, few)))
       (subst (SoundUpTo wanted last number image shape) (sym map) h.2)
 
 -- ---- while its replies are said
 
 module _ {start now : World} {shape : Shape} {pairs : Pairs} {run : Run} (lines left : List Line) (progress : Progress start now (lines ++ left) shape pairs run) (order : List ℕ)
-    (is : order ≡ run.engine.order ++ accepted run.engine.map.shape (run.lines + 1) lines run.engine.map.pairs) where
+    (is : order ≡ run.engine.order ++ accepted run.engine.store.shape (run.lines + 1) lines (map_in run.engine now)) where
   all_order : IsOrder shape start.input pairs (run.lines + length lines) order
-  all_order = its_order lines left progress (length lines) (omega arith) order (is ∙ ap (λ ls. run.engine.order ++ accepted run.engine.map.shape (run.lines + 1) ls run.engine.map.pairs) (sym (take_all (length lines) lines (omega arith))))
+  all_order = its_order lines left progress (length lines) (omega arith) order (is ∙ ap (λ ls. run.engine.order ++ accepted run.engine.store.shape (run.lines + 1) ls (map_in run.engine now)) (sym (take_all (length lines) lines (omega arith))))
 
-  pub keeps_saying : (wanted : Shape) (last number : ℕ) (w : World) (n : ℕ) → w.said ≡ now.said ++ take n (texts_of (replies_to run.engine.map.shape lines run.engine.map.pairs)) → CrashKeeps wanted last number run.engine.map.shape (after_all run.engine.map.shape lines run.engine.map.pairs) [] w
+  pub keeps_saying : (wanted : Shape) (last number : ℕ) (w : World) (n : ℕ) → w.said ≡ now.said ++ take n (texts_of (replies_to run.engine.store.shape lines (map_in run.engine now))) → CrashKeeps wanted last number run.engine.store.shape (after_all run.engine.store.shape lines (map_in run.engine now)) [] w
       → CrashHoldsAcknowledged wanted last number start shape pairs order w
   keeps_saying wanted last number w n said keeps image leaves honest =
       let k : ℕ = run.lines + length lines in
-      let map : after_all shape (take k (script_of start.input)) pairs ≡ after_all shape lines run.engine.map.pairs =
-      map_more progress (length lines) ∙ ap (λ ls. after_all shape ls run.engine.map.pairs) (first_ones lines left progress (length lines) (omega arith) ∙ take_all (length lines) lines (omega arith)) in
-      let holds = only_map wanted last number shape (after_all shape lines run.engine.map.pairs) image
-      (subst (λ s. (count : ℕ) × (count ≤ 0) × SoundUpTo wanted last number image s (after_all s (take count []) (after_all s lines run.engine.map.pairs))) progress.shape_is (held_by (keeps image leaves honest))) in
-      let own = replies_to shape lines run.engine.map.pairs in
-      let others = replies_to shape left (after_all shape lines run.engine.map.pairs) in
+      let map : after_all shape (take k (script_of start.input)) pairs ≡ after_all shape lines (map_in run.engine now) =
+      map_more progress (length lines) ∙ ap (λ ls. after_all shape ls (map_in run.engine now)) (first_ones lines left progress (length lines) (omega arith) ∙ take_all (length lines) lines (omega arith)) in
+      let holds = only_map wanted last number shape (after_all shape lines (map_in run.engine now)) image
+      (subst (λ s. (count : ℕ) × (count ≤ 0) × SoundUpTo wanted last number image s (after_all s (take count []) (after_all s lines (map_in run.engine now)))) progress.shape_is (held_by (keeps image leaves honest))) in
+      let own = replies_to shape lines (map_in run.engine now) in
+      let others = replies_to shape left (after_all shape lines (map_in run.engine now)) in
       let tail : List ℕ = take n (texts_of own) in
-      let few : begun (replies_to shape (lines ++ left) run.engine.map.pairs) tail ≤ length lines =
-      omega (arith, ap (λ rs. begun rs tail) (replies_to-append shape lines left run.engine.map.pairs), begun_within own others n, length-replies_to shape lines run.engine.map.pairs) in
+      let few : begun (replies_to shape (lines ++ left) (map_in run.engine now)) tail ≤ length lines =
+      omega (arith, ap (λ rs. begun rs tail) (replies_to-append shape lines left (map_in run.engine now)), begun_within own others n, length-replies_to shape lines (map_in run.engine now)) in
       let within : k ≤ length (script_of start.input) = omega (arith, script_len progress, length-append lines left) in
       let sum : k ≡ k + 0 = omega arith in
       holds_after wanted last number start shape pairs order w image k 0 (omega (arith, within)) (subst (λ m. IsOrder shape start.input pairs m order) sum all_order)

@@ -1,5 +1,7 @@
 pub mod AnsweredBatch
 pub mod AnsweredLines
+pub mod AnsweredReplies
+pub mod AnsweredScripts
 pub mod Chained
 pub mod Configured
 pub mod KeptConfigs
@@ -22,7 +24,8 @@ pub mod TakenLines
 pub mod WrittenTexts
 pub mod Commanded
 pub mod StoreChecking
-pub mod PagedRests
+pub mod FoundPages
+pub mod FrameRests
 pub mod QuietStores
 pub mod ReplayedStores
 pub mod StartedStores

@@ -41,13 +41,13 @@ limit_or_memory Long old new shape pairs lines order outcome passes sound = inl 
 -- where a field is refused, and with no failure, that is reported, or memory runs out
 field_or_memory : (status : Status) (old new : History) (lines : ℕ) (order : List ℕ) (field : Field) → RunHolds old new status lines order → config_fault old.world ≡ Some field → (status ≡ Failed → ⊥) → (status ≡ Usage → ⊥)
     → (status ≡ Misconfigured) ⊎ (status ≡ Memory)
-field_or_memory Done old new lines order field run is sound known = absurd (let both : Some field ≡ None = sym is ∙ (run.opened (inl refl)).configured in cc)
+field_or_memory Done old new lines order field run is sound known = absurd (let both : Some field ≡ None = sym is ∙ run.configured (inl refl) in cc)
 field_or_memory Usage old new lines order field run is sound known = absurd (known refl)
 field_or_memory Misconfigured old new lines order field run is sound known = inl refl
 field_or_memory Failed old new lines order field run is sound known = absurd (sound refl)
 field_or_memory Memory old new lines order field run is sound known = inr refl
 field_or_memory Damaged old new lines order field run is sound known = absurd (let both : Some field ≡ None = sym is ∙ (run.damaged refl).configured in cc)
-field_or_memory Long old new lines order field run is sound known = absurd (let both : Some field ≡ None = sym is ∙ (run.opened (inr refl)).configured in cc)
+field_or_memory Long old new lines order field run is sound known = absurd (let both : Some field ≡ None = sym is ∙ run.configured (inr refl) in cc)
 
 -- so a run is complete
 pub completes : (old new : History) (status : Status) (lines : ℕ) (order : List ℕ) (before now : DeviceState) → RunHolds old new status lines order → (status ≡ Usage → ⊥) → (status ≡ Failed → Rose before now) → Completes status old.world before now

@@ -11,8 +11,8 @@ use Rattle.pm_core.specs.Calls.{ChangesDisk}
 use Rattle.pm_core.specs.Held.{in_force}
 use Rattle.pm_core.specs.LogAlone.{image_of}
 use Rattle.pm_redo.specs.Rebuilding.{IsSame}
-use Rattle.pm_engine.specs.PagedEngines.{PagedRunning, HasRunLines}
-use Rattle.pm_engine.specs.PagedOpenings.{OpensRunning}
+use Rattle.pm_engine.specs.FrameEngines.{FrameRunning, HasDoneLines}
+use Rattle.pm_engine.specs.FrameOpenings.{OpensRunningIn}
 use Rattle.pm_engine.specs.PagedReplays.{CrashHoldsMap}
 use Rattle.pm_engine.specs.RunningLines.{says_nothing}
 use Rattle.pm_engine.proofs.RunningLines.{crash_further, crash_one}
@@ -55,9 +55,9 @@ module _ (wanted : Shape) (old : World) (shape : Shape) (pairs : Pairs) (start :
   start_map = crash_one (opened_to start.sound) (number_in (in_force (image_of old))) wanted shape pairs old (start_keeps wanted old shape pairs start)
 
   -- a run may begin over the engine that opened it
-  pub can_run : (engine : PagedRunning) (mid : World) → OpensRunning (opened_to start.sound) (opened_number start.sound) wanted says_nothing shape pairs engine mid → CanRun wanted (last_after start) (number_after start) engine mid
+  pub can_run : (engine : FrameRunning) (mid : World) → OpensRunningIn (opened_to start.sound) (opened_number start.sound) wanted says_nothing shape pairs engine mid → CanRun wanted (last_after start) (number_after start) engine mid
   can_run engine mid opened = record {
-    stands = record { from = 0; has = subst (λ (m : Pairs). HasRunLines wanted says_nothing 0 m [] engine mid) (sym opened.map) opened.runs };
+    stands = record { from = 0; has = subst (λ (m : Pairs). HasDoneLines wanted says_nothing 0 m [] engine mid) (sym opened.map) opened.runs };
     within = record {
       segments = omega (arith, opened.segment);
       checkpoints = omega (arith, opened.number);

@@ -12,14 +12,17 @@ use Rattle.pm_model.specs.Eval.{Pairs, replies_to, after_all, accepted}
 use Rattle.pm_model.proofs.Runs.{replies_to-append, after_all-append, length-replies_to, accepted-append}
 use Rattle.pm_script.specs.Lines.{lines_of, after_line}
 use Rattle.pm_script.specs.Texts.{text_of, texts_of}
+use Rattle.pm_engine.specs.FrameBatches.{EndsAtReplayIn}
+use Rattle.pm_engine.specs.FrameEngines.{map_in}
 use Rattle.pm_engine.specs.PagedBatches.{asked_last, is_checkpoint}
-use Rattle.pm_engine.specs.PagedEngines.{EndsAtReplay}
+use Rattle.pm_engine.specs.RunningLines.{SameDisk}
 use Rattle.pm_top.specs.declared.run.Run.{Run}
 use Rattle.pm_top.specs.Promises.{replies_of, HasAnswered}
 use Rattle.pm_top.specs.ScriptOrder.{IsOrder, HasTried, IsDone, HasFailed, HasNoMemory, IsStopped}
 use Rattle.pm_top.specs.Runs.{Progress, SameConsole}
 use Rattle.pm_top.specs.Limits.{after_lines}
 use Rattle.pm_top.specs.Served.{line_of, script_of}
+use Rattle.pm_top.proofs.FrameRests.{map_beside}
 use Rattle.pm_top.proofs.TakenLines.{after_lines-more}
 use Rattle.pm_top.proofs.ServedLines.{script_of-first}
 
@@ -28,7 +31,7 @@ texts-append xs ys = flat_map-append text_of xs ys
 
 module _ {start now : World} {left : List Line} {shape : Shape} {pairs : Pairs} {run : Run} (progress : Progress start now left shape pairs run) where
   -- the whole script's replies: those of what is done, and those of the rest
-  pub parted : replies_of shape start.input pairs ≡ replies_to shape progress.done pairs ++ replies_to shape left run.engine.map.pairs
+  pub parted : replies_of shape start.input pairs ≡ replies_to shape progress.done pairs ++ replies_to shape left (map_in run.engine now)
   parted =
       ap (λ s. replies_to shape s pairs) progress.script ∙ replies_to-append shape progress.done left pairs
       ∙ ap (λ m. replies_to shape progress.done pairs ++ replies_to shape left m) (sym progress.map)
@@ -39,7 +42,7 @@ module _ {start now : World} {left : List Line} {shape : Shape} {pairs : Pairs} 
   told : take run.lines (replies_of shape start.input pairs) ≡ replies_to shape progress.done pairs
   told = ap (take run.lines) parted ∙ take_at _ _ run.lines counted
 
-  pub untold : drop run.lines (replies_of shape start.input pairs) ≡ replies_to shape left run.engine.map.pairs
+  pub untold : drop run.lines (replies_of shape start.input pairs) ≡ replies_to shape left (map_in run.engine now)
   untold = ap (drop run.lines) parted ∙ drop_at _ _ run.lines counted
 
   pub done_is : take run.lines (script_of start.input) ≡ progress.done
@@ -65,12 +68,12 @@ module _ {start now : World} {left : List Line} {shape : Shape} {pairs : Pairs} 
   take_more n = ap (take (run.lines + n)) progress.script ∙ ap (λ m. take (m + n) (progress.done ++ left)) (sym progress.count) ∙ take-append-add progress.done left n
 
   -- the order with so many more
-  pub order_more : (n : ℕ) (order : List ℕ) → order ≡ run.engine.order ++ accepted shape (run.lines + 1) (take n left) run.engine.map.pairs → IsOrder shape start.input pairs (run.lines + n) order
+  pub order_more : (n : ℕ) (order : List ℕ) → order ≡ run.engine.order ++ accepted shape (run.lines + 1) (take n left) (map_in run.engine now) → IsOrder shape start.input pairs (run.lines + n) order
   order_more n order is =
       let number : run.lines + 1 ≡ 1 + length progress.done = omega (arith, progress.count) in
       is
-      ∙ ap (λ o. o ++ accepted shape (run.lines + 1) (take n left) run.engine.map.pairs) progress.order
-      ∙ ap (λ k. accepted shape 1 progress.done pairs ++ accepted shape k (take n left) run.engine.map.pairs) number
+      ∙ ap (λ o. o ++ accepted shape (run.lines + 1) (take n left) (map_in run.engine now)) progress.order
+      ∙ ap (λ k. accepted shape 1 progress.done pairs ++ accepted shape k (take n left) (map_in run.engine now)) number
       ∙ ap (λ m. accepted shape 1 progress.done pairs ++ accepted shape (1 + length progress.done) (take n left) m) progress.map
       ∙ sym (accepted-append shape 1 progress.done (take n left) pairs)
       ∙ ap (λ ls. accepted shape 1 ls pairs) (sym (take_more n))
@@ -81,7 +84,7 @@ module _ {start now : World} {left : List Line} {shape : Shape} {pairs : Pairs} 
   pub tried_so_far : HasTried shape start.input pairs run.lines run.engine.order
   tried_so_far = record { many = run.lines; from = omega arith; to = omega arith; within = omega (arith, script_len); order_is = order_so_far }
 
-  pub tried_more : (n : ℕ) (order : List ℕ) → n ≤ BATCH_LINES_MAX → n ≤ length left → order ≡ run.engine.order ++ accepted shape (run.lines + 1) (take n left) run.engine.map.pairs
+  pub tried_more : (n : ℕ) (order : List ℕ) → n ≤ BATCH_LINES_MAX → n ≤ length left → order ≡ run.engine.order ++ accepted shape (run.lines + 1) (take n left) (map_in run.engine now)
       → HasTried shape start.input pairs run.lines order
   tried_more n order few within is = record { many = run.lines + n; from = omega arith; to = omega (arith, few); within = omega (arith, within, script_len); order_is = order_more n order is }
 
@@ -130,7 +133,7 @@ asked_append was [] more = refl
 asked_append was (line ∷ lines) more = asked_append (is_checkpoint line) lines more
 
 -- before the first line
-pub begins : (start now : World) (run : Run) → SameConsole start now → run.lines ≡ 0 → run.engine.order ≡ [] → Progress start now (script_of start.input) run.engine.map.shape run.engine.map.pairs run
+pub begins : (start now : World) (run : Run) → SameConsole start now → run.lines ≡ 0 → run.engine.order ≡ [] → Progress start now (script_of start.input) run.engine.store.shape (map_in run.engine now) run
 begins start now run same none order = record {
   done = [];
   script = refl;
@@ -142,15 +145,15 @@ begins start now run same none order = record {
   replay = λ is. no_false is;
 }
 
--- a progress is the same where nothing was said
-pub progress_still : {start now : World} {left : List Line} {shape : Shape} {pairs : Pairs} {run : Run} → Progress start now left shape pairs run → (new : World) → new.said ≡ now.said → Progress start new left shape pairs run
-progress_still progress new same = record {
+-- a progress is the same where nothing was said, and the disk is the same
+pub progress_still : {start now : World} {left : List Line} {shape : Shape} {pairs : Pairs} {run : Run} → Progress start now left shape pairs run → (new : World) → SameDisk now new → new.said ≡ now.said → Progress start new left shape pairs run
+progress_still {now = now} {run = run} progress new disk same = record {
   done = progress.done;
   script = progress.script;
   count = progress.count;
   said = same ∙ progress.said;
   shape_is = progress.shape_is;
-  map = progress.map;
+  map = map_beside run.engine now new disk ∙ progress.map;
   order = progress.order;
   replay = progress.replay;
 }
@@ -159,13 +162,13 @@ progress_still progress new same = record {
 
 module _ {start now : World} {shape : Shape} {pairs : Pairs} {run : Run} (lines left : List Line) (progress : Progress start now (lines ++ left) shape pairs run) where
   abbrev texts : List ℕ
-  texts = texts_of (replies_to run.engine.map.shape lines run.engine.map.pairs)
+  texts = texts_of (replies_to run.engine.store.shape lines (map_in run.engine now))
 
-  pub texts_are : texts ≡ texts_of (replies_to shape lines run.engine.map.pairs)
-  texts_are = ap (λ s. texts_of (replies_to s lines run.engine.map.pairs)) progress.shape_is
+  pub texts_are : texts ≡ texts_of (replies_to shape lines (map_in run.engine now))
+  texts_are = ap (λ s. texts_of (replies_to s lines (map_in run.engine now))) progress.shape_is
 
-  pub accepted_are : (number : ℕ) (ls : List Line) → accepted run.engine.map.shape number ls run.engine.map.pairs ≡ accepted shape number ls run.engine.map.pairs
-  accepted_are number ls = ap (λ s. accepted s number ls run.engine.map.pairs) progress.shape_is
+  pub accepted_are : (number : ℕ) (ls : List Line) → accepted run.engine.store.shape number ls (map_in run.engine now) ≡ accepted shape number ls (map_in run.engine now)
+  accepted_are number ls = ap (λ s. accepted s number ls (map_in run.engine now)) progress.shape_is
 
   pub first_ones : (n : ℕ) → n ≤ length lines → take n (lines ++ left) ≡ take n lines
   first_ones n le = take-append-le n lines left le
@@ -174,16 +177,16 @@ module _ {start now : World} {shape : Shape} {pairs : Pairs} {run : Run} (lines 
   all_lines = first_ones (length lines) (omega arith) ∙ take_all (length lines) lines (omega arith)
 
   -- so many were tried
-  pub tried_some : (n : ℕ) (order : List ℕ) → length lines ≤ BATCH_LINES_MAX → n ≤ length lines → order ≡ run.engine.order ++ accepted run.engine.map.shape (run.lines + 1) (take n lines) run.engine.map.pairs
+  pub tried_some : (n : ℕ) (order : List ℕ) → length lines ≤ BATCH_LINES_MAX → n ≤ length lines → order ≡ run.engine.order ++ accepted run.engine.store.shape (run.lines + 1) (take n lines) (map_in run.engine now)
       → HasTried shape start.input pairs run.lines order
   tried_some n order few within is =
       tried_more progress n order (omega (arith, few, within)) (omega (arith, within, length-append lines left))
-      (is ∙ ap (λ o. run.engine.order ++ o) (accepted_are (run.lines + 1) (take n lines) ∙ ap (λ ls. accepted shape (run.lines + 1) ls run.engine.map.pairs) (sym (first_ones n within))))
+      (is ∙ ap (λ o. run.engine.order ++ o) (accepted_are (run.lines + 1) (take n lines) ∙ ap (λ ls. accepted shape (run.lines + 1) ls (map_in run.engine now)) (sym (first_ones n within))))
 
   -- the batch was done, and its replies said
-  pub progress_more : (new : World) (later : Run) → new.said ≡ now.said ++ texts → later.lines ≡ run.lines + length lines → later.engine.map.shape ≡ run.engine.map.shape → later.engine.map.pairs ≡ after_all run.engine.map.shape lines run.engine.map.pairs
-      → later.engine.order ≡ run.engine.order ++ accepted run.engine.map.shape (run.lines + 1) lines run.engine.map.pairs
-      → ((was : Bool) → (was ≡ true → EndsAtReplay run.engine) → asked_last was lines ≡ true → EndsAtReplay later.engine) → Progress start new left shape pairs later
+  pub progress_more : (new : World) (later : Run) → new.said ≡ now.said ++ texts → later.lines ≡ run.lines + length lines → later.engine.store.shape ≡ run.engine.store.shape → map_in later.engine new ≡ after_all run.engine.store.shape lines (map_in run.engine now)
+      → later.engine.order ≡ run.engine.order ++ accepted run.engine.store.shape (run.lines + 1) lines (map_in run.engine now)
+      → ((was : Bool) → (was ≡ true → EndsAtReplayIn run.engine) → asked_last was lines ≡ true → EndsAtReplayIn later.engine) → Progress start new left shape pairs later
   progress_more new later said_is lines_is shape_is map_is order_is asked =
       let number : run.lines + 1 ≡ 1 + length progress.done = omega (arith, progress.count) in
       record {
@@ -194,39 +197,39 @@ module _ {start now : World} {shape : Shape} {pairs : Pairs} {run : Run} (lines 
             ∙ ap (λ t. start.said ++ (texts_of (replies_to shape progress.done pairs) ++ t)) (texts_are ∙ ap (λ m. texts_of (replies_to shape lines m)) progress.map)
             ∙ ap (λ t. start.said ++ t) (sym (texts-append (replies_to shape progress.done pairs) (replies_to shape lines (after_all shape progress.done pairs))) ∙ ap texts_of (sym (replies_to-append shape progress.done lines pairs)));
         shape_is = shape_is ∙ progress.shape_is;
-        map = map_is ∙ ap (λ s. after_all s lines run.engine.map.pairs) progress.shape_is ∙ ap (after_all shape lines) progress.map ∙ sym (after_all-append shape progress.done lines pairs);
+        map = map_is ∙ ap (λ s. after_all s lines (map_in run.engine now)) progress.shape_is ∙ ap (after_all shape lines) progress.map ∙ sym (after_all-append shape progress.done lines pairs);
         order = order_is ∙ ap (λ o. run.engine.order ++ o) (accepted_are (run.lines + 1) lines)
-            ∙ ap (λ o. o ++ accepted shape (run.lines + 1) lines run.engine.map.pairs) progress.order
-            ∙ ap (λ k. accepted shape 1 progress.done pairs ++ accepted shape k lines run.engine.map.pairs) number
+            ∙ ap (λ o. o ++ accepted shape (run.lines + 1) lines (map_in run.engine now)) progress.order
+            ∙ ap (λ k. accepted shape 1 progress.done pairs ++ accepted shape k lines (map_in run.engine now)) number
             ∙ ap (λ m. accepted shape 1 progress.done pairs ++ accepted shape (1 + length progress.done) lines m) progress.map
             ∙ sym (accepted-append shape 1 progress.done lines pairs);
         replay = λ is. asked (asked_last false progress.done) progress.replay (sym (asked_append false progress.done lines) ∙ is);
       }
 
   -- the batch was done, and its replies said in part
-  pub failed_saying : (new : World) (n : ℕ) (order : List ℕ) → length lines ≤ BATCH_LINES_MAX → new.said ≡ now.said ++ take n texts → order ≡ run.engine.order ++ accepted run.engine.map.shape (run.lines + 1) lines run.engine.map.pairs
+  pub failed_saying : (new : World) (n : ℕ) (order : List ℕ) → length lines ≤ BATCH_LINES_MAX → new.said ≡ now.said ++ take n texts → order ≡ run.engine.order ++ accepted run.engine.store.shape (run.lines + 1) lines (map_in run.engine now)
       → HasFailed start new shape pairs run.lines order
   unfolding tried_some tried_more
   failed_saying new n order few said_is order_is =
-      let own = replies_to shape lines run.engine.map.pairs in
-      let others = replies_to shape left (after_all shape lines run.engine.map.pairs) in
+      let own = replies_to shape lines (map_in run.engine now) in
+      let others = replies_to shape left (after_all shape lines (map_in run.engine now)) in
       let count : run.lines + length lines - run.lines ≡ length lines = omega arith in
       let next : texts_of (take (run.lines + length lines - run.lines) (drop run.lines (replies_of shape start.input pairs))) ≡ texts_of own =
       ap (λ k. texts_of (take k (drop run.lines (replies_of shape start.input pairs)))) count
-      ∙ ap (λ rs. texts_of (take (length lines) rs)) (untold progress ∙ replies_to-append shape lines left run.engine.map.pairs)
-      ∙ ap texts_of (take_at own others (length lines) (length-replies_to shape lines run.engine.map.pairs)) in
+      ∙ ap (λ rs. texts_of (take (length lines) rs)) (untold progress ∙ replies_to-append shape lines left (map_in run.engine now))
+      ∙ ap texts_of (take_at own others (length lines) (length-replies_to shape lines (map_in run.engine now))) in
       record {
         tail = take n texts;
         answers = answers_so_far progress new (take n texts) said_is;
-        tried = tried_some (length lines) order few (omega arith) (order_is ∙ ap (λ ls. run.engine.order ++ accepted run.engine.map.shape (run.lines + 1) ls run.engine.map.pairs) (sym (take_all (length lines) lines (omega arith))));
+        tried = tried_some (length lines) order few (omega arith) (order_is ∙ ap (λ ls. run.engine.order ++ accepted run.engine.store.shape (run.lines + 1) ls (map_in run.engine now)) (sym (take_all (length lines) lines (omega arith))));
         prefix = (n, inl (ap (take n) (texts_are ∙ sym next)));
       }
 
   -- a fault came before anything was said
-  pub failed_unsaid : (new : World) (n : ℕ) (order : List ℕ) → length lines ≤ BATCH_LINES_MAX → n ≤ length lines → new.said ≡ now.said → order ≡ run.engine.order ++ accepted run.engine.map.shape (run.lines + 1) (take n lines) run.engine.map.pairs
+  pub failed_unsaid : (new : World) (n : ℕ) (order : List ℕ) → length lines ≤ BATCH_LINES_MAX → n ≤ length lines → new.said ≡ now.said → order ≡ run.engine.order ++ accepted run.engine.store.shape (run.lines + 1) (take n lines) (map_in run.engine now)
       → HasFailed start new shape pairs run.lines order
   failed_unsaid new n order few within same is = record { tail = []; answers = same_answers progress new same; prefix = (0, inl refl); tried = tried_some n order few within is }
 
-  pub memory_unsaid : (new : World) (n : ℕ) (order : List ℕ) → length lines ≤ BATCH_LINES_MAX → n ≤ length lines → new.said ≡ now.said → order ≡ run.engine.order ++ accepted run.engine.map.shape (run.lines + 1) (take n lines) run.engine.map.pairs
+  pub memory_unsaid : (new : World) (n : ℕ) (order : List ℕ) → length lines ≤ BATCH_LINES_MAX → n ≤ length lines → new.said ≡ now.said → order ≡ run.engine.order ++ accepted run.engine.store.shape (run.lines + 1) (take n lines) (map_in run.engine now)
       → HasNoMemory start new shape pairs run.lines order
   memory_unsaid new n order few within same is = record { answers = same_answers progress new same; tried = tried_some n order few within is }

@@ -13,10 +13,11 @@ use Rattle.pm_engine.specs.RunningLines.{SameDisk}
 use Rattle.pm_top.specs.Configurations.{config_fault, fault_config, wanted_in}
 use Rattle.pm_top.specs.declared.status.Status.{Status}
 use Rattle.pm_top.specs.declared.status.Status.TheVariants.{Done, Misconfigured, Failed, Memory, Damaged, Long}
-use Rattle.pm_top.specs.Promises.{AnswersOver, CanOpen, HasAnswered, replies_of, IsDamaged, IsLeft, IsMisconfigured, IsStart, NamesBadOpening, OutcomeIs, RunHolds, SaysPart, last_after, number_after}
+use Rattle.pm_top.specs.Promises.{CanOpen, HasAnswered, replies_of, IsDamaged, IsLeft, IsMisconfigured, IsStart, NamesBadOpening, OutcomeIs, RunHolds, SaysPart, last_after, number_after}
 use Rattle.pm_top.specs.ScriptOrder as one
 use Rattle.pm_top.specs.Served.{script_of}
 use Rattle.pm_top.specs.Statuses.{code_of}
+use Rattle.pm_top.specs.StoreChecks.{SaysLine}
 use Rattle.pm_top.proofs.Ordered.{outcome_is}
 use Rattle.pm_top.proofs.Orders.{take_none}
 
@@ -60,7 +61,7 @@ pub none_run : (old new : History) (status : Status) (lines : ℕ) (order : List
     → ((field : Field) → config_fault old.world ≡ Some field → AllMoments old new (SameDisk old.world)) → RunHolds old new status lines order
 none_run old new status lines order cases refused outcome untouched = record {
   outcome = outcome;
-  opened = λ answered. absurd (elim answered [
+  configured = λ answered. absurd (elim answered [
     | inl is ↦ isnt status Done cases is (λ e. omega (arith, e)) (λ e. omega (arith, e)) (λ e. omega (arith, e))
     | inr is ↦ isnt status Long cases is (λ e. omega (arith, e)) (λ e. omega (arith, e)) (λ e. omega (arith, e))
   ]);
@@ -100,29 +101,29 @@ field_refused_run old new status lines order field is cases said all none no_ord
     (λ _ _. said_disk old new (fault_config field) all)
 
 -- a record or a page is bad
-pub damaged_run : (old mid new : History) (status : Status) (lines : ℕ) (order text : List ℕ) → config_fault old.world ≡ None → ((shape : Shape) (pairs : Pairs) → IsStart (wanted_in old.world) old.world shape pairs → ⊥) → ChangesDisk old.world mid.world
-    → NamesBadOpening old.world mid.world text → (status ≡ Damaged) ⊎ (status ≡ Failed) ⊎ (status ≡ Memory) → (status ≡ Damaged → new.world ≡ with_said text mid.world) → lines ≡ 0 → order ≡ [] → RunHolds old new status lines order
-damaged_run old mid new status lines order text alike unsound restored bad cases said none no_order =
+pub damaged_run : (old mid new : History) (status : Status) (lines : ℕ) (order : List ℕ) → config_fault old.world ≡ None → ((shape : Shape) (pairs : Pairs) → IsStart (wanted_in old.world) old.world shape pairs → ⊥) → ChangesDisk old.world mid.world
+    → (status ≡ Damaged) ⊎ (status ≡ Failed) ⊎ (status ≡ Memory) → (status ≡ Damaged → SaysLine (NamesBadOpening old.world mid.world) mid.world new.world) → lines ≡ 0 → order ≡ [] → RunHolds old new status lines order
+damaged_run old mid new status lines order alike unsound restored cases named none no_order =
     let was : (P : Status → Type 0) → P Damaged → P Failed → P Memory → P status = λ P a b c.
     elim cases [ inl is ↦ subst P (sym is) a | inr more ↦ elim more [ inl is ↦ subst P (sym is) b | inr is ↦ subst P (sym is) c ] ] in
     record {
       outcome = λ shape pairs can. absurd (unsound shape pairs can.start);
-      opened = λ answered. absurd (elim answered [
+      configured = λ answered. absurd (elim answered [
         | inl is ↦ was (λ s. s ≡ Done → ⊥) (λ e. (let clash : 5 ≡ 0 = ap code_of e in omega (arith, clash))) (λ e. (let clash : 3 ≡ 0 = ap code_of e in omega (arith, clash))) (λ e. (let clash : 4 ≡ 0 = ap code_of e in omega (arith, clash))) is
         | inr is ↦ was (λ s. s ≡ Long → ⊥) (λ e. (let clash : 5 ≡ 6 = ap code_of e in omega (arith, clash))) (λ e. (let clash : 3 ≡ 6 = ap code_of e in omega (arith, clash))) (λ e. (let clash : 4 ≡ 6 = ap code_of e in omega (arith, clash))) is
       ]);
       untouched = λ field differs. absurd (let both : Some field ≡ None = sym differs ∙ alike in cc);
       leaves = λ is shape pairs start. absurd (unsound shape pairs start);
       misconfigured = λ is. absurd (was (λ s. s ≡ Misconfigured → ⊥) (λ e. (let clash : 5 ≡ 2 = ap code_of e in omega (arith, clash))) (λ e. (let clash : 3 ≡ 2 = ap code_of e in omega (arith, clash))) (λ e. (let clash : 4 ≡ 2 = ap code_of e in omega (arith, clash))) is);
-      damaged = λ is. record {
-        configured = alike;
-        unsound = unsound;
-        left = mid.world;
-        restored = restored;
-        text = text;
-        bad = bad;
-        says = record { now = said is; none = none; order_is = no_order };
-      };
+      damaged = λ is. (let line = named is in
+          record {
+            configured = alike;
+            unsound = unsound;
+            left = mid.world;
+            text = line.0;
+            bad = inl (record { restored = restored; names = line.1; none = none; order_is = no_order });
+            says = line.2;
+          });
     }
 
 -- ---- calls that come after ones that changed nothing
@@ -130,7 +131,7 @@ damaged_run old mid new status lines order text alike unsound restored bad cases
 pub run_from : (old mid new : History) (status : Status) (lines : ℕ) (order : List ℕ) → AllMoments old mid (IsSame old.world) → mid.world ≡ old.world → RunHolds mid new status lines order → RunHolds old new status lines order
 run_from old mid new status lines order first same run = record {
   outcome = subst (λ (w : World). (shape : Shape) (pairs : Pairs) → CanOpen w shape pairs → OutcomeIs status w new.world shape pairs lines order) same run.outcome;
-  opened = λ answered. subst (λ (w : World). AnswersOver status w new.world lines order) same (run.opened answered);
+  configured = λ answered. subst (λ (w : World). config_fault w ≡ None) same (run.configured answered);
   untouched = λ field refused.
       joined old mid new (SameDisk old.world) (same_disk old mid first)
       (subst (λ (w : World). (f : Field) → config_fault w ≡ Some f → AllMoments mid new (SameDisk w)) same run.untouched field refused);

@@ -17,7 +17,8 @@ use Rattle.pm_core.specs.Sound.{Sound}
 use Rattle.pm_core.specs.Stands.{soon_or}
 use Rattle.pm_core.specs.States.{View}
 use Rattle.pm_core.proofs.Saying.{say_in_force}
-use Rattle.pm_engine.specs.PagedEngines.{PagedRunning, AllLast, EndsAtReplay}
+use Rattle.pm_engine.specs.FrameBatches.{EndsAtReplayIn}
+use Rattle.pm_engine.specs.FrameEngines.{FrameRunning, AllLastIn}
 use Rattle.pm_engine.specs.RunningLines.{says_nothing}
 use Rattle.pm_engine.specs.RunningStores.{ended_with}
 
@@ -26,10 +27,10 @@ no_more : (log : ℕ → List ℕ) (p : Place) (frames : List Frame) → HasFram
 no_more log p [] run short = refl
 no_more log p (f ∷ fs) run short = let none : None ≡ Some f = sym (none_past all_frames frame_laws p.seg p.off (log p.seg) short) ∙ run.0 in absurd cc
 
-pub nothing_replayed : (wanted : Shape) (engine : PagedRunning) (world : World) (shape : Shape) (pairs : Pairs) → AllLast wanted says_nothing engine world → (sound : Sound wanted world shape pairs) → EndsAtReplay engine → sound.holds.frames ≡ []
+pub nothing_replayed : (wanted : Shape) (engine : FrameRunning) (world : World) (shape : Shape) (pairs : Pairs) → AllLastIn wanted says_nothing engine world → (sound : Sound wanted world shape pairs) → EndsAtReplayIn engine → sound.holds.frames ≡ []
 nothing_replayed wanted engine world shape pairs lasts sound ends =
-    let s = lasts.state in
-    let runs = lasts.has.runs.log in
+    let s = lasts.lasts.done.state in
+    let runs = lasts.lasts.done.has.runs.log in
     let stands = runs.stands in
     let image = image_of world in
     let checkpoint : in_force image ≡ Ended ends.mark =

@@ -1,5 +1,5 @@
 -- A line that is said whole or in part.
-use Rattle.std.proofs.Common.{ℕ, List, Result, refl, ap, sym, append-nil}
+use Rattle.std.proofs.Common.{inl, ℕ, List, Result, Err, refl, ap, sym, append-nil, arith}
 use Rattle.pm_disk.specs.Worlds.{World}
 use Rattle.pm_disk.specs.Moments.{History, IsHistory, AllMoments, Says}
 use Rattle.pm_disk.proofs.Chain.{started, says}
@@ -15,3 +15,11 @@ said_moments old new result text sound call =
 
 pub unsaid_moments : (old : History) (text : List ℕ) → IsHistory old → AllMoments old old (SaysPart text old.world)
 unsaid_moments old text sound = started old (SaysPart text old.world) sound (0, ap (λ (bytes : List ℕ). record old.world { said = bytes }) (sym (append-nil old.world.said)))
+
+-- nothing was said, and a fault came
+pub unsaid_yet : {T E : Type 0} (h : History) (fault : E) (text : List ℕ) → Says {T = T} {E = E} h h (Err fault) text
+unsaid_yet h fault text = record {
+  time = record { later = omega arith; nothing_else = λ t w le was. inl was; keeps = λ t w le was. was };
+  ok = tt;
+  part = (0, omega arith, ap (λ (bytes : List ℕ). record h.world { said = bytes }) (sym (append-nil h.world.said)));
+}

@@ -1,37 +1,45 @@
 -- How a run over a script goes on batch after batch, and how it ends.
-use Rattle.std.proofs.Common.{◌≡◌, inl, inr, ℕ, ◌+◌, ◌≤◌, List, [], ◌∷◌, ◌++◌, length, refl, ap, sym, ◌∙◌, subst, arith, length-append}
+use Rattle.std.proofs.Common.{◌≡◌, inl, inr, ℕ, ◌+◌, ◌≤◌, List, [], ◌∷◌, ◌++◌, length, Ok, Err, refl, ap, sym, ◌∙◌, subst, append-nil, arith, length-append}
+use Rattle.pm_types.specs.declared.fault.StoreFault.{StoreFault}
+use Rattle.pm_types.specs.declared.fault.StoreFault.TheVariants.{BadPage, Failed, Memory}
 use Rattle.pm_types.specs.declared.limits.TheConstants.{SCRIPT_BYTES_MAX, LINES_MAX}
 use Rattle.pm_types.specs.declared.shape.Shape.{Shape}
 use Rattle.pm_disk.specs.Worlds.{World}
-use Rattle.pm_disk.specs.Moments.{History, AllMoments}
-use Rattle.pm_disk.proofs.Chain.{weaker}
+use Rattle.pm_disk.specs.Moments.{History, IsHistory, AllMoments}
+use Rattle.pm_disk.proofs.Chain.{at_last, weaker}
 use Rattle.pm_model.specs.declared.line.Line.{Line}
 use Rattle.pm_model.specs.Eval.{Pairs}
 use Rattle.pm_script.specs.Reading.{Unread}
+use Rattle.pm_core.specs.BasePages.{Partitions}
 use Rattle.pm_core.specs.Calls.{ChangesDisk}
-use Rattle.pm_segments.specs.Ends.{LogEnd}
-use Rattle.pm_engine.specs.PagedEngines.{PagedRunning, number_of}
-use Rattle.pm_engine.specs.PagedEngines as engines
-use Rattle.pm_engine.specs.RunningLines.{CrashHoldsLines}
+use Rattle.pm_core.specs.Held.{pairs_in}
+use Rattle.pm_engine.specs.FrameEngines.{FrameRunning, AllLastIn, map_in, closed_engine}
+use Rattle.pm_engine.specs.FrameStores.{pages_in_frames}
+use Rattle.pm_engine.specs.PagedEngines.{number_of}
+use Rattle.pm_engine.specs.RunningLines.{CrashHoldsLines, says_nothing}
 use Rattle.pm_engine.proofs.RunningLines.{moments_further}
 use Rattle.pm_top.specs.declared.batch.Continuation.{Continuation}
 use Rattle.pm_top.specs.declared.batch.Continuation.TheVariants as then_comes
 use Rattle.pm_top.specs.declared.run.Run.{Run}
+use Rattle.pm_top.specs.declared.run.Stop.TheVariants as stops
 use Rattle.pm_top.specs.Crashes.{CrashKeeps}
-use Rattle.pm_top.specs.ScriptOrder.{CrashHoldsAcknowledged}
-use Rattle.pm_top.specs.ScriptOrder.{IsStopped}
-use Rattle.pm_top.specs.Runs.{Progress, BatchIsAnswered, StaysWithin, TakesFor}
+use Rattle.pm_top.specs.Promises.{IsLeft}
+use Rattle.pm_top.specs.ScriptOrder.{CrashHoldsAcknowledged, HasFailed, HasNoMemory, IsStopped}
+use Rattle.pm_top.specs.Runs.{BatchIsAnswered, CanRun, GoesOn, IsServed, MayRun, Progress, SameConsole, StaysWithin, TakesFor}
 use Rattle.pm_top.specs.Limits.{after_lines}
 use Rattle.pm_top.specs.Scripts.{ContinuationIs}
 use Rattle.pm_top.specs.Served.{script_of}
-use Rattle.pm_top.proofs.AnsweredLines.{both, within_fewer, within_left}
+use Rattle.pm_top.proofs.AnsweredBatch.{idle_none, idle_stops}
+use Rattle.pm_top.proofs.AnsweredLines.{both, err_same, within_fewer, within_left}
+use Rattle.pm_top.proofs.FrameRests.{rest_of_last}
 use Rattle.pm_top.proofs.TakenLines.{after_lines-add}
 use Rattle.pm_top.proofs.Lasting.{keeps_rest}
-use Rattle.pm_top.proofs.Progressing.{stopped}
+use Rattle.pm_top.proofs.Leaving.{leaves_store}
+use Rattle.pm_top.proofs.Progressing.{begins, failed_still, finished, memory_still, stopped}
 
 -- ---- what a batch leaves to be read
 
-module _ (continuation : Continuation) {old new : Unread} {rest now_rest : List ℕ} {world now : World} {before later : Run} (answered : BatchIsAnswered continuation old new rest now_rest world now before later) (input : List ℕ) where
+module _ (continuation : Continuation) {old new : Unread} {rest now_rest : List ℕ} {was now : History} {before later : Run} (answered : BatchIsAnswered continuation old new rest now_rest was now before later) (input : List ℕ) where
   count_there : before.lines ≡ old.lines → later.lines ≡ old.lines + length answered.lines
   count_there counted = omega (arith, answered.count, counted)
 
@@ -57,8 +65,8 @@ module _ (continuation : Continuation) {old new : Unread} {rest now_rest : List 
     pub more_limit : old.bytes ≤ SCRIPT_BYTES_MAX → new.bytes ≤ SCRIPT_BYTES_MAX
     more_limit few = omega (arith, answered.taken.few_bytes few, ap (λ (u : Unread). u.bytes) more_is.0)
 
-    pub more_progress : (start : World) (shape : Shape) (pairs : Pairs) → Progress start world (script_of rest) shape pairs before → Progress start now (script_of now_rest) shape pairs later
-    more_progress start shape pairs progress = subst (λ r. Progress start now (script_of r) shape pairs later) more_is.1 (answered.progress start shape pairs progress)
+    pub more_goes : (wanted : Shape) (last number : ℕ) → MayRun wanted last number 2048 before.engine was.world → GoesOn {T = Unit {0}} wanted last number was now (script_of rest) (script_of now_rest) before later (Ok tt)
+    more_goes wanted last number can = subst (λ r. GoesOn {T = Unit {0}} wanted last number was now (script_of rest) (script_of r) before later (Ok tt)) more_is.1 (answered.goes wanted last number can)
 
   -- nothing is left
   module _ (is : continuation ≡ then_comes.End) where
@@ -68,88 +76,164 @@ module _ (continuation : Continuation) {old new : Unread} {rest now_rest : List 
     pub end_none : now_rest ≡ []
     end_none = end_is.1
 
-    pub end_progress : (start : World) (shape : Shape) (pairs : Pairs) → Progress start world (script_of rest) shape pairs before → Progress start now [] shape pairs later
-    end_progress start shape pairs progress = subst (λ r. Progress start now (script_of r) shape pairs later) end_is.0 (answered.progress start shape pairs progress)
+    pub end_goes : (wanted : Shape) (last number : ℕ) → MayRun wanted last number 2048 before.engine was.world → GoesOn {T = Unit {0}} wanted last number was now (script_of rest) [] before later (Ok tt)
+    end_goes wanted last number can = subst (λ r. GoesOn {T = Unit {0}} wanted last number was now (script_of rest) (script_of r) before later (Ok tt)) end_is.0 (answered.goes wanted last number can)
 
     pub end_limit : old.bytes ≤ SCRIPT_BYTES_MAX → old.bytes + length rest ≡ length input → length input ≤ SCRIPT_BYTES_MAX
     end_limit few bytes = omega (arith, answered.taken.few_bytes few, left_bytes bytes, ap (λ (l : List ℕ). length l) end_is.0)
 
   -- a line is left that isn't ended within the limits
   pub over_stopped : continuation ≡ then_comes.Over → before.lines ≡ old.lines → rest ≡ after_lines old.lines input → old.bytes + length rest ≡ length input → old.bytes ≤ SCRIPT_BYTES_MAX → later.lines ≤ LINES_MAX
-      → (start : World) (shape : Shape) (pairs : Pairs) → start.input ≡ input → Progress start world (script_of rest) shape pairs before → IsStopped start now shape pairs later.lines later.engine.order []
+      → (start : World) (shape : Shape) (pairs : Pairs) → start.input ≡ input → Progress start now.world (script_of answered.left) shape pairs later → IsStopped start now.world shape pairs later.lines later.engine.order []
   over_stopped is counted place bytes few lines start shape pairs same progress =
       let over = subst (λ b. ContinuationIs b answered.at new answered.left now_rest) is answered.continues in
       let long : length start.input ≡ length input = ap (λ (l : List ℕ). length l) same in
-      stopped (answered.progress start shape pairs progress) now answered.left refl refl (left_place counted place ∙ ap (after_lines later.lines) (sym same)) over.some lines
+      stopped progress now.world answered.left refl refl (left_place counted place ∙ ap (after_lines later.lines) (sym same)) over.some lines
       (omega (arith, left_bytes bytes, answered.taken.few_bytes few, long))
       (elim over.over [
         | inl full ↦ inl (omega (arith, full, answered.taken.count, count_there counted))
         | inr past ↦ inr (omega (arith, past, left_bytes bytes, long))
       ])
 
--- ---- the end
+-- ---- the force at the end
 
--- it is as it was, but that it may be closed
-pub record KeepsEngineFor (before now : PagedRunning) : Type 0 where
-  pub shape : now.map.shape ≡ before.map.shape
-  pub pairs : now.map.pairs ≡ before.map.pairs
-  pub order : now.order ≡ before.order
-  pub log : now.log ≡ before.log
-  pub mark : now.mark ≡ before.mark
+-- it changes no page
+pub force_map : (before now : FrameRunning) (old new : World) → now ≡ before → pages_in_frames now.store new ≡ pages_in_frames before.store old → map_in now new ≡ map_in before old
+force_map before now old new same pages =
+    ap (λ (e : FrameRunning). pairs_in e.store.shape.partitions (pages_in_frames now.store new)) same ∙ ap (λ (p : Partitions). pairs_in before.store.shape.partitions p) pages
 
--- the log was forced
-pub closed : {start now : World} {left : List Line} {shape : Shape} {pairs : Pairs} {run : Run} → Progress start now left shape pairs run → (later : Run) (new : World) → later.lines ≡ run.lines → KeepsEngineFor run.engine later.engine → new.said ≡ now.said
-    → Progress start new left shape pairs later
-closed progress later new lines same said = record {
-  done = progress.done;
-  script = progress.script;
-  count = progress.count ∙ sym lines;
-  said = said ∙ progress.said;
-  shape_is = same.shape ∙ progress.shape_is;
-  map = same.pairs ∙ progress.map;
-  order = same.order ∙ progress.order;
-  replay = λ is.
-      let ends = progress.replay is in
-      record { mark = ends.mark; is = same.mark ∙ ends.is; ends = ap (λ (l : LogEnd). l.end) same.log ∙ ends.ends };
-}
+module _ (wanted : Shape) (last number lines : ℕ) (mid new : History) (run later : Run) (left : List Line) (can : MayRun wanted last number lines run.engine mid.world) (sound : IsHistory new) (lines_is : later.lines ≡ run.lines)
+    (disk : AllMoments mid new (ChangesDisk mid.world))
+    (crash : AllMoments mid new (CrashHoldsLines (run.engine.log.end.seg + 1) (number_of run.engine.ckpt.mark) wanted run.engine.store.shape (map_in run.engine mid.world) [])) where
+  only : ChangesDisk mid.world new.world
+  only = at_last mid new (ChangesDisk mid.world) sound disk
 
--- the engine is the same, or closed
-pub keeps_same : (before now : PagedRunning) → now ≡ before → KeepsEngineFor before now
-keeps_same before now is = record {
-  shape = ap (λ (e : PagedRunning). e.map.shape) is;
-  pairs = ap (λ (e : PagedRunning). e.map.pairs) is;
-  order = ap (λ (e : PagedRunning). e.order) is;
-  log = ap (λ (e : PagedRunning). e.log) is;
-  mark = ap (λ (e : PagedRunning). e.mark) is;
-}
+  force_keeps : AllMoments mid new (CrashKeeps wanted last number run.engine.store.shape (map_in run.engine mid.world) [])
+  force_keeps =
+      moments_further (run.engine.log.end.seg + 1) (number_of run.engine.ckpt.mark) last number wanted run.engine.store.shape (map_in run.engine mid.world) [] mid new (omega (arith, can.within.segments)) (omega (arith, can.within.checkpoints)) crash
 
-pub keeps_closed : (before now : PagedRunning) → now ≡ engines.closed before → KeepsEngineFor before now
-keeps_closed before now is = record {
-  shape = ap (λ (e : PagedRunning). e.map.shape) is;
-  pairs = ap (λ (e : PagedRunning). e.map.pairs) is;
-  order = ap (λ (e : PagedRunning). e.order) is;
-  log = ap (λ (e : PagedRunning). e.log) is;
-  mark = ap (λ (e : PagedRunning). e.mark) is;
-}
+  -- while the log is forced
+  force_moments : later.engine.order ≡ run.engine.order → (start : World) (shape : Shape) (pairs : Pairs) → Progress start mid.world left shape pairs run → AllMoments mid new (CrashHoldsAcknowledged wanted last number start shape pairs later.engine.order)
+  force_moments order start shape pairs progress =
+      let Q : World → Type 0 = CrashKeeps wanted last number run.engine.store.shape (map_in run.engine mid.world) [] in
+      subst (λ (o : List ℕ). AllMoments mid new (CrashHoldsAcknowledged wanted last number start shape pairs o)) (sym order)
+      (weaker mid new (λ w. Q w × ChangesDisk mid.world w) (CrashHoldsAcknowledged wanted last number start shape pairs run.engine.order)
+      (λ w is. keeps_rest progress wanted last number w is.1.said is.0) (both mid new Q (ChangesDisk mid.world) force_keeps disk))
 
--- while the log is forced at the end
-pub closing_moments : (wanted : Shape) (last number : ℕ) (mid new : History) {start : World} {left : List Line} {shape : Shape} {pairs : Pairs} {run : Run} → Progress start mid.world left shape pairs run
-    → AllMoments mid new (CrashKeeps wanted last number run.engine.map.shape run.engine.map.pairs []) → AllMoments mid new (ChangesDisk mid.world) → AllMoments mid new (CrashHoldsAcknowledged wanted last number start shape pairs run.engine.order)
-closing_moments wanted last number mid new {start = start} {shape = shape} {pairs = pairs} {run = run} progress keeps only =
-    let Q : World → Type 0 = CrashKeeps wanted last number run.engine.map.shape run.engine.map.pairs [] in
-    weaker mid new (λ w. Q w × ChangesDisk mid.world w) (CrashHoldsAcknowledged wanted last number start shape pairs run.engine.order)
-    (λ w is. keeps_rest progress wanted last number w is.1.said is.0) (both mid new Q (ChangesDisk mid.world) keeps only)
+  -- that failed
+  pub force_stops : later.engine ≡ closed_engine run.engine → GoesOn {T = Unit {0}} wanted last number mid new left [] run later (Err Failed)
+  force_stops closed =
+      let order : later.engine.order ≡ run.engine.order = ap (λ (e : FrameRunning). e.order) closed in
+      record {
+        order = record { more = []; order = order ∙ sym (append-nil run.engine.order) };
+        sound = λ id is. absurd (let both : Failed ≡ BadPage id = err_same Failed (BadPage id) _ refl is in cc);
+        rests = tt;
+        answered = λ start shape pairs progress. record {
+          done = tt;
+          fault = record {
+            failed = λ _. subst (λ (x : ℕ × List ℕ). HasFailed start new.world shape pairs x.0 x.1) (λ i. (sym lines_is i, sym order i)) (failed_still progress new.world only.said);
+            memory = λ _. subst (λ (x : ℕ × List ℕ). HasNoMemory start new.world shape pairs x.0 x.1) (λ i. (sym lines_is i, sym order i)) (memory_still progress new.world only.said);
+          };
+        };
+        moments = force_moments order;
+      }
 
--- what a crash leaves of a force, within the bounds of the run
-pub force_keeps : (wanted : Shape) (last number lines : ℕ) (engine : PagedRunning) (mid new : History) → StaysWithin last number lines engine
-    → AllMoments mid new (CrashHoldsLines (engine.log.end.seg + 1) (number_of engine.mark) wanted engine.map.shape engine.map.pairs []) → AllMoments mid new (CrashKeeps wanted last number engine.map.shape engine.map.pairs [])
-force_keeps wanted last number lines engine mid new within keeps =
-    moments_further (engine.log.end.seg + 1) (number_of engine.mark) last number wanted engine.map.shape engine.map.pairs [] mid new (omega (arith, within.segments)) (omega (arith, within.checkpoints)) keeps
+  module _ (same : later.engine ≡ run.engine) (map : map_in later.engine new.world ≡ map_in run.engine mid.world) (lasts : AllLastIn wanted says_nothing later.engine new.world) where
+    closed_progress : (start : World) (shape : Shape) (pairs : Pairs) → Progress start mid.world left shape pairs run → Progress start new.world left shape pairs later
+    closed_progress start shape pairs progress = record {
+      done = progress.done;
+      script = progress.script;
+      count = progress.count ∙ sym lines_is;
+      said = only.said ∙ progress.said;
+      shape_is = ap (λ (e : FrameRunning). e.store.shape) same ∙ progress.shape_is;
+      map = map ∙ progress.map;
+      order = ap (λ (e : FrameRunning). e.order) same ∙ progress.order;
+      replay = λ is.
+          let ends = progress.replay is in
+          record { mark = ends.mark; is = ap (λ (e : FrameRunning). e.ckpt.mark) same ∙ ends.is; ends = ap (λ (e : FrameRunning). e.log.end) same ∙ ends.ends };
+    }
+
+    pub force_goes : GoesOn {T = Unit {0}} wanted last number mid new left left run later (Ok tt)
+    force_goes =
+        let order : later.engine.order ≡ run.engine.order = ap (λ (e : FrameRunning). e.order) same in
+        record {
+          order = record { more = []; order = order ∙ sym (append-nil run.engine.order) };
+          sound = λ id is. absurd (let both : Ok tt ≡ Err (BadPage id) = is in cc);
+          rests = rest_of_last wanted later.engine new.world lasts;
+          answered = λ start shape pairs progress.
+              let done = closed_progress start shape pairs progress in
+              record { done = done; fault = record { failed = λ _. failed_still done new.world refl; memory = λ _. memory_still done new.world refl } };
+          moments = force_moments order;
+        }
+
+    -- the whole run left its store so
+    pub force_leaves : left ≡ [] → (start : World) (shape : Shape) (pairs : Pairs) → Progress start new.world left shape pairs later → IsLeft wanted last number start new.world shape pairs
+    force_leaves none start shape pairs progress =
+        leaves_store wanted last number lines later new.world (subst (λ (ls : List Line). Progress start new.world ls shape pairs later) none progress)
+        (subst (λ (e : FrameRunning). StaysWithin last number lines e) (sym same) can.within) (rest_of_last wanted later.engine new.world lasts) lasts
+
+-- ---- what a run promises of its script
+
+module _ (wanted : Shape) (last number : ℕ) (start : World) (shape : Shape) (pairs : Pairs) (old new : History) (script : List Line) (first now : Run) (progress : Progress start old.world script shape pairs first) where
+  -- a fault ended it
+  pub served_fault : (left : List Line) (fault : StoreFault) → GoesOn {T = Unit {0}} wanted last number old new script left first now (Err fault) → IsServed wanted last number start shape pairs old new now (Err fault)
+  served_fault left fault goes =
+      let its = (goes.answered start shape pairs progress).fault in
+      record {
+        stop = tt;
+        fault = record { failed = λ is. its.failed (ap Err (err_same fault _ _ refl is)); memory = λ is. its.memory (ap Err (err_same fault _ _ refl is)) };
+        sound = λ id is. goes.sound id (ap Err (err_same fault _ _ refl is));
+        moments = goes.moments start shape pairs progress;
+        leaves = tt;
+      }
+
+  module _ (left : List Line) (goes : GoesOn {T = Unit {0}} wanted last number old new script left first now (Ok tt)) where
+    reached : Progress start new.world left shape pairs now
+    reached = (goes.answered start shape pairs progress).done
+
+    -- it stopped at a limit
+    pub served_limit : (Progress start new.world left shape pairs now → IsStopped start new.world shape pairs now.lines now.engine.order []) → IsServed wanted last number start shape pairs old new now (Ok stops.Limit)
+    served_limit over = record {
+      stop = over reached;
+      fault = record { failed = λ _. failed_still reached new.world refl; memory = λ _. memory_still reached new.world refl };
+      sound = λ id is. absurd (let both : Ok stops.Limit ≡ Err (BadPage id) = is in cc);
+      moments = goes.moments start shape pairs progress;
+      leaves = λ is. absurd (let both : stops.Limit ≡ stops.Done = is in cc);
+    }
+
+    -- it is done
+    pub served_done : left ≡ [] → new.world.input ≡ [] → length start.input ≤ SCRIPT_BYTES_MAX → now.lines ≤ LINES_MAX → (Progress start new.world left shape pairs now → IsLeft wanted last number start new.world shape pairs) → IsServed wanted last number start shape pairs old new now (Ok stops.Done)
+    served_done none read bytes few leaves = record {
+      stop = finished reached new.world refl none read bytes few;
+      fault = record { failed = λ _. failed_still reached new.world refl; memory = λ _. memory_still reached new.world refl };
+      sound = λ id is. absurd (let both : Ok stops.Done ≡ Err (BadPage id) = is in cc);
+      moments = goes.moments start shape pairs progress;
+      leaves = λ _. leaves reached;
+    }
+
+-- before the first line
+pub begins_here : (start now : World) (run : Run) → SameConsole start now → run.lines ≡ 0 → run.engine.order ≡ [] → Progress start now (script_of now.input) run.engine.store.shape (map_in run.engine now) run
+begins_here start now run same none order =
+    subst (λ (i : List ℕ). Progress start now (script_of i) run.engine.store.shape (map_in run.engine now) run) (sym same.input) (begins start now run same none order)
+
+-- memory ran out before the first batch
+pub served_unbegun : (wanted : Shape) (last number : ℕ) (start : World) (old : History) (run : Run) → IsHistory old → SameConsole start old.world → run.lines ≡ 0 → run.engine.order ≡ [] → CanRun wanted last number run.engine old.world
+    → IsServed wanted last number start run.engine.store.shape (map_in run.engine old.world) old old run (Err Memory)
+served_unbegun wanted last number start old run sound same none order can =
+    served_fault wanted last number start run.engine.store.shape (map_in run.engine old.world) old old (script_of old.world.input) run run (begins_here start old.world run same none order) [] Memory
+    (idle_stops wanted last number (LINES_MAX + 2048) old old run (script_of old.world.input) can sound (idle_none old sound) [] Memory (λ id is. absurd (let both : Memory ≡ BadPage id = is in cc)))
+
+-- ---- numbers
 
 -- there are numbers for a batch
 pub room_left : (last number : ℕ) (before now : Run) → now.lines ≤ LINES_MAX → StaysWithin last number (LINES_MAX + 2048) before.engine → TakesFor now.lines before.engine now.engine → StaysWithin last number 2048 now.engine
 room_left last number before now few within takes =
     within_left last number now.lines 2048 before.engine now.engine (within_fewer last number (LINES_MAX + 2048) (now.lines + 2048) before.engine (omega (arith, few)) within) takes
+
+-- there are numbers for a batch, and the engine is at rest
+pub may_next : (wanted : Shape) (last number : ℕ) (old mid : History) (script left : List Line) (before now : Run) → CanRun wanted last number before.engine old.world → GoesOn {T = Unit {0}} wanted last number old mid script left before now (Ok tt)
+    → now.lines ≤ LINES_MAX → TakesFor now.lines before.engine now.engine → MayRun wanted last number 2048 now.engine mid.world
+may_next wanted last number old mid script left before now can goes few takes = record { stands = goes.rests; within = room_left last number before now few can.within takes }
 
 -- what stands after, where there is nothing
 pub append_right : (xs ys : List ℕ) → xs ++ ys ≡ [] → ys ≡ []

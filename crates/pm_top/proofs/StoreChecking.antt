@@ -18,8 +18,8 @@ use Rattle.pm_top.specs.declared.status.Status.{Status}
 use Rattle.pm_top.specs.declared.status.Status.TheVariants.{Done, Failed, Memory, Damaged}
 use Rattle.pm_top.specs.Configurations.{wanted_in}
 use Rattle.pm_top.specs.Crashes.{opened_to}
-use Rattle.pm_top.specs.Promises.{IsStart, SameConfig, SaysPart}
-use Rattle.pm_top.specs.StoreChecks.{MaySayOfCheck, NamesBad, SaysCounts, SaysLine, VerifyCompletes, VerifyHolds}
+use Rattle.pm_top.specs.Promises.{IsStart, NamesBad, SameConfig, SaysPart}
+use Rattle.pm_top.specs.StoreChecks.{MaySayOfCheck, SaysCounts, SaysLine, VerifyCompletes, VerifyHolds}
 use Rattle.pm_top.proofs.LogListing.{isnt}
 use Rattle.pm_top.proofs.Opened.{start_map, start_said}
 

@@ -14,11 +14,9 @@ use Rattle.pm_disk.specs.Worlds.{World}
 use Rattle.pm_model.specs.declared.line.Line.{Line}
 use Rattle.pm_model.specs.Eval.{Pairs, replies_to, after_all, accepted}
 use Rattle.pm_model.specs.Orders.{HasTried, after_numbers}
-use Rattle.pm_core.specs.Held.{in_force}
 use Rattle.pm_core.specs.LogAlone.{image_of}
 use Rattle.pm_core.specs.Prefixes.{IsUpTo}
 use Rattle.pm_core.specs.Sound.{Sound, IsTrueImage}
-use Rattle.pm_engine.specs.PagedOpenings.{OpensMap}
 use Rattle.pm_engine.specs.RunningLines.{SameDisk}
 use Rattle.pm_top.specs.declared.status.Status.{Status}
 use Rattle.pm_top.specs.declared.status.Status.TheVariants.{Done, Misconfigured, Failed, Memory, Damaged, Long}
@@ -67,15 +65,6 @@ DrawnOutcomeIs script Memory old new shape pairs lines order =
     DrawnIsCutShort script old new shape pairs lines order []
 DrawnOutcomeIs script status old new shape pairs lines order = ⊥
 
--- Lines were run over a store, sound or not: no field of the configuration is refused, the store was opened
--- with this map, and the outcome is over it.
-pub record DrawnOver (script : List Line) (status : Status) (old new : World) (lines : ℕ) (order : List ℕ)
-    : Type 0 where
-  pub configured : config_fault old ≡ None
-  pub pairs : Pairs
-  pub opens : OpensMap (wanted_in old) (in_force (image_of old)) old pairs
-  pub outcome : DrawnOutcomeIs script status old new (wanted_in old) pairs lines order
-
 -- the numbers of the accepted lines, once the summary's first byte stands among the bytes said since the start
 abbrev pub summarized : List Line → World → Shape → Pairs → World → List ℕ
 summarized script old shape pairs now =
@@ -112,8 +101,8 @@ pub record GenHolds (script : List Line) (old new : History) (status : Status) (
   -- over a store that it opens: which lines are run, and what is said
   pub outcome : (shape : Shape) (pairs : Pairs) → CanOpen old.world shape pairs
       → DrawnOutcomeIs script status old.world new.world shape pairs lines order
-  -- all lines are run over the map of a store that was opened, sound or not
-  pub opened : status ≡ Done → DrawnOver script status old.world new.world lines order
+  -- lines are run only where no field is refused
+  pub configured : status ≡ Done → config_fault old.world ≡ None
   -- where a field is refused no file of the store is changed
   pub untouched : (field : Field) → config_fault old.world ≡ Some field
       → AllMoments old new (SameDisk old.world)

@@ -15,7 +15,7 @@ pub mod Subcommands
 pub mod Words
 pub mod Commands
 pub mod StoreChecks
-pub mod PagedRests
+pub mod FrameRests
 pub mod ReplyCounts
 pub mod DrawnRuns
 pub mod DrawnSteps

@@ -20,9 +20,11 @@ use Rattle.pm_core.specs.LogAlone.{image_of}
 use Rattle.pm_core.specs.Prefixes.{IsUpTo}
 use Rattle.pm_core.specs.Sound.{Sound}
 use Rattle.pm_engine.specs.PagedBatches.{asked_last}
-use Rattle.pm_engine.specs.PagedOpenings.{IsBadOpening, IsBadRestored, OpensMap}
+use Rattle.pm_engine.specs.FrameOpenings.{HasBadBase, IsBadOpeningIn}
 use Rattle.pm_engine.specs.RunningLines.{SameDisk}
+use Rattle.pm_tools.specs.declared.verifying.Counts.{Counts}
 use Rattle.pm_tools.specs.Lines.{page_text}
+use Rattle.pm_tools.specs.Verifying.{IsBadBasePage, IsBadRecord, IsVerified}
 use Rattle.pm_top.specs.Configurations.{config_fault, fault_config, wanted_in}
 use Rattle.pm_top.specs.declared.status.Status.{Status}
 use Rattle.pm_top.specs.declared.status.Status.TheVariants.{Done, Usage, Misconfigured, Failed, Memory}
@@ -123,14 +125,6 @@ OutcomeIs Memory old new shape pairs lines order = HasNoMemory old new shape pai
 OutcomeIs Long old new shape pairs lines order = IsStopped old new shape pairs lines order (codes "fault long\n")
 OutcomeIs status old new shape pairs lines order = ⊥
 
--- A script was answered over a store, sound or not: no field of the configuration is refused, the store was opened
--- with this map, and the outcome is over it.
-pub record AnswersOver (status : Status) (old new : World) (lines : ℕ) (order : List ℕ) : Type 0 where
-  pub configured : config_fault old ≡ None
-  pub pairs : Pairs
-  pub opens : OpensMap (wanted_in old) (in_force (image_of old)) old pairs
-  pub outcome : OutcomeIs status old new (wanted_in old) pairs lines order
-
 -- A run leaves a store that is sound and holds the map after its script, and of which nothing is pending. Its
 -- log ends in a segment up to this one, and the checkpoint in force has at most this number. Where the last line
 -- of the script asks for a checkpoint, no record is left to be replayed.
@@ -149,15 +143,48 @@ fault_record at = codes "fault record " ++ decimal at.seg ++ codes ":" ++ decima
 abbrev pub fault_page : PageId → List ℕ
 fault_page page = codes "fault page " ++ page_text page ++ codes "\n"
 
--- Where this shape is wanted, the opening of a store found a bad record or a bad page, when it had restored the
--- store so, and this line names it.
+-- a record or a page is bad, and this line names it
+abbrev pub NamesBad : World → List ℕ → Type 0
+NamesBad world text = ((at : Place) × IsBadRecord world at × (text ≡ fault_record at))
+    ⊎ ((id : PageId) × IsBadBasePage world id × (text ≡ fault_page id))
+
+-- all base pages are well formed, and each frame of the log holds a record
+abbrev pub IsWhole : World → Type 0
+IsWhole world = (counts : Counts) × IsVerified world counts
+
+-- This page couldn't be used, and then all base pages and the log were checked. This line names the page or the record
+-- that was found bad, with its cause, and only where none was, that page.
+abbrev pub NamesMet : PageId → World → List ℕ → Type 0
+NamesMet met left text = NamesBad left text ⊎ (IsWhole left × (text ≡ fault_page met))
+
+-- the same of some page that couldn't be used, over the store as it was left then
+abbrev pub NamesFound : World → List ℕ → Type 0
+NamesFound left text = (met : PageId) × NamesMet met left text
+
+-- Where this shape is wanted, the opening of a store found a bad record, when it had restored the store so, and this
+-- line names it. Or the base pages aren't well formed, and a page couldn't be used: this line names what was found bad
+-- then.
 abbrev pub NamesBadFor : Shape → World → World → List ℕ → Type 0
 NamesBadFor wanted old left text =
-    ((at : Place) × IsBadOpening wanted (in_force (image_of old)) old left at × (text ≡ fault_record at))
-    ⊎ ((id : PageId) × IsBadRestored wanted (in_force (image_of old)) old left id × (text ≡ fault_page id))
+    ((at : Place) × IsBadOpeningIn wanted (in_force (image_of old)) old left at × (text ≡ fault_record at))
+    ⊎ (HasBadBase wanted (in_force (image_of old)) old × NamesFound left text)
 
 abbrev pub NamesBadOpening : World → World → List ℕ → Type 0
 NamesBadOpening old left text = NamesBadFor (wanted_in old) old left text
+
+-- The opening of the store found what is bad: nothing else was done but that the store's files were restored.
+pub record IsFoundOpening (old left : World) (text : List ℕ) (lines : ℕ) (order : List ℕ) : Type 0 where
+  pub restored : ChangesDisk old left
+  pub names : NamesBadOpening old left text
+  pub none : lines ≡ 0
+  pub order_is : order ≡ []
+
+-- A line read a page that couldn't be used: what was found bad then was named, and nothing was done after that.
+pub record IsFoundByLine (new : World) : Type 0 where
+  pub left : World
+  pub text : List ℕ
+  pub names : NamesFound left text
+  pub says : new ≡ with_said text left
 
 -- nothing was done but that this was said
 pub record OnlySays (text : List ℕ) (old new : World) (lines : ℕ) (order : List ℕ) : Type 0 where
@@ -171,16 +198,15 @@ pub record IsMisconfigured (old new : World) (lines : ℕ) (order : List ℕ) : 
   pub refused : config_fault old ≡ Some field
   pub says : OnlySays (fault_config field) old new lines order
 
--- A record or a page is bad, so that the store isn't sound: it was named. Nothing else was done but that the
--- store's files were restored.
+-- A record or a page is bad, so that the store isn't sound: it was found in the opening, or a line read a page that
+-- couldn't be used. What was found bad was named, and nothing was done after that.
 pub record IsDamaged (old new : World) (lines : ℕ) (order : List ℕ) : Type 0 where
   pub configured : config_fault old ≡ None
   pub unsound : (shape : Shape) (pairs : Pairs) → IsStart (wanted_in old) old shape pairs → ⊥
   pub left : World
-  pub restored : ChangesDisk old left
   pub text : List ℕ
-  pub bad : NamesBadOpening old left text
-  pub says : OnlySays text left new lines order
+  pub bad : IsFoundOpening old left text lines order ⊎ NamesFound left text
+  pub says : new ≡ with_said text left
 
 -- what each status says where the words aren't a command: nothing was done but that this was said, or a prefix
 -- of it, and where memory ran out nothing at all
@@ -195,8 +221,8 @@ pub record RunHolds (old new : History) (status : Status) (lines : ℕ) (order :
   -- over a store that it opens: which lines are answered, and with what
   pub outcome : (shape : Shape) (pairs : Pairs) → CanOpen old.world shape pairs
       → OutcomeIs status old.world new.world shape pairs lines order
-  -- a script is answered over the map of a store that was opened, sound or not
-  pub opened : (status ≡ Done) ⊎ (status ≡ Long) → AnswersOver status old.world new.world lines order
+  -- a script is answered only where no field is refused
+  pub configured : (status ≡ Done) ⊎ (status ≡ Long) → config_fault old.world ≡ None
   -- where a field is refused no file of the store is changed
   pub untouched : (field : Field) → config_fault old.world ≡ Some field
       → AllMoments old new (SameDisk old.world)

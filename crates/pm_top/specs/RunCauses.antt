@@ -4,7 +4,7 @@ use Rattle.pm_disk.specs.States.{DeviceState, IsLaterState, Rose}
 use Rattle.pm_top.specs.declared.configuration.ConfigError.{ConfigError}
 use Rattle.pm_top.specs.declared.configuration.ConfigError.TheVariants as unread
 use Rattle.pm_top.specs.declared.status.Status.{Status}
-use Rattle.pm_top.specs.declared.status.Status.TheVariants.{Usage, Misconfigured, Failed, Damaged}
+use Rattle.pm_top.specs.declared.status.Status.TheVariants.{Usage, Misconfigured, Failed}
 
 -- a configuration is read: `Failed` comes only after a failed call
 pub record HasConfigCause {T : Type 0} (before now : DeviceState) (result : Result T ConfigError) : Type 0 where
@@ -20,5 +20,4 @@ pub record HasRunCause (status : Status) (before now : DeviceState) : Type 0 whe
 -- the same of a script over a store that is open
 pub record HasScriptCause (status : Status) (before now : DeviceState) : Type 0 where
   pub run : HasRunCause status before now
-  pub sound : status ≢ Damaged
   pub configured : status ≢ Misconfigured

@@ -17,7 +17,7 @@ use Rattle.pm_top.specs.declared.status.Status.{Status}
 use Rattle.pm_top.specs.declared.status.Status.TheVariants.{Done, Failed, Memory, Damaged}
 use Rattle.pm_top.specs.Configurations.{wanted_in}
 use Rattle.pm_top.specs.Crashes.{opened_to}
-use Rattle.pm_top.specs.Promises.{IsStart, SaysPart, fault_page, fault_record}
+use Rattle.pm_top.specs.Promises.{IsStart, NamesBad, NamesMet, SaysPart}
 
 -- the line that says what a store has
 abbrev pub counts_line : Counts → List ℕ
@@ -28,11 +28,6 @@ counts_line counts =
 -- the store is whole, and this line says what it has
 abbrev pub SaysCounts : World → List ℕ → Type 0
 SaysCounts world text = (counts : Counts) × IsVerified world counts × (text ≡ counts_line counts)
-
--- a record or a page is bad, and this line names it
-abbrev pub NamesBad : World → List ℕ → Type 0
-NamesBad world text = ((at : Place) × IsBadRecord world at × (text ≡ fault_record at))
-    ⊎ ((id : PageId) × IsBadBasePage world id × (text ≡ fault_page id))
 
 -- nothing happened but that a prefix of one of these lines was said
 pub record SaysOfCheck (old now : World) : Type 0 where
@@ -47,6 +42,10 @@ MaySayOfCheck old now = (now ≡ old) ⊎ SaysOfCheck old now
 -- a line was said, and nothing else happened
 abbrev pub SaysLine : (List ℕ → Type 0) → World → World → Type 0
 SaysLine Is old now = (text : List ℕ) × Is text × (now ≡ with_said text old)
+
+-- nothing happened, or only that a prefix of the line was said that names what is bad where this page couldn't be used
+abbrev pub MaySayOfMet : PageId → World → World → Type 0
+MaySayOfMet met old now = (now ≡ old) ⊎ ((text : List ℕ) × NamesMet met old text × SaysPart text old now)
 
 -- What `verify` promises, by its status.
 pub record VerifyHolds (old new : History) (status : Status) (lines : ℕ) (order : List ℕ) : Type 0 where

@@ -1,25 +1,26 @@
 //! The top call.
 
-ghost use Rattle.std.specs.Prelude.{◌≡◌, ℕ, [], map, true, false, Some, string_bytes};
+ghost use Rattle.std.specs.Prelude.{◌≡◌, ℕ, [], map, false, Some, string_bytes};
 ghost use Rattle.pm_types.specs.declared.shape.Shape.{Shape};
-ghost use Rattle.pm_types.specs.Shapes.{IsShape};
+ghost use Rattle.pm_config.specs.Limits.{IsConfig};
 ghost use Rattle.pm_disk.specs.Moments.{AllMoments};
 ghost use Rattle.pm_disk.specs.States.{IsUsable};
 ghost use Rattle.pm_disk.specs.Worlds.{World};
-ghost use Rattle.pm_segments.specs.Ends.{EndsThere};
+ghost use Rattle.pm_engine.specs.FrameEngines.{map_in};
+ghost use Rattle.pm_engine.specs.FrameOpenings.{IsReadyOver};
 ghost use Rattle.pm_top.specs.Causes.{BindsFolder, HasStatusCause};
 ghost use Rattle.pm_top.specs.Commands.{CommandCompletes, CommandHolds, CommandIsSafe};
 ghost use Rattle.pm_top.specs.RunCauses.{HasRunCause, HasScriptCause};
 ghost use Rattle.pm_top.specs.Configurations.{AsksFor};
 ghost use Rattle.pm_top.specs.LogListings.{WalHolds};
-ghost use Rattle.pm_top.specs.Promises.{HoldsAtEachMoment, IsLeft, RunHolds, SameConfig};
-ghost use Rattle.pm_top.specs.ScriptOrder.{OutcomeIs};
-ghost use Rattle.pm_top.specs.Runs.{CanRun, SameConsole};
-ghost use Rattle.pm_top.specs.ScriptOrder.{CrashHoldsAcknowledged};
+ghost use Rattle.pm_top.specs.FrameRests.{IsServing};
+ghost use Rattle.pm_top.specs.Promises.{HoldsAtEachMoment, IsFoundByLine, RunHolds, SameConfig};
+ghost use Rattle.pm_top.specs.Runs.{CanRun, SameConsole, ScriptIsAnswered};
 ghost use Rattle.pm_top.specs.Statuses.{status_of, code_of};
 ghost use Rattle.pm_top.specs.StoreChecks.{VerifyHolds};
 ghost use Rattle.pm_top.specs.Words.{command_in, DrawsFew};
 
+use crate::bad_pages::print_found_page;
 use crate::configuration::{ConfigError, read_config};
 use crate::counts_line::print_counts;
 use crate::fault_lines::{
@@ -33,10 +34,11 @@ use crate::status::Status;
 use crate::words::{CommandName, command_of};
 use pm_config::Config;
 use pm_disk::Host;
-use pm_engine::PagedEngine;
+use pm_engine::FrameEngine;
 use pm_tools::{verify, wal};
 use pm_types::{OpenFault, StoreFault};
 use std::alloc::Global;
+use std::sync::Wait;
 
 /// Does what the words of a command line ask for.
 ///
@@ -48,8 +50,13 @@ use std::alloc::Global;
 /// the store has, is named by its field, and nothing is changed. Then the store is opened: it is restored
 /// to what its checkpoint and its log hold, and the script on the host's input is answered over it, batch
 /// by batch. The records of a batch are in the log, and forced, before any of its replies is printed. A
-/// checkpoint is made where a line asks for it, and where one is due. A store with a bad record or a bad
-/// page is refused: the record or the page is named.
+/// checkpoint is made where a line asks for it, where one is due, and where page frames are lacking.
+///
+/// A page is read when the opening or a line needs it. A bad record, or a bad page that the opening reads, ends the
+/// run before any line is answered. A bad page that a line needs ends it after the replies to the batches before its
+/// own: nothing is promised then of what these replies say, since the store isn't sound. Before a page is named all
+/// base pages and the log are checked, as `verify` does it, and the first that is bad is named; where none is, the
+/// page that was needed. A page that isn't read isn't checked while the run goes on.
 ///
 /// `gen` does the same with lines that it draws: the second number says how many, and the first from which
 /// number. It reads no input, and its one line says how many lines were run and how many replies of each kind
@@ -65,7 +72,7 @@ use std::alloc::Global;
 ///
 /// `wal` and `verify` change nothing, and read no configuration. After the statuses 3 and 4 nothing more is
 /// printed.
-pub fn top<Q: AllocGlobal, H: Host>(rt: &Q, words: &[String], host: &mut H) -> Report
+pub fn top<Q: AllocGlobal + Wait, H: Host>(rt: &Q, words: &[String], host: &mut H) -> Report
     requires whole { (H.state host.old).access.is_lent ≡ false }
     ensures known { result.status ≡ code_of (status_of result.status) }
 
@@ -91,7 +98,7 @@ pub fn top<Q: AllocGlobal, H: Host>(rt: &Q, words: &[String], host: &mut H) -> R
     ensures complete { H.tells → CommandCompletes (command_in (map string_bytes words.now))
         (status_of result.status) (H.history host.old).world (H.state host.old) (H.state host.new) }
 {
-    let outcome = command(rt.alloc(), words, host);
+    let outcome = command(rt, rt.alloc(), words, host);
     Report {
         status: outcome.status.code(),
         lines: outcome.lines,
@@ -101,7 +108,7 @@ pub fn top<Q: AllocGlobal, H: Host>(rt: &Q, words: &[String], host: &mut H) -> R
 
 // Does what the words ask for, or says that they aren't a command. Where there is no memory to read them
 // the host isn't touched.
-fn command<H: Host>(alloc: Global, words: &[String], host: &mut H) -> Outcome
+fn command<Q: Wait, H: Host>(rt: &Q, alloc: Global, words: &[String], host: &mut H) -> Outcome
     requires whole { (H.state host.old).access.is_lent ≡ false }
     ensures holds { H.tells → CommandHolds (command_in (map string_bytes words.now))
         (H.history host.old) (H.history host.new) result.status result.lines result.order.items }
@@ -121,13 +128,13 @@ fn command<H: Host>(alloc: Global, words: &[String], host: &mut H) -> Outcome
         return Outcome::without(alloc, print_usage_fault(host));
     };
     match host.bind(asked.folder) {
-        Ok(()) => do_command(alloc, host, asked.name),
+        Ok(()) => do_command(rt, alloc, host, asked.name),
         Err(_) => Outcome::without(alloc, Status::Failed),
     }
 }
 
 // Does what a command asks for, over the folder that is bound.
-fn do_command<H: Host>(alloc: Global, host: &mut H, name: CommandName) -> Outcome
+fn do_command<Q: Wait, H: Host>(rt: &Q, alloc: Global, host: &mut H, name: CommandName) -> Outcome
     requires usable { IsUsable (H.state host.old) }
     requires few { DrawsFew name }
     ensures holds { H.tells → CommandHolds (Some name) (H.history host.old) (H.history host.new)
@@ -139,10 +146,10 @@ fn do_command<H: Host>(alloc: Global, host: &mut H, name: CommandName) -> Outcom
     ensures cause { HasRunCause result.status (H.state host.old) (H.state host.new) }
 {
     match name {
-        CommandName::Run => run_configured(alloc, host),
+        CommandName::Run => run_configured(rt, alloc, host),
         CommandName::Wal => list_log(alloc, host),
         CommandName::Verify => check_store(alloc, host),
-        CommandName::Gen { seed, count } => gen_configured(alloc, host, seed, count),
+        CommandName::Gen { seed, count } => gen_configured(rt, alloc, host, seed, count),
     }
 }
 
@@ -191,7 +198,7 @@ fn list_log<H: Host>(alloc: Global, host: &mut H) -> Outcome
 }
 
 // Reads the configuration, and runs with what it asks for, or names the field that is refused.
-fn run_configured<H: Host>(alloc: Global, host: &mut H) -> Outcome
+fn run_configured<Q: Wait, H: Host>(rt: &Q, alloc: Global, host: &mut H) -> Outcome
     requires usable { IsUsable (H.state host.old) }
     ensures run { H.tells →
         RunHolds (H.history host.old) (H.history host.new) result.status result.lines result.order.items }
@@ -202,7 +209,7 @@ fn run_configured<H: Host>(alloc: Global, host: &mut H) -> Outcome
     ensures cause { HasRunCause result.status (H.state host.old) (H.state host.new) }
 {
     match read_config(alloc, host) {
-        Ok(config) => run(alloc, host, &config),
+        Ok(config) => run(rt, alloc, host, &config),
         Err(ConfigError::Failed) => Outcome::without(alloc, Status::Failed),
         Err(ConfigError::Memory) => Outcome::without(alloc, Status::Memory),
         Err(ConfigError::Refused(field)) => {
@@ -211,11 +218,11 @@ fn run_configured<H: Host>(alloc: Global, host: &mut H) -> Outcome
     }
 }
 
-// Opens the store and answers the script of the input, or names the field that differs or the
-// record or page that is bad.
-fn run<H: Host>(alloc: Global, host: &mut H, config: &Config) -> Outcome
+// Opens the store and answers the script of the input, or names the field that differs or the record that is bad. Where
+// it meets a bad page, it names what a check of the store finds bad.
+fn run<Q: Wait, H: Host>(rt: &Q, alloc: Global, host: &mut H, config: &Config) -> Outcome
     requires usable { IsUsable (H.state host.old) }
-    requires within_limits { IsShape config.now.shape }
+    requires within_limits { IsConfig config.now }
     requires asked { H.tells → AsksFor (H.history host.old).world config.now.shape }
     ensures run { H.tells →
         RunHolds (H.history host.old) (H.history host.new) result.status result.lines result.order.items }
@@ -225,8 +232,8 @@ fn run<H: Host>(alloc: Global, host: &mut H, config: &Config) -> Outcome
         (H.history host.old).world) }
     ensures cause { HasRunCause result.status (H.state host.old) (H.state host.new) }
 {
-    match PagedEngine::open_store(alloc, host, config) {
-        Ok(engine) => answer_script(alloc, host, config, engine),
+    match FrameEngine::open_store(rt, alloc, host, config) {
+        Ok(engine) => answer_script(rt, alloc, host, config, engine),
         Err(OpenFault::Shape(field)) => {
             Outcome::without(alloc, print_config_fault(alloc, host, field))
         }
@@ -236,49 +243,49 @@ fn run<H: Host>(alloc: Global, host: &mut H, config: &Config) -> Outcome
             Outcome::without(alloc, print_record_fault(alloc, host, at))
         }
         Err(OpenFault::Store(StoreFault::BadPage(page))) => {
-            Outcome::without(alloc, print_page_fault(alloc, host, page))
+            Outcome::without(alloc, print_found_page(alloc, host, page))
         }
     }
 }
 
-// Answers the script of the input over an open store, and says where it passes a limit.
-fn answer_script<H: Host>(
+// Answers the script of the input over an open store, and says where it passes a limit. Where a line needs a page that
+// is bad, it names what a check of the store finds bad. The frames' memory is given back before that check.
+fn answer_script<Q: Wait, H: Host>(
+    rt: &Q,
     alloc: Global,
     host: &mut H,
     config: &Config,
-    engine: PagedEngine,
+    engine: FrameEngine,
 ) -> Outcome
     requires usable { IsUsable (H.state host.old) }
     requires order { engine.order ≡ [] }
-    requires is_open { engine.is_open ≡ true }
-    requires end { H.tells → EndsThere engine.log (H.history host.old).world }
+    requires serving { IsServing config.now engine }
+    requires ready { H.tells → IsReadyOver engine (H.history host.old).world }
     ensures config { H.tells → AllMoments (H.history host.old) (H.history host.new) (SameConfig
         (H.history host.old).world) }
-    ensures outcome { H.tells → (start : World) → SameConsole start (H.history host.old).world →
-        OutcomeIs result.status start (H.history host.new).world engine.map.shape engine.map.pairs
-        result.lines result.order.items }
-    ensures moments { H.tells → (wanted : Shape) (last number : ℕ) (start : World)
+    ensures answered { H.tells → (wanted : Shape) (last number : ℕ) (start : World)
         → SameConsole start (H.history host.old).world →
         CanRun wanted last number engine (H.history host.old).world →
-        AllMoments (H.history host.old) (H.history host.new) (CrashHoldsAcknowledged wanted last number
-        start engine.map.shape engine.map.pairs result.order.items) }
-    ensures leaves { H.tells → result.status ≡ Status.Done → (wanted : Shape) (last number : ℕ) (start : World)
-        → SameConsole start (H.history host.old).world →
-        CanRun wanted last number engine (H.history host.old).world →
-        IsLeft wanted last number start (H.history host.new).world engine.map.shape engine.map.pairs }
+        ScriptIsAnswered wanted last number start engine.store.shape (map_in engine (H.history host.old).world)
+        (H.history host.old) (H.history host.new) result.status result.lines result.order.items }
+    ensures damaged { H.tells → result.status ≡ Status.Damaged → IsFoundByLine (H.history host.new).world }
     ensures cause { HasScriptCause result.status (H.state host.old) (H.state host.new) }
 {
-    let mut run = Run::new(alloc, engine);
-    let status = match run.serve(alloc, host, config) {
+    let run = Run::new(alloc, engine);
+    let (run, served) = run.serve(rt, alloc, host, config);
+    let lines = run.lines;
+    let order = run.engine.close();
+    let status = match served {
         Ok(Stop::Done) => Status::Done,
         Ok(Stop::Limit) => print_limit_fault(host),
         Err(StoreFault::Failed) => Status::Failed,
         Err(StoreFault::Memory) => Status::Memory,
-        Err(StoreFault::BadPage(_) | StoreFault::BadRecord(_)) => unreachable!(),
+        Err(StoreFault::BadPage(page)) => print_found_page(alloc, host, page),
+        Err(StoreFault::BadRecord(_)) => unreachable!(),
     };
     Outcome {
         status,
-        lines: run.lines,
-        order: run.engine.into_order(),
+        lines,
+        order,
     }
 }

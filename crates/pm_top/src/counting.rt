@@ -1,6 +1,6 @@
 //! How many replies of each kind there are.
 
-ghost use Rattle.std.specs.Prelude.{◌≡◌, ◌⊎◌, ◌≤◌, ◌<◌, ◌+◌, ◌^◌, ◌++◌, [], length, decimal, OnOk};
+ghost use Rattle.std.specs.Prelude.{◌≡◌, ◌⊎◌, ◌<◌, ◌+◌, ◌^◌, ◌++◌, [], take, decimal, OnOk};
 ghost use Rattle.pm_disk.specs.States.{IsLaterState, IsUsable, Rose};
 ghost use Rattle.pm_disk.specs.Moments.{AllMoments};
 ghost use Rattle.pm_disk.specs.Worlds.{with_said};
@@ -45,12 +45,12 @@ impl ReplyCounts {
         }
     }
 
-    /// Counts these replies too.
-    pub fn add_all(&mut self, replies: &Replies)
-        requires { counted_in self.old + length replies.now.replies < 2 ^ 32 }
-        ensures { self.new ≡ with_all self.old replies.now.replies }
+    /// Counts the first `most` of these replies too, or all where there are no more.
+    pub fn add_first(&mut self, replies: &Replies, most: usize)
+        requires { counted_in self.old + most < 2 ^ 32 }
+        ensures { self.new ≡ with_all self.old (take most replies.now.replies) }
     {
-        'each: for i in 0..replies.len() {
+        'each: for i in 0..replies.len().min(most) {
             self.add(replies.get(i));
         }
     }

@@ -1,6 +1,7 @@
 //! The one public call of the store: it does what the words of a command line ask for.
 #![tactic(auto)]
 
+mod bad_pages;
 mod batch;
 mod call;
 mod configuration;
@@ -12,6 +13,7 @@ mod gen_run;
 mod generate;
 mod laws;
 mod outcome;
+mod reply_room;
 mod report;
 mod run;
 mod script;

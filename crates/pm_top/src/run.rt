@@ -1,38 +1,37 @@
 //! A run over a script, a batch at a time.
 
-ghost use Rattle.pm_disk.specs.States.{HasCause, IsUsable};
-ghost use Rattle.std.specs.Prelude.{◌≡◌, ◌≤◌, ◌<◌, ◌+◌, ℕ, List, [], ◌++◌, length, true, IfOk, OnOk};
-ghost use Rattle.std.specs.Prelude.{OnErr, IsErrOf};
+ghost use Rattle.std.specs.Prelude.{◌≡◌, ◌≤◌, ◌+◌, ℕ, [], length, IfOk, IfErr, OnOk, OnErr, IsErrOf};
 ghost use Rattle.std.specs.List.{All};
 ghost use Rattle.pm_types.specs.declared.limits.TheConstants.{LINES_MAX as most_lines};
 ghost use Rattle.pm_types.specs.declared.limits.TheConstants.{BATCH_LINES_MAX as most_batch};
 ghost use Rattle.pm_types.specs.declared.shape.Shape.{Shape};
 ghost use Rattle.pm_disk.specs.Moments.{AllMoments, Says};
+ghost use Rattle.pm_disk.specs.States.{HasCause, IsUsable};
 ghost use Rattle.pm_disk.specs.Worlds.{World};
-ghost use Rattle.pm_model.specs.declared.line.Line.{Line};
 ghost use Rattle.pm_model.specs.Batches.{HasCache};
-ghost use Rattle.pm_model.specs.Eval.{Pairs};
 ghost use Rattle.pm_script.specs.Reading.{rest_of, KnowsEnd};
 ghost use Rattle.pm_script.specs.Texts.{texts_of};
-ghost use Rattle.pm_segments.specs.Ends.{EndsThere};
 ghost use Rattle.pm_engine.specs.Batches.{HasPlainFault};
-ghost use Rattle.pm_top.specs.PagedRests.{PagedAtRest};
-ghost use Rattle.pm_top.specs.ScriptOrder.{CrashHoldsAcknowledged};
-ghost use Rattle.pm_top.specs.ScriptOrder.{HasFailed, HasNoMemory, StopIs};
-ghost use Rattle.pm_top.specs.Promises.{IsLeft, SameConfig};
-ghost use Rattle.pm_top.specs.Runs.{CanRun, Progress, SameConsole, OnlyAnswers, KeepsRun, StaysWithin};
-ghost use Rattle.pm_top.specs.Runs.{CountsBatch, CountsLines, IsOpenAfter, LinesAreAnswered, FaultIs};
-ghost use Rattle.pm_top.specs.Runs.{BatchIsAnswered, HasBatchRoom};
+ghost use Rattle.pm_engine.specs.FrameBatches.{HasFrameFault};
+ghost use Rattle.pm_engine.specs.FrameEngines.{map_in};
+ghost use Rattle.pm_engine.specs.FrameOpenings.{IsReadyOver};
+ghost use Rattle.pm_top.specs.FrameRests.{IsServing};
+ghost use Rattle.pm_top.specs.Promises.{SameConfig};
+ghost use Rattle.pm_top.specs.Runs.{AnswersLines, BatchIsAnswered, CanRun, CountsBatch};
+ghost use Rattle.pm_top.specs.Runs.{IsOpenAfter, IsServed, KeepsRun, SameConsole, StopsAtFault};
+ghost use Rattle.pm_top.specs.Scripts.{batch_lines, IsBatch};
 ghost use Rattle.pm_top.specs.Served.{script_of};
 
-use crate::batch::{Continuation, next_batch};
+use crate::batch::{Batch, Continuation, next_batch};
+use crate::reply_room::make_room;
 use pm_config::Config;
 use pm_disk::{Failed, Host};
-use pm_engine::PagedEngine;
+use pm_engine::FrameEngine;
 use pm_model::{Line, Replies};
 use pm_script::{Lines, print_reply};
 use pm_types::{BATCH_LINES_MAX, StoreFault};
 use std::alloc::{AllocError, Global};
+use std::sync::Wait;
 
 /// Where a run stops.
 #[derive(Clone, Copy, Debug, PartialEq, Eq)]
@@ -47,7 +46,7 @@ pub enum Stop {
 #[derive(Drop)]
 pub struct Run {
     /// The store.
-    pub engine: PagedEngine,
+    pub engine: FrameEngine,
     /// The number of lines whose reply was printed.
     pub lines: u64,
     // The texts of the replies at hand: their memory serves all batches.
@@ -56,7 +55,7 @@ pub struct Run {
 
 impl Run {
     /// A run that has done nothing.
-    pub fn new(alloc: Global, engine: PagedEngine) -> Run
+    pub fn new(alloc: Global, engine: FrameEngine) -> Run
         ensures engine { result.engine ≡ engine }
         ensures lines { result.lines ≡ 0 }
     {
@@ -69,154 +68,227 @@ impl Run {
 
     /// Answers the script of the input, batch after batch, up to its end or to a limit. At its end
     /// the log is forced.
-    pub fn serve<H: Host>(
-        &mut self,
+    ///
+    /// `BadPage` names a page that can't be used, once a line needs it: then the store isn't sound.
+    pub fn serve<Q: Wait, H: Host>(
+        self,
+        rt: &Q,
         alloc: Global,
         host: &mut H,
         config: &Config,
-    ) -> Result<Stop, StoreFault>
+    ) -> (Run, Result<Stop, StoreFault>)
         requires usable { IsUsable (H.state host.old) }
-        requires lines { self.old.lines ≡ 0 }
-        requires order { self.old.engine.order ≡ [] }
-        requires is_open { self.old.engine.is_open ≡ true }
-        requires end { H.tells → EndsThere self.old.engine.log (H.history host.old).world }
+        requires lines { self.lines ≡ 0 }
+        requires order { self.engine.order ≡ [] }
+        requires serving { IsServing config.now self.engine }
+        requires ready { H.tells → IsReadyOver self.engine (H.history host.old).world }
         ensures config { H.tells → AllMoments (H.history host.old) (H.history host.new)
             (SameConfig (H.history host.old).world) }
 
-        // What was answered.
-        ensures stop { H.tells → (start : World) → SameConsole start (H.history host.old).world →
-            IfOk result (λ stop. StopIs stop start (H.history host.new).world
-            self.old.engine.map.shape self.old.engine.map.pairs self.new.lines self.new.engine.order) }
-        ensures fault { H.tells → (start : World) → SameConsole start (H.history host.old).world →
-            FaultIs start (H.history host.new).world self.old.engine.map.shape self.old.engine.map.pairs
-            self.new result }
-
-        // What a crash leaves, meanwhile and from then on.
-        ensures moments { H.tells → (wanted : Shape) (last number : ℕ) (start : World)
+        // What was answered, and what a crash leaves, meanwhile and from then on.
+        ensures served { H.tells → (wanted : Shape) (last number : ℕ) (start : World)
             → SameConsole start (H.history host.old).world →
-            CanRun wanted last number self.old.engine (H.history host.old).world →
-            AllMoments (H.history host.old) (H.history host.new) (CrashHoldsAcknowledged wanted last number
-            start self.old.engine.map.shape self.old.engine.map.pairs self.new.engine.order) }
-        ensures leaves { H.tells → (wanted : Shape) (last number : ℕ) (start : World)
-            → SameConsole start (H.history host.old).world →
-            CanRun wanted last number self.old.engine (H.history host.old).world →
-            IfOk result (λ stop. stop ≡ Stop.Done → IsLeft wanted last number start
-            (H.history host.new).world self.old.engine.map.shape self.old.engine.map.pairs) }
-        ensures cause { HasPlainFault (H.state host.old) (H.state host.new) result }
+            CanRun wanted last number self.engine (H.history host.old).world →
+            IsServed wanted last number start self.engine.store.shape
+            (map_in self.engine (H.history host.old).world) (H.history host.old) (H.history host.new)
+            result.0 result.1 }
+        ensures cause { HasFrameFault (H.state host.old) (H.state host.new) result.1 }
     {
-        let mut input = Lines::new(alloc)?;
+        let Ok(mut input) = Lines::new(alloc) else {
+            return (self, Err(StoreFault::Memory));
+        };
         // Its memory serves all batches, so that a batch that has begun takes none for its replies.
-        let mut replies = Replies::with_room(alloc, BATCH_LINES_MAX)?;
+        let Ok(mut replies) = Replies::with_room(alloc, BATCH_LINES_MAX) else {
+            return (self, Err(StoreFault::Memory));
+        };
+        let mut run = self;
         'batches: loop {
-            match self.answer_batch(alloc, host, config, &mut input, &mut replies)? {
-                Continuation::More => {}
-                Continuation::End => {
-                    self.engine.force(host)?;
-                    return Ok(Stop::Done);
+            let (next, answered) = run.answer_batch(
+                rt,
+                alloc,
+                host,
+                config,
+                &mut input,
+                &mut replies,
+            );
+            run = next;
+            match answered {
+                Ok(Continuation::More) => {}
+                Ok(Continuation::End) => {
+                    let forced = run.engine.force(host);
+                    match forced {
+                        Ok(()) => return (run, Ok(Stop::Done)),
+                        Err(_) => return (run, Err(StoreFault::Failed)),
+                    }
                 }
-                Continuation::Over => return Ok(Stop::Limit),
+                Ok(Continuation::Over) => return (run, Ok(Stop::Limit)),
+                Err(fault) => return (run, Err(fault)),
             }
         }
     }
 
     // Does the next batch of the script, and says how the script goes on after it.
-    fn answer_batch<H: Host>(
-        &mut self,
+    fn answer_batch<Q: Wait, H: Host>(
+        self,
+        rt: &Q,
         alloc: Global,
         host: &mut H,
         config: &Config,
         input: &mut Lines,
         replies: &mut Replies,
-    ) -> Result<Continuation, StoreFault>
+    ) -> (Run, Result<Continuation, StoreFault>)
         requires usable { IsUsable (H.state host.old) }
-        requires is_open { self.old.engine.is_open ≡ true }
-        requires counted { self.old.lines ≡ input.old.lines }
-        requires few { self.old.lines ≤ most_lines }
-        requires room { HasBatchRoom replies.old }
-        requires end { H.tells → EndsThere self.old.engine.log (H.history host.old).world }
+        requires serving { IsServing config.now self.engine }
+        requires counted { self.lines ≡ input.old.lines }
+        requires few { self.lines ≤ most_lines }
+        requires ready { H.tells → IsReadyOver self.engine (H.history host.old).world }
         requires input_end { H.tells → KnowsEnd input.old (H.history host.old).world }
-        ensures keeps { KeepsRun self.old self.new }
-        ensures counted { IfOk result
-            (λ continuation. CountsBatch continuation input.new replies.new self.old self.new) }
+        ensures keeps { KeepsRun self result.0 }
+        ensures counted { IfOk result.1
+            (λ continuation. CountsBatch continuation input.new self result.0) }
         ensures open { H.tells → IsOpenAfter (H.history host.old) (H.history host.new)
-            self.new.engine.log input.new result }
+            result.0.engine input.new result.1 }
 
-        // What was answered.
-        ensures answered { H.tells → IfOk result (λ continuation. BatchIsAnswered continuation
+        // What was answered, and what a crash leaves.
+        ensures answered { H.tells → IfOk result.1 (λ continuation. BatchIsAnswered continuation
             input.old input.new (rest_of input.old (H.history host.old).world)
             (rest_of input.new (H.history host.new).world)
-            (H.history host.old).world (H.history host.new).world self.old self.new) }
-        ensures fault { H.tells → (start : World) (shape : Shape) (pairs : Pairs) →
-            Progress start (H.history host.old).world
-            (script_of (rest_of input.old (H.history host.old).world)) shape pairs self.old →
-            FaultIs start (H.history host.new).world shape pairs self.new result }
-
-        // What a crash leaves.
-        ensures moments { H.tells → (wanted : Shape) (last number : ℕ) (start : World) (shape : Shape)
-            (pairs : Pairs) → Progress start (H.history host.old).world
-            (script_of (rest_of input.old (H.history host.old).world)) shape pairs self.old →
-            PagedAtRest wanted self.old.engine (H.history host.old).world →
-            StaysWithin last number 2048 self.old.engine →
-            AllMoments (H.history host.old) (H.history host.new)
-            (CrashHoldsAcknowledged wanted last number start shape pairs self.new.engine.order) }
-        ensures cause { HasPlainFault (H.state host.old) (H.state host.new) result }
+            (H.history host.old) (H.history host.new) self result.0) }
+        ensures stops { H.tells → IfErr result.1 (StopsAtFault (H.history host.old) (H.history host.new)
+            (script_of (rest_of input.old (H.history host.old).world)) self result.0) }
+        ensures cause { HasFrameFault (H.state host.old) (H.state host.new) result.1 }
     {
-        let batch = next_batch(alloc, host, input)?;
-        self.answer_lines(alloc, host, config, &batch.lines, replies)?;
-        self.answer_lines(alloc, host, config, &batch.alone, replies)?;
-        Ok(batch.continuation)
+        match next_batch(alloc, host, input) {
+            Err(fault) => (self, Err(fault)),
+            Ok(batch) => {
+                let (run, answered) = self.answer_taken(rt, alloc, host, config, &batch, replies);
+                match answered {
+                    Err(fault) => (run, Err(fault)),
+                    Ok(()) => (run, Ok(batch.continuation)),
+                }
+            }
+        }
+    }
+
+    // Does the lines of a batch that was taken off the script.
+    fn answer_taken<Q: Wait, H: Host>(
+        self,
+        rt: &Q,
+        alloc: Global,
+        host: &mut H,
+        config: &Config,
+        batch: &Batch,
+        replies: &mut Replies,
+    ) -> (Run, Result<(), StoreFault>)
+        requires usable { IsUsable (H.state host.old) }
+        requires serving { IsServing config.now self.engine }
+        requires batch { IsBatch batch.now }
+        requires numbers { self.lines + length (batch_lines batch.now) ≤ most_lines }
+        requires ready { H.tells → IsReadyOver self.engine (H.history host.old).world }
+        ensures answers { AnswersLines H.tells (H.history host.old) (H.history host.new) (batch_lines batch.now)
+            self result.0 result.1 }
+        ensures cause { HasFrameFault (H.state host.old) (H.state host.new) result.1 }
+    {
+        let (run, answered) = self.answer_lines(rt, alloc, host, config, &batch.lines, replies);
+        match answered {
+            Err(fault) => (run, Err(fault)),
+            Ok(()) => run.answer_lines(rt, alloc, host, config, &batch.alone, replies),
+        }
     }
 
     // Does these lines as one batch, and prints their replies once the log is forced.
-    fn answer_lines<H: Host>(
-        &mut self,
+    fn answer_lines<Q: Wait, H: Host>(
+        self,
+        rt: &Q,
         alloc: Global,
         host: &mut H,
         config: &Config,
         lines: &[Line],
         replies: &mut Replies,
-    ) -> Result<(), StoreFault>
+    ) -> (Run, Result<(), StoreFault>)
         requires usable { IsUsable (H.state host.old) }
-        requires is_open { self.old.engine.is_open ≡ true }
+        requires serving { IsServing config.now self.engine }
         requires caches { All HasCache lines.now }
         requires few { length lines.now ≤ most_batch }
-        requires room { HasBatchRoom replies.old }
-        requires numbers { self.old.lines + length lines.now ≤ most_lines }
-        requires end { H.tells → EndsThere self.old.engine.log (H.history host.old).world }
-        ensures keeps { KeepsRun self.old self.new }
-        ensures counts { OnOk result (CountsLines self.old self.new replies.new (length lines.now)) }
-        ensures end { H.tells → OnOk result (EndsThere self.new.engine.log (H.history host.new).world) }
-        ensures only_answers { H.tells → AllMoments (H.history host.old) (H.history host.new)
-            (OnlyAnswers (H.history host.old).world) }
-
-        // What was answered.
-        ensures answered { H.tells → (start : World) (left : List Line) (shape : Shape) (pairs : Pairs) →
-            Progress start (H.history host.old).world (lines.now ++ left) shape pairs self.old →
-            LinesAreAnswered start (H.history host.new).world left shape pairs self.new result }
-
-        // What a crash leaves.
-        ensures stands { H.tells → (wanted : Shape) (last number : ℕ)
-            → PagedAtRest wanted self.old.engine (H.history host.old).world →
-            StaysWithin last number (length lines.now) self.old.engine →
-            OnOk result (PagedAtRest wanted self.new.engine (H.history host.new).world) }
-        ensures moments { H.tells → (wanted : Shape) (last number : ℕ) (start : World) (left : List Line)
-            (shape : Shape) (pairs : Pairs) →
-            Progress start (H.history host.old).world (lines.now ++ left) shape pairs self.old →
-            PagedAtRest wanted self.old.engine (H.history host.old).world →
-            StaysWithin last number (length lines.now) self.old.engine →
-            AllMoments (H.history host.old) (H.history host.new)
-            (CrashHoldsAcknowledged wanted last number start shape pairs self.new.engine.order) }
-        ensures cause { HasPlainFault (H.state host.old) (H.state host.new) result }
+        requires numbers { self.lines + length lines.now ≤ most_lines }
+        requires ready { H.tells → IsReadyOver self.engine (H.history host.old).world }
+        ensures answers { AnswersLines H.tells (H.history host.old) (H.history host.new) lines.now self result.0
+            result.1 }
+        ensures cause { HasFrameFault (H.state host.old) (H.state host.new) result.1 }
     {
         if lines.is_empty() {
-            return Ok(());
+            return (self, Ok(()));
         }
-        replies.clear(alloc)?;
-        self.engine
-            .batch(alloc, host, config, lines, self.lines as u32 + 1, replies)?;
+        match make_room(alloc, replies, lines.len()) {
+            Err(_) => (self, Err(StoreFault::Memory)),
+            Ok(()) => self.answer_some(rt, alloc, host, config, lines, replies),
+        }
+    }
+
+    // Does some lines as one batch, once there is room for their replies.
+    fn answer_some<Q: Wait, H: Host>(
+        self,
+        rt: &Q,
+        alloc: Global,
+        host: &mut H,
+        config: &Config,
+        lines: &[Line],
+        replies: &mut Replies,
+    ) -> (Run, Result<(), StoreFault>)
+        requires usable { IsUsable (H.state host.old) }
+        requires serving { IsServing config.now self.engine }
+        requires caches { All HasCache lines.now }
+        requires some { 1 ≤ length lines.now }
+        requires few { length lines.now ≤ most_batch }
+        requires none { replies.old.replies ≡ [] }
+        requires room { length lines.now ≤ replies.old.spare }
+        requires numbers { self.lines + length lines.now ≤ most_lines }
+        requires ready { H.tells → IsReadyOver self.engine (H.history host.old).world }
+        ensures answers { AnswersLines H.tells (H.history host.old) (H.history host.new) lines.now self result.0
+            result.1 }
+        ensures cause { HasFrameFault (H.state host.old) (H.state host.new) result.1 }
+    {
+        let Run {
+            engine,
+            lines: done,
+            text,
+        } = self;
+        let (engine, ran) = engine.batch(rt, alloc, host, config, lines, done as u32 + 1, replies);
+        let mut run = Run {
+            engine,
+            lines: done,
+            text,
+        };
+        match ran {
+            Err(fault) => (run, Err(fault)),
+            Ok(()) => {
+                let said = run.say(host, replies, lines.len());
+                (run, said)
+            }
+        }
+    }
+
+    // Prints the replies to so many lines, and counts these.
+    fn say<H: Host>(
+        &mut self,
+        host: &mut H,
+        replies: &Replies,
+        lines: usize,
+    ) -> Result<(), StoreFault>
+        requires usable { IsUsable (H.state host.old) }
+        requires numbers { self.old.lines + lines ≤ most_lines }
+        ensures engine { self.new.engine ≡ self.old.engine }
+        ensures counted { OnOk result (self.new.lines ≡ self.old.lines + lines) }
+        ensures uncounted { OnErr result (self.new.lines ≡ self.old.lines) }
+        ensures says { H.tells → Says (H.history host.old) (H.history host.new) result
+            (texts_of replies.now.replies) }
+        ensures unsaid { H.tells → IsErrOf result StoreFault.Memory
+            → (H.history host.new).world ≡ (H.history host.old).world }
+        ensures cause { HasPlainFault (H.state host.old) (H.state host.new) result }
+    {
         write_replies(replies, &mut self.text)?;
         print_replies(host, &self.text)?;
-        self.lines += lines.len() as u64;
+        self.lines += lines as u64;
         Ok(())
     }
 }

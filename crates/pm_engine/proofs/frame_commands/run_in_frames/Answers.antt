@@ -1,15 +1,15 @@
 -- A command over a worker's page frames leaves what it leaves over any pages.
 use Rattle.std.proofs.Common.{◌≡◌, ◌<◌, ◌≤◌, Bool, Option, Some, None, sym, subst, ap, ◌∙◌, arith}
 use Rattle.std.specs.Prelude.{◌^◌, if◌then◌else◌}
+use Rattle.std.specs.Option.{option_copied}
 use Rattle.pm_types.specs.declared.limits.TheConstants.{OP_PAGES, ROWS_MAX}
 use Rattle.pm_types.specs.declared.fault.PageFault.TheVariants.{BadPage}
 use Rattle.pm_records.specs.Records.{Record}
-use Rattle.pm_records.specs.Views.{record_view}
 use Rattle.pm_model.specs.ReplyLists.{ReplyList}
 use Rattle.pm_pages.specs.Paged.{Paged, AllReadable}
 use Rattle.pm_part.specs.Commands.{IsRefused}
 use Rattle.pm_part.specs.Runs.{IsPartitionOf, RunsCmd}
-use Rattle.pm_stripe.specs.Listings.{GrowsByOperation}
+use Rattle.pm_stripe.specs.Listings.{GrowsByOperation, given_record}
 use Rattle.pm_stripe.specs.Shown.{shown}
 use Rattle.pm_engine.specs.FrameCommands.{part_seen}
 use Rattle.pm_engine.proofs.FrameReads.{part_readable}
@@ -114,7 +114,7 @@ returns-in-Ok-clause-does g c =
     let e = c.end_operation.new.bound in
     let ends = c.end_operation.ensures.ends in
     let held = m.stripe.held.items in
-    let given = record_view c.args.rec.now in
+    let given : Option Record = given_record (option_copied c.args.rec) in
     let grows = c.end_operation.ensures.grows in
     let accepted = c.was_accepted-accepted.result in
     let was = c.args.replies.now in
@@ -127,11 +127,11 @@ returns-in-Ok-clause-does g c =
           let looks = c.in-Ok.ensures.keeps.refused refusal in
           let none_held = ap (λ s. s.held.items) same.stripe ∙ c.requires.begins.none_held in
           let none = none_noted tells history state part b n m OP_PAGES called at none_held looks in
-          let nothing : GrowsByOperation c.args.line None held m.stripe.outbox e.stripe.outbox = subst (λ (q : Bool). GrowsByOperation c.args.line (let o : Option Record = if q then Some given else None in o) held m.stripe.outbox e.stripe.outbox) off grows in
+          let nothing : GrowsByOperation c.args.line None held m.stripe.outbox e.stripe.outbox = subst (λ (q : Bool). GrowsByOperation c.args.line (let o : Option Record = if q then given else None in o) held m.stripe.outbox e.stripe.outbox) off grows in
           nothing_changed tells history state part b m e called ends (λ id x. none x.page x.changed) (nothing_handed c.args.line held m.stripe.outbox e.stripe.outbox none nothing ∙ called.outbox);
       hands = λ on.
           hands_over tells history state part b m e called ends c.args.line given c.requires.logical
-          (subst (λ (q : Bool). GrowsByOperation c.args.line (let o : Option Record = if q then Some given else None in o) held m.stripe.outbox e.stripe.outbox) on grows);
+          (subst (λ (q : Bool). GrowsByOperation c.args.line (let o : Option Record = if q then given else None in o) held m.stripe.outbox e.stripe.outbox) on grows);
     }
 
 pub returns-in-Ok-clause-runs : goal.returns-in-Ok-clause-runs

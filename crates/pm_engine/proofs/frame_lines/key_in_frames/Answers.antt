@@ -84,8 +84,8 @@ returns-in-Ok-run_in_frames g c =
               record {
                 rec = record_view c.args.rec.now;
                 is = found.1 ∙ ap Some (sym (c.requires.rec found.0 found.1));
-                change = subst (λ p. HandsOverChange tells history c.args.number (record_view c.args.rec.now) p b e) part_is
-                    (hands_then tells history state b m e none first c.args.number (record_view c.args.rec.now) c.new-part.result.part (ran.does.hands on));
+                change = subst (λ p. HandsOverChange tells history c.args.number (Some (record_view c.args.rec.now)) p b e) part_is
+                    (hands_then tells history state b m e none first c.args.number (Some (record_view c.args.rec.now)) c.new-part.result.part (ran.does.hands on));
               };
         },
       );

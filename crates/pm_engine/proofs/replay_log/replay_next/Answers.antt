@@ -35,4 +35,4 @@ returns-clause-ahead g c t =
     let new = g.H.Device.history c.apply_next.new.host in
     let goes = c.in_ok-can.ensures.goes_on in
     c.keep_ahead.ensures.ahead old.world new.world (c.in_ok-can.ensures.ahead t)
-    (subst (λ (p : Place). p.seg + 32 + 1 < 2 ^ 64 → (seg : ℕ) → seg ≤ p.seg → (more : List ℕ) × (contents new.world.log seg ≡ contents old.world.log seg ++ more)) (sym c.log_end-before.ensures) (λ numbered. (goes.grew t numbered).begins))
+    (subst (λ (p : Place). p.seg + 32 + 1 < 2 ^ 64 → (seg : ℕ) → c.apply_next.new.scan.next.seg ≤ seg → seg ≤ p.seg → (more : List ℕ) × (contents new.world.log seg ≡ contents old.world.log seg ++ more)) (sym c.log_end-before.ensures) (λ numbered seg low. (goes.grew t numbered).begins seg))

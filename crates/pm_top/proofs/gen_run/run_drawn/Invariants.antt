@@ -1,11 +1,13 @@
-use Rattle.std.proofs.Common.{◌≡◌, ◌-◌, ◌≤◌, true}
+use Rattle.std.proofs.Common.{◌≡◌, ◌-◌, ◌≤◌}
 use Rattle.pm_disk.specs.States.{IsLaterState}
 use Rattle.pm_model.specs.Eval.{replies_to}
-use Rattle.pm_segments.specs.Ends.{EndsThere}
+use Rattle.pm_engine.specs.FrameEngines.{map_in}
+use Rattle.pm_engine.specs.FrameOpenings.{IsReadyOver}
 use Rattle.pm_tools.specs.DrawnLines.{drawn_lines}
-use Rattle.pm_top.specs.DrawnSteps.{HasRunDrawn}
+use Rattle.pm_top.specs.DrawnSteps.{HasRunDrawn, IfCanRun}
+use Rattle.pm_top.specs.FrameRests.{IsServing}
 use Rattle.pm_top.specs.ReplyCounts.{counted_in, counts_of}
-use Rattle.pm_top.specs.Runs.{HasBatchRoom, TakesFor}
+use Rattle.pm_top.specs.Runs.{TakesFor}
 use Rattle.pm_top.proofs.DrawnScripts.{DrawnFirst}
 use Rattle.pm_top.proofs.gen_run.run_drawn.Given as goal
 
@@ -21,12 +23,11 @@ invariant-batches g l =
       within : l.many ≤ l.count;
       drawn : DrawnFirst l.fn.seed 1 l.many lines l.drawing;
       state : IsLaterState (state l.fn.host) (state l.host);
-      room : HasBatchRoom l.replies;
-      is_open : l.engine.is_open ≡ true;
-      end : tells → EndsThere l.engine.log now.world;
+      serving : IsServing l.config l.engine;
+      ready : tells → IsReadyOver l.engine now.world;
       numbers : TakesFor l.many first l.engine;
       few : counted_in l.counts ≤ l.many;
-      counts : l.counts ≡ counts_of (replies_to first.map.shape lines first.map.pairs);
+      counts : IfCanRun tells first old.world (l.counts ≡ counts_of (replies_to first.store.shape lines (map_in first old.world)));
       ran : HasRunDrawn tells old now first l.engine lines;
     }
 

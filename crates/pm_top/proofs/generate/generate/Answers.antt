@@ -11,14 +11,18 @@ use Rattle.pm_core.specs.Calls.{ChangesDisk}
 use Rattle.pm_core.specs.Held.{in_force}
 use Rattle.pm_core.specs.LogAlone.{image_of}
 use Rattle.pm_redo.specs.Restoring.{ComparesShape}
-use Rattle.pm_engine.specs.PagedOpenings.{HasOpenCause, IsPlainOpen, OpensMap, OpensRunning}
+use Rattle.pm_engine.specs.FrameEngines.{map_in}
+use Rattle.pm_engine.specs.FrameOpenings.{HasOpenCauseIn, OpensRunningIn}
+use Rattle.pm_engine.specs.PagedOpenings.{IsPlainOpen}
 use Rattle.pm_engine.specs.RunningLines.{says_nothing}
 use Rattle.pm_top.specs.declared.status.Status.TheVariants.{Failed, Memory, Damaged}
 use Rattle.pm_top.specs.Configurations.{config_fault, fault_config, shape_fault, wanted_in}
 use Rattle.pm_tools.specs.DrawnLines.{drawn_lines}
 use Rattle.pm_top.specs.Crashes.{opened_number, opened_to}
 use Rattle.pm_top.specs.DrawnRuns.{CrashHoldsDrawn, DrawnIsLeft, DrawnOutcomeIs, GenIsSafe}
-use Rattle.pm_top.specs.Promises.{IsStart, NamesBadFor, NamesBadOpening, fault_page, fault_record, last_after, number_after}
+use Rattle.pm_top.specs.Promises.{IsStart, NamesBadFor, NamesBadOpening, fault_record, last_after, number_after}
+use Rattle.pm_top.specs.StoreChecks.{SaysLine}
+use Rattle.pm_top.proofs.FoundPages.{config_met}
 use Rattle.pm_top.proofs.KeptConfigs.{config_disk, config_say, config_then}
 use Rattle.pm_top.proofs.DrawnRefusing.{damaged_gen, field_refused_gen, gen_from, gen_then, idle_gen, opening_gen, refused_gen}
 use Rattle.pm_top.proofs.Opened.{can_run, same_console}
@@ -27,16 +31,13 @@ use Rattle.pm_top.proofs.StartedStores.{can_begin, few_numbers}
 use Rattle.pm_top.proofs.generate.generate.Goals as goal
 
 pub answer_drawn-requires-clause-order : goal.answer_drawn-requires-clause-order
-answer_drawn-requires-clause-order g c _ _ =
-    c.in-Ok.ensures.fresh.0.order
+answer_drawn-requires-clause-order g c _ _ = c.in-Ok.ensures.fresh.0.order
 
-pub answer_drawn-requires-clause-is_open : goal.answer_drawn-requires-clause-is_open
-answer_drawn-requires-clause-is_open g c _ _ =
-    c.in-Ok.ensures.fresh.0.is_open
+pub answer_drawn-requires-clause-serving : goal.answer_drawn-requires-clause-serving
+answer_drawn-requires-clause-serving g c _ _ = record { is_open = c.in-Ok.ensures.fresh.0.is_open; frames = c.in-Ok.ensures.fresh.0.frames }
 
-pub answer_drawn-requires-clause-end : goal.answer_drawn-requires-clause-end
-answer_drawn-requires-clause-end g c _ _ t =
-    (c.in-Ok.ensures.fresh.2 t).ends
+pub answer_drawn-requires-clause-ready : goal.answer_drawn-requires-clause-ready
+answer_drawn-requires-clause-ready g c _ _ = c.in-Ok.ensures.fresh.1
 
 pub returns-in-Ok-clause-holds : goal.returns-in-Ok-clause-holds
 returns-in-Ok-clause-holds g c t =
@@ -50,20 +51,17 @@ returns-in-Ok-clause-holds g c t =
     let engine = c.in-Ok.engine in
     let same = same_console old.world mid.world only in
     let script = drawn_lines c.args.seed 1 c.args.count in
-    let opens : (shape : Shape) (pairs : Pairs) (start : IsStart wanted old.world shape pairs) → OpensRunning (opened_to start.sound) (opened_number start.sound) wanted says_nothing shape pairs engine mid.world = λ shape pairs start.
+    let opens : (shape : Shape) (pairs : Pairs) (start : IsStart wanted old.world shape pairs) → OpensRunningIn (opened_to start.sound) (opened_number start.sound) wanted says_nothing shape pairs engine mid.world = λ shape pairs start.
     c.in-Ok.ensures.opened t says_nothing shape pairs (can_begin wanted old.world shape pairs start) (few_numbers wanted old.world shape pairs start) in
-    let answered : DrawnOutcomeIs script outcome.status old.world new.world engine.map.shape engine.map.pairs outcome.lines outcome.order.items = c.answer_drawn.ensures.outcome t old.world same in
+    let answered : (shape : Shape) (pairs : Pairs) → IsStart wanted old.world shape pairs → DrawnOutcomeIs script outcome.status old.world new.world engine.store.shape (map_in engine mid.world) outcome.lines outcome.order.items =
+    λ shape pairs start. c.answer_drawn.ensures.outcome t wanted (last_after start) (number_after start) old.world same (can_run wanted old.world shape pairs start engine mid.world (opens shape pairs start)) in
     let alike : config_fault old.world ≡ None = asks.fault_is ∙ (c.in-Ok.ensures.compared t).alike in
     record {
       outcome = λ shape pairs can.
-          let opened = opens shape pairs (subst (λ (s : Shape). IsStart s old.world shape pairs) asks.wanted_is can.start) in
-          subst (λ (x : Shape × Pairs). DrawnOutcomeIs script outcome.status old.world new.world x.0 x.1 outcome.lines outcome.order.items) (λ i. (opened.shape_is i, opened.map i)) answered;
-      opened = λ _. record {
-        configured = alike;
-        pairs = engine.map.pairs;
-        opens = subst (λ (s : Shape). OpensMap s (in_force (image_of old.world)) old.world engine.map.pairs) (sym asks.wanted_is) (c.in-Ok.ensures.fresh.2 t).opens;
-        outcome = subst (λ (s : Shape). DrawnOutcomeIs script outcome.status old.world new.world s engine.map.pairs outcome.lines outcome.order.items) (c.in-Ok.ensures.fresh.0.shape_is ∙ sym asks.wanted_is) answered;
-      };
+          let start = subst (λ (s : Shape). IsStart s old.world shape pairs) asks.wanted_is can.start in
+          let opened = opens shape pairs start in
+          subst (λ (x : Shape × Pairs). DrawnOutcomeIs script outcome.status old.world new.world x.0 x.1 outcome.lines outcome.order.items) (λ i. (opened.shape_is i, opened.map i)) (answered shape pairs start);
+      configured = λ _. alike;
       untouched = λ field differs. absurd (let both : Some field ≡ None = sym differs ∙ alike in cc);
       leaves = λ is.
           subst (λ (s : Shape). (shape : Shape) (pairs : Pairs) (start : IsStart s old.world shape pairs) → DrawnIsLeft s (last_after start) (number_after start) script new.world shape pairs) (sym asks.wanted_is)
@@ -72,8 +70,19 @@ returns-in-Ok-clause-holds g c t =
           let left = c.answer_drawn.ensures.leaves t is wanted (last_after start) (number_after start) (can_run wanted old.world shape pairs start engine mid.world opened) in
           subst (λ (x : Shape × Pairs). DrawnIsLeft wanted (last_after start) (number_after start) script new.world x.0 x.1) (λ i. (opened.shape_is i, opened.map i)) left);
       misconfigured = λ is. absurd (c.answer_drawn.ensures.cause.configured is);
-      damaged = λ is. absurd (c.answer_drawn.ensures.cause.sound is);
-      within = λ is. subst (λ s. DrawnOutcomeIs script s old.world new.world engine.map.shape engine.map.pairs outcome.lines outcome.order.items) is answered;
+      damaged = λ is.
+          let found = c.answer_drawn.ensures.damaged t is in
+          record {
+            configured = alike;
+            unsound = λ shape pairs begins.
+                let start = subst (λ (s : Shape). IsStart s old.world shape pairs) asks.wanted_is begins in
+                subst (λ s. DrawnOutcomeIs script s old.world new.world engine.store.shape (map_in engine mid.world) outcome.lines outcome.order.items) is (answered shape pairs start);
+            left = found.left;
+            text = found.text;
+            bad = inr found.names;
+            says = found.says;
+          };
+      within = c.answer_drawn.ensures.short;
     }
 
 pub returns-in-Ok-clause-crash : goal.returns-in-Ok-clause-crash
@@ -88,7 +97,7 @@ returns-in-Ok-clause-crash g c t =
     let engine = c.in-Ok.engine in
     let same = same_console old.world mid.world only in
     let script = drawn_lines c.args.seed 1 c.args.count in
-    let opens : (shape : Shape) (pairs : Pairs) (start : IsStart wanted old.world shape pairs) → OpensRunning (opened_to start.sound) (opened_number start.sound) wanted says_nothing shape pairs engine mid.world = λ shape pairs start.
+    let opens : (shape : Shape) (pairs : Pairs) (start : IsStart wanted old.world shape pairs) → OpensRunningIn (opened_to start.sound) (opened_number start.sound) wanted says_nothing shape pairs engine mid.world = λ shape pairs start.
     c.in-Ok.ensures.opened t says_nothing shape pairs (can_begin wanted old.world shape pairs start) (few_numbers wanted old.world shape pairs start) in
     let order = outcome.order.items in
     let keeps : (shape : Shape) (pairs : Pairs) (start : IsStart wanted old.world shape pairs) → AllMoments old new (CrashHoldsDrawn wanted (last_after start) (number_after start) script old.world shape pairs order) = λ shape pairs start.
@@ -129,7 +138,7 @@ returns-in-Err-Shape-clause-holds g c t =
     let outcome = c.without.result in
     let field = c.in-Err-Shape.field in
     let differs : shape_fault wanted old.world ≡ Some field = subst (ComparesShape (shape_fault wanted old.world)) c.in-Err-Shape.field-0-is (c.in-Err-Shape.ensures.compared t).fault in
-    let same : mid.world ≡ old.world = subst (HasOpenCause wanted (in_force (image_of old.world)) old.world mid.world) c.in-Err-Shape.field-0-is (c.in-Err-Shape.ensures.bad t) in
+    let same : mid.world ≡ old.world = subst (HasOpenCauseIn wanted (in_force (image_of old.world)) old.world mid.world) c.in-Err-Shape.field-0-is (c.in-Err-Shape.ensures.bad t) in
     let is : config_fault mid.world ≡ Some field = ap config_fault same ∙ asks.fault_is ∙ differs in
     gen_from (drawn_lines c.args.seed 1 c.args.count) old mid new outcome.status outcome.lines outcome.order.items ((c.in-Err-Shape.ensures.compared t).differing field differs) same
     (field_refused_gen (drawn_lines c.args.seed 1 c.args.count) mid new outcome.status outcome.lines outcome.order.items field is (subst AnswersNone (sym c.without.ensures.status) printed.ensures.cases) (λ e. printed.ensures.misconfigured t (sym c.without.ensures.status ∙ e)) (printed.ensures.moments t) c.without.ensures.lines c.without.ensures.order)
@@ -146,7 +155,7 @@ returns-in-Err-Shape-clause-crash g c t =
     let outcome = c.without.result in
     let field = c.in-Err-Shape.field in
     let differs : shape_fault wanted old.world ≡ Some field = subst (ComparesShape (shape_fault wanted old.world)) c.in-Err-Shape.field-0-is (c.in-Err-Shape.ensures.compared t).fault in
-    let same : mid.world ≡ old.world = subst (HasOpenCause wanted (in_force (image_of old.world)) old.world mid.world) c.in-Err-Shape.field-0-is (c.in-Err-Shape.ensures.bad t) in
+    let same : mid.world ≡ old.world = subst (HasOpenCauseIn wanted (in_force (image_of old.world)) old.world mid.world) c.in-Err-Shape.field-0-is (c.in-Err-Shape.ensures.bad t) in
     let order = outcome.order.items in
     let keeps : GenIsSafe (drawn_lines c.args.seed 1 c.args.count) old mid order =
     subst (λ (s : Shape). (shape : Shape) (pairs : Pairs) (start : IsStart s old.world shape pairs) → AllMoments old mid (CrashHoldsDrawn s (last_after start) (number_after start) (drawn_lines c.args.seed 1 c.args.count) old.world shape pairs order)) (sym asks.wanted_is)
@@ -165,7 +174,7 @@ returns-in-Err-Shape-clause-config g c t =
     let outcome = c.without.result in
     let field = c.in-Err-Shape.field in
     let differs : shape_fault wanted old.world ≡ Some field = subst (ComparesShape (shape_fault wanted old.world)) c.in-Err-Shape.field-0-is (c.in-Err-Shape.ensures.compared t).fault in
-    let same : mid.world ≡ old.world = subst (HasOpenCause wanted (in_force (image_of old.world)) old.world mid.world) c.in-Err-Shape.field-0-is (c.in-Err-Shape.ensures.bad t) in
+    let same : mid.world ≡ old.world = subst (HasOpenCauseIn wanted (in_force (image_of old.world)) old.world mid.world) c.in-Err-Shape.field-0-is (c.in-Err-Shape.ensures.bad t) in
     config_then old mid new (g.H.Device.sound c.open_store.new.host t) (config_disk old mid (c.open_store.ensures.disk t)) (config_say (fault_config field) mid new (printed.ensures.moments t))
 
 pub returns-in-Err-Store-Failed-clause-holds : goal.returns-in-Err-Store-Failed-clause-holds
@@ -250,11 +259,11 @@ returns-in-Err-Store-BadRecord-clause-holds g c t =
     let unsound : (shape : Shape) (pairs : Pairs) → IsStart (wanted_in old.world) old.world shape pairs → ⊥ = λ shape pairs start.
     let here = subst (λ (s : Shape). IsStart s old.world shape pairs) asks.wanted_is start in
     subst IsPlainOpen err (c.in-Err-Store-BadRecord.ensures.refused t says_nothing shape pairs (can_begin wanted old.world shape pairs here) (few_numbers wanted old.world shape pairs here) alike) in
-    let cause = subst (HasOpenCause wanted (in_force (image_of old.world)) old.world mid.world) err (c.in-Err-Store-BadRecord.ensures.bad t) in
+    let cause = subst (HasOpenCauseIn wanted (in_force (image_of old.world)) old.world mid.world) err (c.in-Err-Store-BadRecord.ensures.bad t) in
     let bad : NamesBadOpening old.world mid.world (fault_record at) =
     subst (λ (s : Shape). NamesBadFor s old.world mid.world (fault_record at)) (sym asks.wanted_is) (inl (at, cause, refl)) in
-    damaged_gen (drawn_lines c.args.seed 1 c.args.count) old mid new outcome.status outcome.lines outcome.order.items (fault_record at) (asks.fault_is ∙ alike) unsound only bad
-    (subst (λ s. (s ≡ Damaged) ⊎ (s ≡ Failed) ⊎ (s ≡ Memory)) (sym c.without-in-Err-Store-BadRecord.ensures.status) printed.ensures.cases) (λ e. printed.ensures.damaged t (sym c.without-in-Err-Store-BadRecord.ensures.status ∙ e)) c.without-in-Err-Store-BadRecord.ensures.lines c.without-in-Err-Store-BadRecord.ensures.order
+    damaged_gen (drawn_lines c.args.seed 1 c.args.count) old mid new outcome.status outcome.lines outcome.order.items (asks.fault_is ∙ alike) unsound only
+    (subst (λ s. (s ≡ Damaged) ⊎ (s ≡ Failed) ⊎ (s ≡ Memory)) (sym c.without-in-Err-Store-BadRecord.ensures.status) printed.ensures.cases) (λ e. (fault_record at, bad, printed.ensures.damaged t (sym c.without-in-Err-Store-BadRecord.ensures.status ∙ e))) c.without-in-Err-Store-BadRecord.ensures.lines c.without-in-Err-Store-BadRecord.ensures.order
 
 pub returns-in-Err-Store-BadRecord-clause-crash : goal.returns-in-Err-Store-BadRecord-clause-crash
 returns-in-Err-Store-BadRecord-clause-crash g c t shape pairs start =
@@ -292,7 +301,7 @@ returns-in-Err-Store-BadPage-clause-holds g c t =
     let wanted = c.args.config.now.shape in
     let asks = c.requires.asked t in
     let only = at_last old mid (ChangesDisk old.world) (g.H.Device.sound c.open_store.new.host t) (c.open_store.ensures.disk t) in
-    let printed = c.print_page_fault in
+    let printed = c.print_found_page in
     let new = g.H.Device.history printed.new.host in
     let outcome = c.without-in-Err-Store-BadPage.result in
     let page = c.in-Err-Store-BadPage.page in
@@ -301,11 +310,12 @@ returns-in-Err-Store-BadPage-clause-holds g c t =
     let unsound : (shape : Shape) (pairs : Pairs) → IsStart (wanted_in old.world) old.world shape pairs → ⊥ = λ shape pairs start.
     let here = subst (λ (s : Shape). IsStart s old.world shape pairs) asks.wanted_is start in
     subst IsPlainOpen err (c.in-Err-Store-BadPage.ensures.refused t says_nothing shape pairs (can_begin wanted old.world shape pairs here) (few_numbers wanted old.world shape pairs here) alike) in
-    let cause = subst (HasOpenCause wanted (in_force (image_of old.world)) old.world mid.world) err (c.in-Err-Store-BadPage.ensures.bad t) in
-    let bad : NamesBadOpening old.world mid.world (fault_page page) =
-    subst (λ (s : Shape). NamesBadFor s old.world mid.world (fault_page page)) (sym asks.wanted_is) (inr (page, cause, refl)) in
-    damaged_gen (drawn_lines c.args.seed 1 c.args.count) old mid new outcome.status outcome.lines outcome.order.items (fault_page page) (asks.fault_is ∙ alike) unsound only bad
-    (subst (λ s. (s ≡ Damaged) ⊎ (s ≡ Failed) ⊎ (s ≡ Memory)) (sym c.without-in-Err-Store-BadPage.ensures.status) printed.ensures.cases) (λ e. printed.ensures.damaged t (sym c.without-in-Err-Store-BadPage.ensures.status ∙ e)) c.without-in-Err-Store-BadPage.ensures.lines c.without-in-Err-Store-BadPage.ensures.order
+    let cause = subst (HasOpenCauseIn wanted (in_force (image_of old.world)) old.world mid.world) err (c.in-Err-Store-BadPage.ensures.bad t) in
+    let named : printed.result ≡ Damaged → SaysLine (NamesBadOpening old.world mid.world) mid.world new.world = λ e.
+    let line = printed.ensures.damaged t e in
+    (line.0, subst (λ (s : Shape). NamesBadFor s old.world mid.world line.0) (sym asks.wanted_is) (inr (cause, (page, line.1))), line.2) in
+    damaged_gen (drawn_lines c.args.seed 1 c.args.count) old mid new outcome.status outcome.lines outcome.order.items (asks.fault_is ∙ alike) unsound only
+    (subst (λ s. (s ≡ Damaged) ⊎ (s ≡ Failed) ⊎ (s ≡ Memory)) (sym c.without-in-Err-Store-BadPage.ensures.status) printed.ensures.cases) (λ e. named (sym c.without-in-Err-Store-BadPage.ensures.status ∙ e)) c.without-in-Err-Store-BadPage.ensures.lines c.without-in-Err-Store-BadPage.ensures.order
 
 pub returns-in-Err-Store-BadPage-clause-crash : goal.returns-in-Err-Store-BadPage-clause-crash
 returns-in-Err-Store-BadPage-clause-crash g c t shape pairs start =
@@ -314,7 +324,7 @@ returns-in-Err-Store-BadPage-clause-crash g c t shape pairs start =
     let wanted = c.args.config.now.shape in
     let asks = c.requires.asked t in
     let only = at_last old mid (ChangesDisk old.world) (g.H.Device.sound c.open_store.new.host t) (c.open_store.ensures.disk t) in
-    let printed = c.print_page_fault in
+    let printed = c.print_found_page in
     let new = g.H.Device.history printed.new.host in
     let outcome = c.without-in-Err-Store-BadPage.result in
     let page = c.in-Err-Store-BadPage.page in
@@ -332,6 +342,6 @@ returns-in-Err-Store-BadPage-clause-config g c t =
     let wanted = c.args.config.now.shape in
     let asks = c.requires.asked t in
     let only = at_last old mid (ChangesDisk old.world) (g.H.Device.sound c.open_store.new.host t) (c.open_store.ensures.disk t) in
-    let printed = c.print_page_fault in
+    let printed = c.print_found_page in
     let new = g.H.Device.history printed.new.host in
-    config_then old mid new (g.H.Device.sound c.open_store.new.host t) (config_disk old mid (c.open_store.ensures.disk t)) (config_say (fault_page c.in-Err-Store-BadPage.page) mid new (printed.ensures.moments t))
+    config_then old mid new (g.H.Device.sound c.open_store.new.host t) (config_disk old mid (c.open_store.ensures.disk t)) (config_met c.in-Err-Store-BadPage.page mid new (printed.ensures.moments t))

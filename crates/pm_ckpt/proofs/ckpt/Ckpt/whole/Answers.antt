@@ -18,7 +18,7 @@ use Rattle.pm_ckpt.specs.Marked.{Kept, next_mark, room_of}
 use Rattle.pm_ckpt.specs.Writes.{StoresPages}
 use Rattle.pm_ckpt.proofs.CleanedFrames.{seen_flagged, seen_sized, seen_held, cleans_seen, are_cleaned}
 use Rattle.pm_ckpt.proofs.DirtyPages.{pages_once, pages_apart, pages_flagged, pages_sized, pages_held}
-use Rattle.pm_ckpt.proofs.Gathered.{rooms, have_frames, order_of}
+use Rattle.pm_ckpt.proofs.Gathered.{rooms, have_frames, none_in_order, order_of}
 use Rattle.pm_ckpt.proofs.Listed.{below_few}
 use Rattle.pm_ckpt.proofs.Orders.{may_order, ended_order, whole_err, whole_ok}
 use Rattle.pm_ckpt.proofs.RestingStripes.{resting_after, clean_stored, page_there, stays_none, clean_read}
@@ -336,4 +336,25 @@ returns-clause-frames g c = record {
       ((c.in_ok-checkpoint_frames.ensures.pages t held are).stored)) in
       λ n stripe id bytes at own was.
       page_there locks shape seat stripes resting whole pages same c.checkpoint_frames.new.seat c.checkpoint_frames.ensures.frames.seat cleans n stripe at old.world new.world stores id own bytes was;
+  alone = λ t.
+      let old = g.H.Device.history c.args.host.now in
+      let new = g.H.Device.history c.checkpoint_frames.new.host in
+      let locks = c.args.locks.now in
+      let seat = c.args.seat.now in
+      let stripes = c.args.stripes.now in
+      let shape = c.args.self.now.shape in
+      let pages = c.gather.new.pages.items in
+      let sight = c.gather.ensures.same in
+      let resting = c.requires.stripes in
+      let same = c.gather.ensures.pages in
+      let whole = c.requires.seat in
+      let held = dirty_held locks stripes seat.view in
+      let pages_at : pages ≡ c.deref-2.result.now = sym c.deref-2.ensures.value in
+      let order_at : c.gather.new.order.items ≡ c.deref-3.result.now = sym c.deref-3.ensures.value in
+      let are = subst (λ (ps : List FramePage). AreInFrames held c.gather.new.seat.view ps) pages_at (seen_held seat.view c.gather.new.seat.view sight held pages (pages_held locks shape seat stripes resting whole pages same)) in
+      let shape_is : shape ≡ c.next_mark-mark.result.shape = sym (ap (λ (m : Mark). m.shape) c.next_mark-mark.ensures ∙ ap (λ (k : Kept). k.shape) c.self.view_is) in
+      let stores = subst (λ (sh : Shape). StoresPages sh.page_size held (names_of pages) old.world new.world) (sym shape_is)
+      (subst (λ (ps : List PageId). StoresPages c.next_mark-mark.result.shape.page_size held ps old.world new.world) (sym order_at ∙ c.gather.ensures.names)
+      ((c.in_ok-checkpoint_frames.ensures.pages t held are).stored)) in
+      λ part none. stores.alone part (none_in_order part (dirty_frames locks stripes seat.view) pages same none);
 }

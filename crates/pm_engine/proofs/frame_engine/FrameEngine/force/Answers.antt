@@ -1,11 +1,11 @@
 use Rattle.std.proofs.Common.{◌≡◌, ◌+◌, Ok, sym, ◌∙◌, ap, subst}
 use Rattle.pm_disk.specs.Moments.{AllMoments}
 use Rattle.pm_segments.specs.Ends.{LogEnd, EndsThere}
-use Rattle.pm_engine.specs.FrameEngines.{FrameRunning, IsFrameEngine, HasDoneLines, HasLastingLinesIn}
+use Rattle.pm_engine.specs.FrameEngines.{FrameRunning, IsFrameEngine, HasDoneLines, HasLastingLinesIn, AllLastIn, closed_engine}
 use Rattle.pm_engine.specs.FrameStores.{FrameStoreView, pages_in_frames, HasCleanPages}
 use Rattle.pm_engine.specs.PagedEngines.{number_of}
 use Rattle.pm_engine.specs.RunningLines.{CrashHoldsLines}
-use Rattle.pm_engine.proofs.FrameForces.{forced_ends, forced_disk, forced_pages, forced_clean, forced_lasts, forced_crash, engine_closed}
+use Rattle.pm_engine.proofs.FrameForces.{forced_ends, forced_disk, forced_pages, forced_clean, forced_lasts, forced_rests, forced_crash, engine_closed}
 use Rattle.pm_engine.proofs.frame_engine.FrameEngine.force.Goals as goal
 
 pub returns-in-Err-clause-crash : goal.returns-in-Err-clause-crash
@@ -45,6 +45,17 @@ returns-in-Ok-clause-lasts g c t wanted told low start lines has =
     let same : now ≡ ins = λ i. record { store = ins.store; log = c.force.ensures.unmoved i; ckpt = ins.ckpt; began = ins.began; order = ins.order } in
     subst (λ (r : FrameRunning). HasLastingLinesIn wanted told low start lines r new.world) (sym same)
     (forced_lasts ins old new (g.H.Device.sound c.args.host.now t) (Ok tt) (c.in-Ok.ensures.does t) wanted told low start lines
+    (subst (λ (r : FrameRunning). HasDoneLines wanted told low start lines r old.world) (sym c.self.view_is) has))
+
+pub returns-in-Ok-clause-rests : goal.returns-in-Ok-clause-rests
+returns-in-Ok-clause-rests g c t wanted told low start lines has =
+    let ins : FrameRunning = record { store = c.self.inside.pages; log = c.self.inside.log; ckpt = c.self.inside.ckpt; began = c.self.inside.began; order = c.self.inside.order.items } in
+    let old = g.H.Device.history c.args.host.now in
+    let new = g.H.Device.history c.force.new.dev in
+    let now : FrameRunning = record { store = ins.store; log = c.force.new.self; ckpt = ins.ckpt; began = ins.began; order = ins.order } in
+    let same : now ≡ ins = λ i. record { store = ins.store; log = c.force.ensures.unmoved i; ckpt = ins.ckpt; began = ins.began; order = ins.order } in
+    subst (λ (r : FrameRunning). AllLastIn wanted told r new.world) (sym same)
+    (forced_rests ins old new (g.H.Device.sound c.args.host.now t) (Ok tt) (c.in-Ok.ensures.does t) wanted told low start lines
     (subst (λ (r : FrameRunning). HasDoneLines wanted told low start lines r old.world) (sym c.self.view_is) has))
 
 pub returns-in-Ok-clause-ends : goal.returns-in-Ok-clause-ends

@@ -1,11 +1,9 @@
 -- The round's lines are those of the store that the engine runs, and what they handed over is appended.
-use Rattle.std.proofs.Common.{◌≡◌, ◌+◌, ◌≤◌, ℕ, List, length, true, Ok, Err, refl, sym, ap, subst, ◌∙◌, arith, vec_len, vec_capacity}
+use Rattle.std.proofs.Common.{◌≡◌, ◌+◌, ◌≤◌, ◌++◌, ℕ, List, length, true, refl, sym, ap, subst, ◌∙◌, arith, vec_len, vec_capacity}
 use Rattle.pm_disk.proofs.Chain.{started}
-use Rattle.pm_disk.specs.declared.failed.Failed.{Failed}
 use Rattle.pm_engine.specs.FrameEngines.{FrameRunning, DoesRoundLines, LosesRoundLines}
 use Rattle.pm_engine.specs.FrameHosts.{RunsRoundOver}
 use Rattle.pm_engine.specs.FrameStores.{FrameStoreView, shut}
-use Rattle.pm_engine.specs.OutboxLogs.{NotesNumbers}
 use Rattle.pm_engine.proofs.Results.{if_ok_holds, unless_err}
 use Rattle.pm_engine.proofs.RoundLines.{number_room, loses_lines, done_engine, does_lines}
 use Rattle.pm_engine.proofs.frame_engine.FrameEngine.run_lines.Goals as goal
@@ -59,7 +57,7 @@ invariant_of-done g c =
     let items = c.reserve.ensures.items in
     done_engine tells g.H.Reader.Device.tells history state c.args.first c.args.from c.args.lines.now ins mid c.args.replies.now c.run_round-pages.new.replies over.back end h0 h1 over.round told ran.world sent
     h2 c.append_outbox.new.log order c.append_outbox.new.self c.in-Ok-append_outbox.ensures.appends
-    (λ numbers spell. subst (λ (was : List ℕ). NotesNumbers {T = Unit {0}} {E = Failed} numbers was order (Ok tt)) items (c.in-Ok-append_outbox.ensures.order numbers spell)) c.in-Ok-append_outbox.ensures.sent c.self.invariant opened
+    (λ numbers spell. c.in-Ok-append_outbox.ensures.order numbers spell ∙ ap (λ (was : List ℕ). was ++ numbers) items) c.in-Ok-append_outbox.ensures.sent c.self.invariant opened
 
 pub returns-in-Err-append_outbox-clause-loses : goal.returns-in-Err-append_outbox-clause-loses
 returns-in-Err-append_outbox-clause-loses g c = λ _.
@@ -82,7 +80,7 @@ returns-in-Err-append_outbox-clause-loses g c = λ _.
     let items = c.reserve.ensures.items in
     let lost = loses_lines tells g.H.Reader.Device.tells history state c.args.first c.args.from c.args.lines.now ins mid c.args.replies.now c.run_round-pages.new.replies over.back end h0 h1 over.round told ran.world sent
     h2 c.in-Err-append_outbox.field-0 c.append_outbox.new.log order c.in-Err-append_outbox.ensures.appends
-    (λ numbers spell. subst (λ (was : List ℕ). NotesNumbers {T = Unit {0}} {E = Failed} numbers was order (Err c.in-Err-append_outbox.field-0)) items (c.in-Err-append_outbox.ensures.order numbers spell)) in
+    (λ numbers spell. c.in-Err-append_outbox.ensures.order numbers spell ∙ ap (λ (was : List ℕ). was ++ numbers) items) in
     subst (λ (p : FrameRunning × FrameStoreView). LosesRoundLines tells h0 h2 c.args.first c.args.from c.args.lines.now p.0 (record { store = p.1; log = c.append_outbox.new.log; ckpt = ins.ckpt; began = ins.began; order = order }))
     {x = (ins, shut mid)} {y = (c.args.self, c.shut.new.self)} (λ i. (c.self.view_is i, sym (c.shut.ensures ∙ ap shut c.in-Err-append_outbox.ensures.unsent) i)) lost
 
@@ -107,6 +105,6 @@ returns-in-Ok-append_outbox-clause-does g c =
     let items = c.reserve.ensures.items in
     let done = does_lines tells g.H.Reader.Device.tells history state c.args.first c.args.from c.args.lines.now ins mid c.args.replies.now c.run_round-pages.new.replies over.back end h0 h1 over.round told ran.world sent
     h2 c.append_outbox.new.log order c.append_outbox.new.self c.in-Ok-append_outbox.ensures.appends
-    (λ numbers spell. subst (λ (was : List ℕ). NotesNumbers {T = Unit {0}} {E = Failed} numbers was order (Ok tt)) items (c.in-Ok-append_outbox.ensures.order numbers spell)) c.in-Ok-append_outbox.ensures.sent in
+    (λ numbers spell. c.in-Ok-append_outbox.ensures.order numbers spell ∙ ap (λ (was : List ℕ). was ++ numbers) items) c.in-Ok-append_outbox.ensures.sent in
     subst (λ (r : FrameRunning). DoesRoundLines tells h0 h2 c.args.first c.args.from c.args.lines.now r (record { store = c.append_outbox.new.self; log = c.append_outbox.new.log; ckpt = ins.ckpt; began = ins.began; order = order }) c.args.replies.now c.run_round-pages.new.replies end)
     c.self.view_is done

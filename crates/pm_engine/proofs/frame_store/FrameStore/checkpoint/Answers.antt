@@ -86,4 +86,4 @@ returns-in-Ok-clause-pages g c =
     let shape : c.args.ckpt.now.shape ≡ ins.shape = c.requires.shape ∙ ap (λ (v : FrameStoreView). v.shape) (sym c.self.view_is) in
     let leaves = subst (λ (xs : List Stripe). LeavesFrames {T = Unit {0}} {E = Failed} g.H.Device.tells ins.locks c.args.ckpt.now.shape old new (Ok tt) ins.seat c.whole.new.seat xs) c.from_ref.ensures.value c.in-Ok.ensures.frames in
     subst (λ (v : FrameStoreView). IsCheckpointed g.H.Device.tells old.world new.world v (record ins { seat = c.whole.new.seat; stripe = c.has_files.new.self })) c.self.view_is
-    (checkpointed {E = Failed} g.H.Device.tells old new tt c.args.ckpt.now.shape ins c.self.invariant on empty shape c.whole.new.seat leaves c.has_files.new.self c.has_files.ensures.same c.has_files.ensures.files)
+    (checkpointed {E = Failed} g.H.Device.tells old new tt c.args.ckpt.now.shape ins c.self.invariant on empty shape c.whole.new.seat leaves c.has_files.new.self c.has_files.ensures.same c.has_files.ensures.files (lists_dirty ins c.self.invariant on empty))

@@ -1,5 +1,5 @@
 use Rattle.std.proofs.Common.{refl, ◌≡◌, ◌&&◌, ◌^◌, ℕ, [], Some, None, length, sym, ap, subst, ◌∙◌, arith}
-use Rattle.std.specs.Prelude.{nat_lt, Option, if◌then◌else◌, List}
+use Rattle.std.specs.Prelude.{nat_lt, Option, if◌then◌else◌, List, slice_get}
 use Rattle.std.specs.FinMap as fin
 use Rattle.std.specs.Ordering.{nat_cmp}
 use Rattle.std.proofs.lemmas.List.{length-map}
@@ -11,7 +11,7 @@ use Rattle.pm_locks.specs.declared.view.View.{View}
 use Rattle.pm_locks.proofs.Facts.{page_sizes}
 use Rattle.pm_region.specs.Lease.{Leased}
 use Rattle.pm_locks.specs.Opening.{first_view}
-use Rattle.pm_stripe.specs.Kept.{place_of, held_at, page_bytes, bytes_by, IsStaying}
+use Rattle.pm_stripe.specs.Kept.{place_of, held_at, page_bytes, bytes_by, IsStaying, AreClean}
 use Rattle.pm_stripe.specs.Stripes.{kept, file_in, IsNewStripe}
 use Rattle.pm_stripe.specs.declared.held.Held.{Held}
 use Rattle.pm_stripe.specs.declared.stripe.Stripe.{Stripe}
@@ -32,6 +32,12 @@ module _ (s : Stripe) (seat : Sight) (no_page : s.places.table.entries ≡ fin.e
 
   as_file : (file : PageId → Option (List ℕ)) (id : PageId) → page_bytes file (kept s seat) id ≡ file id
   as_file file id = λ i. bytes_by (away id i) (unkept id i) seat.view.entries s.number (file id)
+
+  no_clean : (file : PageId → Option (List ℕ)) → AreClean file (kept s seat)
+  no_clean file = record {
+    kept = λ id f tag e at put clean. let bad : None ≡ Some (f, tag) = sym (unkept id) ∙ at in absurd (cc bad);
+    read = λ i h at. let bad : None ≡ Some h = ap (λ (hs : List Held). slice_get hs i) (sym none_held) ∙ at in absurd (cc bad);
+  }
 
   none_stays : (id : PageId) → IsStaying (kept s seat) id → ⊥
   none_stays id stays = let bad : None ≡ Some (stays.frame, stays.tag) = sym (unkept id) ∙ stays.kept in cc bad
@@ -93,3 +99,9 @@ pub returns-in-Ok-clause-clean : goal.returns-in-Ok-clause-clean
 returns-in-Ok-clause-clean c =
     let new = c.in_ok-stripe.ensures in
     none_stays c.in_ok-stripe.stripe c.in-Ok.seat new.no_page new.none_held
+
+pub returns-in-Ok-clause-as_files : goal.returns-in-Ok-clause-as_files
+returns-in-Ok-clause-as_files c world =
+    let s = c.in_ok-stripe.stripe in
+    let new = c.in_ok-stripe.ensures in
+    no_clean s c.in-Ok.seat new.no_page new.none_held (file_in s world)

@@ -1,305 +1,249 @@
-use Rattle.std.proofs.Common.{rules, ◌≡◌, ◌+◌, List, ℕ, [], length, refl, sym, ap, ◌∙◌, subst, arith, append-nil}
-use Rattle.std.specs.Prelude.{IsErrOf}
-use Rattle.pm_types.specs.declared.fault.StoreFault.TheVariants.{Failed, Memory}
+use Rattle.std.proofs.Common.{◌≡◌, ◌+◌, List, ℕ, [], Ok, Err, length, refl, sym, ap, ◌∙◌, subst, arith}
+use Rattle.std.specs.Prelude.{IfErr, IfOk}
+use Rattle.pm_types.specs.declared.fault.StoreFault.TheVariants.{Failed}
 use Rattle.pm_types.specs.declared.limits.TheConstants.{LINES_MAX}
-use Rattle.pm_disk.specs.Moments.{AllMoments}
 use Rattle.pm_disk.proofs.Chain.{at_last}
 use Rattle.pm_script.specs.Reading.{rest_of, Unread}
-use Rattle.pm_model.specs.ReplyLists.{ReplyList}
 use Rattle.pm_core.specs.Calls.{ChangesDisk}
-use Rattle.pm_engine.specs.PagedEngines.{PagedRunning, store_of}
+use Rattle.pm_engine.specs.FrameEngines.{map_in}
 use Rattle.pm_engine.specs.RunningLines.{says_nothing}
-use Rattle.pm_engine.specs.RunningStores.{map_of}
+use Rattle.pm_script.proofs.LaterStates.{same_state}
+use Rattle.pm_top.specs.declared.batch.Continuation.TheVariants as then_comes
 use Rattle.pm_top.specs.declared.run.Run.{Run}
-use Rattle.pm_top.specs.ScriptOrder.{CrashHoldsAcknowledged}
-use Rattle.pm_top.specs.Runs.{Progress, StaysWithin, TakesFor}
+use Rattle.pm_top.specs.Runs.{BatchIsAnswered, CountsBatch, GoesOn, IsOpenAfter, StopsAtFault, TakesFor}
 use Rattle.pm_top.specs.Limits.{after_lines}
 use Rattle.pm_top.specs.Served.{script_of}
-use Rattle.pm_top.proofs.AnsweredLines.{no_numbers, rest_moments, takes_both}
+use Rattle.pm_top.proofs.AnsweredBatch.{goes_then, idle_goes, idle_none}
+use Rattle.pm_top.proofs.AnsweredLines.{no_numbers, takes_both}
+use Rattle.pm_top.proofs.FrameRests.{same_both, same_engine, serving_still}
 use Rattle.pm_top.proofs.KeptConfigs.{config_disk, config_none, config_then}
-use Rattle.pm_top.proofs.Leaving.{leaves_store}
-use Rattle.pm_top.proofs.PagedRests.{rest_of_last}
-use Rattle.pm_top.proofs.Progressing.{begins, finished, failed_still, memory_still}
-use Rattle.pm_top.proofs.Serving.{more_place, more_bytes, more_limit, more_progress, end_none, end_progress, end_limit, over_stopped, closed, keeps_same, keeps_closed, force_keeps, closing_moments, room_left, append_right}
-use Rattle.pm_top.proofs.AnsweredBatch.{then_moments}
-use Rattle.pm_script.proofs.LaterStates.{same_state}
-use Rattle.pm_top.proofs.LaterStates.{plain_later}
+use Rattle.pm_top.proofs.LaterStates.{frame_later}
+use Rattle.pm_top.proofs.Serving.{more_place, more_bytes, more_limit, more_goes, end_none, end_goes, end_limit, over_stopped, force_map, force_stops, force_goes, force_leaves, served_fault, served_limit, served_done, served_unbegun, begins_here, may_next, append_right}
 use Rattle.pm_top.proofs.run.Run.serve.Goals as goal
 
-pub returns-in_err-input-clause-moments : goal.returns-in_err-input-clause-moments
-returns-in_err-input-clause-moments g c t wanted last number start same can =
-    rest_moments wanted last number (LINES_MAX + 2048) (g.H.Device.history c.args.host.now) (begins start (g.H.Device.history c.args.host.now).world c.args.self.now same c.requires.lines c.requires.order) (g.H.Device.sound c.args.host.now t) can.within can.stands
+-- ---- memory ran out before the first batch
 
-pub returns-in_err-replies-clause-moments : goal.returns-in_err-replies-clause-moments
-returns-in_err-replies-clause-moments g c t wanted last number start same can =
-    rest_moments wanted last number (LINES_MAX + 2048) (g.H.Device.history c.args.host.now) (begins start (g.H.Device.history c.args.host.now).world c.args.self.now same c.requires.lines c.requires.order) (g.H.Device.sound c.args.host.now t) can.within can.stands
+pub returns-in_default-clause-served : goal.returns-in_default-clause-served
+returns-in_default-clause-served g c t wanted last number start same can =
+    let old = g.H.Device.history c.args.host.now in
+    served_unbegun wanted last number start old c.args.self (g.H.Device.sound c.args.host.now t) same c.requires.lines c.requires.order can
 
-pub returns-in_err-input-clause-config : goal.returns-in_err-input-clause-config
-returns-in_err-input-clause-config g c t =
+pub returns-in_default-clause-config : goal.returns-in_default-clause-config
+returns-in_default-clause-config g c t =
     config_none (g.H.Device.history c.args.host.now) (g.H.Device.sound c.args.host.now t)
 
-pub returns-in_err-replies-clause-config : goal.returns-in_err-replies-clause-config
-returns-in_err-replies-clause-config g c t =
+pub returns-in_default-with_room-clause-served : goal.returns-in_default-with_room-clause-served
+returns-in_default-with_room-clause-served g c t wanted last number start same can =
+    let old = g.H.Device.history c.args.host.now in
+    served_unbegun wanted last number start old c.args.self (g.H.Device.sound c.args.host.now t) same c.requires.lines c.requires.order can
+
+pub returns-in_default-with_room-clause-config : goal.returns-in_default-with_room-clause-config
+returns-in_default-with_room-clause-config g c t =
     config_none (g.H.Device.history c.args.host.now) (g.H.Device.sound c.args.host.now t)
+
+-- ---- batch after batch
 
 pub batches-init : goal.batches-init
 batches-init g c =
     let old = g.H.Device.history c.args.host.now in
-    let first = c.args.self.now in
+    let first = c.args.self in
     record {
-      counted = c.requires.lines ∙ sym (ap (λ (u : Unread). u.lines) c.in_ok-input.ensures);
-      few = omega (arith, ap (λ (u : Unread). u.lines) c.in_ok-input.ensures);
+      counted = c.requires.lines ∙ sym (ap (λ (u : Unread). u.lines) c.in-Ok.ensures);
+      few = omega (arith, ap (λ (u : Unread). u.lines) c.in-Ok.ensures);
       state = same_state _;
-      input_end = λ t ended. search rules;
-      limit = λ t. omega (arith, ap (λ (u : Unread). u.bytes) c.in_ok-input.ensures);
-      end = λ t. c.requires.end t;
-      room = omega (arith, ap (λ (l : ReplyList). length l.replies) c.in_ok-replies.ensures, ap (λ (l : ReplyList). l.spare) c.in_ok-replies.ensures);
-      is_open = c.requires.is_open;
-      config = λ t. config_none old (g.H.Device.sound c.args.host.now t);
+      keeps = same_engine first.engine;
+      is_open = c.requires.serving.is_open;
       numbers = no_numbers first.engine first.lines c.requires.lines;
-      bytes = λ t. subst (λ (u : Unread). u.bytes + length (rest_of u old.world) ≡ length old.world.input) (sym c.in_ok-input.ensures) (omega arith);
-      place = λ t. subst (λ (u : Unread). rest_of u old.world ≡ after_lines u.lines old.world.input) (sym c.in_ok-input.ensures) refl;
-      progress = λ t start same. subst (λ (u : Unread). Progress start old.world (script_of (rest_of u old.world)) first.engine.map.shape first.engine.map.pairs first) (sym c.in_ok-input.ensures)
-          (subst (λ (i : List ℕ). Progress start old.world (script_of i) first.engine.map.shape first.engine.map.pairs first) (sym same.input) (begins start old.world first same c.requires.lines c.requires.order));
-      stands = λ t wanted last number can. can.stands;
-      moments = λ t wanted last number start same can.
-          rest_moments wanted last number (LINES_MAX + 2048) old (begins start old.world first same c.requires.lines c.requires.order) (g.H.Device.sound c.args.host.now t) can.within can.stands;
+      limit = λ t. omega (arith, ap (λ (u : Unread). u.bytes) c.in-Ok.ensures);
+      input_end = λ t ended. absurd (let both = sym ended ∙ ap (λ (u : Unread). u.is_ended) c.in-Ok.ensures in cc);
+      ready = λ t. c.requires.ready t;
+      config = λ t. config_none old (g.H.Device.sound c.args.host.now t);
+      bytes = λ t. subst (λ (u : Unread). u.bytes + length (rest_of u old.world) ≡ length old.world.input) (sym c.in-Ok.ensures) (omega arith);
+      place = λ t. subst (λ (u : Unread). rest_of u old.world ≡ after_lines u.lines old.world.input) (sym c.in-Ok.ensures) refl;
+      goes = λ t wanted last number can.
+          subst (λ (u : Unread). GoesOn {T = Unit {0}} wanted last number old old (script_of old.world.input) (script_of (rest_of u old.world)) first first (Ok tt)) (sym c.in-Ok.ensures)
+          (idle_goes wanted last number (LINES_MAX + 2048) old old first (script_of old.world.input) can (g.H.Device.sound c.args.host.now t) (idle_none old (g.H.Device.sound c.args.host.now t)));
     }
 
-pub returns-in_err-answer_batch-clause-moments : goal.returns-in_err-answer_batch-clause-moments
-returns-in_err-answer_batch-clause-moments g c t wanted last number start same can =
-    let old = g.H.Device.history c.args.host.now in
-    let before = g.H.Device.history c.batches.host in
-    let new = g.H.Device.history c.answer_batch.new.host in
-    let first = c.args.self.now in
-    let so_far = c.batches.invariant in
-    let room = room_left last number first c.batches.self (omega (arith, so_far.counted, so_far.few)) can.within so_far.numbers in
-    let stands = so_far.stands t wanted last number can in
-    let turned = then_moments wanted last number start first.engine.map.shape first.engine.map.pairs old before new c.batches.self.engine.order c.answer_batch.ensures.keeps.more c.answer_batch.new.self.engine.order c.answer_batch.ensures.keeps.order
-    (so_far.moments t wanted last number start same can) (c.answer_batch.ensures.moments t wanted last number start first.engine.map.shape first.engine.map.pairs (so_far.progress t start same) stands room) in
-    turned
-
-pub returns-in-Over-clause-moments : goal.returns-in-Over-clause-moments
-returns-in-Over-clause-moments g c t wanted last number start same can =
-    let old = g.H.Device.history c.args.host.now in
-    let before = g.H.Device.history c.batches.host in
-    let new = g.H.Device.history c.answer_batch.new.host in
-    let first = c.args.self.now in
-    let so_far = c.batches.invariant in
-    let room = room_left last number first c.batches.self (omega (arith, so_far.counted, so_far.few)) can.within so_far.numbers in
-    let stands = so_far.stands t wanted last number can in
-    let turned = then_moments wanted last number start first.engine.map.shape first.engine.map.pairs old before new c.batches.self.engine.order c.answer_batch.ensures.keeps.more c.answer_batch.new.self.engine.order c.answer_batch.ensures.keeps.order
-    (so_far.moments t wanted last number start same can) (c.answer_batch.ensures.moments t wanted last number start first.engine.map.shape first.engine.map.pairs (so_far.progress t start same) stands room) in
-    turned
-
-pub returns-in-Over-clause-stop : goal.returns-in-Over-clause-stop
-returns-in-Over-clause-stop g c t start same =
-    let old = g.H.Device.history c.args.host.now in
-    let before = g.H.Device.history c.batches.host in
-    let new = g.H.Device.history c.answer_batch.new.host in
-    let first = c.args.self.now in
-    let so_far = c.batches.invariant in
-    over_stopped c.in_ok-answer_batch.field-0 (c.in_ok-answer_batch.ensures.answered t) old.world.input c.in-Over.is so_far.counted (so_far.place t) (so_far.bytes t) (so_far.limit t) c.in_ok-answer_batch.ensures.counted.few
-    start first.engine.map.shape first.engine.map.pairs (sym same.input) (so_far.progress t start same)
+pub answer_batch-next-requires-clause-serving : goal.answer_batch-next-requires-clause-serving
+answer_batch-next-requires-clause-serving g c _ _ =
+    serving_still c.args.config.now c.args.self.engine c.batches.run.engine c.requires.serving c.batches.invariant.keeps c.batches.invariant.is_open
 
 pub batches-preserved : goal.batches-preserved
 batches-preserved g c =
     let old = g.H.Device.history c.args.host.now in
     let before = g.H.Device.history c.batches.host in
-    let new = g.H.Device.history c.answer_batch.new.host in
-    let first = c.args.self.now in
+    let batch = c.answer_batch-next in
+    let new = g.H.Device.history batch.new.host in
+    let first = c.args.self in
+    let now = batch.result.0 in
     let so_far = c.batches.invariant in
-    let lines = c.in_ok-answer_batch.ensures.counted.same c.in-More.is in
-    let counted : c.answer_batch.new.self.lines ≡ c.batches.self.lines + c.in_ok-answer_batch.ensures.counted.more = c.in_ok-answer_batch.ensures.counted.lines in
+    let result = c.in-Ok-More.is ∙ ap Ok (rw c.in-Ok-More.is at c.in-Ok-More.field-0-is) in
+    let counts : CountsBatch then_comes.More batch.new.input c.batches.run now = subst (λ r. IfOk r (λ continuation. CountsBatch continuation batch.new.input c.batches.run now)) result batch.ensures.counted in
+    let open_after : (t : g.H.Device.tells) → IsOpenAfter before new now.engine batch.new.input (Ok then_comes.More) = λ t. subst (λ r. IsOpenAfter before new now.engine batch.new.input r) result (batch.ensures.open t) in
+    let answered : (t : g.H.Device.tells) → BatchIsAnswered then_comes.More c.batches.input batch.new.input (rest_of c.batches.input before.world) (rest_of batch.new.input new.world) before new c.batches.run now = λ t.
+    subst (λ r. IfOk r (λ continuation. BatchIsAnswered continuation c.batches.input batch.new.input (rest_of c.batches.input before.world) (rest_of batch.new.input new.world) before new c.batches.run now)) result (batch.ensures.answered t) in
     record {
-      counted = lines;
-      few = omega (arith, lines, c.in_ok-answer_batch.ensures.counted.few);
-      state = plain_later _ _ _ c.answer_batch.result so_far.state c.answer_batch.ensures.cause;
-      input_end = λ t. (c.in_ok-answer_batch.ensures.open t).input_end;
-      limit = λ t. more_limit c.in_ok-answer_batch.field-0 (c.in_ok-answer_batch.ensures.answered t) old.world.input c.in-More.is (so_far.limit t);
-      end = λ t. (c.in_ok-answer_batch.ensures.open t).end;
-      room = c.in_ok-answer_batch.ensures.counted.room;
-      is_open = c.in_ok-answer_batch.ensures.counted.is_open;
-      config = λ t. config_then old before new (g.H.Device.sound c.batches.host t) (so_far.config t) (c.answer_batch.ensures.open t).config;
-      numbers = subst (λ (n : ℕ). TakesFor n first.engine c.answer_batch.new.self.engine) (sym counted)
-          (takes_both c.batches.self.lines c.in_ok-answer_batch.ensures.counted.more first.engine c.batches.self.engine c.answer_batch.new.self.engine so_far.numbers c.in_ok-answer_batch.ensures.counted.numbers);
-      bytes = λ t. more_bytes c.in_ok-answer_batch.field-0 (c.in_ok-answer_batch.ensures.answered t) old.world.input c.in-More.is (so_far.bytes t);
-      place = λ t. more_place c.in_ok-answer_batch.field-0 (c.in_ok-answer_batch.ensures.answered t) old.world.input c.in-More.is so_far.counted lines (so_far.place t);
-      progress = λ t start same. more_progress c.in_ok-answer_batch.field-0 (c.in_ok-answer_batch.ensures.answered t) old.world.input c.in-More.is start first.engine.map.shape first.engine.map.pairs (so_far.progress t start same);
-      stands = λ t wanted last number can.
-          let room = room_left last number first c.batches.self (omega (arith, so_far.counted, so_far.few)) can.within so_far.numbers in
-          let stands = so_far.stands t wanted last number can in
-          (c.in_ok-answer_batch.ensures.answered t).stands wanted last number stands room;
-      moments = λ t wanted last number start same can.
-          let room = room_left last number first c.batches.self (omega (arith, so_far.counted, so_far.few)) can.within so_far.numbers in
-          let stands = so_far.stands t wanted last number can in
-          then_moments wanted last number start first.engine.map.shape first.engine.map.pairs old before new c.batches.self.engine.order c.answer_batch.ensures.keeps.more c.answer_batch.new.self.engine.order c.answer_batch.ensures.keeps.order
-          (so_far.moments t wanted last number start same can) (c.answer_batch.ensures.moments t wanted last number start first.engine.map.shape first.engine.map.pairs (so_far.progress t start same) stands room);
+      counted = counts.same refl;
+      few = omega (arith, counts.same refl, counts.few);
+      state = frame_later _ _ _ batch.result.1 so_far.state batch.ensures.cause;
+      keeps = same_both first.engine c.batches.run.engine now.engine so_far.keeps batch.ensures.keeps;
+      is_open = counts.is_open;
+      numbers = subst (λ (n : ℕ). TakesFor n first.engine now.engine) (sym counts.lines)
+          (takes_both c.batches.run.lines counts.more first.engine c.batches.run.engine now.engine so_far.numbers counts.numbers);
+      limit = λ t. more_limit then_comes.More (answered t) old.world.input refl (so_far.limit t);
+      input_end = λ t. (open_after t).input_end;
+      ready = λ t. (open_after t).ready;
+      config = λ t. config_then old before new (g.H.Device.sound c.batches.host t) (so_far.config t) (open_after t).config;
+      bytes = λ t. more_bytes then_comes.More (answered t) old.world.input refl (so_far.bytes t);
+      place = λ t. more_place then_comes.More (answered t) old.world.input refl so_far.counted (counts.same refl) (so_far.place t);
+      goes = λ t wanted last number can.
+          let goes = so_far.goes t wanted last number can in
+          let may = may_next wanted last number old before (script_of old.world.input) (script_of (rest_of c.batches.input before.world)) first c.batches.run can goes (omega (arith, so_far.counted, so_far.few)) so_far.numbers in
+          goes_then wanted last number old before new (script_of old.world.input) (script_of (rest_of c.batches.input before.world)) (script_of (rest_of batch.new.input new.world)) first c.batches.run now (Ok tt) goes
+          (more_goes then_comes.More (answered t) old.world.input refl wanted last number may);
     }
 
-pub returns-in_err-force-in-End-clause-moments : goal.returns-in_err-force-in-End-clause-moments
-returns-in_err-force-in-End-clause-moments g c t wanted last number start same can =
+-- ---- a fault came in a batch
+
+pub returns-in-Err-clause-served : goal.returns-in-Err-clause-served
+returns-in-Err-clause-served g c t wanted last number start same can =
     let old = g.H.Device.history c.args.host.now in
     let before = g.H.Device.history c.batches.host in
-    let new = g.H.Device.history c.answer_batch.new.host in
-    let first = c.args.self.now in
+    let batch = c.answer_batch-next in
+    let new = g.H.Device.history batch.new.host in
+    let first = c.args.self in
+    let now = batch.result.0 in
     let so_far = c.batches.invariant in
-    let room = room_left last number first c.batches.self (omega (arith, so_far.counted, so_far.few)) can.within so_far.numbers in
-    let stands = so_far.stands t wanted last number can in
-    let turned = then_moments wanted last number start first.engine.map.shape first.engine.map.pairs old before new c.batches.self.engine.order c.answer_batch.ensures.keeps.more c.answer_batch.new.self.engine.order c.answer_batch.ensures.keeps.order
-    (so_far.moments t wanted last number start same can) (c.answer_batch.ensures.moments t wanted last number start first.engine.map.shape first.engine.map.pairs (so_far.progress t start same) stands room) in
-    let end = g.H.Device.history c.force.new.host in
-    let answered = c.in_ok-answer_batch.ensures.answered t in
-    let progress = end_progress c.in_ok-answer_batch.field-0 answered old.world.input c.in-End.is start first.engine.map.shape first.engine.map.pairs (so_far.progress t start same) in
-    let numbers = takes_both c.batches.self.lines c.in_ok-answer_batch.ensures.counted.more first.engine c.batches.self.engine c.answer_batch.new.self.engine so_far.numbers c.in_ok-answer_batch.ensures.counted.numbers in
-    let counted : c.answer_batch.new.self.lines ≡ c.batches.self.lines + c.in_ok-answer_batch.ensures.counted.more = c.in_ok-answer_batch.ensures.counted.lines in
-    let left = room_left last number first c.answer_batch.new.self c.in_ok-answer_batch.ensures.counted.few can.within (subst (λ (n : ℕ). TakesFor n first.engine c.answer_batch.new.self.engine) (sym counted) numbers) in
-    let rest = answered.stands wanted last number stands room in
-    let crash = c.force.ensures.crash t wanted says_nothing rest.from c.answer_batch.new.self.engine.map.pairs [] rest.has.state rest.has.has in
-    let closing = closing_moments wanted last number new end progress (force_keeps wanted last number 2048 c.answer_batch.new.self.engine new end left crash) (c.force.ensures.disk t) in
-    let order : c.force.new.self.order ≡ c.answer_batch.new.self.engine.order = (keeps_closed c.answer_batch.new.self.engine c.force.new.self c.in_err-force-in-End.ensures.closed).order in
-    then_moments wanted last number start first.engine.map.shape first.engine.map.pairs old new end c.answer_batch.new.self.engine.order [] c.force.new.self.order (order ∙ sym (append-nil c.answer_batch.new.self.engine.order)) turned
-    (subst (λ o. AllMoments new end (CrashHoldsAcknowledged wanted last number start first.engine.map.shape first.engine.map.pairs o)) (sym order) closing)
+    let script = script_of old.world.input in
+    let rest = script_of (rest_of c.batches.input before.world) in
+    let goes = so_far.goes t wanted last number can in
+    let may = may_next wanted last number old before script rest first c.batches.run can goes (omega (arith, so_far.counted, so_far.few)) so_far.numbers in
+    let stops : StopsAtFault before new rest c.batches.run now c.in-Err.fault = subst (λ r. IfErr r (StopsAtFault before new rest c.batches.run now)) c.in-Err.is (batch.ensures.stops t) in
+    served_fault wanted last number start first.engine.store.shape (map_in first.engine old.world) old new script first now (begins_here start old.world first same c.requires.lines c.requires.order) [] c.in-Err.fault
+    (goes_then wanted last number old before new script rest [] first c.batches.run now (Err c.in-Err.fault) goes (stops wanted last number may))
 
-pub returns-in-End-clause-moments : goal.returns-in-End-clause-moments
-returns-in-End-clause-moments g c t wanted last number start same can =
+pub returns-in-Err-clause-config : goal.returns-in-Err-clause-config
+returns-in-Err-clause-config g c t =
     let old = g.H.Device.history c.args.host.now in
     let before = g.H.Device.history c.batches.host in
-    let new = g.H.Device.history c.answer_batch.new.host in
-    let first = c.args.self.now in
-    let so_far = c.batches.invariant in
-    let room = room_left last number first c.batches.self (omega (arith, so_far.counted, so_far.few)) can.within so_far.numbers in
-    let stands = so_far.stands t wanted last number can in
-    let turned = then_moments wanted last number start first.engine.map.shape first.engine.map.pairs old before new c.batches.self.engine.order c.answer_batch.ensures.keeps.more c.answer_batch.new.self.engine.order c.answer_batch.ensures.keeps.order
-    (so_far.moments t wanted last number start same can) (c.answer_batch.ensures.moments t wanted last number start first.engine.map.shape first.engine.map.pairs (so_far.progress t start same) stands room) in
-    let end = g.H.Device.history c.force.new.host in
-    let answered = c.in_ok-answer_batch.ensures.answered t in
-    let progress = end_progress c.in_ok-answer_batch.field-0 answered old.world.input c.in-End.is start first.engine.map.shape first.engine.map.pairs (so_far.progress t start same) in
-    let numbers = takes_both c.batches.self.lines c.in_ok-answer_batch.ensures.counted.more first.engine c.batches.self.engine c.answer_batch.new.self.engine so_far.numbers c.in_ok-answer_batch.ensures.counted.numbers in
-    let counted : c.answer_batch.new.self.lines ≡ c.batches.self.lines + c.in_ok-answer_batch.ensures.counted.more = c.in_ok-answer_batch.ensures.counted.lines in
-    let left = room_left last number first c.answer_batch.new.self c.in_ok-answer_batch.ensures.counted.few can.within (subst (λ (n : ℕ). TakesFor n first.engine c.answer_batch.new.self.engine) (sym counted) numbers) in
-    let rest = answered.stands wanted last number stands room in
-    let crash = c.force.ensures.crash t wanted says_nothing rest.from c.answer_batch.new.self.engine.map.pairs [] rest.has.state rest.has.has in
-    let closing = closing_moments wanted last number new end progress (force_keeps wanted last number 2048 c.answer_batch.new.self.engine new end left crash) (c.force.ensures.disk t) in
-    let order : c.force.new.self.order ≡ c.answer_batch.new.self.engine.order = (keeps_same c.answer_batch.new.self.engine c.force.new.self c.in_ok-force-in-End.ensures.same).order in
-    then_moments wanted last number start first.engine.map.shape first.engine.map.pairs old new end c.answer_batch.new.self.engine.order [] c.force.new.self.order (order ∙ sym (append-nil c.answer_batch.new.self.engine.order)) turned
-    (subst (λ o. AllMoments new end (CrashHoldsAcknowledged wanted last number start first.engine.map.shape first.engine.map.pairs o)) (sym order) closing)
+    let new = g.H.Device.history c.answer_batch-next.new.host in
+    config_then old before new (g.H.Device.sound c.batches.host t) (c.batches.invariant.config t) (c.answer_batch-next.ensures.open t).config
 
-pub returns-in-End-clause-stop : goal.returns-in-End-clause-stop
-returns-in-End-clause-stop g c t start same =
+-- ---- a limit
+
+pub returns-in-Ok-Over-clause-served : goal.returns-in-Ok-Over-clause-served
+returns-in-Ok-Over-clause-served g c t wanted last number start same can =
     let old = g.H.Device.history c.args.host.now in
     let before = g.H.Device.history c.batches.host in
-    let new = g.H.Device.history c.answer_batch.new.host in
-    let first = c.args.self.now in
+    let batch = c.answer_batch-next in
+    let new = g.H.Device.history batch.new.host in
+    let first = c.args.self in
+    let now = batch.result.0 in
     let so_far = c.batches.invariant in
-    let end = g.H.Device.history c.force.new.host in
-    let answered = c.in_ok-answer_batch.ensures.answered t in
-    let progress = end_progress c.in_ok-answer_batch.field-0 answered old.world.input c.in-End.is start first.engine.map.shape first.engine.map.pairs (so_far.progress t start same) in
-    let only = at_last new end (ChangesDisk new.world) (g.H.Device.sound c.force.new.host t) (c.force.ensures.disk t) in
-    let keeps = keeps_same c.answer_batch.new.self.engine c.force.new.self c.in_ok-force-in-End.ensures.same in
-    let later : Run = record c.answer_batch.new.self { engine = c.force.new.self } in
-    let after = closed progress later end.world refl keeps only.said in
-    let none = end_none c.in_ok-answer_batch.field-0 answered old.world.input c.in-End.is in
-    finished after end.world refl refl (only.input ∙ append_right c.answer_batch.new.input.pending new.world.input none)
-    (omega (arith, end_limit c.in_ok-answer_batch.field-0 answered old.world.input c.in-End.is (so_far.limit t) (so_far.bytes t), ap (λ (l : List ℕ). length l) same.input)) c.in_ok-answer_batch.ensures.counted.few
+    let script = script_of old.world.input in
+    let rest = script_of (rest_of c.batches.input before.world) in
+    let goes = so_far.goes t wanted last number can in
+    let may = may_next wanted last number old before script rest first c.batches.run can goes (omega (arith, so_far.counted, so_far.few)) so_far.numbers in
+    let result = c.in-Ok-Over.is ∙ ap Ok (rw c.in-Ok-Over.is at c.in-Ok-Over.field-0-is) in
+    let counts : CountsBatch then_comes.Over batch.new.input c.batches.run now = subst (λ r. IfOk r (λ continuation. CountsBatch continuation batch.new.input c.batches.run now)) result batch.ensures.counted in
+    let answered : BatchIsAnswered then_comes.Over c.batches.input batch.new.input (rest_of c.batches.input before.world) (rest_of batch.new.input new.world) before new c.batches.run now =
+    subst (λ r. IfOk r (λ continuation. BatchIsAnswered continuation c.batches.input batch.new.input (rest_of c.batches.input before.world) (rest_of batch.new.input new.world) before new c.batches.run now)) result (batch.ensures.answered t) in
+    let shape = first.engine.store.shape in
+    let pairs = map_in first.engine old.world in
+    served_limit wanted last number start shape pairs old new script first now (begins_here start old.world first same c.requires.lines c.requires.order) (script_of answered.left)
+    (goes_then wanted last number old before new script rest (script_of answered.left) first c.batches.run now (Ok tt) goes (answered.goes wanted last number may))
+    (λ reached. over_stopped then_comes.Over answered old.world.input refl so_far.counted (so_far.place t) (so_far.bytes t) (so_far.limit t) counts.few start shape pairs (sym same.input) reached)
 
-pub returns-in-End-clause-leaves : goal.returns-in-End-clause-leaves
-returns-in-End-clause-leaves g c t wanted last number start same can =
+pub returns-in-Ok-Over-clause-config : goal.returns-in-Ok-Over-clause-config
+returns-in-Ok-Over-clause-config g c t =
     let old = g.H.Device.history c.args.host.now in
     let before = g.H.Device.history c.batches.host in
-    let new = g.H.Device.history c.answer_batch.new.host in
-    let first = c.args.self.now in
-    let so_far = c.batches.invariant in
-    let room = room_left last number first c.batches.self (omega (arith, so_far.counted, so_far.few)) can.within so_far.numbers in
-    let stands = so_far.stands t wanted last number can in
-    let end = g.H.Device.history c.force.new.host in
-    let answered = c.in_ok-answer_batch.ensures.answered t in
-    let progress = end_progress c.in_ok-answer_batch.field-0 answered old.world.input c.in-End.is start first.engine.map.shape first.engine.map.pairs (so_far.progress t start same) in
-    let only = at_last new end (ChangesDisk new.world) (g.H.Device.sound c.force.new.host t) (c.force.ensures.disk t) in
-    let keeps = keeps_same c.answer_batch.new.self.engine c.force.new.self c.in_ok-force-in-End.ensures.same in
-    let later : Run = record c.answer_batch.new.self { engine = c.force.new.self } in
-    let after = closed progress later end.world refl keeps only.said in
-    let numbers = takes_both c.batches.self.lines c.in_ok-answer_batch.ensures.counted.more first.engine c.batches.self.engine c.answer_batch.new.self.engine so_far.numbers c.in_ok-answer_batch.ensures.counted.numbers in
-    let counted : c.answer_batch.new.self.lines ≡ c.batches.self.lines + c.in_ok-answer_batch.ensures.counted.more = c.in_ok-answer_batch.ensures.counted.lines in
-    let left = room_left last number first c.answer_batch.new.self c.in_ok-answer_batch.ensures.counted.few can.within (subst (λ (n : ℕ). TakesFor n first.engine c.answer_batch.new.self.engine) (sym counted) numbers) in
-    let rest = answered.stands wanted last number stands room in
-    let lasts = c.in_ok-force-in-End.ensures.lasts t wanted says_nothing rest.has.state rest.has.has.runs in
-    let same_engine : c.force.new.self ≡ c.answer_batch.new.self.engine = c.in_ok-force-in-End.ensures.same in
-    let map : map_of (store_of c.force.new.self) ≡ c.force.new.self.map.pairs =
-    ap (λ (e : PagedRunning). map_of (store_of e)) same_engine ∙ rest.has.has.map ∙ sym (ap (λ (e : PagedRunning). e.map.pairs) same_engine) in
-    λ _. leaves_store wanted last number 2048 later end.world after (subst (StaysWithin last number 2048) (sym same_engine) left) (rest_of_last wanted c.force.new.self end.world map lasts) lasts
+    let new = g.H.Device.history c.answer_batch-next.new.host in
+    config_then old before new (g.H.Device.sound c.batches.host t) (c.batches.invariant.config t) (c.answer_batch-next.ensures.open t).config
 
-pub returns-in_err-force-in-End-clause-fault : goal.returns-in_err-force-in-End-clause-fault
-returns-in_err-force-in-End-clause-fault g c t start same =
+-- ---- the script's end
+
+pub returns-in-Ok-forced-clause-served : goal.returns-in-Ok-forced-clause-served
+returns-in-Ok-forced-clause-served g c t wanted last number start same can =
     let old = g.H.Device.history c.args.host.now in
     let before = g.H.Device.history c.batches.host in
-    let new = g.H.Device.history c.answer_batch.new.host in
-    let first = c.args.self.now in
+    let batch = c.answer_batch-next in
+    let mid = g.H.Device.history batch.new.host in
+    let new = g.H.Device.history c.force-forced.new.host in
+    let first = c.args.self in
+    let run = batch.result.0 in
+    let later : Run = record run { engine = c.force-forced.new.self } in
     let so_far = c.batches.invariant in
-    let end = g.H.Device.history c.force.new.host in
-    let answered = c.in_ok-answer_batch.ensures.answered t in
-    let progress = end_progress c.in_ok-answer_batch.field-0 answered old.world.input c.in-End.is start first.engine.map.shape first.engine.map.pairs (so_far.progress t start same) in
-    let only = at_last new end (ChangesDisk new.world) (g.H.Device.sound c.force.new.host t) (c.force.ensures.disk t) in
-    let keeps = keeps_closed c.answer_batch.new.self.engine c.force.new.self c.in_err-force-in-End.ensures.closed in
-    let later : Run = record c.answer_batch.new.self { engine = c.force.new.self } in
-    let after = closed progress later end.world refl keeps only.said in
-    record { failed = λ _. failed_still after end.world refl; memory = λ _. memory_still after end.world refl }
+    let script = script_of old.world.input in
+    let rest = script_of (rest_of c.batches.input before.world) in
+    let goes = so_far.goes t wanted last number can in
+    let may = may_next wanted last number old before script rest first c.batches.run can goes (omega (arith, so_far.counted, so_far.few)) so_far.numbers in
+    let result = c.in-Ok-End.is ∙ ap Ok (rw c.in-Ok-End.is at c.in-Ok-End.field-0-is) in
+    let counts : CountsBatch then_comes.End batch.new.input c.batches.run run = subst (λ r. IfOk r (λ continuation. CountsBatch continuation batch.new.input c.batches.run run)) result batch.ensures.counted in
+    let answered : BatchIsAnswered then_comes.End c.batches.input batch.new.input (rest_of c.batches.input before.world) (rest_of batch.new.input mid.world) before mid c.batches.run run =
+    subst (λ r. IfOk r (λ continuation. BatchIsAnswered continuation c.batches.input batch.new.input (rest_of c.batches.input before.world) (rest_of batch.new.input mid.world) before mid c.batches.run run)) result (batch.ensures.answered t) in
+    let reached = goes_then wanted last number old before mid script rest [] first c.batches.run run (Ok tt) goes (end_goes then_comes.End answered old.world.input refl wanted last number may) in
+    let takes : TakesFor run.lines first.engine run.engine = subst (λ (n : ℕ). TakesFor n first.engine run.engine) (sym counts.lines) (takes_both c.batches.run.lines counts.more first.engine c.batches.run.engine run.engine so_far.numbers counts.numbers) in
+    let room = may_next wanted last number old mid script [] first run can reached counts.few takes in
+    let map_mid = map_in run.engine mid.world in
+    let ok = c.in-Ok-forced.ensures in
+    let disk = c.force-forced.ensures.disk t in
+    let crash = c.force-forced.ensures.crash t wanted says_nothing room.stands.from map_mid [] room.stands.has in
+    let sound = g.H.Device.sound c.force-forced.new.host t in
+    let lasts = ok.rests t wanted says_nothing room.stands.from map_mid [] room.stands.has in
+    let map = force_map run.engine c.force-forced.new.self mid.world new.world ok.same (ok.pages t) in
+    let shape = first.engine.store.shape in
+    let pairs = map_in first.engine old.world in
+    let only = at_last mid new (ChangesDisk mid.world) sound disk in
+    let none = end_none then_comes.End answered old.world.input refl in
+    served_done wanted last number start shape pairs old new script first later (begins_here start old.world first same c.requires.lines c.requires.order) []
+    (goes_then wanted last number old mid new script [] [] first run later (Ok tt) reached (force_goes wanted last number 2048 mid new run later [] room sound refl disk crash ok.same map lasts))
+    refl (only.input ∙ append_right batch.new.input.pending mid.world.input none)
+    (omega (arith, end_limit then_comes.End answered old.world.input refl (so_far.limit t) (so_far.bytes t), ap (λ (l : List ℕ). length l) same.input)) counts.few
+    (λ at_end. force_leaves wanted last number 2048 mid new run later [] room sound refl disk crash ok.same map lasts refl start shape pairs at_end)
 
-pub returns-in_err-answer_batch-clause-fault : goal.returns-in_err-answer_batch-clause-fault
-returns-in_err-answer_batch-clause-fault g c t start same =
-    let first = c.args.self.now in
-    let fault = c.answer_batch.ensures.fault t start first.engine.map.shape first.engine.map.pairs (c.batches.invariant.progress t start same) in
-    record {
-      failed = λ is. (let its : IsErrOf c.answer_batch.result Failed = search rules in fault.failed its);
-      memory = λ is. (let its : IsErrOf c.answer_batch.result Memory = search rules in fault.memory its);
-    }
-
-pub returns-in-Over-clause-fault : goal.returns-in-Over-clause-fault
-returns-in-Over-clause-fault g c t start same =
-    record { failed = search rules; memory = search rules }
-
-pub returns-in-End-clause-fault : goal.returns-in-End-clause-fault
-returns-in-End-clause-fault g c t start same =
-    record { failed = search rules; memory = search rules }
-
-pub returns-in_err-answer_batch-clause-config : goal.returns-in_err-answer_batch-clause-config
-returns-in_err-answer_batch-clause-config g c t =
+pub returns-in-Err-forced-clause-served : goal.returns-in-Err-forced-clause-served
+returns-in-Err-forced-clause-served g c t wanted last number start same can =
     let old = g.H.Device.history c.args.host.now in
     let before = g.H.Device.history c.batches.host in
-    let new = g.H.Device.history c.answer_batch.new.host in
-    let first = c.args.self.now in
+    let batch = c.answer_batch-next in
+    let mid = g.H.Device.history batch.new.host in
+    let new = g.H.Device.history c.force-forced.new.host in
+    let first = c.args.self in
+    let run = batch.result.0 in
+    let later : Run = record run { engine = c.force-forced.new.self } in
     let so_far = c.batches.invariant in
-    let answered_config = config_then old before new (g.H.Device.sound c.batches.host t) (so_far.config t) (c.answer_batch.ensures.open t).config in
-    answered_config
+    let script = script_of old.world.input in
+    let rest = script_of (rest_of c.batches.input before.world) in
+    let goes = so_far.goes t wanted last number can in
+    let may = may_next wanted last number old before script rest first c.batches.run can goes (omega (arith, so_far.counted, so_far.few)) so_far.numbers in
+    let result = c.in-Ok-End.is ∙ ap Ok (rw c.in-Ok-End.is at c.in-Ok-End.field-0-is) in
+    let counts : CountsBatch then_comes.End batch.new.input c.batches.run run = subst (λ r. IfOk r (λ continuation. CountsBatch continuation batch.new.input c.batches.run run)) result batch.ensures.counted in
+    let answered : BatchIsAnswered then_comes.End c.batches.input batch.new.input (rest_of c.batches.input before.world) (rest_of batch.new.input mid.world) before mid c.batches.run run =
+    subst (λ r. IfOk r (λ continuation. BatchIsAnswered continuation c.batches.input batch.new.input (rest_of c.batches.input before.world) (rest_of batch.new.input mid.world) before mid c.batches.run run)) result (batch.ensures.answered t) in
+    let reached = goes_then wanted last number old before mid script rest [] first c.batches.run run (Ok tt) goes (end_goes then_comes.End answered old.world.input refl wanted last number may) in
+    let takes : TakesFor run.lines first.engine run.engine = subst (λ (n : ℕ). TakesFor n first.engine run.engine) (sym counts.lines) (takes_both c.batches.run.lines counts.more first.engine c.batches.run.engine run.engine so_far.numbers counts.numbers) in
+    let room = may_next wanted last number old mid script [] first run can reached counts.few takes in
+    let crash = c.force-forced.ensures.crash t wanted says_nothing room.stands.from (map_in run.engine mid.world) [] room.stands.has in
+    let stops = force_stops wanted last number 2048 mid new run later [] room (g.H.Device.sound c.force-forced.new.host t) refl (c.force-forced.ensures.disk t) crash c.in-Err-forced.ensures.closed in
+    served_fault wanted last number start first.engine.store.shape (map_in first.engine old.world) old new script first later (begins_here start old.world first same c.requires.lines c.requires.order) [] Failed
+    (goes_then wanted last number old mid new script [] [] first run later (Err Failed) reached stops)
 
-pub returns-in-Over-clause-config : goal.returns-in-Over-clause-config
-returns-in-Over-clause-config g c t =
+pub returns-in-Ok-forced-clause-config : goal.returns-in-Ok-forced-clause-config
+returns-in-Ok-forced-clause-config g c t =
     let old = g.H.Device.history c.args.host.now in
     let before = g.H.Device.history c.batches.host in
-    let new = g.H.Device.history c.answer_batch.new.host in
-    let first = c.args.self.now in
-    let so_far = c.batches.invariant in
-    let answered_config = config_then old before new (g.H.Device.sound c.batches.host t) (so_far.config t) (c.answer_batch.ensures.open t).config in
-    answered_config
+    let mid = g.H.Device.history c.answer_batch-next.new.host in
+    let new = g.H.Device.history c.force-forced.new.host in
+    let so_far = config_then old before mid (g.H.Device.sound c.batches.host t) (c.batches.invariant.config t) (c.answer_batch-next.ensures.open t).config in
+    config_then old mid new (g.H.Device.sound c.answer_batch-next.new.host t) so_far (config_disk mid new (c.force-forced.ensures.disk t))
 
-pub returns-in_err-force-in-End-clause-config : goal.returns-in_err-force-in-End-clause-config
-returns-in_err-force-in-End-clause-config g c t =
+pub returns-in-Err-forced-clause-config : goal.returns-in-Err-forced-clause-config
+returns-in-Err-forced-clause-config g c t =
     let old = g.H.Device.history c.args.host.now in
     let before = g.H.Device.history c.batches.host in
-    let new = g.H.Device.history c.answer_batch.new.host in
-    let first = c.args.self.now in
-    let so_far = c.batches.invariant in
-    let answered_config = config_then old before new (g.H.Device.sound c.batches.host t) (so_far.config t) (c.answer_batch.ensures.open t).config in
-    let end = g.H.Device.history c.force.new.host in
-    config_then old new end (g.H.Device.sound c.answer_batch.new.host t) answered_config (config_disk new end (c.force.ensures.disk t))
-
-pub returns-in-End-clause-config : goal.returns-in-End-clause-config
-returns-in-End-clause-config g c t =
-    let old = g.H.Device.history c.args.host.now in
-    let before = g.H.Device.history c.batches.host in
-    let new = g.H.Device.history c.answer_batch.new.host in
-    let first = c.args.self.now in
-    let so_far = c.batches.invariant in
-    let answered_config = config_then old before new (g.H.Device.sound c.batches.host t) (so_far.config t) (c.answer_batch.ensures.open t).config in
-    let end = g.H.Device.history c.force.new.host in
-    config_then old new end (g.H.Device.sound c.answer_batch.new.host t) answered_config (config_disk new end (c.force.ensures.disk t))
+    let mid = g.H.Device.history c.answer_batch-next.new.host in
+    let new = g.H.Device.history c.force-forced.new.host in
+    let so_far = config_then old before mid (g.H.Device.sound c.batches.host t) (c.batches.invariant.config t) (c.answer_batch-next.ensures.open t).config in
+    config_then old mid new (g.H.Device.sound c.answer_batch-next.new.host t) so_far (config_disk mid new (c.force-forced.ensures.disk t))

@@ -1,0 +1,149 @@
+-- What became of a logical record whose command was applied again.
+use Rattle.std.proofs.Common.{◌≡◌, ℕ, Bool, true, false, List, [], ◌∷◌, Option, Some, None, Result, Ok, Err, refl, sym, ap, ◌∙◌, subst}
+use Rattle.std.specs.Prelude.{◌==◌, IfOk, OnOk, IsErrOf}
+use Rattle.std.proofs.lemmas.Bool.{eqb-true}
+use Rattle.pm_types.specs.declared.fault.PageFault.{PageFault}
+use Rattle.pm_types.specs.declared.fault.PageFault.TheVariants as page
+use Rattle.pm_types.specs.declared.fault.StoreFault.{StoreFault}
+use Rattle.pm_types.specs.declared.fault.StoreFault.TheVariants as store
+use Rattle.pm_types.specs.declared.page_id.PageId.{PageId}
+use Rattle.pm_types.specs.declared.place.Place.{Place}
+use Rattle.pm_types.specs.declared.shape.Shape.{Shape}
+use Rattle.pm_disk.specs.Worlds.{World}
+use Rattle.pm_model.specs.declared.line.Cmd.{Cmd}
+use Rattle.pm_model.specs.declared.line.Line.TheVariants.{Good}
+use Rattle.pm_model.specs.Eval.{Pairs, after}
+use Rattle.pm_model.specs.ReplyLists.{ReplyList}
+use Rattle.pm_records.specs.Records.{Logical}
+use Rattle.pm_records.specs.declared.limits.TheConstants.{PUT}
+use Rattle.pm_stripe.specs.declared.halt.Halt.{Halt}
+use Rattle.pm_core.specs.BasePages.{Partitions}
+use Rattle.pm_core.specs.Held.{AllWellFormed, pairs_in}
+use Rattle.pm_engine.specs.declared.frame_lines.Stop.{Stop}
+use Rattle.pm_engine.specs.declared.frame_lines.Stop.TheVariants.{Halted, Faulted}
+use Rattle.pm_engine.specs.FrameEngineReplays.{EvaluatesAgain, AppliesAs, applied_as, is_done}
+use Rattle.pm_engine.specs.FrameEngines.{FrameRunning, map_in}
+use Rattle.pm_engine.specs.FrameLines.{EvaluatesLine}
+use Rattle.pm_engine.specs.FrameReplays.{may_apply_more}
+use Rattle.pm_engine.specs.FrameStores.{pages_in_frames}
+use Rattle.pm_engine.specs.PagedReplays.{Replays, line_in}
+use Rattle.pm_engine.proofs.PagedReplays.{put_applies, remove_applies}
+
+abbrev answered : Bool → Result Bool Stop
+answered accepted = Ok accepted
+
+abbrev stopped : Stop → Result Bool Stop
+stopped stop = Err stop
+
+not_taken : (accepted : Bool) → accepted ≡ false → answered accepted ≡ answered true → ⊥
+not_taken accepted off is = cc
+
+no_halt : (halt : Halt) → stopped (Halted halt) ≡ answered true → ⊥
+no_halt halt is = cc
+
+module _ (tells : Type 0) (cmd : Cmd) (before now : FrameRunning) (old new : World) (was replies : ReplyList) (answer : Result Bool Stop) (x : EvaluatesAgain tells cmd before now old new was replies answer) (is_put : Bool) where
+  pub applied_open : OnOk (applied_as is_put answer) (now.store.is_open ≡ true)
+  applied_open = by is_put answer x.is_open
+    where
+      by : (put : Bool) (r : Result Bool Stop) → now.store.is_open ≡ may_apply_more r → OnOk (applied_as put r) (now.store.is_open ≡ true)
+      by put (Ok true) is = is
+      by true (Ok false) is = is
+      by false (Ok false) is = is
+      by put (Err (Halted halt)) is = is
+      by put (Err (Faulted fault)) is = tt
+
+  module _ (same : now.store.shape ≡ before.store.shape) (op cache : ℕ) (key value : List ℕ) (put_is : is_put ≡ (op == PUT)) (line : Good cmd ≡ line_in op cache key value) where
+    abbrev shape : Shape
+    shape = before.store.shape
+
+    abbrev map_now : Pairs
+    map_now = map_in now new
+
+    abbrev map_before : Pairs
+    map_before = map_in before old
+
+    map_is : (pages : Pairs) → pairs_in shape.partitions (pages_in_frames now.store new) ≡ pages → map_now ≡ pages
+    map_is pages is = ap (λ (s : Shape). pairs_in s.partitions (pages_in_frames now.store new)) same ∙ is
+
+    replays : (accepted : Bool) → EvaluatesLine shape (Good cmd) (pages_in_frames before.store old) (pages_in_frames now.store new) was replies accepted → (put : Bool) → put ≡ (op == PUT)
+        → IfOk (applied_as put (Ok accepted)) (λ a. AppliesAs a shape (Some (Logical op cache key value)) map_before map_now)
+    replays true e true is = put_applies true op cache key value shape map_before map_now (Good cmd) (eqb-true op PUT (sym is)) line e.accepted_is (map_is (after shape (Good cmd) map_before) e.map)
+    replays false e true is = put_applies false op cache key value shape map_before map_now (Good cmd) (eqb-true op PUT (sym is)) line e.accepted_is (map_is (after shape (Good cmd) map_before) e.map)
+    replays true e false is = remove_applies op cache key value shape map_before map_now (Good cmd) (sym is) line (map_is (after shape (Good cmd) map_before) e.map)
+    replays false e false is = remove_applies op cache key value shape map_before map_now (Good cmd) (sym is) line (map_is (after shape (Good cmd) map_before) e.map)
+
+    pub applied_applies : tells → AllWellFormed shape (pages_in_frames before.store old) → IfOk (applied_as is_put answer) (λ a. AppliesAs a shape (Some (Logical op cache key value)) map_before map_now)
+    applied_applies t well = by answer refl (x.evaluates t well)
+      where
+        by : (r : Result Bool Stop) → answer ≡ r → IfOk r (EvaluatesLine shape (Good cmd) (pages_in_frames before.store old) (pages_in_frames now.store new) was replies)
+            → IfOk (applied_as is_put answer) (λ a. AppliesAs a shape (Some (Logical op cache key value)) map_before map_now)
+        by (Ok accepted) is e = subst (λ (r : Result Bool Stop). IfOk (applied_as is_put r) (λ a. AppliesAs a shape (Some (Logical op cache key value)) map_before map_now)) (sym is) (replays accepted e is_put put_is)
+        by (Err (Halted halt)) is e = subst (λ (r : Result Bool Stop). IfOk (applied_as is_put r) (λ a. AppliesAs a shape (Some (Logical op cache key value)) map_before map_now)) (sym is)
+            (map_is map_before (ap (λ (p : Partitions). pairs_in shape.partitions p) (x.halted t halt is)))
+        by (Err (Faulted fault)) is e = subst (λ (r : Result Bool Stop). IfOk (applied_as is_put r) (λ a. AppliesAs a shape (Some (Logical op cache key value)) map_before map_now)) (sym is) tt
+
+  pub applied_well : tells → AllWellFormed before.store.shape (pages_in_frames before.store old) → OnOk (applied_as is_put answer) (AllWellFormed before.store.shape (pages_in_frames now.store new))
+  applied_well t well = by is_put answer (x.evaluates t well) (x.halted t)
+    where
+      by : (put : Bool) (r : Result Bool Stop) → IfOk r (EvaluatesLine before.store.shape (Good cmd) (pages_in_frames before.store old) (pages_in_frames now.store new) was replies)
+          → ((halt : Halt) → IsErrOf r (Halted halt) → pages_in_frames now.store new ≡ pages_in_frames before.store old) → OnOk (applied_as put r) (AllWellFormed before.store.shape (pages_in_frames now.store new))
+      by put (Ok true) e halts = e.well_formed
+      by true (Ok false) e halts = e.well_formed
+      by false (Ok false) e halts = e.well_formed
+      by put (Err (Halted halt)) e halts = subst (λ (p : Partitions). AllWellFormed before.store.shape p) (sym (halts halt refl)) well
+      by put (Err (Faulted fault)) e halts = tt
+
+  pub applied_refused : tells → IfOk (applied_as is_put answer) (λ a. is_done a ≡ false → new ≡ old)
+  applied_refused t = by is_put answer (x.refused t)
+    where
+      by : (put : Bool) (r : Result Bool Stop) → ((r ≡ Ok true → ⊥) → new ≡ old) → IfOk (applied_as put r) (λ a. is_done a ≡ false → new ≡ old)
+      by put (Ok true) same = λ off. absurd cc
+      by true (Ok false) same = λ off. same (not_taken false refl)
+      by false (Ok false) same = λ off. absurd cc
+      by put (Err (Halted halt)) same = λ off. same (no_halt halt)
+      by put (Err (Faulted fault)) same = tt
+
+  pub applied_unlogged : IfOk (applied_as is_put answer) (λ a. is_done a ≡ false → now.log ≡ before.log)
+  applied_unlogged = by is_put answer x.unlogged
+    where
+      by : (put : Bool) (r : Result Bool Stop) → ((r ≡ Ok true → ⊥) → now.log ≡ before.log) → IfOk (applied_as put r) (λ a. is_done a ≡ false → now.log ≡ before.log)
+      by put (Ok true) same = λ off. absurd cc
+      by true (Ok false) same = λ off. same (not_taken false refl)
+      by false (Ok false) same = λ off. absurd cc
+      by put (Err (Halted halt)) same = λ off. same (no_halt halt)
+      by put (Err (Faulted fault)) same = tt
+
+  pub applied_sound : tells → AllWellFormed before.store.shape (pages_in_frames before.store old) → (id : PageId) → IsErrOf (applied_as is_put answer) (store.BadPage id) → ⊥
+  applied_sound t well id = by is_put answer (x.sound t well id)
+    where
+      by : (put : Bool) (r : Result Bool Stop) → (IsErrOf r (Faulted (page.BadPage id)) → ⊥) → IsErrOf (applied_as put r) (store.BadPage id) → ⊥
+      by put (Ok true) none is = absurd cc
+      by true (Ok false) none is = absurd cc
+      by false (Ok false) none is = absurd cc
+      by put (Err (Halted halt)) none is = absurd cc
+      by put (Err (Faulted page.Failed)) none is = absurd cc
+      by put (Err (Faulted (page.BadPage other))) none is = none (let same : other ≡ id = cc is in ap (λ (p : PageId). Err (Faulted (page.BadPage p))) same)
+
+pub applied_no_record : (is_put : Bool) (answer : Result Bool Stop) (at : Place) → IsErrOf (applied_as is_put answer) (store.BadRecord at) → ⊥
+applied_no_record put (Ok true) at is = absurd cc
+applied_no_record true (Ok false) at is = absurd cc
+applied_no_record false (Ok false) at is = absurd cc
+applied_no_record put (Err (Halted halt)) at is = absurd cc
+applied_no_record put (Err (Faulted page.Failed)) at is = absurd cc
+applied_no_record put (Err (Faulted (page.BadPage other))) at is = absurd cc
+
+pub applied_no_memory : (is_put : Bool) (answer : Result Bool Stop) → IsErrOf (applied_as is_put answer) store.Memory → ⊥
+applied_no_memory put (Ok true) is = absurd cc
+applied_no_memory true (Ok false) is = absurd cc
+applied_no_memory false (Ok false) is = absurd cc
+applied_no_memory put (Err (Halted halt)) is = absurd cc
+applied_no_memory put (Err (Faulted page.Failed)) is = absurd cc
+applied_no_memory put (Err (Faulted (page.BadPage other))) is = absurd cc
+
+pub applied_failed : (is_put : Bool) (answer : Result Bool Stop) → IsErrOf (applied_as is_put answer) store.Failed → IsErrOf answer (Faulted page.Failed)
+applied_failed put (Ok true) is = absurd cc
+applied_failed true (Ok false) is = absurd cc
+applied_failed false (Ok false) is = absurd cc
+applied_failed put (Err (Halted halt)) is = absurd cc
+applied_failed put (Err (Faulted page.Failed)) is = refl
+applied_failed put (Err (Faulted (page.BadPage other))) is = absurd cc

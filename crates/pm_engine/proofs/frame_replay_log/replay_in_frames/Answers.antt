@@ -1,0 +1,44 @@
+-- The scan begins at the replay place.
+use Rattle.std.proofs.Common.{◌≡◌, ◌≤◌, [], false, None, sym, ap, subst, arith}
+use Rattle.pm_types.specs.declared.place.Place.{Place}
+use Rattle.pm_segments.specs.Scans.{Scanned, IsAhead, bytes_after}
+use Rattle.pm_engine.specs.FrameReplayLogs.{CanReplayIn, ReplaysWellFormed}
+use Rattle.pm_engine.specs.PagedReplays.{LogLeadsTo}
+use Rattle.pm_engine.proofs.ReplayedFrames.{none_replayed, none_applied}
+use Rattle.pm_engine.proofs.TakenLines.{take_none}
+use Rattle.pm_engine.proofs.frame_replay_log.replay_in_frames.Goals as goal
+
+pub replay_all-requires-clause-ahead : goal.replay_all-requires-clause-ahead
+replay_all-requires-clause-ahead g c _ _ t =
+    let old = g.H.Device.history c.args.host.now in
+    subst (λ (s : Scanned). IsAhead s old.world) {x = record { place = c.args.from; next = c.args.from; ahead = []; is_whole = false; is_over = false; found = None }} (sym c.in-Ok.ensures) (record { front = sym (take_none (bytes_after c.args.from old.world)); whole = λ whole. absurd cc })
+
+pub returns-in-Err-clause-sound : goal.returns-in-Err-clause-sound
+returns-in-Err-clause-sound g c t last highest wanted told pairs s can = none_replayed last highest wanted told pairs c.args.from c.args.end c.args.engine s (g.H.Device.history c.args.host.now) (g.H.Device.sound c.args.host.now t) can
+
+pub returns-in-Err-with_room-clause-sound : goal.returns-in-Err-with_room-clause-sound
+returns-in-Err-with_room-clause-sound g c t last highest wanted told pairs s can = none_replayed last highest wanted told pairs c.args.from c.args.end c.args.engine s (g.H.Device.history c.args.host.now) (g.H.Device.sound c.args.host.now t) can
+
+pub returns-clause-sound : goal.returns-clause-sound
+returns-clause-sound g c t last highest wanted told pairs s can =
+    let is = c.in-Ok.ensures in
+    c.replay_all.ensures.replays.sound t last highest wanted told pairs (record {
+      state = s;
+      can = subst (λ (p : Place). CanReplayIn last highest wanted told pairs p c.args.end c.args.engine s (g.H.Device.history c.args.host.now).world) (sym (ap (λ (v : Scanned). v.next) is)) can;
+      over = ap (λ (v : Scanned). v.is_over) is;
+    })
+
+pub returns-in-Err-clause-any : goal.returns-in-Err-clause-any
+returns-in-Err-clause-any g c t leads whole = none_applied c.args.from c.args.end c.args.engine (g.H.Device.history c.args.host.now).world
+
+pub returns-in-Err-with_room-clause-any : goal.returns-in-Err-with_room-clause-any
+returns-in-Err-with_room-clause-any g c t leads whole = none_applied c.args.from c.args.end c.args.engine (g.H.Device.history c.args.host.now).world
+
+pub returns-clause-any : goal.returns-clause-any
+returns-clause-any g c t leads whole =
+    let old = (g.H.Device.history c.args.host.now).world in
+    let new = (g.H.Device.history c.replay_all.new.host).world in
+    let is = c.in-Ok.ensures in
+    let begins = ap (λ (v : Scanned). v.next) is in
+    subst (λ (p : Place). ReplaysWellFormed {T = Unit {0}} p c.args.end c.args.engine c.replay_all.result.0 old new c.replay_all.result.1) begins
+    (c.replay_all.ensures.replays.any t (ap (λ (v : Scanned). v.is_over) is) (subst (λ (p : Place). LogLeadsTo p c.args.end c.args.engine.log old) (sym begins) leads) whole)

@@ -1,0 +1,245 @@
+-- How an engine over page frames applies the records of its log again.
+--
+-- The records of the pages that one changes are appended; it itself isn't. Where what its operation may need is lacking
+-- nothing is changed, and a checkpoint is made before it is tried again.
+use Rattle.std.specs.Prelude.{◌≡◌, ◌≤◌, ◌<◌, ◌+◌, ◌^◌, ℕ, Bool, true, false, List, [], Option, Some, None}
+use Rattle.std.specs.Prelude.{Result, Ok, Err, IfOk, IsErrOf, OnOk, OnErr}
+use Rattle.pm_types.specs.declared.fault.PageFault.TheVariants.{BadPage}
+use Rattle.pm_types.specs.declared.fault.StoreFault.{StoreFault}
+use Rattle.pm_types.specs.declared.fault.StoreFault.TheVariants as fault
+use Rattle.pm_types.specs.declared.fault.StoreFault.TheVariants.{Memory}
+use Rattle.pm_types.specs.declared.limits.TheConstants.{OP_PAGES}
+use Rattle.pm_types.specs.declared.page_id.PageId.{PageId}
+use Rattle.pm_types.specs.declared.place.Place.{Place}
+use Rattle.pm_types.specs.declared.shape.Shape.{Shape}
+use Rattle.pm_types.specs.Faults.{store_fault_of}
+use Rattle.pm_frame.specs.Frames.{Frame}
+use Rattle.pm_disk.specs.Moments.{History, AllMoments}
+use Rattle.pm_disk.specs.Worlds.{World, pages_in}
+use Rattle.pm_model.specs.declared.line.Cmd.{Cmd}
+use Rattle.pm_model.specs.declared.line.Line.TheVariants.{Good}
+use Rattle.pm_model.specs.Eval.{Pairs}
+use Rattle.pm_model.specs.ReplyLists.{ReplyList}
+use Rattle.pm_records.specs.Records.{Record}
+use Rattle.pm_segments.specs.Ends.{EndsThere}
+use Rattle.pm_stripe.specs.declared.halt.Halt.{Halt}
+use Rattle.pm_ckpt.specs.Checkpoints.{KeepsLogFrom}
+use Rattle.pm_core.specs.BasePages.{page_in_file}
+use Rattle.pm_core.specs.Calls.{ChangesDisk}
+use Rattle.pm_core.specs.Held.{AllWellFormed}
+use Rattle.pm_core.specs.Replays.{replayed, all_replayed}
+use Rattle.pm_core.specs.Starts.{appended}
+use Rattle.pm_core.specs.States.{State}
+use Rattle.pm_engine.specs.declared.frame_engine_replay.Applied.{Applied}
+use Rattle.pm_engine.specs.declared.frame_engine_replay.Applied.TheVariants as applied
+use Rattle.pm_engine.specs.declared.frame_lines.Stop.{Stop}
+use Rattle.pm_engine.specs.declared.frame_lines.Stop.TheVariants.{Halted, Faulted}
+use Rattle.pm_engine.specs.FrameEngines.{FrameRunning, running_in, map_in, NamesDirty, IsSameEngine}
+use Rattle.pm_engine.specs.FrameLines.{EvaluatesLine}
+use Rattle.pm_engine.specs.FrameReplays.{may_apply_more}
+use Rattle.pm_engine.specs.FrameStores.{FrameStoreView, pages_in_frames, IsDirtyPage, HasCleanPages}
+use Rattle.pm_engine.specs.PagedEngines.{number_of}
+use Rattle.pm_engine.specs.PagedReplays.{CrashHoldsMap, AreLasting, GrewAtEnd, Replays}
+use Rattle.pm_engine.specs.RunningLines.{KeepsLines}
+use Rattle.pm_engine.specs.RunningStores.{RunsOver, HasSegmentsFor}
+use Rattle.pm_engine.specs.TrackedPages.{HaveFirstPages}
+
+-- The store's log runs, with this map as the newest one, and all that was appended since the store was opened changes
+-- no map. The map of the pages may be behind. Its logged pages are those that stay in their frames.
+pub record IsReplayingIn (wanted : Shape) (told : List ℕ → ℕ) (pairs : Pairs) (engine : FrameRunning) (s : State)
+    (world : World) : Type 0 where
+  pub logged : List PageId
+  pub names : NamesDirty engine.store logged
+  pub runs : RunsOver wanted told (running_in engine world logged) pairs s world
+  pub keeps : KeepsLines engine.store.shape 0 pairs [] s.first (appended s)
+
+-- The pages are such that a checkpoint leaves them as they are, whether the store is sound or not: each partition is
+-- well formed, and one that has a page has its first one. Where it has none, its file has none that isn't read.
+pub record HasWholePages (store : FrameStoreView) (world : World) : Type 0 where
+  pub well_formed : AllWellFormed store.shape (pages_in_frames store world)
+  pub first_pages : HaveFirstPages store.shape (pages_in_frames store world)
+  pub none_unread : (part : ℕ) → part < store.shape.partitions → pages_in_frames store world part 0 ≡ None
+      → page_in_file store.shape.page_size (pages_in world part) 0 ≡ None
+
+-- in some state of the disk machine it is so, and the frames that were lasting still are
+pub record ReplaysOnIn (wanted : Shape) (told : List ℕ → ℕ) (pairs : Pairs) (engine : FrameRunning) (s : State)
+    (old new : World) : Type 0 where
+  pub state : State
+  pub is : IsReplayingIn wanted told pairs engine state new
+  pub lasts : (from : Place) (left : List Frame) → AreLasting from left engine.store.shape pairs s old
+      → AreLasting from left engine.store.shape pairs state new
+
+-- A record was applied again, or wasn't. While the engine is open it goes on with it, the log has grown at its end, and
+-- pages that a checkpoint leaves as they are are so still. Whatever a crash leaves meanwhile of a sound store holds what
+-- the store held.
+pub record GoesOnInFrames (tells : Type 0) (before now : FrameRunning) (old new : History) : Type 0 where
+  pub same : IsSameEngine before now
+  pub ckpt : now.ckpt ≡ before.ckpt
+  pub began : now.began ≡ before.began
+  pub order : now.order ≡ before.order
+  pub files : now.store.stripe.files ≡ before.store.stripe.files
+  pub rises : now.store.is_open ≡ true → now.log.end.seg ≤ before.log.end.seg + OP_PAGES
+  pub clean : tells → now.store.is_open ≡ true → HasCleanPages now.store new.world
+  pub ends : tells → now.store.is_open ≡ true → EndsThere now.log new.world
+  pub disk : tells → AllMoments old new (ChangesDisk old.world)
+  pub grew : tells → HasSegmentsFor before.log OP_PAGES → now.store.is_open ≡ true
+      → GrewAtEnd before.log now.log old.world new.world
+  pub whole : tells → now.store.is_open ≡ true → HasWholePages before.store old.world
+      → HasWholePages now.store new.world
+  pub runs : tells → now.store.is_open ≡ true → (wanted : Shape) (told : List ℕ → ℕ) (pairs : Pairs) (s : State)
+      → IsReplayingIn wanted told pairs before s old.world → HasSegmentsFor before.log OP_PAGES
+      → ReplaysOnIn wanted told pairs now s old.world new.world
+  pub crash : tells → (wanted : Shape) (told : List ℕ → ℕ) (pairs : Pairs) (s : State)
+      → IsReplayingIn wanted told pairs before s old.world → HasSegmentsFor before.log OP_PAGES
+      → AllMoments old new (CrashHoldsMap (before.log.end.seg + (OP_PAGES + 1)) (number_of before.ckpt.mark)
+      wanted before.store.shape pairs)
+
+-- A command was applied again by an engine. Where each partition is well formed it was evaluated, and no page is found
+-- bad. One that wasn't accepted leaves the log and the disk as they were, and where something is lacking no page
+-- changed.
+pub record EvaluatesAgain (tells : Type 0) (cmd : Cmd) (before now : FrameRunning) (old new : World)
+    (was replies : ReplyList) (answer : Result Bool Stop) : Type 0 where
+  pub is_open : now.store.is_open ≡ may_apply_more answer
+  pub evaluates : tells → AllWellFormed before.store.shape (pages_in_frames before.store old) → IfOk answer
+      (EvaluatesLine before.store.shape (Good cmd) (pages_in_frames before.store old)
+      (pages_in_frames now.store new) was replies)
+  pub unlogged : (answer ≡ Ok true → ⊥) → now.log ≡ before.log
+  pub refused : tells → (answer ≡ Ok true → ⊥) → new ≡ old
+  pub halted : tells → (halt : Halt) → IsErrOf answer (Halted halt)
+      → pages_in_frames now.store new ≡ pages_in_frames before.store old
+  pub sound : tells → AllWellFormed before.store.shape (pages_in_frames before.store old) → (id : PageId)
+      → IsErrOf answer (Faulted (BadPage id)) → ⊥
+
+-- whether the pages are as the record says
+abbrev pub is_done : Applied → Bool
+is_done applied.Done = true
+is_done applied.Bad = false
+is_done (applied.Halted halt) = false
+
+-- what became of a record, and the map that it leaves
+abbrev pub AppliesAs : Applied → Shape → Option Record → Pairs → Pairs → Type 0
+AppliesAs applied.Done shape found before now = replayed shape found before ≡ Some now
+AppliesAs applied.Bad shape found before now = replayed shape found before ≡ None
+AppliesAs (applied.Halted halt) shape found before now = now ≡ before
+
+-- what became of the record of a put, or of a remove, whose command wasn't accepted: a remove of an absent key is
+-- applied by changing nothing
+abbrev pub refused_as : Bool → Applied
+refused_as true = applied.Bad
+refused_as false = applied.Done
+
+-- what became of it where its command was answered so
+abbrev pub applied_as : Bool → Result Bool Stop → Result Applied StoreFault
+applied_as is_put (Ok true) = Ok applied.Done
+applied_as is_put (Ok false) = Ok (refused_as is_put)
+applied_as is_put (Err (Halted halt)) = Ok (applied.Halted halt)
+applied_as is_put (Err (Faulted fault)) = Err (store_fault_of fault)
+
+-- In some state of the disk machine a store that had this world's pages before is replaying, with the same map, and
+-- these frames from this place on are lasting and left to be applied.
+pub record ReplaysFromIn (wanted : Shape) (told : List ℕ → ℕ) (pairs : Pairs) (from : Place) (left : List Frame)
+    (before now : FrameRunning) (old new : World) : Type 0 where
+  pub state : State
+  pub is : IsReplayingIn wanted told pairs now state new
+  pub lasts : AreLasting from left now.store.shape pairs state new
+  pub map : map_in now new ≡ map_in before old
+
+-- a checkpoint left the pages as they were, and the map of those that count
+pub record KeepsWholePages (before now : FrameRunning) (old new : World) : Type 0 where
+  pub pages : HasWholePages now.store new
+  pub map : map_in now new ≡ map_in before old
+
+-- A checkpoint was made, after which a restart applies the log from this place on. At `Ok` the engine goes on with it,
+-- and of a sound store the frames from there on are as lasting as they were, over the same map. Whatever a crash
+-- leaves meanwhile holds what the store held. Of any store the log loses nothing from that place's segment on, where
+-- there is a number for a segment more.
+pub record ChecksInFrames {T E : Type 0} (tells : Type 0) (from : Place) (before now : FrameRunning)
+    (old new : History) (result : Result T E) : Type 0 where
+  pub same : IsSameEngine before now
+  pub order : now.order ≡ before.order
+  pub is_open : OnOk result (now.store.is_open ≡ true)
+  pub closed : OnErr result (now.store.is_open ≡ false)
+  pub rises : OnOk result (now.log.end.seg ≤ before.log.end.seg + 1)
+  pub goes_on : HasSegmentsFor before.log 1 → OnOk result (before.log.end.seg ≤ now.log.end.seg)
+  pub number : OnOk result (number_of now.ckpt.mark ≤ number_of before.ckpt.mark + 1)
+  pub none_dirty : OnOk result ((id : PageId) → IsDirtyPage now.store id → ⊥)
+  pub clean : tells → OnOk result (HasCleanPages now.store new.world)
+  pub ends : tells → OnOk result (EndsThere now.log new.world)
+  pub log : tells → HasSegmentsFor before.log 1
+      → OnOk result (KeepsLogFrom from.seg before.log.end.seg old.world new.world)
+  pub whole : tells → HasWholePages before.store old.world
+      → OnOk result (KeepsWholePages before now old.world new.world)
+  pub disk : tells → AllMoments old new (ChangesDisk old.world)
+  pub runs : tells → (wanted : Shape) (told : List ℕ → ℕ) (pairs : Pairs) (s : State) (left : List Frame)
+      → IsReplayingIn wanted told pairs before s old.world
+      → AreLasting from left before.store.shape pairs s old.world
+      → all_replayed before.store.shape left (Some (map_in before old.world)) ≡ Some pairs
+      → HasSegmentsFor before.log 1 → number_of before.ckpt.mark + 1 < 2 ^ 64
+      → OnOk result (ReplaysFromIn wanted told pairs from left before now old.world new.world)
+  pub crash : tells → (wanted : Shape) (told : List ℕ → ℕ) (pairs : Pairs) (s : State) (left : List Frame)
+      → IsReplayingIn wanted told pairs before s old.world
+      → AreLasting from left before.store.shape pairs s old.world
+      → all_replayed before.store.shape left (Some (map_in before old.world)) ≡ Some pairs
+      → HasSegmentsFor before.log 1 → number_of before.ckpt.mark + 1 < 2 ^ 64
+      → AllMoments old new (CrashHoldsMap (before.log.end.seg + 2) (number_of before.ckpt.mark + 1)
+      wanted before.store.shape pairs)
+
+-- In some state of the disk machine a store is replaying, and the frames from this place on that were left to be
+-- applied are lasting still. A record could be applied to the map of its pages, or couldn't.
+pub record ReplaysRecordFrom (wanted : Shape) (told : List ℕ → ℕ) (pairs : Pairs) (from : Place) (left : List Frame)
+    (found : Option Record) (before now : FrameRunning) (old new : World) (can : Bool) : Type 0 where
+  pub state : State
+  pub is : IsReplayingIn wanted told pairs now state new
+  pub lasts : AreLasting from left now.store.shape pairs state new
+  pub applies : Replays can before.store.shape found (map_in before old) (map_in now new)
+
+-- a record could be applied to the map of the pages, or couldn't, and the pages may be applied to still
+pub record AppliesToWhole (found : Option Record) (before now : FrameRunning) (old new : World) (can : Bool)
+    : Type 0 where
+  pub applies : Replays can before.store.shape found (map_in before old) (map_in now new)
+  pub pages : HasWholePages now.store new
+
+-- no page was found bad
+abbrev pub NamesNoPage : {T : Type 0} → Result T StoreFault → Type 0
+NamesNoPage result = (id : PageId) → IsErrOf result (fault.BadPage id) → ⊥
+
+-- The record that stands at this place was applied again, or couldn't be, after a checkpoint where one had to be made
+-- first. At `Ok` the engine goes on with it, and the log lost nothing from that place's segment on. Whatever a crash
+-- leaves meanwhile of a sound store holds what the store held. Of any store whose pages may be applied to, sound or
+-- not, the pages are so still, and none is bad.
+pub record ReplaysRecord (tells : Type 0) (from : Place) (found : Option Record) (before now : FrameRunning)
+    (old new : History) (result : Result Bool StoreFault) : Type 0 where
+  pub same : IsSameEngine before now
+  pub order : now.order ≡ before.order
+  pub is_open : OnOk result (now.store.is_open ≡ true)
+  pub rises : OnOk result (now.log.end.seg ≤ before.log.end.seg + (OP_PAGES + 1))
+  pub number : OnOk result (number_of now.ckpt.mark ≤ number_of before.ckpt.mark + 1)
+  pub clean : tells → OnOk result (HasCleanPages now.store new.world)
+  pub ends : tells → OnOk result (EndsThere now.log new.world)
+  pub disk : tells → AllMoments old new (ChangesDisk old.world)
+  pub goes_on : tells → HasSegmentsFor before.log (OP_PAGES + 1) → OnOk result (before.log.end.seg ≤ now.log.end.seg)
+  pub log : tells → HasSegmentsFor before.log (OP_PAGES + 1)
+      → OnOk result (KeepsLogFrom from.seg before.log.end.seg old.world new.world)
+  pub whole : tells → HasWholePages before.store old.world
+      → IfOk result (AppliesToWhole found before now old.world new.world)
+  pub no_page : tells → HasWholePages before.store old.world → NamesNoPage result
+  pub runs : tells → (wanted : Shape) (told : List ℕ → ℕ) (pairs : Pairs) (s : State) (left : List Frame)
+      → IsReplayingIn wanted told pairs before s old.world
+      → AreLasting from left before.store.shape pairs s old.world
+      → all_replayed before.store.shape left (Some (map_in before old.world)) ≡ Some pairs
+      → HasSegmentsFor before.log (OP_PAGES + 1) → number_of before.ckpt.mark + 1 < 2 ^ 64
+      → IfOk result (ReplaysRecordFrom wanted told pairs from left found before now old.world new.world)
+  pub crash : tells → (wanted : Shape) (told : List ℕ → ℕ) (pairs : Pairs) (s : State) (left : List Frame)
+      → IsReplayingIn wanted told pairs before s old.world
+      → AreLasting from left before.store.shape pairs s old.world
+      → all_replayed before.store.shape left (Some (map_in before old.world)) ≡ Some pairs
+      → HasSegmentsFor before.log (OP_PAGES + 1) → number_of before.ckpt.mark + 1 < 2 ^ 64
+      → AllMoments old new (CrashHoldsMap (before.log.end.seg + (OP_PAGES + 2)) (number_of before.ckpt.mark + 1)
+      wanted before.store.shape pairs)
+
+-- whether a record could be applied, where it isn't tried once more
+abbrev pub applied_once : Result Applied StoreFault → Result Bool StoreFault
+applied_once (Ok applied.Done) = Ok true
+applied_once (Ok applied.Bad) = Ok false
+applied_once (Ok (applied.Halted halt)) = Err Memory
+applied_once (Err fault) = Err fault

@@ -1,0 +1,429 @@
+//! A record of the log, applied again by an engine over page frames whose store is opened.
+
+ghost use Rattle.std.specs.Prelude.{◌≡◌, ◌<◌, ◌≤◌, ◌+◌, true, false, Some, length, vec_capacity, IfOk, OnOk, IsErrOf};
+ghost use Rattle.pm_types.specs.declared.fault.PageFault.TheVariants.{Failed as PageFailed};
+ghost use Rattle.pm_types.specs.declared.fault.StoreFault.{StoreFault};
+ghost use Rattle.pm_types.specs.declared.page_id.PageId.{PageId as ThisId};
+ghost use Rattle.pm_types.specs.declared.place.Place.{Place as ThisPlace};
+ghost use Rattle.pm_disk.specs.States.{IsUsable, Rose};
+ghost use Rattle.pm_records.specs.Records.{IsLogical, Logical, record_of};
+ghost use Rattle.pm_marks.specs.Slots.{IsMarkPlace};
+ghost use Rattle.pm_segments.specs.Ends.{EndsThere};
+ghost use Rattle.pm_model.specs.declared.line.Line.TheVariants.{Good};
+ghost use Rattle.pm_model.specs.Batches.{HasCache};
+ghost use Rattle.pm_core.specs.Held.{AllWellFormed};
+ghost use Rattle.pm_engine.specs.declared.frame_lines.Stop.TheVariants.{Faulted};
+ghost use Rattle.pm_engine.specs.Batches.{HasPlainFault};
+ghost use Rattle.pm_engine.specs.FrameEngineReplays.{AppliesAs, ChecksInFrames, EvaluatesAgain, GoesOnInFrames};
+ghost use Rattle.pm_engine.specs.FrameEngineReplays.{ReplaysRecord, applied_as, applied_once, is_done};
+ghost use Rattle.pm_engine.specs.FrameEngines.{map_in};
+ghost use Rattle.pm_engine.specs.FrameStores.{HasCleanPages, pages_in_frames};
+ghost use Rattle.pm_engine.specs.PagedMaps.{IsKeyOf};
+ghost use Rattle.pm_engine.specs.PagedOpenings.{CountsFaults};
+ghost use Rattle.pm_engine.specs.PagedReplays.{line_in};
+
+use crate::frame_engine::FrameEngine;
+use crate::frame_engine_checkpoint::begin_place;
+use crate::frame_lines::Stop;
+use crate::paged_replay::make_room;
+use pm_disk::Host;
+use pm_model::{Cmd, Replies};
+use pm_records::{LogRecord, PUT, decode};
+use pm_stripe::Halt;
+use pm_types::{Key, Place, StoreFault, Value};
+use std::alloc::{AllocError, Global};
+use std::sync::Wait;
+
+/// What became of a record that was to be applied again.
+#[derive(Clone, Copy, Debug, PartialEq, Eq)]
+pub enum Applied {
+    /// The pages are as the record says.
+    Done,
+    /// It is in no grammar, or is a put that meets a full partition. Nothing changed.
+    Bad,
+    /// What its operation may need is lacking. Nothing changed, and it may be tried again once it is there.
+    Halted(Halt),
+}
+
+impl FrameEngine {
+    /// Applies a record of the log again, and says what became of it. The records of the pages that it changed are
+    /// appended.
+    ///
+    /// `BadPage` names a page that can't be used, and `Failed` says that a call on the disk failed: the engine is open
+    /// no more. `Memory` leaves the engine and the disk as they were.
+    pub(crate) fn apply_record<Q: Wait, H: Host>(
+        self,
+        rt: &Q,
+        alloc: Global,
+        host: &mut H,
+        kind: u8,
+        payload: &[u8],
+        replies: &mut Replies,
+    ) -> (FrameEngine, Result<Applied, StoreFault>)
+        requires open { self.store.is_open ≡ true }
+        requires usable { IsUsable (H.Device.state host.old) }
+        requires end { H.Device.tells → EndsThere self.log (H.Device.history host.old).world }
+        requires clean { H.Device.tells → HasCleanPages self.store (H.Device.history host.old).world }
+        ensures goes_on { GoesOnInFrames H.Device.tells self result.0 (H.Device.history host.old)
+            (H.Device.history host.new) }
+        ensures is_open { OnOk result.1 (result.0.store.is_open ≡ true) }
+        ensures applies { H.Device.tells → AllWellFormed self.store.shape
+            (pages_in_frames self.store (H.Device.history host.old).world) → IfOk result.1 (λ applied.
+            AppliesAs applied self.store.shape (record_of kind payload.now)
+            (map_in self (H.Device.history host.old).world)
+            (map_in result.0 (H.Device.history host.new).world)) }
+        ensures well_formed { H.Device.tells → AllWellFormed self.store.shape
+            (pages_in_frames self.store (H.Device.history host.old).world) → OnOk result.1
+            (AllWellFormed self.store.shape (pages_in_frames result.0.store (H.Device.history host.new).world)) }
+        ensures refused { H.Device.tells → IfOk result.1 (λ applied. is_done applied ≡ false
+            → (H.Device.history host.new).world ≡ (H.Device.history host.old).world) }
+        ensures unlogged { IfOk result.1 (λ applied. is_done applied ≡ false → result.0.log ≡ self.log) }
+        ensures unchanged { IsErrOf result.1 StoreFault.Memory → (result.0 ≡ self)
+            × (H.Device.tells → (H.Device.history host.new).world ≡ (H.Device.history host.old).world) }
+
+        // Each fault has its cause.
+        ensures sound { H.Device.tells → AllWellFormed self.store.shape
+            (pages_in_frames self.store (H.Device.history host.old).world) → (id : ThisId)
+            → IsErrOf result.1 (StoreFault.BadPage id) → ⊥ }
+        ensures no_record { (at : ThisPlace) → IsErrOf result.1 (StoreFault.BadRecord at) → ⊥ }
+        ensures cause { CountsFaults (H.Device.state host.old) (H.Device.state host.new) result.1 }
+    {
+        self.stays(host);
+        match decode(kind, payload) {
+            Ok(
+                LogRecord::Logical {
+                    op,
+                    cache,
+                    key,
+                    value,
+                },
+            ) => self.apply_logical(rt, alloc, host, op, cache, key, value, replies),
+            Ok(LogRecord::Restart { .. }) => (self, Ok(Applied::Done)),
+            Ok(LogRecord::Seal) => (self, Ok(Applied::Done)),
+            Ok(LogRecord::Snapshot { .. }) => (self, Ok(Applied::Done)),
+            Ok(LogRecord::Delta { .. }) => (self, Ok(Applied::Done)),
+            Ok(LogRecord::CpBegin { .. }) => (self, Ok(Applied::Done)),
+            Err(_) => (self, Ok(Applied::Bad)),
+        }
+    }
+
+    // What a record leaves that changes nothing.
+    fn stays<H: Host>(&self, host: &H)
+        requires open { self.now.store.is_open ≡ true }
+        requires end { H.Device.tells → EndsThere self.now.log (H.Device.history host.now).world }
+        requires clean { H.Device.tells → HasCleanPages self.now.store (H.Device.history host.now).world }
+        ensures { GoesOnInFrames H.Device.tells self.now self.now (H.Device.history host.now)
+            (H.Device.history host.now) }
+    {}
+
+    // Applies a put or a remove. A remove of an absent key changes nothing.
+    fn apply_logical<Q: Wait, H: Host>(
+        self,
+        rt: &Q,
+        alloc: Global,
+        host: &mut H,
+        op: u8,
+        cache: u8,
+        key: &[u8],
+        value: &[u8],
+        replies: &mut Replies,
+    ) -> (FrameEngine, Result<Applied, StoreFault>)
+        requires open { self.store.is_open ≡ true }
+        requires usable { IsUsable (H.Device.state host.old) }
+        requires logical { IsLogical op cache key.now value.now }
+        requires end { H.Device.tells → EndsThere self.log (H.Device.history host.old).world }
+        requires clean { H.Device.tells → HasCleanPages self.store (H.Device.history host.old).world }
+        ensures goes_on { GoesOnInFrames H.Device.tells self result.0 (H.Device.history host.old)
+            (H.Device.history host.new) }
+        ensures is_open { OnOk result.1 (result.0.store.is_open ≡ true) }
+        ensures applies { H.Device.tells → AllWellFormed self.store.shape
+            (pages_in_frames self.store (H.Device.history host.old).world) → IfOk result.1 (λ applied.
+            AppliesAs applied self.store.shape (Some (Logical op cache key.now value.now))
+            (map_in self (H.Device.history host.old).world)
+            (map_in result.0 (H.Device.history host.new).world)) }
+        ensures well_formed { H.Device.tells → AllWellFormed self.store.shape
+            (pages_in_frames self.store (H.Device.history host.old).world) → OnOk result.1
+            (AllWellFormed self.store.shape (pages_in_frames result.0.store (H.Device.history host.new).world)) }
+        ensures refused { H.Device.tells → IfOk result.1 (λ applied. is_done applied ≡ false
+            → (H.Device.history host.new).world ≡ (H.Device.history host.old).world) }
+        ensures unlogged { IfOk result.1 (λ applied. is_done applied ≡ false → result.0.log ≡ self.log) }
+        ensures unchanged { IsErrOf result.1 StoreFault.Memory → (result.0 ≡ self)
+            × (H.Device.tells → (H.Device.history host.new).world ≡ (H.Device.history host.old).world) }
+        ensures sound { H.Device.tells → AllWellFormed self.store.shape
+            (pages_in_frames self.store (H.Device.history host.old).world) → (id : ThisId)
+            → IsErrOf result.1 (StoreFault.BadPage id) → ⊥ }
+        ensures no_record { (at : ThisPlace) → IsErrOf result.1 (StoreFault.BadRecord at) → ⊥ }
+        ensures cause { CountsFaults (H.Device.state host.old) (H.Device.state host.new) result.1 }
+    {
+        self.stays(host);
+        match prepare(alloc, op, cache, key, value, replies) {
+            Err(_) => (self, Err(StoreFault::Memory)),
+            Ok((cmd, mut numbers)) => {
+                let (engine, answer) = self.apply_command(
+                    rt,
+                    host,
+                    key,
+                    &cmd,
+                    &mut numbers,
+                    replies,
+                );
+                match answer {
+                    Err(fault) => (engine, Err(fault)),
+                    Ok(answer) => (engine, applied_by(op == PUT, answer)),
+                }
+            }
+        }
+    }
+
+    // Applies a command of this key again. What it handed over is appended, and the number of its operation is put
+    // into `numbers`, which is no order.
+    //
+    // `Failed` comes where that couldn't be appended, and the engine is open no more. `Memory` leaves the engine and
+    // the disk as they were.
+    fn apply_command<Q: Wait, H: Host>(
+        self,
+        rt: &Q,
+        host: &mut H,
+        key: &[u8],
+        cmd: &Cmd,
+        numbers: &mut Vec<u32>,
+        replies: &mut Replies,
+    ) -> (FrameEngine, Result<Result<bool, Stop>, StoreFault>)
+        requires open { self.store.is_open ≡ true }
+        requires usable { IsUsable (H.Device.state host.old) }
+        requires end { H.Device.tells → EndsThere self.log (H.Device.history host.old).world }
+        requires clean { H.Device.tells → HasCleanPages self.store (H.Device.history host.old).world }
+        requires cache { HasCache (Good cmd.now) }
+        requires key { IsKeyOf key.now cmd.now }
+        requires room { length numbers.old.items + 1 ≤ vec_capacity numbers.old }
+        requires spare { 0 < replies.old.spare }
+        ensures goes_on { GoesOnInFrames H.Device.tells self result.0 (H.Device.history host.old)
+            (H.Device.history host.new) }
+        ensures answers { IfOk result.1 (EvaluatesAgain H.Device.tells cmd.now self result.0
+            (H.Device.history host.old).world (H.Device.history host.new).world replies.old replies.new) }
+        ensures unchanged { IsErrOf result.1 StoreFault.Memory → (result.0 ≡ self)
+            × (H.Device.tells → (H.Device.history host.new).world ≡ (H.Device.history host.old).world) }
+        ensures failed { IfOk result.1 (λ answer. IsErrOf answer (Faulted PageFailed)
+            → Rose (H.Device.state host.old) (H.Device.state host.new)) }
+        ensures cause { HasPlainFault (H.Device.state host.old) (H.Device.state host.new) result.1 }
+    {
+        let FrameEngine {
+            pages,
+            mut log,
+            ckpt,
+            began,
+            order,
+        } = self;
+        let (mut pages, ran) = pages.apply(rt, host, key, cmd, replies);
+        match ran {
+            Err(_) => {
+                let unchanged = FrameEngine {
+                    pages,
+                    log,
+                    ckpt,
+                    began,
+                    order,
+                };
+                (unchanged, Err(StoreFault::Memory))
+            }
+            Ok(answer) => match pages.append_outbox(host, &mut log, numbers) {
+                Err(_) => {
+                    pages.shut();
+                    let closed = FrameEngine {
+                        pages,
+                        log,
+                        ckpt,
+                        began,
+                        order,
+                    };
+                    (closed, Err(StoreFault::Failed))
+                }
+                Ok(()) => {
+                    let done = FrameEngine {
+                        pages,
+                        log,
+                        ckpt,
+                        began,
+                        order,
+                    };
+                    (done, Ok(answer))
+                }
+            },
+        }
+    }
+
+    /// Makes the next checkpoint while the log is applied again, of the pages that stay in their frames. A restart
+    /// applies the log from `replay` on then. It takes no memory.
+    ///
+    /// After `Failed` the engine is closed, and a prefix of the steps was made: the store on the disk holds what it
+    /// held.
+    pub(crate) fn checkpoint_from<H: Host>(
+        &mut self,
+        host: &mut H,
+        replay: Place,
+    ) -> Result<(), StoreFault>
+        requires usable { IsUsable (H.Device.state host.old) }
+        requires is_open { self.old.store.is_open ≡ true }
+        requires replay { IsMarkPlace replay }
+        requires end { H.Device.tells → EndsThere self.old.log (H.Device.history host.old).world }
+        requires clean { H.Device.tells → HasCleanPages self.old.store (H.Device.history host.old).world }
+        ensures checks { ChecksInFrames H.Device.tells replay self.old self.new
+            (H.Device.history host.old) (H.Device.history host.new) result }
+        ensures cause { HasPlainFault (H.Device.state host.old) (H.Device.state host.new) result }
+    {
+        // The next CP_BEGIN stands in a segment that a place may name.
+        let _begin = begin_place(&self.log);
+        match self
+            .pages
+            .checkpoint(host, &mut self.log, &mut self.ckpt, Some(replay))
+        {
+            Err(_) => Err(StoreFault::Failed),
+            Ok(()) => {
+                self.began = self.log.appended();
+                Ok(())
+            }
+        }
+    }
+
+    /// Applies the record that stands at this place of the log again, and answers whether it can be applied. Where
+    /// what its operation may need is lacking, a checkpoint is made first, after which a restart applies the log from
+    /// that record on.
+    ///
+    /// `Memory` also comes where it is lacking even then. After `Failed` and `BadPage` the engine is open no more.
+    pub(crate) fn apply_at<Q: Wait, H: Host>(
+        self,
+        rt: &Q,
+        alloc: Global,
+        host: &mut H,
+        at: Place,
+        kind: u8,
+        payload: &[u8],
+        replies: &mut Replies,
+    ) -> (FrameEngine, Result<bool, StoreFault>)
+        requires open { self.store.is_open ≡ true }
+        requires usable { IsUsable (H.Device.state host.old) }
+        requires at { IsMarkPlace at }
+        requires end { H.Device.tells → EndsThere self.log (H.Device.history host.old).world }
+        requires clean { H.Device.tells → HasCleanPages self.store (H.Device.history host.old).world }
+        ensures replays { ReplaysRecord H.Device.tells at (record_of kind payload.now) self result.0
+            (H.Device.history host.old) (H.Device.history host.new) result.1 }
+        ensures no_record { (place : ThisPlace) → IsErrOf result.1 (StoreFault.BadRecord place) → ⊥ }
+        ensures cause { CountsFaults (H.Device.state host.old) (H.Device.state host.new) result.1 }
+    {
+        let (engine, applied) = self.apply_record(rt, alloc, host, kind, payload, replies);
+        match applied {
+            Err(fault) => (engine, Err(fault)),
+            Ok(applied) => match applied {
+                Applied::Done => (engine, Ok(true)),
+                Applied::Bad => (engine, Ok(false)),
+                Applied::Halted(_) => {
+                    engine.apply_after_checkpoint(rt, alloc, host, at, kind, payload, replies)
+                }
+            },
+        }
+    }
+
+    // The same, by an engine that makes a checkpoint first.
+    fn apply_after_checkpoint<Q: Wait, H: Host>(
+        self,
+        rt: &Q,
+        alloc: Global,
+        host: &mut H,
+        at: Place,
+        kind: u8,
+        payload: &[u8],
+        replies: &mut Replies,
+    ) -> (FrameEngine, Result<bool, StoreFault>)
+        requires open { self.store.is_open ≡ true }
+        requires usable { IsUsable (H.Device.state host.old) }
+        requires at { IsMarkPlace at }
+        requires end { H.Device.tells → EndsThere self.log (H.Device.history host.old).world }
+        requires clean { H.Device.tells → HasCleanPages self.store (H.Device.history host.old).world }
+        ensures replays { ReplaysRecord H.Device.tells at (record_of kind payload.now) self result.0
+            (H.Device.history host.old) (H.Device.history host.new) result.1 }
+        ensures no_record { (place : ThisPlace) → IsErrOf result.1 (StoreFault.BadRecord place) → ⊥ }
+        ensures cause { CountsFaults (H.Device.state host.old) (H.Device.state host.new) result.1 }
+    {
+        let mut engine = self;
+        match engine.checkpoint_from(host, at) {
+            Err(fault) => (engine, Err(fault)),
+            Ok(()) => {
+                let (engine, applied) = engine.apply_record(
+                    rt, alloc, host, kind, payload, replies,
+                );
+                (engine, applied_once(applied))
+            }
+        }
+    }
+}
+
+// What applying a logical record again needs of memory: its command, room for its reply, and room for the number of
+// its operation.
+fn prepare(
+    alloc: Global,
+    op: u8,
+    cache: u8,
+    key: &[u8],
+    value: &[u8],
+    replies: &mut Replies,
+) -> Result<(Cmd, Vec<u32>), AllocError>
+    requires logical { IsLogical op cache key.now value.now }
+    ensures command { IfOk result (λ r. Good r.0 ≡ line_in op cache key.now value.now) }
+    ensures cache { IfOk result (λ r. HasCache (Good r.0)) }
+    ensures key { IfOk result (λ r. IsKeyOf key.now r.0) }
+    ensures room { IfOk result (λ r. length r.1.items + 1 ≤ vec_capacity r.1) }
+    ensures spare { OnOk result (0 < replies.new.spare) }
+{
+    let cmd = command_of(alloc, op, cache, key, value)?;
+    make_room(alloc, replies)?;
+    let numbers = Vec::with_capacity(alloc, 1)?;
+    Ok((cmd, numbers))
+}
+
+// The command from which a logical record came.
+fn command_of(alloc: Global, op: u8, cache: u8, key: &[u8], value: &[u8]) -> Result<Cmd, AllocError>
+    requires logical { IsLogical op cache key.now value.now }
+    ensures command { IfOk result (λ cmd. Good cmd ≡ line_in op cache key.now value.now) }
+    ensures cache { IfOk result (λ cmd. HasCache (Good cmd)) }
+    ensures key { IfOk result (λ cmd. IsKeyOf key.now cmd) }
+{
+    let name = Key::of(alloc, key)?;
+    if op == PUT {
+        let value = Value::of(alloc, value)?;
+        return Ok(Cmd::Put {
+            cache,
+            key: name,
+            value,
+        });
+    }
+    Ok(Cmd::Remove { cache, key: name })
+}
+
+// What became of a record whose command was answered so. A remove of an absent key is applied by changing nothing.
+fn applied_by(is_put: bool, answer: Result<bool, Stop>) -> Result<Applied, StoreFault>
+    ensures { result ≡ applied_as is_put answer }
+{
+    match answer {
+        Ok(true) => Ok(Applied::Done),
+        Ok(false) => {
+            if is_put {
+                return Ok(Applied::Bad);
+            }
+            Ok(Applied::Done)
+        }
+        Err(Stop::Halted(halt)) => Ok(Applied::Halted(halt)),
+        Err(Stop::Faulted(fault)) => Err(fault.into()),
+    }
+}
+
+// Whether a record could be applied, where it isn't tried once more.
+fn applied_once(applied: Result<Applied, StoreFault>) -> Result<bool, StoreFault>
+    ensures { result ≡ applied_once applied }
+{
+    match applied {
+        Ok(Applied::Done) => Ok(true),
+        Ok(Applied::Bad) => Ok(false),
+        Ok(Applied::Halted(_)) => Err(StoreFault::Memory),
+        Err(fault) => Err(fault),
+    }
+}

@@ -1,0 +1,232 @@
+//! How a store over page frames is opened.
+
+ghost use Rattle.std.specs.Prelude.{ℕ, ◌≡◌, ◌≤◌, ◌+◌, List, [], ◌∷◌, None, IfOk, IfErr, IfSome, IsErrOf};
+ghost use Rattle.pm_types.specs.declared.fault.OpenFault.TheVariants as opening;
+ghost use Rattle.pm_types.specs.declared.page_id.PageId.{PageId as ThisId};
+ghost use Rattle.pm_types.specs.declared.place.Place.{Place as ThisPlace};
+ghost use Rattle.pm_types.specs.declared.shape.Shape.{Shape as ThisShape};
+ghost use Rattle.pm_types.specs.Shapes.{IsShape};
+ghost use Rattle.pm_config.specs.Limits.{IsConfig};
+ghost use Rattle.pm_disk.specs.Moments.{AllMoments};
+ghost use Rattle.pm_disk.specs.States.{IsUsable};
+ghost use Rattle.pm_model.specs.Eval.{Pairs};
+ghost use Rattle.pm_ptable.specs.declared.table.TheConstants.{FRAMES_MAX as most_frames};
+ghost use Rattle.pm_records.specs.FirstRecords.{restart_frame};
+ghost use Rattle.pm_records.specs.LogFiles.{contents};
+ghost use Rattle.pm_records.specs.LogSteps.{DoesSteps};
+ghost use Rattle.pm_segments.specs.Ends.{EndsThere};
+ghost use Rattle.pm_marks.specs.Slots.{IsMark};
+ghost use Rattle.pm_core.specs.Calls.{ChangesDisk};
+ghost use Rattle.pm_core.specs.Held.{AllWellFormed, in_force};
+ghost use Rattle.pm_core.specs.LogAlone.{image_of};
+ghost use Rattle.pm_core.specs.Starts.{CanBegin};
+ghost use Rattle.pm_core.specs.States.{State};
+ghost use Rattle.pm_redo.specs.Differences.{difference_from};
+ghost use Rattle.pm_redo.specs.Restoring.{found_shape, IsCutLog, IsFit};
+ghost use Rattle.pm_engine.specs.AppendRuns.{append_all_steps};
+ghost use Rattle.pm_engine.specs.Batches.{HasPlainFault};
+ghost use Rattle.pm_engine.specs.FrameOpenings.{IsFreshIn, IsReadyOver, OpensRunningIn, HasOpenCauseIn};
+ghost use Rattle.pm_engine.specs.FrameOpenings.{AreEmptyFrames, IsStartedEngine, HasNoStrayPages};
+ghost use Rattle.pm_engine.specs.PagedReplays.{CrashHoldsMap, LogLeadsTo};
+ghost use Rattle.pm_engine.specs.PagedOpenings.{HasFewNumbers, opened_last, opened_number};
+ghost use Rattle.pm_engine.specs.PagedOpenings.{IsPlainOpen, ComparesOpening, CountsFaults, CountsOpenFaults};
+ghost use Rattle.pm_engine.specs.PagedOpenings.{loaded_base, IsBadOver, IsRestoredHolding};
+ghost use Rattle.pm_engine.specs.RunningStores.{ended_with};
+
+use crate::frame_engine::FrameEngine;
+use crate::frame_replay_log::replay_in_frames;
+use crate::frame_store::FrameStore;
+use crate::paged_opening::append_restart;
+use crate::replay_log::has_numbers;
+use pm_ckpt::Ckpt;
+use pm_config::Config;
+use pm_disk::Host;
+use pm_redo::{Base, restore};
+use pm_segments::Log;
+use pm_types::{Mark, OpenFault, Shape, StoreFault};
+use std::alloc::{AllocError, Global};
+use std::sync::Wait;
+
+impl FrameEngine {
+    /// Opens the store, with as many page frames as the configuration says. It is restored: its shape is compared with
+    /// the one that the configuration asks for, its log is cut where it ends, and a checkpoint that was running is
+    /// ended. A RESTART is appended, and the records of the log from the replay place up to it are applied again, whose
+    /// pages are logged. Where frames are lacking for the pages of a record, a checkpoint is made before it, so that a
+    /// restart applies the log from that record on. Only the pages that these records need are read, so that it takes
+    /// time in proportion to the log.
+    ///
+    /// `Shape` comes exactly where the store has a shape and it differs, unless a call failed or memory ran
+    /// out, and leaves everything as it was. `BadRecord` and `BadPage` come only where the store isn't sound.
+    /// `BadRecord` names the record without which the store can't be restored, or, where the base pages are well
+    /// formed, the one that can't be applied again. `BadPage` names a page that can't be used, and comes only where the
+    /// base pages aren't well formed. Both are said of a store whose files have no page where it has no start marker:
+    /// others come to light with a checkpoint. A page that isn't read isn't checked. What a crash leaves of a sound
+    /// store, meanwhile or after any fault, holds what it held, and may be opened again.
+    ///
+    /// What it makes of a sound store is said where there are numbers for the segments that it may begin: one
+    /// for the RESTART, and `OP_PAGES + 1` for each record from the replay place on; and for a checkpoint for
+    /// each of these records.
+    pub fn open_store<Q: Wait, H: Host>(
+        rt: &Q,
+        alloc: Global,
+        host: &mut H,
+        config: &Config,
+    ) -> Result<FrameEngine, OpenFault>
+        requires usable { IsUsable (H.Device.state host.old) }
+        requires wanted { IsConfig config.now }
+
+        // What it makes of any store.
+        ensures fresh { IfOk result (λ engine. IsFreshIn config.now engine
+            × (H.Device.tells → IsReadyOver engine (H.Device.history host.new).world)) }
+
+        // Which field differs, which record is bad, and whether a page is.
+        ensures compared { H.Device.tells → ComparesOpening (difference_from (found_shape
+            (in_force (image_of (H.Device.history host.old).world))
+            (contents (H.Device.history host.old).world.log)) config.now.shape)
+            (H.Device.history host.old) (H.Device.history host.new) result }
+        ensures bad { H.Device.tells → IfErr result (HasOpenCauseIn config.now.shape
+            (in_force (image_of (H.Device.history host.old).world))
+            (H.Device.history host.old).world (H.Device.history host.new).world) }
+
+        // What it makes of a sound store with nothing pending, and what a crash leaves meanwhile.
+        ensures opened { H.Device.tells → (told : List ℕ → ℕ) (shape : ThisShape) (pairs : Pairs)
+            → (can : CanBegin config.now.shape told (H.Device.history host.old).world shape pairs)
+            → HasFewNumbers can → IfOk result (λ engine. OpensRunningIn (opened_last can) (opened_number can)
+            config.now.shape told shape pairs engine (H.Device.history host.new).world) }
+        ensures refused { H.Device.tells → (told : List ℕ → ℕ) (shape : ThisShape) (pairs : Pairs)
+            → (can : CanBegin config.now.shape told (H.Device.history host.old).world shape pairs)
+            → HasFewNumbers can → difference_from (found_shape
+            (in_force (image_of (H.Device.history host.old).world))
+            (contents (H.Device.history host.old).world.log)) config.now.shape ≡ None
+            → IfErr result IsPlainOpen }
+        ensures within { H.Device.tells → (told : List ℕ → ℕ) (shape : ThisShape) (pairs : Pairs)
+            → (can : CanBegin config.now.shape told (H.Device.history host.old).world shape pairs)
+            → HasFewNumbers can → AllMoments (H.Device.history host.old) (H.Device.history host.new)
+            (CrashHoldsMap (opened_last can + 1) (opened_number can) config.now.shape shape pairs) }
+        ensures disk { H.Device.tells → AllMoments (H.Device.history host.old) (H.Device.history host.new)
+            (ChangesDisk (H.Device.history host.old).world) }
+        ensures cause { CountsOpenFaults (H.Device.state host.old) (H.Device.state host.new) result }
+    {
+        let base = restore(alloc, host, &config.shape)?;
+        match open_restored(rt, alloc, host, config, base) {
+            Ok(engine) => Ok(engine),
+            Err(fault) => Err(OpenFault::Store(fault)),
+        }
+    }
+}
+
+// Opens a store that was restored. No page is bad where its base pages are well formed and its files have no others
+// that may be read.
+fn open_restored<Q: Wait, H: Host>(
+    rt: &Q,
+    alloc: Global,
+    host: &mut H,
+    config: &Config,
+    base: Base,
+) -> Result<FrameEngine, StoreFault>
+    requires usable { IsUsable (H.Device.state host.old) }
+    requires wanted { IsConfig config.now }
+    requires fit { IsFit config.now.shape base }
+    requires leads { H.Device.tells
+        → LogLeadsTo base.replay base.log_end base.log (H.Device.history host.old).world }
+    requires there { H.Device.tells → EndsThere base.log (H.Device.history host.old).world }
+    ensures fresh { IfOk result (λ engine. IsFreshIn config.now engine
+        × (H.Device.tells → IsReadyOver engine (H.Device.history host.new).world)) }
+    ensures bad_page { H.Device.tells → (id : ThisId) → IsErrOf result (StoreFault.BadPage id)
+        → AllWellFormed config.now.shape (loaded_base base.mark (H.Device.history host.old).world)
+        → HasNoStrayPages config.now.shape (ended_with base.mark) (H.Device.history host.old).world → ⊥ }
+    ensures bad_record { H.Device.tells → (at : ThisPlace) → IsErrOf result (StoreFault.BadRecord at)
+        → AllWellFormed config.now.shape (loaded_base base.mark (H.Device.history host.old).world)
+        → HasNoStrayPages config.now.shape (ended_with base.mark) (H.Device.history host.old).world
+        → IsBadOver config.now.shape (loaded_base base.mark (H.Device.history host.old).world)
+        (contents (H.Device.history host.old).world.log) base.replay base.log_end
+        (H.Device.history host.new).world at }
+    ensures opened { H.Device.tells → (last highest : ℕ) (wanted : ThisShape) (told : List ℕ → ℕ) (pairs : Pairs)
+        (s : State) → IsRestoredHolding last highest wanted told config.now.shape pairs base.log base.mark s
+        (H.Device.history host.old).world
+        → IfOk result (λ engine. OpensRunningIn last highest wanted told config.now.shape pairs engine
+        (H.Device.history host.new).world) }
+    ensures plain { H.Device.tells → (last highest : ℕ) (wanted : ThisShape) (told : List ℕ → ℕ) (pairs : Pairs)
+        (s : State) → IsRestoredHolding last highest wanted told config.now.shape pairs base.log base.mark s
+        (H.Device.history host.old).world
+        → IfErr result (λ fault. IsPlainOpen (opening.Store fault)) }
+    ensures within { H.Device.tells → (last highest : ℕ) (wanted : ThisShape) (told : List ℕ → ℕ) (pairs : Pairs)
+        (s : State) → IsRestoredHolding last highest wanted told config.now.shape pairs base.log base.mark s
+        (H.Device.history host.old).world
+        → AllMoments (H.Device.history host.old) (H.Device.history host.new)
+        (CrashHoldsMap (last + 1) highest wanted config.now.shape pairs) }
+    ensures disk { H.Device.tells → AllMoments (H.Device.history host.old) (H.Device.history host.new)
+        (ChangesDisk (H.Device.history host.old).world) }
+    ensures cause { CountsFaults (H.Device.state host.old) (H.Device.state host.new) result }
+{
+    let from = base.replay;
+    let end = base.log_end;
+    let started = start_engine(alloc, host, config, base.mark, base.log)?;
+    let (engine, answer) = replay_in_frames(rt, alloc, host, started, from, end);
+    match answer {
+        Ok(()) => Ok(engine),
+        Err(fault) => {
+            let _order = engine.close();
+            Err(fault)
+        }
+    }
+}
+
+// Makes the engine of a store that was restored, over page frames without a page, and appends the RESTART to its log.
+// All memory is taken before. `Memory` also comes where there may be no number for a segment more.
+fn start_engine<H: Host>(
+    alloc: Global,
+    host: &mut H,
+    config: &Config,
+    mark: Option<Mark>,
+    log: Log,
+) -> Result<FrameEngine, StoreFault>
+    requires usable { IsUsable (H.Device.state host.old) }
+    requires wanted { IsConfig config.now }
+    requires marked { IfSome mark (λ mark. IsMark mark × (mark.shape ≡ config.now.shape)) }
+    requires cut { IsCutLog log }
+    requires there { H.Device.tells → EndsThere log (H.Device.history host.old).world }
+    ensures started { IfOk result (IsStartedEngine config.now mark log) }
+    ensures ends { H.Device.tells
+        → IfOk result (λ engine. EndsThere engine.log (H.Device.history host.new).world) }
+    ensures steps { H.Device.tells → DoesSteps (H.Device.history host.old) (H.Device.history host.new) result
+        (append_all_steps log (restart_frame config.now.shape ∷ [])) log.end }
+    ensures cause { HasPlainFault (H.Device.state host.old) (H.Device.state host.new) result }
+{
+    if !has_numbers(log.end()) {
+        return Err(StoreFault::Memory);
+    }
+    let (pages, ckpt) = empty_frames(alloc, &config.shape, config.frames, mark)?;
+    let mut log = log;
+    match append_restart(host, &mut log, &config.shape) {
+        Ok(()) => Ok(FrameEngine::new(pages, log, ckpt, Vec::new(alloc))),
+        Err(_) => {
+            pages.close();
+            Err(StoreFault::Failed)
+        }
+    }
+}
+
+// So many page frames without a page, and what is kept for checkpoints of all of them. The partitions' files have pages
+// where there is a start marker.
+fn empty_frames(
+    alloc: Global,
+    shape: &Shape,
+    frames: u32,
+    mark: Option<Mark>,
+) -> Result<(FrameStore, Ckpt), AllocError>
+    requires shape { IsShape shape.now }
+    requires some { 1 ≤ frames }
+    requires few { frames ≤ most_frames }
+    requires marked { IfSome mark (λ mark. IsMark mark × (mark.shape ≡ shape.now)) }
+    ensures { IfOk result (λ made. AreEmptyFrames shape.now mark frames made.0 made.1) }
+{
+    let pages = FrameStore::new(alloc, shape, frames, mark.is_some())?;
+    match Ckpt::new(alloc, *shape, mark, frames) {
+        Ok(ckpt) => Ok((pages, ckpt)),
+        Err(fault) => {
+            pages.close();
+            Err(fault)
+        }
+    }
+}

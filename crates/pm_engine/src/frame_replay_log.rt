@@ -1,0 +1,201 @@
+//! The records of the log from the replay place on, applied again one after the other over page frames.
+
+ghost use Rattle.std.specs.Prelude.{◌≡◌, ◌≤◌, ◌<◌, ◌+◌, ◌^◌, ◌++◌, ℕ, List, true, OnOk, IsErrOf};
+ghost use Rattle.pm_types.specs.declared.limits.TheConstants.{OP_PAGES};
+ghost use Rattle.pm_types.specs.declared.place.Place.{Place as ThisPlace};
+ghost use Rattle.pm_types.specs.declared.shape.Shape.{Shape};
+ghost use Rattle.pm_frame.specs.declared.limits.TheConstants.{SEGMENT_END_MAX as last_end};
+ghost use Rattle.pm_disk.specs.Moments.{AllMoments};
+ghost use Rattle.pm_disk.specs.States.{IsUsable};
+ghost use Rattle.pm_disk.specs.Worlds.{World};
+ghost use Rattle.pm_model.specs.Eval.{Pairs};
+ghost use Rattle.pm_records.specs.LogFiles.{contents};
+ghost use Rattle.pm_marks.specs.Slots.{IsMarkPlace};
+ghost use Rattle.pm_segments.specs.Ends.{EndsThere};
+ghost use Rattle.pm_segments.specs.Scans.{IsAhead, StaysAt};
+ghost use Rattle.pm_core.specs.Calls.{ChangesDisk};
+ghost use Rattle.pm_core.specs.States.{State};
+ghost use Rattle.pm_engine.specs.FrameEngineReplays.{HasWholePages};
+ghost use Rattle.pm_engine.specs.FrameEngines.{IsSameEngine};
+ghost use Rattle.pm_engine.specs.FrameReplayLogs.{AppliesNextIn, CanReplayIn, ReplaysAllIn, ReplaysScan};
+ghost use Rattle.pm_engine.specs.FrameReplayLogs.{StepsReplay, ReplaysWellFormed};
+ghost use Rattle.pm_engine.specs.FrameStores.{HasCleanPages};
+ghost use Rattle.pm_engine.specs.PagedReplays.{LogLeadsTo};
+ghost use Rattle.pm_engine.specs.PagedOpenings.{CountsFaults};
+
+use crate::frame_engine::FrameEngine;
+use crate::replay_log::{has_numbers, keep_ahead, may_stand, segment_of};
+use pm_disk::Host;
+use pm_model::Replies;
+use pm_segments::Scan;
+use pm_types::{Place, StoreFault};
+use std::alloc::Global;
+use std::sync::Wait;
+
+// Applies the next record of the log again. `BadRecord` names its place where it can't be applied, or where none
+// stands, and `Memory` also comes where there may be no numbers for the segments of a checkpoint and of the record's
+// pages, or where frames are lacking even after a checkpoint.
+fn replay_next_in_frames<Q: Wait, H: Host>(
+    rt: &Q,
+    alloc: Global,
+    host: &mut H,
+    engine: FrameEngine,
+    scan: &mut Scan,
+    replies: &mut Replies,
+) -> (FrameEngine, Result<(), StoreFault>)
+    requires open { engine.store.is_open ≡ true }
+    requires usable { IsUsable (H.Device.state host.old) }
+    requires from_one { 1 ≤ scan.old.next.seg }
+    requires end { H.Device.tells → EndsThere engine.log (H.Device.history host.old).world }
+    requires clean { H.Device.tells → HasCleanPages engine.store (H.Device.history host.old).world }
+    requires ahead { H.Device.tells → IsAhead scan.old (H.Device.history host.old).world }
+    ensures steps { StepsReplay H.Device.tells scan.old scan.new engine result.0 (H.Device.history host.old)
+        (H.Device.history host.new) result.1 }
+    ensures cause { CountsFaults (H.Device.state host.old) (H.Device.state host.new) result.1 }
+{
+    let before = engine.log.end();
+    let place = scan.next_place();
+    if !has_numbers(before) {
+        return (engine, Err(StoreFault::Memory));
+    }
+    if !may_stand(place) {
+        return (engine, Err(StoreFault::BadRecord(place)));
+    }
+    let (engine, applied) = apply_next_in_frames(rt, alloc, host, engine, scan, replies);
+    match applied {
+        Err(fault) => (engine, Err(fault)),
+        Ok(can) => {
+            if !can {
+                return (engine, Err(StoreFault::BadRecord(place)));
+            }
+            keep_ahead(scan, before);
+            (engine, Ok(()))
+        }
+    }
+}
+
+// Applies the next record of the log again, if there is one, and answers whether there is one that can be applied.
+fn apply_next_in_frames<Q: Wait, H: Host>(
+    rt: &Q,
+    alloc: Global,
+    host: &mut H,
+    engine: FrameEngine,
+    scan: &mut Scan,
+    replies: &mut Replies,
+) -> (FrameEngine, Result<bool, StoreFault>)
+    requires open { engine.store.is_open ≡ true }
+    requires usable { IsUsable (H.Device.state host.old) }
+    requires at { IsMarkPlace scan.old.next }
+    requires end { H.Device.tells → EndsThere engine.log (H.Device.history host.old).world }
+    requires clean { H.Device.tells → HasCleanPages engine.store (H.Device.history host.old).world }
+    requires ahead { H.Device.tells → IsAhead scan.old (H.Device.history host.old).world }
+    ensures next { AppliesNextIn H.Device.tells scan.old scan.new engine result.0 (H.Device.history host.old)
+        (H.Device.history host.new) result.1 }
+    ensures bound { OnOk result.1 (scan.new.next.off ≤ last_end) }
+    ensures ahead { H.Device.tells → OnOk result.1 (IsAhead scan.new (H.Device.history host.old).world) }
+    ensures no_record { (at : ThisPlace) → IsErrOf result.1 (StoreFault.BadRecord at) → ⊥ }
+    ensures cause { CountsFaults (H.Device.state host.old) (H.Device.state host.new) result.1 }
+{
+    let place = scan.next_place();
+    match scan.next(host) {
+        Err(_) => (engine, Err(StoreFault::Failed)),
+        Ok(found) => match found {
+            None => (engine, Ok(false)),
+            Some(frame) => {
+                engine.apply_at(rt, alloc, host, place, frame.kind, frame.payload, replies)
+            }
+        },
+    }
+}
+
+/// Applies the records of the log from `from` on up to `end`, where the log ended before the RESTART, over the page
+/// frames of a store that is opened. What is appended meanwhile comes after that, and isn't looked at. Where frames are
+/// lacking for the pages of a record, a checkpoint is made first, so that a restart applies the log from that record
+/// on.
+///
+/// `BadRecord` names a record that is in no grammar, or is a put that meets a full partition, or a place before `end`
+/// at which none stands, and `BadPage` a page that can't be used. `Memory` also comes where the log runs out of numbers
+/// for its segments, and where frames are lacking even after a checkpoint. After an error nothing is to be done with
+/// the engine but to close it.
+pub(crate) fn replay_in_frames<Q: Wait, H: Host>(
+    rt: &Q,
+    alloc: Global,
+    host: &mut H,
+    engine: FrameEngine,
+    from: Place,
+    end: Place,
+) -> (FrameEngine, Result<(), StoreFault>)
+    requires open { engine.store.is_open ≡ true }
+    requires usable { IsUsable (H.Device.state host.old) }
+    requires from_one { 1 ≤ from.seg }
+    requires within { from.off ≤ last_end }
+    requires there { H.Device.tells → EndsThere engine.log (H.Device.history host.old).world }
+    requires clean { H.Device.tells → HasCleanPages engine.store (H.Device.history host.old).world }
+    ensures same { IsSameEngine engine result.0 }
+    ensures order { result.0.order ≡ engine.order }
+    ensures is_open { OnOk result.1 (result.0.store.is_open ≡ true) }
+    ensures clean { H.Device.tells
+        → OnOk result.1 (HasCleanPages result.0.store (H.Device.history host.new).world) }
+    ensures ends { H.Device.tells → OnOk result.1 (EndsThere result.0.log (H.Device.history host.new).world) }
+    ensures disk { H.Device.tells → AllMoments (H.Device.history host.old) (H.Device.history host.new)
+        (ChangesDisk (H.Device.history host.old).world) }
+
+    // What it makes of a sound store, and what a crash leaves of it meanwhile.
+    ensures sound { H.Device.tells → (last highest : ℕ) (wanted : Shape) (told : List ℕ → ℕ) (pairs : Pairs)
+        (s : State)
+        → CanReplayIn last highest wanted told pairs from end engine s (H.Device.history host.old).world
+        → ReplaysAllIn last highest wanted told pairs engine result.0
+        (H.Device.history host.old) (H.Device.history host.new) result.1 }
+
+    // What it makes of any store whose pages are well formed, and have none that a checkpoint would bring to light.
+    ensures any { H.Device.tells → LogLeadsTo from end engine.log (H.Device.history host.old).world
+        → HasWholePages engine.store (H.Device.history host.old).world
+        → ReplaysWellFormed from end engine result.0 (H.Device.history host.old).world
+        (H.Device.history host.new).world result.1 }
+    ensures cause { CountsFaults (H.Device.state host.old) (H.Device.state host.new) result.1 }
+{
+    match Scan::new(alloc, from) {
+        Err(_) => (engine, Err(StoreFault::Memory)),
+        Ok(mut scan) => match Replies::with_room(alloc, 1) {
+            Err(_) => (engine, Err(StoreFault::Memory)),
+            Ok(mut replies) => replay_all(rt, alloc, host, engine, &mut scan, end, &mut replies),
+        },
+    }
+}
+
+// Applies the records from where the scan goes on up to `end`.
+fn replay_all<Q: Wait, H: Host>(
+    rt: &Q,
+    alloc: Global,
+    host: &mut H,
+    engine: FrameEngine,
+    scan: &mut Scan,
+    end: Place,
+    replies: &mut Replies,
+) -> (FrameEngine, Result<(), StoreFault>)
+    requires open { engine.store.is_open ≡ true }
+    requires usable { IsUsable (H.Device.state host.old) }
+    requires from_one { 1 ≤ scan.old.next.seg }
+    requires within { scan.old.next.off ≤ last_end }
+    requires there { H.Device.tells → EndsThere engine.log (H.Device.history host.old).world }
+    requires clean { H.Device.tells → HasCleanPages engine.store (H.Device.history host.old).world }
+    requires ahead { H.Device.tells → IsAhead scan.old (H.Device.history host.old).world }
+    ensures replays { ReplaysScan H.Device.tells scan.old end engine result.0 (H.Device.history host.old)
+        (H.Device.history host.new) result.1 }
+    ensures cause { CountsFaults (H.Device.state host.old) (H.Device.state host.new) result.1 }
+{
+    let mut running = engine;
+    'frames: loop {
+        let next = scan.next_place();
+        let _segment = segment_of(next);
+        if next == end {
+            return (running, Ok(()));
+        }
+        let (after, answer) = replay_next_in_frames(rt, alloc, host, running, scan, replies);
+        running = after;
+        match answer {
+            Err(fault) => return (running, Err(fault)),
+            Ok(()) => {}
+        }
+    }
+}

@@ -1,7 +1,0 @@
-use Rattle.std.proofs.Common.{◌≡◌, take}
-use Rattle.pm_top.specs.ReplyCounts.{with_all}
-use Rattle.pm_top.proofs.counting.ReplyCounts.add_all.Given as goal
-
--- the replies so far are counted
-abbrev pub invariant-each : goal.invariant-each
-invariant-each l = l.self ≡ with_all l.fn.self (take l.i l.replies.replies)
