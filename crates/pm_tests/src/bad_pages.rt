@@ -131,15 +131,15 @@ fn a_bad_page_is_found_by_the_line_that_needs_it(rt: HostRuntime) {
     }
 }
 
-/// Damages of the file of a partition, each with the page that is found bad by a line that reads its row: the first
-/// page, the page of the index, or the page that has the row.
+/// Damages of the file of a partition, each with the first page that is bad, which is named where a line reads the
+/// partition's row: the first page, the page of the index, or the page that has the row.
 static DAMAGES: [(Damage, u8); 8] = [
     (Damage::Turned(8, 8), 0),
     (Damage::Overwritten(0, 8_192), 0),
     (Damage::Filled(24_576), 0),
     (Damage::Turned(16_392, 8), 2),
     (Damage::Cut(16_384), 2),
-    (Damage::Cut(8_192), 2),
+    (Damage::Cut(8_192), 1),
     (Damage::Turned(8_200, 8), 1),
     (Damage::Overwritten(8_192, 16_384), 1),
 ];
