@@ -1,3 +1,4 @@
 pub mod NotedChanges
 pub mod OneRound
+pub mod OpenStores
 pub mod SharedSeats

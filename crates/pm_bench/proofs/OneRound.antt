@@ -1,5 +1,5 @@
 -- What one worker carries through a round, and through a checkpoint.
-use Rattle.std.proofs.Common.{◌≡◌, ℕ, zero, suc, List, [], ◌∷◌, length, Option, Some, Result, Ok, Err, true, refl, sym, ap, subst, ◌∙◌}
+use Rattle.std.proofs.Common.{◌≡◌, ℕ, zero, suc, [], ◌∷◌, Some, Result, Ok, Err, true, refl, sym, ap, subst, ◌∙◌}
 use Rattle.std.specs.Prelude.{OnOk, slice_get}
 use Rattle.std.proofs.lemmas.Option.{same_Some}
 use Rattle.pm_types.specs.declared.page_id.PageId.{PageId}
@@ -19,7 +19,6 @@ use Rattle.pm_stripe.specs.Stripes.{kept, file_of, IsAtRest, SameButFiles}
 use Rattle.pm_stripe.proofs.FileStripes.{rests_on_files}
 use Rattle.pm_stripe.proofs.ReadableParts.{keeps_reading, reads_by_parts}
 use Rattle.pm_ckpt.specs.Dirty.{AreReading, AreResting, IsResting, LeavesFrames, NoneStays, dirty_held, dirty_pages}
-use Rattle.pm_ckpt.specs.Frames.{IsWholeSeat}
 use Rattle.pm_ckpt.proofs.StayingPages.{dirty_stays, stay_at_rest}
 use Rattle.pm_bench.specs.OneWorker.{IsBetween}
 

@@ -1,1 +1,2 @@
 pub mod OneWorker
+pub mod OpenEngines

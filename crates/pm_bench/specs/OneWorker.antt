@@ -1,5 +1,5 @@
 -- What one worker, whose seat stands for all numbers, carries through rounds and checkpoints.
-use Rattle.std.specs.Prelude.{◌≡◌, ℕ, [], ◌∷◌, true}
+use Rattle.std.specs.Prelude.{◌≡◌, [], ◌∷◌, true}
 use Rattle.pm_types.specs.declared.page_id.PageId.{PageId}
 use Rattle.pm_disk.specs.Moments.{History}
 use Rattle.pm_disk.specs.States.{DeviceState, IsUsable}

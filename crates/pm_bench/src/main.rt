@@ -18,8 +18,6 @@ mod operations;
 mod page_list;
 mod page_table;
 #[cfg(test)]
-mod paged_maps;
-#[cfg(test)]
 mod plain_policies;
 mod policies;
 #[cfg(test)]

@@ -1,5 +1,5 @@
 -- What a command that is applied again over the pages of a store leaves of it.
-use Rattle.std.proofs.Common.{◌≡◌, ℕ, Bool, true, false, List, [], ◌++◌, Result, Ok, Err, refl, sym, ap, subst, ◌∙◌}
+use Rattle.std.proofs.Common.{◌≡◌, ℕ, Bool, true, false, List, ◌++◌, None, Result, Ok, Err, refl, sym, ap, subst, ◌∙◌}
 use Rattle.std.proofs.lemmas.Bool.{false≢true}
 use Rattle.pm_disk.specs.Moments.{History}
 use Rattle.pm_disk.specs.States.{DeviceState}
@@ -23,7 +23,7 @@ use Rattle.pm_engine.specs.FrameLines.{is_scan}
 use Rattle.pm_engine.specs.FrameReplays.{AppliesCommand, LeavesApplied, AppliesInFrames, AppliesToStore, may_apply_more}
 use Rattle.pm_engine.specs.FrameStores.{FrameStoreView, IsOpenStore, IsFrameStore}
 use Rattle.pm_engine.specs.OutboxLogs.{AreOperationBytes}
-use Rattle.pm_engine.specs.PagedMaps.{IsKeyOf}
+use Rattle.pm_engine.specs.Records.{IsKeyOf}
 use Rattle.pm_engine.proofs.BoundStores.{store_after, same_store, settled_before, clean_after, ended}
 use Rattle.pm_engine.proofs.FrameHosts.{grown_bytes, bound_began}
 use Rattle.pm_engine.proofs.LentReaders.{clean_there, pages_there}
@@ -67,7 +67,7 @@ module _ {Q R : Type 0} (tells : Type 0) (history : R → History) (state : R �
       (c : Bound Q R) (was now : ReplyList) (answer : Result Bool Stop) (applies : AppliesInFrames tells history state cmd b c was now answer)
       (s : Stripe) (seat : Sight) (r : R) (flag : Bool) (ends : EndsRound tells history c s seat) (rest : IsAtRest c.locks.now (kept s seat)) (flag_is : flag ≡ may_apply_more answer) where
     abbrev new : FrameStoreView
-    new = record old { seat = seat; stripe = s; is_open = flag }
+    new = record old { seat = seat; stripe = s; dirty = None; is_open = flag }
 
     between : flag ≡ true → IsBetweenLines tells history state c
     between on = between_by b c answer (sym flag_is ∙ on) applies.leaves

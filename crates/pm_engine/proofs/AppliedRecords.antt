@@ -1,33 +1,37 @@
 -- What became of a logical record whose command was applied again.
-use Rattle.std.proofs.Common.{◌≡◌, ℕ, Bool, true, false, List, [], ◌∷◌, Option, Some, None, Result, Ok, Err, refl, sym, ap, ◌∙◌, subst}
-use Rattle.std.specs.Prelude.{◌==◌, IfOk, OnOk, IsErrOf}
+use Rattle.std.proofs.Common.{◌≡◌, ℕ, Bool, true, false, List, Option, Some, Result, Ok, Err, refl, sym, ap, ◌∙◌, subst}
+use Rattle.std.specs.Prelude.{◌==◌, IfOk, IfErr, OnOk, IsErrOf}
 use Rattle.std.proofs.lemmas.Bool.{eqb-true}
-use Rattle.pm_types.specs.declared.fault.PageFault.{PageFault}
 use Rattle.pm_types.specs.declared.fault.PageFault.TheVariants as page
 use Rattle.pm_types.specs.declared.fault.StoreFault.{StoreFault}
 use Rattle.pm_types.specs.declared.fault.StoreFault.TheVariants as store
 use Rattle.pm_types.specs.declared.page_id.PageId.{PageId}
 use Rattle.pm_types.specs.declared.place.Place.{Place}
 use Rattle.pm_types.specs.declared.shape.Shape.{Shape}
+use Rattle.pm_disk.specs.Moments.{History}
 use Rattle.pm_disk.specs.Worlds.{World}
 use Rattle.pm_model.specs.declared.line.Cmd.{Cmd}
 use Rattle.pm_model.specs.declared.line.Line.TheVariants.{Good}
 use Rattle.pm_model.specs.Eval.{Pairs, after}
 use Rattle.pm_model.specs.ReplyLists.{ReplyList}
-use Rattle.pm_records.specs.Records.{Logical}
+use Rattle.pm_records.specs.Records.{Record, Logical}
 use Rattle.pm_records.specs.declared.limits.TheConstants.{PUT}
 use Rattle.pm_stripe.specs.declared.halt.Halt.{Halt}
 use Rattle.pm_core.specs.BasePages.{Partitions}
 use Rattle.pm_core.specs.Held.{AllWellFormed, pairs_in}
+use Rattle.pm_core.specs.Replays.{replayed}
+use Rattle.pm_engine.specs.declared.frame_engine_replay.Applied.{Applied}
+use Rattle.pm_engine.specs.declared.frame_engine_replay.Applied.TheVariants as applied
 use Rattle.pm_engine.specs.declared.frame_lines.Stop.{Stop}
 use Rattle.pm_engine.specs.declared.frame_lines.Stop.TheVariants.{Halted, Faulted}
-use Rattle.pm_engine.specs.FrameEngineReplays.{EvaluatesAgain, AppliesAs, applied_as, is_done}
+use Rattle.pm_engine.specs.FrameEngineReplays.{AppliesRecord, EvaluatesAgain, AppliesAs, GoesOnInFrames, NamesNoPage, applied_as, is_done}
 use Rattle.pm_engine.specs.FrameEngines.{FrameRunning, map_in}
+use Rattle.pm_engine.specs.Batches.{IsPlainFault}
 use Rattle.pm_engine.specs.FrameLines.{EvaluatesLine}
 use Rattle.pm_engine.specs.FrameReplays.{may_apply_more}
 use Rattle.pm_engine.specs.FrameStores.{pages_in_frames}
-use Rattle.pm_engine.specs.PagedReplays.{Replays, line_in}
-use Rattle.pm_engine.proofs.PagedReplays.{put_applies, remove_applies}
+use Rattle.pm_engine.specs.Replays.{line_in}
+use Rattle.pm_engine.proofs.ReplayedLines.{put_applies, remove_applies}
 
 abbrev answered : Bool → Result Bool Stop
 answered accepted = Ok accepted
@@ -147,3 +151,51 @@ applied_failed false (Ok false) is = absurd cc
 applied_failed put (Err (Halted halt)) is = absurd cc
 applied_failed put (Err (Faulted page.Failed)) is = refl
 applied_failed put (Err (Faulted (page.BadPage other))) is = absurd cc
+
+-- ---- all that is said of a record
+
+-- it was a logical one, and its command was answered
+pub applied_record : (tells : Type 0) (cmd : Cmd) (before now : FrameRunning) (old new : History) (was replies : ReplyList) (answer : Result Bool Stop) → EvaluatesAgain tells cmd before now old.world new.world was replies answer → GoesOnInFrames tells before now old new
+    → (is_put : Bool) (op cache : ℕ) (key value : List ℕ) → is_put ≡ (op == PUT) → Good cmd ≡ line_in op cache key value → AppliesRecord tells (Some (Logical op cache key value)) before now old new (applied_as is_put answer)
+applied_record tells cmd before now old new was replies answer x goes is_put op cache key value put_is line = record {
+  goes_on = goes;
+  is_open = applied_open tells cmd before now old.world new.world was replies answer x is_put;
+  over_well_formed = λ t well. record {
+    applies = applied_applies tells cmd before now old.world new.world was replies answer x is_put goes.same.shape op cache key value put_is line t well;
+    well_formed = applied_well tells cmd before now old.world new.world was replies answer x is_put t well;
+    no_page = applied_sound tells cmd before now old.world new.world was replies answer x is_put t well;
+  };
+  unlogged = applied_unlogged tells cmd before now old.world new.world was replies answer x is_put;
+  refused = applied_refused tells cmd before now old.world new.world was replies answer x is_put;
+}
+
+-- nothing was done, since there is nothing to be done, or it can't be
+pub applied_nothing : (tells : Type 0) (engine : FrameRunning) (old : History) (found : Option Record) (became : Applied) → GoesOnInFrames tells engine engine old old → engine.store.is_open ≡ true
+    → AppliesAs became engine.store.shape found (map_in engine old.world) (map_in engine old.world) → AppliesRecord tells found engine engine old old (Ok became)
+applied_nothing tells engine old found became goes on applies = record {
+  goes_on = goes;
+  is_open = on;
+  over_well_formed = λ t well. record { applies = applies; well_formed = well; no_page = λ id is. absurd cc };
+  unlogged = λ off. refl;
+  refused = λ t off. refl;
+}
+
+-- one was read that changes no map
+pub applied_quiet : (tells : Type 0) (engine : FrameRunning) (old : History) (found : Option Record) (rec : Record) → GoesOnInFrames tells engine engine old old → engine.store.is_open ≡ true → Some rec ≡ found
+    → replayed engine.store.shape (Some rec) (map_in engine old.world) ≡ Some (map_in engine old.world) → AppliesRecord tells found engine engine old old (Ok applied.Done)
+applied_quiet tells engine old found rec goes on read quiet =
+    applied_nothing tells engine old found applied.Done goes on (subst (λ (o : Option Record). replayed engine.store.shape o (map_in engine old.world) ≡ Some (map_in engine old.world)) read quiet)
+
+-- a fault came that names no page
+pub applied_fault : (tells : Type 0) (found : Option Record) (before now : FrameRunning) (old new : History) (fault : StoreFault) → GoesOnInFrames tells before now old new → NamesNoPage {T = Applied} (Err fault) → AppliesRecord tells found before now old new (Err fault)
+applied_fault tells found before now old new fault goes none = record {
+  goes_on = goes;
+  is_open = tt;
+  over_well_formed = λ t well. record { applies = tt; well_formed = tt; no_page = none };
+  unlogged = tt;
+  refused = λ t. tt;
+}
+
+-- a plain fault names none
+pub plain_no_page : {T : Type 0} (result : Result T StoreFault) → IfErr result IsPlainFault → NamesNoPage result
+plain_no_page {T} result plain id is = subst (λ (r : Result T StoreFault). IfErr r IsPlainFault) is plain

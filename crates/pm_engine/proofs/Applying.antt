@@ -9,7 +9,7 @@ use Rattle.pm_model.specs.declared.line.Cmd.TheVariants.{Put, Remove}
 use Rattle.pm_model.specs.declared.line.Line.TheVariants.{Good}
 use Rattle.pm_model.specs.Eval.{Pairs, after}
 use Rattle.pm_core.specs.Replays.{put_replayed, replayed}
-use Rattle.pm_engine.specs.PagedReplays.{Replays}
+use Rattle.pm_engine.specs.Replays.{Replays}
 
 -- whether a put could be replayed, and the map that it leaves
 abbrev pub ReplaysPut : Bool → Shape → Line → Pairs → Pairs → Type 0

@@ -1,6 +1,5 @@
 -- A store whose worker did something, whatever it was, and then ended its round.
-use Rattle.std.proofs.Common.{◌≡◌, ℕ, ◌<◌, Bool, true, List, [], inl, inr, None, refl, sym, ap, subst, ◌∙◌, arith}
-use Rattle.std.specs.Prelude.{if◌then◌else◌}
+use Rattle.std.proofs.Common.{◌≡◌, Bool, true, inl, inr, None, refl, sym, ap, subst, ◌∙◌, arith}
 use Rattle.pm_types.specs.declared.page_id.PageId.{PageId}
 use Rattle.pm_disk.specs.Moments.{History}
 use Rattle.pm_disk.specs.States.{DeviceState}
@@ -30,7 +29,7 @@ module _ {Q R : Type 0} (tells : Type 0) (history : R → History) (state : R �
     (c : Bound Q R) (same : IsSameWorker tells history state b c) (bound_at_end : IsBound tells history state c) (flag : Bool) (between : flag ≡ true → IsBetweenLines tells history state c)
     (s : Stripe) (seat : Sight) (ends : EndsRound tells history c s seat) (rest : IsAtRest c.locks.now (kept s seat)) where
   abbrev new : FrameStoreView
-  new = record old { seat = seat; stripe = s; is_open = flag }
+  new = record old { seat = seat; stripe = s; dirty = None; is_open = flag }
 
   locks_are : c.locks.now ≡ old.locks
   locks_are = ap (λ l. l.now) same.locks ∙ at_locks
@@ -70,6 +69,7 @@ module _ {Q R : Type 0} (tells : Type 0) (history : R → History) (state : R �
   store_after was_store bytes = record {
     seat = record { of = rests.holds.worker.seat_of; knows = sight.knows was_store.seat.knows; still = ends.still };
     outbox = subst AreOperationBytes (sym ends.same.outbox) bytes;
+    counted = tt;
     open_is = open_after;
     frames = was_store.frames;
     size = was_store.size;

@@ -1,20 +1,17 @@
 -- The frames of the pages of a partition that were changed, one page after the other.
-use Rattle.std.proofs.Common.{◌≡◌, ◌≢◌, ℕ, zero, suc, ◌+◌, ◌^◌, ◌<◌, ◌≤◌, Bool, true, false, List, [], ◌∷◌, ◌++◌, length, Option, Some, None, refl, sym, ap, ◌∙◌, inl, inr, arith, append_assoc, append-nil, length-append}
-use Rattle.std.specs.Prelude.{◌&&◌, not, if◌then◌else◌, IsSome}
-use Rattle.std.proofs.lemmas.Bool.{cases_eq, ne_eqb, false≢true}
+use Rattle.std.proofs.Common.{◌≡◌, ◌≢◌, ℕ, zero, suc, ◌+◌, ◌^◌, ◌<◌, ◌≤◌, Bool, true, false, List, [], ◌∷◌, ◌++◌, length, Option, Some, None, refl, ap, ◌∙◌, inl, inr, arith, append-nil, length-append}
+use Rattle.std.specs.Prelude.{◌&&◌, not, if◌then◌else◌}
+use Rattle.std.proofs.lemmas.Bool.{cases_eq}
 use Rattle.pm_types.specs.declared.page_id.PageId.{PageId}
 use Rattle.pm_types.specs.Ids.{page_id}
 use Rattle.pm_types.specs.Spans.{Coverage}
 use Rattle.pm_frame.specs.Frames.{Frame}
 use Rattle.pm_records.specs.Logs.{record_frame}
-use Rattle.pm_pages.specs.declared.asked.Asked.{Asked}
-use Rattle.pm_pages.specs.Asked.{entry_of, patch_of, has_bytes, is_changed}
-use Rattle.pm_pages.specs.declared.plain.PlainPages.{PlainPages}
+use Rattle.pm_pages.specs.Asked.{has_bytes, is_changed}
 use Rattle.pm_pages.specs.Paged.{Paged}
-use Rattle.pm_pages.specs.Plain.{plain_seen, plain_count, ArePlain}
 use Rattle.pm_pages.specs.Rows.{bytes_of}
 use Rattle.pm_core.specs.PageSets.{has_index}
-use Rattle.pm_engine.specs.PageLogs.{page_record, frames_with, frames_of_page, frames_at, frames_below, names_at, names_below}
+use Rattle.pm_engine.specs.PageLogs.{page_record, frames_with, frames_at, frames_below, names_at, names_below}
 use Rattle.pm_engine.proofs.PageNames.{other_name, has_index-others}
 
 -- ---- one page
@@ -43,14 +40,6 @@ names_one seen logged index is =
     turned : (b : Bool) → (let ns : List PageId = if not b then page_id seen.part index ∷ [] else [] in ns) ≡ (let ns : List PageId = if b then [] else page_id seen.part index ∷ [] in ns)
     turned true = refl
     turned false = refl
-
-pub few_names : (seen : Paged) (logged : List PageId) (index : ℕ) → length (names_at seen logged index) ≤ (if is_changed (seen.patch index) then 1 else 0)
-few_names seen logged index = by (is_changed (seen.patch index)) (has_index seen.part index logged)
-  where
-    by : (a b : Bool) → length (let ns : List PageId = if a && not b then page_id seen.part index ∷ [] else [] in ns) ≤ (if a then 1 else 0)
-    by true true = omega arith
-    by true false = omega arith
-    by false b = omega arith
 
 -- ---- the pages below an index
 
@@ -90,16 +79,6 @@ names_same seen logged from (suc k) to is none =
     ∙ append-nil (names_below seen logged (from + k))
     ∙ names_same seen logged from k (from + k) refl (λ i low high. none i low (omega (arith, high)))
 
--- the frames of the pages above follow
-pub below_more : (seen : Paged) (logged : List PageId) (n k : ℕ) → (rest : List Frame) × (frames_below seen logged (n + k) ≡ frames_below seen logged n ++ rest)
-below_more seen logged n zero = ([], ap (frames_below seen logged) (omega arith) ∙ sym (append-nil (frames_below seen logged n)))
-below_more seen logged n (suc k) =
-    let before = below_more seen logged n k in (
-      before.0 ++ frames_at seen logged (n + k),
-      below_next seen logged (n + k) (n + suc k) (omega arith) ∙ ap (λ fs. fs ++ frames_at seen logged (n + k)) before.1
-          ∙ append_assoc (frames_below seen logged n) before.0 (frames_at seen logged (n + k)),
-    )
-
 -- ---- names that came meanwhile are those of other pages
 
 names_apart_one : (seen : Paged) (logged : List PageId) (n index : ℕ) → n < 2 ^ 32 → n ≢ index → has_index seen.part index (names_at seen logged n) ≡ false
@@ -120,23 +99,12 @@ names_apart seen logged (suc n) index le few =
 pub logged_still : (seen : Paged) (logged : List PageId) (n : ℕ) → n ≤ 2 ^ 32 → has_index seen.part n (logged ++ names_below seen logged n) ≡ has_index seen.part n logged
 logged_still seen logged n few = has_index-others seen.part n logged (names_below seen logged n) (names_apart seen logged n n (omega arith) few)
 
-pub frames_still : (seen : Paged) (logged : List PageId) (n : ℕ) → n ≤ 2 ^ 32 → frames_at seen (logged ++ names_below seen logged n) n ≡ frames_at seen logged n
-frames_still seen logged n few = ap (frames_of_page seen n) (logged_still seen logged n few)
-
-pub names_still : (seen : Paged) (logged : List PageId) (n : ℕ) → n ≤ 2 ^ 32 → names_at seen (logged ++ names_below seen logged n) n ≡ names_at seen logged n
-names_still seen logged n few = ap (λ (b : Bool). let ns : List PageId = if is_changed (seen.patch n) && not b then page_id seen.part n ∷ [] else [] in ns) (logged_still seen logged n few)
-
 -- ---- how many pages were changed
 
 -- how many pages below an index were
 abbrev pub changed_count : (ℕ → Option Coverage) → ℕ → ℕ
 changed_count patch zero = 0
 changed_count patch (suc n) = changed_count patch n + (if is_changed (patch n) then 1 else 0)
-
-pub names_few : (seen : Paged) (logged : List PageId) (n : ℕ) → length (names_below seen logged n) ≤ changed_count seen.patch n
-names_few seen logged zero = omega (arith, ap length (names_zero seen logged))
-names_few seen logged (suc n) =
-    omega (arith, ap length (names_next seen logged n (suc n) (omega arith)), length-append (names_below seen logged n) (names_at seen logged n), few_names seen logged n, names_few seen logged n)
 
 few_frames : (patch : Option Coverage) (page : PageId) (bytes : List ℕ) (is_logged : Bool) → length (frames_with patch page bytes is_logged) ≤ (if is_changed patch then 1 else 0)
 few_frames None page bytes is_logged = omega arith
@@ -150,10 +118,6 @@ pub frames_few : (seen : Paged) (logged : List PageId) (n : ℕ) → length (fra
 frames_few seen logged zero = omega (arith, ap length (below_zero seen logged))
 frames_few seen logged (suc n) =
     omega (arith, ap length (below_next seen logged n (suc n) (omega arith)), length-append (frames_below seen logged n) (frames_at seen logged n), few_frames (seen.patch n) (page_id seen.part n) (bytes_of (seen.pages n)) (has_index seen.part n logged), frames_few seen logged n)
-
-count_none : (patch : ℕ → Option Coverage) (n : ℕ) → ((i : ℕ) → is_changed (patch i) ≡ false) → changed_count patch n ≡ 0
-count_none patch zero none = refl
-count_none patch (suc n) none = omega (arith, count_none patch n none, ap {B = ℕ} (λ (b : Bool). if b then 1 else 0) (none n))
 
 -- the same, but at one index
 count_below : (f g : ℕ → Option Coverage) (k n : ℕ) → ((i : ℕ) → i ≢ k → f i ≡ g i) → n ≤ k → changed_count f n ≡ changed_count g n
@@ -171,23 +135,3 @@ count_one f g k (suc n) same = elim (cases_eq n k) [
   | inl e ↦ omega (arith, count_below f g k n same (omega (arith, e)), bit (is_changed (f n)))
   | inr ne ↦ omega (arith, count_one f g k n same, ap {B = ℕ} (λ o. if is_changed o then 1 else 0) (same n ne))
 ]
-
--- no more than were asked for
-pub changed_few : (asked : List Asked) (n : ℕ) → changed_count (λ i. patch_of (entry_of asked i)) n ≤ length asked
-changed_few [] n = omega (arith, count_none (λ i. patch_of (entry_of [] i)) n (λ i. refl))
-changed_few (entry ∷ asked) n =
-    omega (arith, changed_few asked n, count_one (λ i. patch_of (entry_of (entry ∷ asked) i)) (λ i. patch_of (entry_of asked i)) entry.index n other)
-  where
-    other : (i : ℕ) → i ≢ entry.index → patch_of (entry_of (entry ∷ asked) i) ≡ patch_of (entry_of asked i)
-    other i ne = ap (λ (b : Bool). patch_of (if b then Some entry else entry_of asked i)) (ne_eqb entry.index i (λ e. ne (sym e)))
-
--- ---- plain pages
-
--- a page that was changed was asked for
-pub changed_asked : (found : Option Asked) → is_changed (patch_of found) ≡ true → IsSome found
-changed_asked None changed = absurd (false≢true changed)
-changed_asked (Some entry) changed = refl
-
--- so it is there
-pub changed_below : (pages : PlainPages) → ArePlain pages → (i : ℕ) → is_changed ((plain_seen pages).patch i) ≡ true → i < plain_count pages
-changed_below pages plain i changed = plain.there i (changed_asked (entry_of pages.asked.items i) changed)

@@ -16,7 +16,7 @@ use Rattle.pm_engine.specs.FrameCheckpoints.{IsCheckpointed}
 use Rattle.pm_engine.specs.FrameDirty.{ListsDirty}
 use Rattle.pm_engine.specs.FrameEngines.{FrameRunning, IsFrameEngine, HasDoneLines, HasLastingLinesIn, running_in}
 use Rattle.pm_engine.specs.FrameStores.{HasCleanPages}
-use Rattle.pm_engine.specs.PagedEngines.{number_of}
+use Rattle.pm_engine.specs.RunningStores.{number_of}
 use Rattle.pm_engine.specs.RunningLines.{HasRun, CrashHoldsLines}
 use Rattle.pm_engine.specs.RunningStores.{HasSegmentsFor}
 use Rattle.pm_engine.proofs.CheckpointedFrames.{names_run, may_make, leads, holds}

@@ -1,6 +1,6 @@
 -- An engine over page frames that applies its log again goes on after a checkpoint, and a crash meanwhile leaves what the store held.
-use Rattle.std.proofs.Common.{◌≡◌, ℕ, ◌+◌, ◌<◌, ◌≤◌, ◌^◌, List, [], ◌∷◌, length, Option, Some, Result, Ok, Err, refl, sym, ap, ◌∙◌, subst, arith, false, true}
-use Rattle.std.specs.Prelude.{OnErr, IsErr}
+use Rattle.std.proofs.Common.{◌≡◌, ℕ, ◌+◌, ◌<◌, ◌≤◌, ◌^◌, List, [], ◌∷◌, length, Some, Result, Ok, sym, ap, ◌∙◌, subst, arith, false, true}
+use Rattle.std.specs.Prelude.{IsErr}
 use Rattle.pm_types.specs.declared.page_id.PageId.{PageId}
 use Rattle.pm_types.specs.declared.place.Place.{Place}
 use Rattle.pm_types.specs.declared.shape.Mark.{Mark}
@@ -22,16 +22,17 @@ use Rattle.pm_ckpt.specs.Marked.{mark_for, kept_segment, begin_frame}
 use Rattle.pm_ckpt.specs.Marked as marked
 use Rattle.pm_engine.specs.FrameCheckpoints.{IsCheckpointed, ClosesStore}
 use Rattle.pm_engine.specs.FrameDirty.{ListsDirty}
-use Rattle.pm_engine.specs.FrameEngineReplays.{IsReplayingIn, ReplaysFromIn, KeepsWholePages, ChecksInFrames}
+use Rattle.pm_engine.specs.FrameEngineReplays.{IsReplayingIn}
 use Rattle.pm_engine.specs.FrameEngines.{FrameRunning, IsFrameEngine, map_in}
+use Rattle.pm_engine.specs.FrameReplayCheckpoints.{ReplaysFromIn, KeepsWholePages, ChecksInFrames}
 use Rattle.pm_engine.specs.FrameStores.{HasCleanPages, IsDirtyPage}
-use Rattle.pm_engine.specs.PagedEngines.{number_of}
-use Rattle.pm_engine.specs.PagedReplays.{AreLasting, CrashHoldsMap}
+use Rattle.pm_engine.specs.RunningStores.{number_of}
+use Rattle.pm_engine.specs.Replays.{AreLasting, CrashHoldsMap}
 use Rattle.pm_engine.specs.RunningStores.{HasSegmentsFor, IsMarkIn}
-use Rattle.pm_engine.proofs.PagedForces.{mark_rises}
-use Rattle.pm_engine.proofs.PagedRuns.{all_from, all_size}
+use Rattle.pm_engine.proofs.RisenNumbers.{mark_rises}
+use Rattle.pm_engine.proofs.GrownLogs.{all_from, all_size}
 use Rattle.pm_engine.proofs.ReplayedCheckpoints.{may_make, leads, holds}
-use Rattle.pm_engine.proofs.Results.{on_err}
+use Rattle.pm_engine.proofs.Results.{on_err, err_anyway}
 use Rattle.pm_engine.proofs.RisenLogs.{grown_rises, grown_goes_on}
 use Rattle.pm_engine.proofs.WholePages.{whole_checked, map_checked}
 
@@ -82,22 +83,24 @@ module _ (before : FrameRunning) (is : IsFrameEngine before) (from : Place) (fit
         → (tells → HasCleanPages before.store old.world) → after.order ≡ before.order → before.store.is_open ≡ true → (tells → LeavesLog (kept_segment mark) before.log after.log old.world new.world)
         → ChecksInFrames {T = S} {E = F} tells from before after old new (Ok v)
     checks_made {T} {E} u v steps after next done clean order opened leaves = record {
-      same = record { shape = done.shape; region = done.region; locks = done.locks };
-      order = order;
-      is_open = done.is_open ∙ opened;
+      ready = record {
+        same = record { shape = done.shape; region = done.region; locks = done.locks };
+        order = order;
+        is_open = done.is_open ∙ opened;
+        clean = λ t. done.clean t (clean t);
+        ends = λ t. (leaves t).ends;
+        disk = disk;
+      };
       closed = tt;
       rises = omega (arith, ap (λ (l : LogEnd). l.end.seg) next.ends, grown_rises before.log (begin_frame mark));
       goes_on = λ segments. omega (arith, ap (λ (l : LogEnd). l.end.seg) next.ends, grown_goes_on before.log (begin_frame mark) (omega (arith, segments)));
       number = omega (arith, ap (λ (k : marked.Kept). number_of k.mark) next.kept, mark_rises before.ckpt.mark);
       none_dirty = done.none_dirty;
-      clean = λ t. done.clean t (clean t);
-      ends = λ t. (leaves t).ends;
       log = λ t segments seg low high. (leaves t).begins (omega (arith, segments)) seg (omega (arith, low)) high;
       whole = λ t whole. record {
         pages = whole_checked before.store after.store old.world new.world tells t done (clean t) whole;
         map = map_checked before.store after.store old.world new.world tells t done (clean t) whole;
       };
-      disk = disk;
       runs = λ t wanted told pairs s left replaying lasts makes segments numbered. check_replays wanted told pairs s left replaying lasts makes segments numbered tells t {T = T} {E = E} u (steps t) after next done (clean t);
       crash = λ t wanted told pairs s left replaying lasts makes segments numbered. check_crash wanted told pairs s left replaying lasts makes segments numbered {T = T} {E = E} (Ok u) (steps t);
     }
@@ -106,23 +109,21 @@ module _ (before : FrameRunning) (is : IsFrameEngine before) (from : Place) (fit
     pub checks_closed : {T E S F : Type 0} (result : Result T E) (answer : Result S F) → IsErr answer → (tells → MakesSteps {T = T} {E = E} result) → (after : FrameRunning) → ClosesStore before.store after.store → after.order ≡ before.order
         → ChecksInFrames {T = S} {E = F} tells from before after old new answer
     checks_closed {T} {E} {S} {F} result answer err steps after closes order = record {
-      same = record { shape = closes.shape; region = closes.region; locks = closes.locks };
-      order = order;
-      is_open = on_err answer err (after.store.is_open ≡ true);
-      closed = closed_anyway answer;
+      ready = record {
+        same = record { shape = closes.shape; region = closes.region; locks = closes.locks };
+        order = order;
+        is_open = on_err answer err (after.store.is_open ≡ true);
+        clean = λ t. on_err answer err (HasCleanPages after.store new.world);
+        ends = λ t. on_err answer err (EndsThere after.log new.world);
+        disk = disk;
+      };
+      closed = err_anyway answer (after.store.is_open ≡ false) closes.is_open;
       rises = on_err answer err (after.log.end.seg ≤ before.log.end.seg + 1);
       goes_on = λ segments. on_err answer err (before.log.end.seg ≤ after.log.end.seg);
       number = on_err answer err (number_of after.ckpt.mark ≤ number_of before.ckpt.mark + 1);
       none_dirty = on_err answer err ((id : PageId) → IsDirtyPage after.store id → ⊥);
-      clean = λ t. on_err answer err (HasCleanPages after.store new.world);
-      ends = λ t. on_err answer err (EndsThere after.log new.world);
       log = λ t segments. on_err answer err (KeepsLogFrom from.seg before.log.end.seg old.world new.world);
       whole = λ t whole. on_err answer err (KeepsWholePages before after old.world new.world);
-      disk = disk;
       runs = λ t wanted told pairs s left replaying lasts makes segments numbered. on_err answer err (ReplaysFromIn wanted told pairs from left before after old.world new.world);
       crash = λ t wanted told pairs s left replaying lasts makes segments numbered. check_crash wanted told pairs s left replaying lasts makes segments numbered {T = T} {E = E} result (steps t);
     }
-      where
-        closed_anyway : (r : Result S F) → OnErr r (after.store.is_open ≡ false)
-        closed_anyway (Ok x) = tt
-        closed_anyway (Err e) = closes.is_open

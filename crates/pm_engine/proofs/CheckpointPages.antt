@@ -1,30 +1,19 @@
 -- The pages that the log rebuilds are those of a checkpoint.
 use Rattle.std.proofs.Common.{◌≡◌, ℕ, ◌<◌, Bool, true, false, List, length, get_or, Option, Some, None, refl, sym, ap, ◌∙◌, subst}
-use Rattle.std.specs.Prelude.{IsSome, All, if◌then◌else◌, slice_get}
-use Rattle.std.specs.Option.{option_or, option_and_then}
+use Rattle.std.specs.Prelude.{IsSome, All, if◌then◌else◌}
+use Rattle.std.specs.Option.{option_or}
 use Rattle.pm_types.specs.declared.page_id.PageId.{PageId}
 use Rattle.pm_types.specs.declared.shape.Shape.{Shape}
 use Rattle.pm_types.specs.Ids.{part_of_id, index_of_id}
 use Rattle.pm_disk.specs.Files.{bytes_of}
 use Rattle.pm_frame.specs.Frames.{Frame}
-use Rattle.pm_pages.specs.declared.plain.PlainPages.{PlainPages}
-use Rattle.pm_pages.specs.Plain.{plain_seen}
 use Rattle.pm_core.specs.BasePages.{Partitions, laid_over}
 use Rattle.pm_core.specs.Calls.{AreRebuilt}
 use Rattle.pm_core.specs.PageSets.{has_index}
 use Rattle.pm_core.proofs.Finishing.{rebuilt_inside}
-use Rattle.pm_ckpt.specs.Writes.{IsHeld, held_in, page_of}
+use Rattle.pm_ckpt.specs.Writes.{IsHeld, page_of}
 use Rattle.pm_ckpt.proofs.Home.{index_of_own}
-use Rattle.pm_engine.specs.PagedMaps.{pages_of_list, pages_of_lists}
 use Rattle.pm_engine.specs.TrackedPages.{TracksPages, HaveFirstPages}
-
--- the lists of pages hold what they show
-pub lists_held : (lists : List PlainPages) → held_in lists ≡ pages_of_lists lists
-lists_held lists = λ i part index. each index (slice_get lists part) i
-  where
-    each : (index : ℕ) (o : Option PlainPages) → option_and_then (λ (list : PlainPages). (plain_seen list).pages index) o ≡ pages_of_list o index
-    each index None = refl
-    each index (Some list) = refl
 
 module _ (shape : Shape) (frames : List Frame) (files pages : Partitions) (logged : List PageId) (t : TracksPages shape frames files pages logged) where
   -- a page is logged, or the log doesn't rebuild it

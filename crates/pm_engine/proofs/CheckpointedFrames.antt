@@ -37,7 +37,7 @@ use Rattle.pm_engine.specs.FrameDirty.{ListsDirty}
 use Rattle.pm_engine.specs.FrameEngines.{FrameRunning, NamesDirty, HasLastingLinesIn, running_in}
 use Rattle.pm_engine.specs.FrameStores.{IsDirtyPage, pages_in_frames}
 use Rattle.pm_engine.specs.LineChains.{NameTheSame}
-use Rattle.pm_engine.specs.PagedEngines.{number_of}
+use Rattle.pm_engine.specs.RunningStores.{number_of}
 use Rattle.pm_engine.specs.RunningLines.{HasRun, CrashHoldsLines}
 use Rattle.pm_engine.specs.RunningStores.{StoreState, HasSegmentsFor, mark_after, checkpointed, map_of}
 use Rattle.pm_engine.proofs.CheckpointedLines.{checkpoint_has_run, between_crash}
@@ -45,7 +45,7 @@ use Rattle.pm_engine.proofs.CheckpointedStores.{all_segments_quiet, t_files_are}
 use Rattle.pm_engine.proofs.FrameSteps.{cut}
 use Rattle.pm_engine.proofs.GrownStores.{unlogged, lines_grown}
 use Rattle.pm_engine.proofs.LineChains.{lines_renamed}
-use Rattle.pm_engine.proofs.PagedForces.{mark_rises, number_rises}
+use Rattle.pm_engine.proofs.RisenNumbers.{mark_rises, number_rises}
 use Rattle.pm_engine.proofs.RisenLogs.{grown_rises}
 use Rattle.pm_engine.proofs.RunningCheckpoints.{may_checkpoint}
 use Rattle.pm_engine.proofs.RunningForces.{pages_quiet}

@@ -22,7 +22,7 @@ use Rattle.pm_ckpt.specs.Checkpoints.{CanCheckpoint, IsStateAfter, whole_steps}
 use Rattle.pm_ckpt.specs.Marked.{number_after, begin_frame, begin_log}
 use Rattle.pm_ckpt.specs.Writes.{Writing}
 use Rattle.pm_ckpt.proofs.GoingOn.{begin_is}
-use Rattle.pm_engine.specs.PagedEngines.{number_of}
+use Rattle.pm_engine.specs.RunningStores.{number_of}
 use Rattle.pm_engine.specs.RunningLines.{KeepsLines, HasRun, CrashHoldsLines}
 use Rattle.pm_engine.specs.RunningStores.{StoreState, HasSegmentsFor, map_of, mark_after, checkpointed}
 use Rattle.pm_engine.proofs.CheckpointedStores.{store_checkpointed, t_first, t_appended}

@@ -32,8 +32,8 @@ use Rattle.pm_engine.specs.FrameEngines.{FrameRunning, HasDoneLines, IsSameEngin
 use Rattle.pm_engine.specs.FrameHosts.{ChangesNoWorld, may_go_on}
 use Rattle.pm_engine.specs.FrameRounds.{EvaluatesLines, lines_from}
 use Rattle.pm_engine.specs.FrameStores.{pages_in_frames, HasCleanPages}
-use Rattle.pm_engine.specs.PagedBatches.{StaysOpen}
-use Rattle.pm_engine.specs.PagedEngines.{number_of}
+use Rattle.pm_engine.specs.Batches.{StaysOpen}
+use Rattle.pm_engine.specs.RunningStores.{number_of}
 use Rattle.pm_engine.specs.RunningLines.{HasRun, CrashHoldsLines}
 use Rattle.pm_engine.specs.RunningStores.{StoreState}
 use Rattle.pm_engine.proofs.CheckpointedLines.{between_crash}

@@ -23,8 +23,8 @@ use Rattle.pm_engine.specs.FrameBatches.{HasNumbersIn, TakesNumbersIn, MayGoOn, 
 use Rattle.pm_engine.specs.FrameEngines.{FrameRunning, HasDoneLines, map_in}
 use Rattle.pm_engine.specs.FrameRounds.{EvaluatesLines}
 use Rattle.pm_engine.specs.FrameStores.{pages_in_frames}
-use Rattle.pm_engine.specs.PagedBatches.{StaysOpen}
-use Rattle.pm_engine.specs.PagedEngines.{number_of}
+use Rattle.pm_engine.specs.Batches.{StaysOpen}
+use Rattle.pm_engine.specs.RunningStores.{number_of}
 use Rattle.pm_engine.specs.RunningLines.{CrashHoldsLines}
 use Rattle.pm_engine.proofs.Replied.{with_none, with_more}
 use Rattle.pm_engine.proofs.RunningLines.{crash_wider, moments_further}

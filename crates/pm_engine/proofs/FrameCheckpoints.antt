@@ -40,7 +40,7 @@ use Rattle.pm_engine.proofs.FrameSteps.{cut_same, cut_some, cut_there}
 use Rattle.pm_engine.proofs.PageNames.{is_named, part_named, index_named}
 
 -- what is so of the one stripe is so of each
-of_one : {X : Type 0} (P : ℕ → X → Type 0) (x : X) → P 0 x → (n : ℕ) (y : X) → slice_get (x ∷ []) n ≡ Some y → P n y
+pub of_one : {X : Type 0} (P : ℕ → X → Type 0) (x : X) → P 0 x → (n : ℕ) (y : X) → slice_get (x ∷ []) n ≡ Some y → P n y
 of_one P x is zero y at = subst (P 0) (same_Some _ _ at) is
 of_one P x is (suc n) y at = absurd cc
 
@@ -122,7 +122,7 @@ own_page workers partitions number part index one none few below low =
 module _ {T E : Type 0} (tells : Type 0) (before after : History) (u : T) (shape : Shape) (old : FrameStoreView) (is : IsFrameStore old) (on : IsOpenStore old) (empty : old.stripe.outbox ≡ []) (shape_is : shape ≡ old.shape) (seat : Sight)
     (leaves : LeavesFrames {T = T} {E = E} tells old.locks shape before after (Ok u) old.seat seat (old.stripe ∷ [])) (t : Stripe) (same : SameButFiles old.stripe t) (files : t.files ≡ true) where
   abbrev new : FrameStoreView
-  new = record old { seat = seat; stripe = t }
+  new = record old { seat = seat; stripe = t; dirty = None }
 
   resting : AreResting old.locks shape old.seat (old.stripe ∷ [])
   resting = subst (λ (s : Shape). AreResting old.locks s old.seat (old.stripe ∷ [])) (sym shape_is) (store_rests old is on empty)
@@ -149,6 +149,7 @@ module _ {T E : Type 0} (tells : Type 0) (before after : History) (u : T) (shape
       record {
         seat = leaves.seat;
         outbox = subst AreOperationBytes (sym same.outbox) is.outbox;
+        counted = tt;
         open_is = λ _. record {
           workers = on.workers;
           number = rest.number;
@@ -216,8 +217,8 @@ module _ {T E : Type 0} (tells : Type 0) (before after : History) (u : T) (shape
   }
 
 -- a store that isn't open any more
-pub store_closed : (old : FrameStoreView) (seat : Sight) → IsFrameStore old → IsWholeSeat old.locks seat → IsFrameStore (record old { seat = seat; is_open = false })
-store_closed old seat is whole = record { seat = whole; outbox = is.outbox; open_is = λ yes. absurd (false≢true yes); frames = is.frames; size = is.size; ranges = is.ranges }
+pub store_closed : (old : FrameStoreView) (seat : Sight) → IsFrameStore old → IsWholeSeat old.locks seat → IsFrameStore (record old { seat = seat; dirty = None; is_open = false })
+store_closed old seat is whole = record { seat = whole; outbox = is.outbox; counted = tt; open_is = λ yes. absurd (false≢true yes); frames = is.frames; size = is.size; ranges = is.ranges }
 
 -- ---- its steps, by the store's pages
 

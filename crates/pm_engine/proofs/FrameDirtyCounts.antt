@@ -16,15 +16,16 @@ use Rattle.pm_ckpt.proofs.Listed.{below_few, below_more}
 use Rattle.pm_engine.specs.FrameBatches.{LooksOnce}
 use Rattle.pm_engine.specs.FrameDirty.{dirty_names}
 use Rattle.pm_engine.specs.FrameStores.{FrameStoreView, IsFrameStore, IsOpenStore}
+use Rattle.pm_engine.proofs.FrameLooks.{looks_names}
 
 -- ---- a store after a look
 
-module _ (store : FrameStoreView) (is : IsFrameStore store) (view : View) where
+module _ (store : FrameStoreView) (is : IsFrameStore store) (view : View) (count : ℕ) where
   abbrev seat : Sight
   seat = record store.seat { view = record store.seat.view { words = view.words; met = view.met } }
 
   abbrev looked : FrameStoreView
-  looked = record store { seat = seat }
+  looked = record store { seat = seat; dirty = Some count }
 
   module _ (whole : IsWholeSeat store.locks seat) (words : (f : ℕ) → known_at seat.view f ≡ known_at store.seat.view f) where
     looked_settled : AreSettled store.locks store.seat.view → AreSettled store.locks seat.view
@@ -65,22 +66,26 @@ module _ (store : FrameStoreView) (is : IsFrameStore store) (view : View) where
       readable = on.readable;
     }
 
-    looked_store : IsFrameStore looked
-    looked_store = record {
+    looked_names : dirty_names looked ≡ dirty_names store
+    looked_names = looks_names store looked (record { store = refl; looks = record { seat = refl; words = words } })
+
+    looked_store : count ≡ length (dirty_names store) → IsFrameStore looked
+    looked_store counts = record {
       seat = whole;
       outbox = is.outbox;
+      counted = counts ∙ ap length (sym looked_names);
       open_is = λ opens. looked_open (is.open_is opens);
       frames = is.frames;
       size = is.size;
       ranges = is.ranges;
     }
 
-pub looks_store : (store : FrameStoreView) → IsFrameStore store → (seat : Sight) → IsWholeSeat store.locks seat → LooksOnce store.seat seat
-    → (new : FrameStoreView) → new ≡ record store { seat = seat } → IsFrameStore new
-looks_store store is seat whole looks new new_is =
-    subst IsFrameStore (sym (new_is ∙ ap (λ (s : Sight). let it : FrameStoreView = record store { seat = s } in it) looks.seat))
-    (looked_store store is seat.view (subst (IsWholeSeat store.locks) looks.seat whole)
-    (λ f. ap (λ (s : Sight). known_at s.view f) (sym looks.seat) ∙ looks.words f))
+pub looks_store : (store : FrameStoreView) → IsFrameStore store → (seat : Sight) → IsWholeSeat store.locks seat → LooksOnce store.seat seat → (count : ℕ) → count ≡ length (dirty_names store)
+    → (new : FrameStoreView) → new ≡ record store { seat = seat; dirty = Some count } → IsFrameStore new
+looks_store store is seat whole looks count counts new new_is =
+    subst IsFrameStore (sym (new_is ∙ ap (λ (s : Sight). let it : FrameStoreView = record store { seat = s; dirty = Some count } in it) looks.seat))
+    (looked_store store is seat.view count (subst (IsWholeSeat store.locks) looks.seat whole)
+    (λ f. ap (λ (s : Sight). known_at s.view f) (sym looks.seat) ∙ looks.words f) counts)
 
 -- ---- how many there are
 

@@ -21,7 +21,7 @@ use Rattle.pm_core.specs.States.{State}
 use Rattle.pm_core.proofs.OnlyDisk.{disk_same, none_disk}
 use Rattle.pm_engine.specs.FrameEngines.{FrameRunning, IsFrameEngine, running_in, HasDoneLines, HasLastingLinesIn, AllLastIn, closed_engine}
 use Rattle.pm_engine.specs.FrameStores.{pages_in_frames, HasCleanPages}
-use Rattle.pm_engine.specs.PagedEngines.{number_of}
+use Rattle.pm_engine.specs.RunningStores.{number_of}
 use Rattle.pm_engine.specs.RunningLines.{HasRun, CrashHoldsLines}
 use Rattle.pm_engine.proofs.CheckpointedLines.{between_crash}
 use Rattle.pm_engine.proofs.HasRunLines.{line_forced, rest_has_run}

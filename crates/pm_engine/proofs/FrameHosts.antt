@@ -43,7 +43,7 @@ use Rattle.pm_engine.specs.FrameCommands.{frame_pages, AreReadable, IsSameWorker
 use Rattle.pm_engine.specs.FrameHosts.{IsStoreLine, HasPagesOf, RunsRound, may_go_on}
 use Rattle.pm_engine.specs.FrameLines.{HasKey, IsRoundLine}
 use Rattle.pm_engine.specs.FrameRounds.{lines_from, LeavesRound, AnswersRound, DoesNext, DoesLines}
-use Rattle.pm_engine.specs.FrameStores.{FrameStoreView, pages_in_frames, IsOpenStore, IsFrameStore}
+use Rattle.pm_engine.specs.FrameStores.{FrameStoreView, pages_in_frames, dirty_count, IsOpenStore, IsFrameStore}
 use Rattle.pm_engine.specs.OutboxLogs.{AreOperationBytes, records_of}
 use Rattle.pm_engine.proofs.FrameChanges.{known_staying}
 use Rattle.pm_engine.proofs.FrameReads.{part_readable}
@@ -200,9 +200,9 @@ module _ {Q R : Type 0} (tells : Type 0) (history : R → History) (state : R �
     -- ---- and its round ended
 
     module _ (first from : ℕ) (lines : List Line) (c : Bound Q R) (was now : ReplyList) (end : RoundEnd) (answers : AnswersRound tells history state first from lines b c was now end)
-        (s : Stripe) (seat : Sight) (r : R) (flag : Bool) (ends : EndsRound tells history c s seat) (rest : IsAtRest c.locks.now (kept s seat)) (flag_is : flag ≡ may_go_on end.stop) where
+        (s : Stripe) (seat : Sight) (r : R) (dirty : Option ℕ) (flag : Bool) (ends : EndsRound tells history c s seat) (rest : IsAtRest c.locks.now (kept s seat)) (flag_is : flag ≡ may_go_on end.stop) where
       abbrev new : FrameStoreView
-      new = record old { seat = seat; stripe = s; is_open = flag }
+      new = record old { seat = seat; stripe = s; dirty = dirty; is_open = flag }
 
       same : IsSameWorker tells history state b c
       same = stop_same tells history state (first + from) (lines_from from end.done lines) b c was now end.stop answers.leaves
@@ -247,11 +247,12 @@ module _ {Q R : Type 0} (tells : Type 0) (history : R → History) (state : R �
         readable = reads opened;
       }
 
-      pub after_round : IsFrameStore old → IsFrameStore new
-      after_round was_store = record {
+      pub after_round : IsFrameStore old → IfSome dirty (λ count. count ≡ dirty_count new) → IsFrameStore new
+      after_round was_store counted = record {
         seat = record { of = rests.holds.worker.seat_of; knows = sight.knows was_store.seat.knows; still = ends.still };
         outbox = subst AreOperationBytes (sym ends.same.outbox)
             (stop_bytes tells history state (first + from) (lines_from from end.done lines) b c was now end.stop answers.leaves (subst (λ (t : Stripe). AreOperationBytes t.outbox) (sym at_stripe) was_store.outbox));
+        counted = counted;
         open_is = open_after;
         frames = was_store.frames;
         size = was_store.size;

@@ -22,8 +22,8 @@ use Rattle.pm_engine.specs.FrameBatches.{LeavesAllLastingIn, LeavesAllAtRest, La
 use Rattle.pm_engine.specs.FrameEngines.{FrameRunning, HasLastingLinesIn}
 use Rattle.pm_engine.specs.FrameHosts.{ChangesNoWorld}
 use Rattle.pm_engine.specs.FrameStores.{HasCleanPages}
-use Rattle.pm_engine.specs.PagedBatches.{StaysOpen, is_checkpoint, checkpoints_in, asked_last}
-use Rattle.pm_engine.specs.PagedEngines.{number_of}
+use Rattle.pm_engine.specs.Batches.{StaysOpen, is_checkpoint, checkpoints_in, asked_last}
+use Rattle.pm_engine.specs.RunningStores.{number_of}
 use Rattle.pm_engine.proofs.FrameBatchCalls.{keeps_itself, kept_none, kept_line}
 use Rattle.pm_engine.proofs.FrameBatching.{numbers_none, numbers_more, numbers_left, numbers_wider, numbers_fewer, batch_wider, batch_part, batch_lacks, batch_more, all_run, all_spare}
 use Rattle.pm_engine.proofs.FrameParts.{last_no_checkpoint}

@@ -1,5 +1,5 @@
 -- A look at the frames' words changes nothing that is known of an engine's pages.
-use Rattle.std.proofs.Common.{inl, inr, ◌≡◌, ℕ, zero, suc, List, [], ◌∷◌, ◌++◌, length, Bool, true, refl, sym, ◌∙◌, ap, subst}
+use Rattle.std.proofs.Common.{inl, inr, ◌≡◌, ℕ, zero, suc, List, [], ◌∷◌, ◌++◌, length, Option, Bool, true, refl, sym, ◌∙◌, ap, subst}
 use Rattle.std.specs.Prelude.{◌&&◌, ◌==◌, if◌then◌else◌}
 use Rattle.std.proofs.lemmas.Bool.Decides.{eqb_tells}
 use Rattle.pm_types.specs.declared.page_id.PageId.{PageId}
@@ -10,7 +10,6 @@ use Rattle.pm_core.specs.PageSets.{has_index}
 use Rattle.pm_locks.specs.Views.{known_at}
 use Rattle.pm_locks.specs.Words.{LockWord}
 use Rattle.pm_locks.specs.declared.view.View.{View}
-use Rattle.pm_stripe.specs.Stripes.{kept}
 use Rattle.pm_stripe.specs.declared.stripe.Stripe.{Stripe}
 use Rattle.pm_ckpt.specs.Dirty.{dirty_below, dirty_page}
 use Rattle.pm_ckpt.specs.Frames.{names_of}
@@ -26,22 +25,22 @@ same_below stripes old new words (suc f) =
     ap (λ xs. xs ++ dirty_page stripes f (known_at new f)) (same_below stripes old new words f)
     ∙ ap (λ (w : LockWord). dirty_below stripes old f ++ dirty_page stripes f w) (words f)
 
--- a store after a look, by what its seat met
-abbrev looked_store : FrameStoreView → View → FrameStoreView
-looked_store store view = record store { seat = record store.seat { view = record store.seat.view { words = view.words; met = view.met } } }
+-- a store after a look, by what its seat met and what is remembered of it
+abbrev looked_store : FrameStoreView → View → Option ℕ → FrameStoreView
+looked_store store view dirty = record store { seat = record store.seat { view = record store.seat.view { words = view.words; met = view.met } }; dirty = dirty }
 
-looked_is : (old new : FrameStoreView) → LooksAtFrames old new → new ≡ looked_store old new.seat.view
-looked_is old new looks = looks.store ∙ ap (λ s. let it : FrameStoreView = record old { seat = s } in it) looks.looks.seat
+looked_is : (old new : FrameStoreView) → LooksAtFrames old new → new ≡ looked_store old new.seat.view new.dirty
+looked_is old new looks = looks.store ∙ ap (λ s. let it : FrameStoreView = record old { seat = s; dirty = new.dirty } in it) looks.looks.seat
 
 pub looks_names : (old new : FrameStoreView) → LooksAtFrames old new → dirty_names new ≡ dirty_names old
 looks_names old new looks =
     ap dirty_names (looked_is old new looks)
-    ∙ ap names_of (same_below (old.stripe ∷ []) old.seat.view (looked_store old new.seat.view).seat.view
+    ∙ ap names_of (same_below (old.stripe ∷ []) old.seat.view (looked_store old new.seat.view new.dirty).seat.view
     (λ f. ap (λ (s : FrameStoreView). known_at s.seat.view f) (sym (looked_is old new looks)) ∙ looks.looks.words f) (length old.locks.ranges))
 
-looked_keeps : (tells : Type 0) (h : History) (engine : FrameRunning) (view : View) → (tells → IsHistory h) → (tells → HasCleanPages engine.store h.world)
-    → KeepsFrameEngine tells h h engine (record engine { store = looked_store engine.store view })
-looked_keeps tells h engine view sound clean = record {
+looked_keeps : (tells : Type 0) (h : History) (engine : FrameRunning) (view : View) (dirty : Option ℕ) → (tells → IsHistory h) → (tells → HasCleanPages engine.store h.world)
+    → KeepsFrameEngine tells h h engine (record engine { store = looked_store engine.store view dirty })
+looked_keeps tells h engine view dirty sound clean = record {
   same = record { shape = refl; region = refl; locks = refl };
   log = refl;
   ckpt = refl;
@@ -61,7 +60,7 @@ pub looks_keep : (tells : Type 0) (h : History) (before now : FrameRunning) → 
 looks_keep tells h before now looks sound clean =
     subst (λ (e : FrameRunning). KeepsFrameEngine tells h h before e)
     (sym (looks.engine ∙ ap (λ s. let it : FrameRunning = record before { store = s } in it) (looked_is before.store now.store looks.frames)))
-    (looked_keeps tells h before now.store.seat.view sound clean)
+    (looked_keeps tells h before now.store.seat.view now.store.dirty sound clean)
 
 -- where no page stays there is none in a Dirty frame
 pub none_dirty : (store : FrameStoreView) → ListsDirty store (dirty_names store) (dirty_bytes store) → ((id : PageId) → IsDirtyPage store id → ⊥) → dirty_names store ≡ []

@@ -60,9 +60,9 @@ use Rattle.pm_engine.specs.FrameOpenings.{HasBadBase, HasBasePages, HasNoStrayPa
 use Rattle.pm_engine.specs.FrameReplayLogs.{CanReplayIn, HasRecordsIn, HasNumbersIn}
 use Rattle.pm_engine.specs.FrameStores.{FrameStoreView, IsFrameStore, pages_in_frames, pages_in_files}
 use Rattle.pm_engine.specs.OpenedStores.{BeginWithFirst, IsRestoredStore, opened_store}
-use Rattle.pm_engine.specs.PagedEngines.{number_of}
-use Rattle.pm_engine.specs.PagedOpenings.{loaded_base, IsBadOver, IsRestoredHolding}
-use Rattle.pm_engine.specs.PagedReplays.{AreLasting, GrewAtEnd, IsBadReplay, LogLeadsTo}
+use Rattle.pm_engine.specs.RunningStores.{number_of}
+use Rattle.pm_engine.specs.Openings.{loaded_base, IsBadOver, IsRestoredHolding}
+use Rattle.pm_engine.specs.Replays.{AreLasting, GrewAtEnd, IsBadReplay, LogLeadsTo}
 use Rattle.pm_engine.specs.RunningLines.{KeepsLines}
 use Rattle.pm_engine.specs.RunningStores.{StoreState, RunsOver, HasSegmentsFor, ended_with}
 use Rattle.pm_engine.proofs.CheckpointedFrames.{cut_past}
@@ -73,7 +73,7 @@ use Rattle.pm_engine.proofs.GrownWorlds.{all_grew}
 use Rattle.pm_engine.proofs.HeldReplays.{HoldsMap}
 use Rattle.pm_engine.proofs.LoadedStores.{HasMark, loaded_counted}
 use Rattle.pm_engine.proofs.OpenedStores.{good, not_rebuilt, well, opened_runs, file_begins}
-use Rattle.pm_engine.proofs.PagedOpened.{bad_stands, base_same}
+use Rattle.pm_engine.proofs.RestoredOpenings.{bad_stands, base_same}
 use Rattle.pm_engine.proofs.PageNames.{part_named, index_named}
 use Rattle.pm_engine.proofs.ReplayingCheckpoints.{over_grown}
 use Rattle.pm_engine.proofs.ReplayStarts.{keeps_from_first, segments, holds_map, records, run_here, to_end, lasts_then}

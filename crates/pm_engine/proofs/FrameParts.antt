@@ -31,7 +31,7 @@ use Rattle.pm_engine.specs.FrameEngines.{FrameRunning, DoesRoundLines, LosesRoun
 use Rattle.pm_engine.specs.FrameHosts.{IsStoreLine, ChangesNoWorld, ScansStore}
 use Rattle.pm_engine.specs.FrameLines.{is_scan}
 use Rattle.pm_engine.specs.FrameStores.{FrameStoreView, pages_in_frames, HasCleanPages}
-use Rattle.pm_engine.specs.PagedBatches.{StaysOpen, is_checkpoint, checkpoints_in, asked_last}
+use Rattle.pm_engine.specs.Batches.{StaysOpen, is_checkpoint, checkpoints_in, asked_last}
 use Rattle.pm_engine.proofs.FrameBatchCalls.{keeps_itself, keeps_numbers, kept_none, kept_line, none_done, round_inside, round_done, round_lacks, round_faulted, round_numbers, round_lost}
 use Rattle.pm_engine.proofs.FrameBatching.{may_well_formed, batch_wider, batch_part}
 

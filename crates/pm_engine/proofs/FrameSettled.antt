@@ -27,14 +27,14 @@ use Rattle.pm_engine.specs.FrameBatches.{is_due_in, HasNumbersIn, TakesNumbersIn
 use Rattle.pm_engine.specs.FrameDirty.{ListsDirty, dirty_names, dirty_bytes}
 use Rattle.pm_engine.specs.FrameEngines.{FrameRunning, HasDoneLines, HasLastingLinesIn, AllLastIn, IsSameEngine, closed_engine, map_in}
 use Rattle.pm_engine.specs.FrameStores.{FrameStoreView, HasCleanPages, IsDirtyPage}
-use Rattle.pm_engine.specs.PagedBatches.{StaysOpen}
-use Rattle.pm_engine.specs.PagedEngines.{number_of}
+use Rattle.pm_engine.specs.Batches.{StaysOpen}
+use Rattle.pm_engine.specs.RunningStores.{number_of}
 use Rattle.pm_engine.specs.RunningLines.{CrashHoldsLines}
 use Rattle.pm_engine.specs.RunningStores.{HasSegmentsFor}
 use Rattle.pm_engine.proofs.FrameBatchCalls.{done_none_more, keeps_done, keeps_ends, keeps_map, keeps_numbers, failed_none, done_none}
 use Rattle.pm_engine.proofs.FrameBatching.{numbers_more, batch_more}
 use Rattle.pm_engine.proofs.FrameLooks.{looks_keep, looks_names, none_dirty}
-use Rattle.pm_engine.proofs.PagedForces.{number_rises, mark_rises}
+use Rattle.pm_engine.proofs.RisenNumbers.{number_rises, mark_rises}
 use Rattle.pm_engine.proofs.RisenLogs.{grown_rises}
 use Rattle.pm_engine.proofs.RunningLines.{moments_further}
 

@@ -11,7 +11,7 @@ use Rattle.pm_segments.specs.Ends.{LogEnd, EndsThere}
 use Rattle.pm_segments.proofs.GrownLog.{Appended, appended, extends_same, extends_then}
 use Rattle.pm_ckpt.proofs.Opening.{grown_end}
 use Rattle.pm_engine.specs.AppendRuns.{grown_all, append_all_steps}
-use Rattle.pm_engine.specs.PagedReplays.{GrewAtEnd}
+use Rattle.pm_engine.specs.Replays.{GrewAtEnd}
 use Rattle.pm_engine.specs.RunningStores.{HasSegmentsFor}
 use Rattle.pm_engine.proofs.RisenLogs.{grown_rises}
 

@@ -24,7 +24,7 @@ use Rattle.pm_ckpt.specs.Checkpoints.{written_so}
 use Rattle.pm_ckpt.proofs.GoingOn.{front_replays}
 use Rattle.pm_ckpt.proofs.Whole.{states_join}
 use Rattle.pm_engine.specs.AppendRuns.{append_all_steps}
-use Rattle.pm_engine.specs.PagedReplays.{AreLasting}
+use Rattle.pm_engine.specs.Replays.{AreLasting}
 use Rattle.pm_engine.specs.RunningStores.{StoreState, LogRuns, HasSegmentsFor, AreRecordFrames}
 use Rattle.pm_engine.proofs.RunningAppends.{append_runs, append_seg, on_log-append}
 use Rattle.pm_engine.proofs.RunningLines.{ChangeNoMap, no_map_all}

@@ -25,7 +25,7 @@ use Rattle.pm_engine.specs.RunningStores.{StoreState, LogRuns, IsRunning, HasSeg
 use Rattle.pm_engine.specs.TrackedPages.{TracksPages}
 use Rattle.pm_engine.proofs.AppendChains.{grown_all-append, append_all-append}
 use Rattle.pm_engine.proofs.HasRunLines.{line_unchanged, line_done}
-use Rattle.pm_engine.proofs.PagedRuns.{all_rises}
+use Rattle.pm_engine.proofs.GrownLogs.{all_rises}
 use Rattle.pm_engine.proofs.RunningAppends.{on_log-append}
 use Rattle.pm_engine.proofs.RunningOperations.{operation_says, store_append_goes}
 

@@ -1,8 +1,7 @@
 -- A command that an engine over page frames applies again, once what it handed over is appended.
-use Rattle.std.proofs.Common.{◌≡◌, inl, inr, ℕ, ◌+◌, ◌^◌, ◌<◌, ◌≤◌, Bool, true, false, List, [], ◌++◌, length, Option, Some, None, Result, Ok, Err, refl, sym, ap, ◌∙◌, subst, arith}
-use Rattle.std.specs.Prelude.{◌↔◌, if◌then◌else◌, IfOk, IsErrOf, IsSome, is_some}
+use Rattle.std.proofs.Common.{◌≡◌, inl, inr, ℕ, ◌+◌, ◌<◌, ◌≤◌, Bool, true, false, List, [], ◌++◌, length, Option, Some, None, Result, Ok, Err, refl, sym, ap, ◌∙◌, subst, arith}
+use Rattle.std.specs.Prelude.{◌↔◌, if◌then◌else◌, IfOk, IsSome, is_some}
 use Rattle.std.proofs.lemmas.Bool.{false≢true}
-use Rattle.pm_types.specs.declared.fault.PageFault.TheVariants.{BadPage}
 use Rattle.pm_types.specs.declared.page_id.PageId.{PageId}
 use Rattle.pm_types.specs.declared.place.Place.{Place}
 use Rattle.pm_types.specs.declared.shape.Shape.{Shape}
@@ -52,15 +51,15 @@ use Rattle.pm_engine.specs.FrameLines.{EvaluatesLine}
 use Rattle.pm_engine.specs.FrameReplays.{LeavesApplied, AppliesToStore, may_apply_more}
 use Rattle.pm_engine.specs.FrameStores.{FrameStoreView, pages_in_frames, IsDirtyPage, HasCleanPages, shut}
 use Rattle.pm_engine.specs.OutboxLogs.{SpellOperationRecords, SpellNumbers, HasNumberRoom, records_of, numbers_of}
-use Rattle.pm_engine.specs.PagedEngines.{number_of}
-use Rattle.pm_engine.specs.PagedReplays.{CrashHoldsMap, AreLasting, GrewAtEnd}
+use Rattle.pm_engine.specs.RunningStores.{number_of}
+use Rattle.pm_engine.specs.Replays.{CrashHoldsMap, AreLasting, GrewAtEnd}
 use Rattle.pm_engine.specs.RunningLines.{KeepsLines}
 use Rattle.pm_engine.specs.RunningSteps.{appended_to, SayPagesOver}
 use Rattle.pm_engine.specs.RunningStores.{StoreState, RunsOver, HasSegmentsFor}
 use Rattle.pm_engine.proofs.GrownWorlds.{all_grew, grew_none}
 use Rattle.pm_engine.proofs.LentReaders.{clean_there}
 use Rattle.pm_engine.proofs.OperationSteps.{machine_steps}
-use Rattle.pm_engine.proofs.PagedRuns.{all_rises, all_size, all_from}
+use Rattle.pm_engine.proofs.GrownLogs.{all_rises, all_size, all_from}
 use Rattle.pm_engine.proofs.ReappliedStores.{HandsAgain, hands_again, Reapplies, reapplies}
 use Rattle.pm_engine.proofs.ReplayingStores.{holds_soon, then_runs, then_keeps, still_lasts, then_crash}
 use Rattle.pm_engine.proofs.RoundLines.{numbers_long}

@@ -1,5 +1,5 @@
 -- A command that is applied again over a worker's page frames, as a step of a store that applies its log again.
-use Rattle.std.proofs.Common.{◌≡◌, ℕ, ◌+◌, ◌≤◌, Bool, true, false, List, [], ◌∷◌, ◌++◌, length, map, Option, None, Some, Result, Ok, Err, refl, sym, ap, ◌∙◌, subst, arith, append-nil, length-append}
+use Rattle.std.proofs.Common.{◌≡◌, ℕ, ◌≤◌, Bool, true, false, List, [], ◌∷◌, ◌++◌, length, None, Result, Ok, Err, refl, sym, ap, ◌∙◌, subst, arith, append-nil}
 use Rattle.std.specs.Prelude.{IfOk}
 use Rattle.std.proofs.lemmas.Bool.{false≢true}
 use Rattle.std.proofs.lemmas.List.{length-map}
@@ -9,9 +9,8 @@ use Rattle.pm_frame.specs.Frames.{Frame}
 use Rattle.pm_disk.specs.Moments.{History}
 use Rattle.pm_disk.specs.States.{DeviceState}
 use Rattle.pm_disk.specs.Worlds.{World}
-use Rattle.pm_records.specs.Operations.{Operation, IsOperation, AreOperations, operation_bytes, operations_bytes}
+use Rattle.pm_records.specs.Operations.{Operation, AreOperations, operation_bytes, operations_bytes}
 use Rattle.pm_model.specs.declared.line.Cmd.{Cmd}
-use Rattle.pm_model.specs.declared.line.Line.{Line}
 use Rattle.pm_model.specs.declared.line.Line.TheVariants.{Good}
 use Rattle.pm_model.specs.Eval.{Pairs, is_accepted}
 use Rattle.pm_model.specs.Orders.{part_of_line}

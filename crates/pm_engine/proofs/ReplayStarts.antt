@@ -1,6 +1,6 @@
 -- A store that was restored and is sound holds its map, and is replaying once its pages are loaded and its RESTART is
 -- appended.
-use Rattle.std.proofs.Common.{◌≡◌, ℕ, ◌+◌, ◌<◌, List, [], ◌++◌, Option, Some, None, refl, sym, ap, ◌∙◌, subst, arith, append-nil}
+use Rattle.std.proofs.Common.{◌≡◌, ℕ, ◌+◌, List, [], ◌++◌, Option, Some, None, refl, sym, ap, ◌∙◌, subst, arith, append-nil}
 use Rattle.pm_types.specs.declared.place.Place.{Place}
 use Rattle.pm_types.specs.declared.shape.Mark.{Mark}
 use Rattle.pm_types.specs.declared.shape.Shape.{Shape}
@@ -20,7 +20,7 @@ use Rattle.pm_segments.specs.Ends.{LogEnd}
 use Rattle.pm_pages.specs.Rows.{Partition}
 use Rattle.pm_pages.specs.WellFormed.{IsWellFormed}
 use Rattle.pm_marks.specs.InForce.{replay_of}
-use Rattle.pm_core.specs.BasePages.{Partitions, laid_over, counted}
+use Rattle.pm_core.specs.BasePages.{Partitions, laid_over}
 use Rattle.pm_core.specs.Held.{pairs_in}
 use Rattle.pm_core.specs.Machine.{states, worlds}
 use Rattle.pm_core.specs.Prefixes.{last_number}
@@ -31,21 +31,18 @@ use Rattle.pm_core.specs.States.{State}
 use Rattle.pm_core.proofs.Junk.{pairs_same}
 use Rattle.pm_core.proofs.LogCalls.{log_worlds, prefix}
 use Rattle.pm_redo.specs.FoundMarks.{replay_at}
-use Rattle.pm_engine.specs.OpenedStores.{IsRestoredStore, opened_store}
-use Rattle.pm_engine.specs.PagedEngines.{PagedRunning, store_of}
-use Rattle.pm_engine.specs.PagedMaps.{pages_of_lists}
-use Rattle.pm_engine.specs.PagedOpenings.{IsLoadedEngine, HasPages, IsRestoredHolding, loaded_base}
-use Rattle.pm_engine.specs.PagedReplays.{IsReplaying, AreLasting, CrashHoldsMap}
+use Rattle.pm_engine.specs.OpenedStores.{IsRestoredStore}
+use Rattle.pm_engine.specs.Openings.{IsRestoredHolding, loaded_base}
+use Rattle.pm_engine.specs.Replays.{AreLasting, CrashHoldsMap}
 use Rattle.pm_engine.specs.RunningLines.{KeepsLines, CrashHoldsLines}
-use Rattle.pm_engine.specs.RunningStores.{StoreState, RunsOver, HasSegmentsFor, ended_with}
+use Rattle.pm_engine.specs.RunningStores.{HasSegmentsFor, ended_with}
 use Rattle.pm_engine.proofs.HeldReplays.{HoldsMap}
 use Rattle.pm_engine.proofs.LastingFrames.{leads_one, lasts_further}
-use Rattle.pm_engine.proofs.LoadedStores.{HasMark, loaded_counted, other_pages}
+use Rattle.pm_engine.proofs.LoadedStores.{HasMark, loaded_counted}
 use Rattle.pm_engine.proofs.OpenedStores.{good, not_rebuilt, well, opened_goes, opened_runs, restart_is, restart_fits}
 use Rattle.pm_engine.proofs.RisenLogs.{grown_rises}
 use Rattle.pm_engine.proofs.RunningCheckpoints.{end_ready}
 use Rattle.pm_engine.proofs.RunningLines.{ChangeNoMap, appended_on, append_no_map, keeps_still, crash_holds, crash_one, map_further, number_at_rest}
-use Rattle.pm_engine.proofs.RunningLogs.{state_follows}
 
 replay_is : (mark : Option Mark) → replay_of (ended_with mark) ≡ replay_at mark
 replay_is None = refl
@@ -159,34 +156,6 @@ module _ (last highest : ℕ) (wanted : Shape) (told : List ℕ → ℕ) (shape 
     marks = (holding.room records run_here to_end).1;
     highest_fits = holding.highest_fits;
   })
-
-  -- ---- once its pages are loaded and its RESTART is appended
-
-  module _ (has : HasMark shape mark) (engine : PagedRunning) (loaded : IsLoadedEngine shape mark log engine) (pages : HasPages shape (loaded_base mark w) engine) where
-    same_pages : (part : ℕ) → part < shape.partitions → pages_of_lists engine.map.lists part ≡ counted (s.files part)
-    same_pages part inside = pages part inside ∙ loaded_counted wanted told shape log mark s w store segments has part inside
-
-    abbrev next : StoreState
-    next = record (opened_store shape log mark s) { pages = pages_of_lists engine.map.lists }
-
-    store_is : store_of engine ≡ next
-    store_is = λ i. record { shape = loaded.fresh.shape_is i; pages = pages_of_lists engine.map.lists; logged = loaded.logged i; log = loaded.log_is i; mark = loaded.mark_is i }
-
-    runs : RunsOver wanted told (store_of engine) pairs t v
-    runs =
-        subst (λ (st : StoreState). RunsOver wanted told st pairs t v) (sym store_is)
-        (subst (λ (p : Pairs). RunsOver wanted told next p t v) holding.map
-        (other_pages wanted told shape log mark s t v s.map (pages_of_lists engine.map.lists) same_pages (opened_runs wanted told shape log mark s w store segments)))
-
-    is_replaying : IsReplaying wanted told pairs engine t v
-    is_replaying = record {
-      runs = runs;
-      keeps = subst (λ (k : Shape). KeepsLines k 0 pairs [] t.first (all_appended t)) (sym loaded.fresh.shape_is)
-          (subst (λ (p : Pairs). KeepsLines shape 0 pairs [] p (all_appended t)) (sym (state_follows steps [] s w).first) keeps_from_first);
-    }
-
-    pub replaying : (world : World) → world ≡ world_after steps log.end w → IsReplaying wanted told pairs engine t world
-    replaying world is = subst (λ (u : World). IsReplaying wanted told pairs engine t u) (v_is ∙ sym is) is_replaying
 
 -- a store that was read, and to whose log a RESTART was appended
 pub restart_moments : (last highest : ℕ) (wanted : Shape) (told : List ℕ → ℕ) (shape : Shape) (pairs : Pairs) (log : LogEnd) (mark : Option Mark) (s : State) (old new : History) → IsRestoredHolding last highest wanted told shape pairs log mark s old.world

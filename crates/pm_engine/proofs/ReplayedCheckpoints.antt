@@ -1,7 +1,7 @@
 -- An engine over page frames that applies its log again is checkpointed: a restart applies the log from this place on then, and it goes on with the pages that its frames and files have then.
-use Rattle.std.proofs.Common.{◌≡◌, ℕ, ◌+◌, ◌*◌, ◌^◌, ◌<◌, ◌≤◌, Bool, true, false, inl, inr, List, [], ◌∷◌, ◌++◌, length, map, Option, Some, None, refl, sym, ap, ◌∙◌, subst, arith, cond, nat_lt}
-use Rattle.std.specs.Prelude.{◌&&◌, if◌then◌else◌, nat_le, slice_range, All, IsSome, is_some}
-use Rattle.std.proofs.lemmas.Bool.{false≢true, ltb-true, le-leb, cases_lt}
+use Rattle.std.proofs.Common.{◌≡◌, ℕ, ◌+◌, ◌*◌, ◌^◌, ◌<◌, ◌≤◌, Bool, true, false, inl, inr, List, [], ◌∷◌, ◌++◌, length, map, Option, Some, None, refl, sym, ap, ◌∙◌, subst, arith}
+use Rattle.std.specs.Prelude.{if◌then◌else◌, nat_le, slice_range, All, IsSome, is_some}
+use Rattle.std.proofs.lemmas.Bool.{false≢true, le-leb, cases_lt}
 use Rattle.std.proofs.lemmas.List.Elements.{All-head, All-tail}
 use Rattle.std.proofs.lemmas.List.Sorted.{All-permutation}
 use Rattle.pm_types.specs.declared.page_id.PageId.{PageId}
@@ -38,18 +38,19 @@ use Rattle.pm_ckpt.specs.Marked as marked
 use Rattle.pm_ckpt.specs.Writes.{Writing, IsOrderOf, written_page, write_steps, named_of}
 use Rattle.pm_ckpt.proofs.Home.{index_of_own}
 use Rattle.pm_engine.specs.FrameDirty.{ListsDirty}
-use Rattle.pm_engine.specs.FrameEngineReplays.{IsReplayingIn, ReplaysFromIn}
+use Rattle.pm_engine.specs.FrameEngineReplays.{IsReplayingIn}
 use Rattle.pm_engine.specs.FrameEngines.{FrameRunning, map_in, running_in}
+use Rattle.pm_engine.specs.FrameReplayCheckpoints.{ReplaysFromIn}
 use Rattle.pm_engine.specs.FrameStores.{IsDirtyPage, pages_in_frames}
 use Rattle.pm_engine.specs.LineChains.{NameTheSame}
-use Rattle.pm_engine.specs.PagedEngines.{number_of}
-use Rattle.pm_engine.specs.PagedReplays.{AreLasting, CrashHoldsMap}
+use Rattle.pm_engine.specs.RunningStores.{number_of}
+use Rattle.pm_engine.specs.Replays.{AreLasting, CrashHoldsMap}
 use Rattle.pm_engine.specs.RunningLines.{KeepsLines}
 use Rattle.pm_engine.specs.RunningStores.{StoreState, RunsOver, HasSegmentsFor, mark_at, checkpointed_at}
 use Rattle.pm_engine.proofs.CheckpointedFrames.{bool_same, cut_inside, cut_past}
 use Rattle.pm_engine.proofs.CheckpointedStores.{t_files_are}
 use Rattle.pm_engine.proofs.GrownStores.{unlogged}
-use Rattle.pm_engine.proofs.PagedForces.{number_rises}
+use Rattle.pm_engine.proofs.RisenNumbers.{number_rises}
 use Rattle.pm_engine.proofs.ReplayingCheckpoints.{over_renamed, over_map, over_grown, files_settled, newest_from, can_check, keeps_then, lasts_then, runs_then, checks_hold}
 
 module _ (before : FrameRunning) (names : List PageId) (bytes : Partitions) (dirty : ListsDirty before.store names bytes) (shape_is : before.ckpt.shape ≡ before.store.shape) (numbered : number_of before.ckpt.mark + 1 < 2 ^ 64) (segments : HasSegmentsFor before.log 1)

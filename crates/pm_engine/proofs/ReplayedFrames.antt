@@ -1,8 +1,7 @@
 -- The records of the log, applied again one after the other over page frames.
-use Rattle.std.proofs.Common.{◌≡◌, ◌⊎◌, inl, inr, ℕ, ◌+◌, ◌*◌, ◌<◌, ◌≤◌, ◌^◌, Bool, true, false, List, [], ◌∷◌, ◌++◌, length, Option, Some, None, Result, Ok, Err, refl, sym, ap, ◌∙◌, subst, arith, append_assoc, append-nil}
-use Rattle.std.specs.Prelude.{◌||◌, if◌then◌else◌, IfOk, OnOk, IsErrOf}
+use Rattle.std.proofs.Common.{◌≡◌, ◌⊎◌, inl, inr, ℕ, ◌+◌, ◌<◌, ◌≤◌, ◌^◌, Bool, true, false, List, [], ◌∷◌, ◌++◌, length, Option, Some, None, Result, Ok, Err, refl, sym, ap, ◌∙◌, subst, arith, append_assoc, append-nil}
+use Rattle.std.specs.Prelude.{◌||◌, if◌then◌else◌, IsErrOf}
 use Rattle.std.proofs.lemmas.Option.{same_Some}
-use Rattle.std.proofs.lemmas.Result.{on_ok_weaker}
 use Rattle.pm_types.specs.declared.fault.StoreFault.{StoreFault}
 use Rattle.pm_types.specs.declared.fault.StoreFault.TheVariants.{BadPage, BadRecord, Memory}
 use Rattle.pm_types.specs.declared.place.Place.{Place}
@@ -21,20 +20,19 @@ use Rattle.pm_segments.specs.Ends.{EndsThere}
 use Rattle.pm_segments.specs.Scans.{Scanned, StaysAt, bytes_after, frame_ahead, Advances, IsAhead}
 use Rattle.pm_segments.proofs.GrownLog.{frame_stays}
 use Rattle.pm_segments.proofs.Reading.{going_on}
-use Rattle.pm_core.specs.Calls.{ChangesDisk}
 use Rattle.pm_core.specs.Replays.{replayed, all_replayed}
 use Rattle.pm_core.specs.States.{State}
-use Rattle.pm_core.proofs.OnlyDisk.{none_disk, then_disk}
 use Rattle.pm_core.proofs.Replaying.{replayed-append, replayed-none}
-use Rattle.pm_ckpt.specs.Checkpoints.{KeepsLogFrom}
-use Rattle.pm_engine.specs.FrameEngineReplays.{HasWholePages, IsReplayingIn, GoesOnInFrames, NamesNoPage, ReplaysRecordFrom, ReplaysRecord}
-use Rattle.pm_engine.specs.FrameEngines.{FrameRunning, IsSameEngine, map_in, running_in}
+use Rattle.pm_engine.specs.FrameEngineReplays.{HasWholePages, GoesOnInFrames, KeepsEngineReady, NamesNoPage}
+use Rattle.pm_engine.specs.FrameEngines.{FrameRunning, map_in, running_in}
 use Rattle.pm_engine.specs.FrameHosts.{ChangesNoWorld}
+use Rattle.pm_engine.specs.FrameReplayCheckpoints.{ReplaysRecordFrom, ReplaysRecord}
 use Rattle.pm_engine.specs.FrameReplayLogs.{AppliesNextIn, AppliesFrameIn, IsBadNextIn, HasRecordsIn, CanReplayIn, CanReplayOn, StepsReplay, ReplaysAllIn, ReplaysWellFormed, ReplaysScan, record_found}
 use Rattle.pm_engine.specs.FrameStores.{HasCleanPages}
-use Rattle.pm_engine.specs.PagedEngines.{number_of}
-use Rattle.pm_engine.specs.PagedReplays.{AreLasting, CrashHoldsMap, IsBadAt, EndsBefore, IsBadReplay, LogLeadsTo}
+use Rattle.pm_engine.specs.RunningStores.{number_of}
+use Rattle.pm_engine.specs.Replays.{AreLasting, CrashHoldsMap, IsBadAt, EndsBefore, IsBadReplay, LogLeadsTo}
 use Rattle.pm_engine.specs.RunningStores.{HasSegmentsFor}
+use Rattle.pm_engine.proofs.ReadyEngines.{ready_same, ready_refused, ready_ok, ready_err, ready_then}
 use Rattle.pm_engine.proofs.ReappliedRecords.{goes_on_quiet}
 use Rattle.pm_engine.proofs.ReplayedRecords.{record_alone, record_halted}
 use Rattle.pm_engine.proofs.ReplayedLog.{StandsAhead, ReadsSoFar, stands_on, front_run, run_on, reads_none, or_false, lasts_next}
@@ -199,7 +197,7 @@ module _ (tells : Type 0) (scan mid : Scanned) (before now : FrameRunning) (old 
                 run = subst (λ (p : Place). HasFrames all_frames (contents new.world.log) p others) (sym next) stay;
                 to = ap (λ (p : Place). after_frames p others) next ∙ leads_to;
                 goes_on = ap (λ (p : Place). is_over p others) next ∙ parts.1;
-                left = subst (λ (k : Shape). all_replayed k others (Some (map_in now new.world)) ≡ Some pairs) (sym x.replays.same.shape)
+                left = subst (λ (k : Shape). all_replayed k others (Some (map_in now new.world)) ≡ Some pairs) (sym x.replays.ready.same.shape)
                     (ap (all_replayed before.store.shape others) (sym makes) ∙ left_after last highest wanted told pairs scan end before old.world apart c f others is);
                 behind = omega (arith, c.can.ahead.behind, x.replays.goes_on t room_is);
               };
@@ -227,18 +225,13 @@ module _ (tells : Type 0) (scan mid : Scanned) (before now : FrameRunning) (old 
   -- a fault
   pub steps_fault : (later : Scanned) (fault : StoreFault) → ((at : Place) → IsErrOf {T = Unit {0}} (Err fault) (BadRecord at) → ⊥) → AppliesNextIn tells scan mid before now old new (Err fault) → StepsReplay {T = Unit {0}} tells scan later before now old new (Err fault)
   steps_fault later fault plain x = record {
-    same = x.replays.same;
-    order = x.replays.order;
-    is_open = tt;
+    ready = ready_err tells before now old new (Err fault) (Err fault) refl x.replays.ready;
     passes = tt;
     bound = tt;
-    clean = λ t. tt;
-    ends = λ t. tt;
     ahead = λ t. tt;
     applies = λ t whole. tt;
     no_page = λ t whole. same_page fault (x.replays.no_page t whole);
     bad = λ t whole at is. absurd (plain at is);
-    disk = x.replays.disk;
     runs = λ t last highest wanted told pairs end apart c. tt;
     no_bad = λ t last highest wanted told pairs end apart c. plain;
     crash = λ t last highest wanted told pairs end apart c. next_crash t last highest wanted told pairs end apart c x.found (Err fault) x.replays;
@@ -247,13 +240,9 @@ module _ (tells : Type 0) (scan mid : Scanned) (before now : FrameRunning) (old 
   -- it couldn't be applied, or none stands there
   pub steps_bad : (later : Scanned) (at : Place) → at ≡ scan.next → HasSegmentsFor before.log 33 → AppliesNextIn tells scan mid before now old new (Ok false) → StepsReplay {T = Unit {0}} tells scan later before now old new (Err (BadRecord at))
   steps_bad later at here room x = record {
-    same = x.replays.same;
-    order = x.replays.order;
-    is_open = tt;
+    ready = ready_err tells before now old new (Ok false) (Err (BadRecord at)) refl x.replays.ready;
     passes = tt;
     bound = tt;
-    clean = λ t. tt;
-    ends = λ t. tt;
     ahead = λ t. tt;
     applies = λ t whole. tt;
     no_page = λ t whole id is. absurd cc;
@@ -265,7 +254,6 @@ module _ (tells : Type 0) (scan mid : Scanned) (before now : FrameRunning) (old 
       still = x.still t;
       log = x.replays.log t room;
     };
-    disk = x.replays.disk;
     runs = λ t last highest wanted told pairs end apart c. tt;
     no_bad = λ t last highest wanted told pairs end apart c _ _. next_never_bad t last highest wanted told pairs end apart c x;
     crash = λ t last highest wanted told pairs end apart c. next_crash t last highest wanted told pairs end apart c x.found (Ok false) x.replays;
@@ -275,13 +263,9 @@ module _ (tells : Type 0) (scan mid : Scanned) (before now : FrameRunning) (old 
   pub steps_on : (later : Scanned) → StaysAt mid later → HasSegmentsFor before.log 33 → ((frame : Frame) × Advances scan later (Some frame)) → later.next.off ≤ SEGMENT_END_MAX → (tells → IsAhead later new.world) → AppliesNextIn tells scan mid before now old new (Ok true)
       → StepsReplay {T = Unit {0}} tells scan later before now old new (Ok tt)
   steps_on later stays room passes bound ahead x = record {
-    same = x.replays.same;
-    order = x.replays.order;
-    is_open = x.replays.is_open;
+    ready = ready_ok tells before now old new true tt x.replays.ready;
     passes = passes;
     bound = bound;
-    clean = x.replays.clean;
-    ends = x.replays.ends;
     ahead = ahead;
     applies = λ t whole.
         let one = x.there refl in
@@ -298,7 +282,6 @@ module _ (tells : Type 0) (scan mid : Scanned) (before now : FrameRunning) (old 
         };
     no_page = λ t whole id is. absurd cc;
     bad = λ t whole at is. absurd cc;
-    disk = x.replays.disk;
     runs = λ t last highest wanted told pairs end apart c. next_goes t last highest wanted told pairs end apart c later stays x;
     no_bad = λ t last highest wanted told pairs end apart c at is. absurd cc;
     crash = λ t last highest wanted told pairs end apart c. next_crash t last highest wanted told pairs end apart c x.found (Ok true) x.replays;
@@ -309,18 +292,13 @@ module _ (tells : Type 0) (scan : Scanned) (engine : FrameRunning) (old : Histor
   steps_none : (fault : StoreFault) → NamesNoPage {T = Unit {0}} (Err fault) → (tells → (at : Place) → IsErrOf {T = Unit {0}} (Err fault) (BadRecord at) → IsBadNextIn scan engine old.world old.world at) → (tells → (last highest : ℕ) (wanted : Shape) (told : List ℕ → ℕ) (pairs : Pairs) (end : Place) → (scan.next ≡ end → ⊥) → CanReplayOn last highest wanted told pairs scan end engine old.world → (at : Place) → IsErrOf {T = Unit {0}} (Err fault) (BadRecord at) → ⊥)
       → StepsReplay {T = Unit {0}} tells scan scan engine engine old old (Err fault)
   steps_none fault no_page bad no_bad = record {
-    same = record { shape = refl; region = refl; locks = refl };
-    order = refl;
-    is_open = tt;
+    ready = ready_refused tells engine old fault sound;
     passes = tt;
     bound = tt;
-    clean = λ t. tt;
-    ends = λ t. tt;
     ahead = λ t. tt;
     applies = λ t whole. tt;
     no_page = λ t whole. no_page;
     bad = λ t whole. bad t;
-    disk = λ t. none_disk old (sound t);
     runs = λ t last highest wanted told pairs end apart c. tt;
     no_bad = no_bad;
     crash = λ t last highest wanted told pairs end apart c.
@@ -361,13 +339,8 @@ pub record ReadsWhole (from end : Place) (scan : Scanned) (before now : FrameRun
 pub record ReplaysSoFar (tells : Type 0) (start scan : Scanned) (end : Place) (before now : FrameRunning) (old new : History) : Type 0 where
   pub bound : scan.next.off ≤ SEGMENT_END_MAX
   pub from_one : 1 ≤ scan.next.seg
-  pub same : IsSameEngine before now
-  pub order : now.order ≡ before.order
-  pub is_open : now.store.is_open ≡ true
-  pub clean : tells → HasCleanPages now.store new.world
-  pub there : tells → EndsThere now.log new.world
+  pub ready : KeepsEngineReady {T = Unit {0}} {E = StoreFault} tells before now old new (Ok tt)
   pub ahead : tells → IsAhead scan new.world
-  pub disk : tells → AllMoments old new (ChangesDisk old.world)
   pub sound : tells → (last highest : ℕ) (wanted : Shape) (told : List ℕ → ℕ) (pairs : Pairs) → CanReplayOn last highest wanted told pairs start end before old.world
       → CanReplayOn last highest wanted told pairs scan end now new.world × AllMoments old new (CrashHoldsMap (last + 1) highest wanted before.store.shape pairs)
   pub any : tells → start.is_over ≡ false → LogLeadsTo start.next end before.log old.world → HasWholePages before.store old.world → ReadsWhole start.next end scan before now old.world new.world
@@ -398,13 +371,8 @@ pub so_far_none : (tells : Type 0) (scan : Scanned) (end : Place) (engine : Fram
 so_far_none tells scan end engine old sound bound from_one on clean there ahead = record {
   bound = bound;
   from_one = from_one;
-  same = record { shape = refl; region = refl; locks = refl };
-  order = refl;
-  is_open = on;
-  clean = clean;
-  there = there;
+  ready = ready_same tells engine old tt sound on clean there;
   ahead = ahead;
-  disk = λ t. none_disk old (sound t);
   sound = λ t last highest wanted told pairs c. (c, rests_hold last highest wanted told pairs scan.next end engine c.state old (sound t) c.can);
   any = λ t over leads whole. record { reads = reads_none scan.next end (map_in engine old.world) scan engine.store.shape old.world engine.log refl over leads; pages = whole };
 }
@@ -490,40 +458,30 @@ module _ (tells : Type 0) (start scan : Scanned) (end : Place) (before mid now :
   both_crash later result x t last highest wanted told pairs c =
       let mid_is = so.sound t last highest wanted told pairs c in
       joined old h1 h2 (CrashHoldsMap (last + 1) highest wanted before.store.shape pairs) mid_is.1
-      (subst (λ (k : Shape). AllMoments h1 h2 (CrashHoldsMap (last + 1) highest wanted k pairs)) so.same.shape (x.crash t last highest wanted told pairs end apart mid_is.0))
+      (subst (λ (k : Shape). AllMoments h1 h2 (CrashHoldsMap (last + 1) highest wanted k pairs)) so.ready.same.shape (x.crash t last highest wanted told pairs end apart mid_is.0))
 
-  same_then : {T : Type 0} (later : Scanned) (result : Result T StoreFault) → StepsReplay {T = T} tells scan later mid now h1 h2 result → IsSameEngine before now
-  same_then later result x = record { shape = x.same.shape ∙ so.same.shape; region = x.same.region ∙ so.same.region; locks = x.same.locks ∙ so.same.locks }
+  ready_then_on : (later : Scanned) (result : Result (Unit {0}) StoreFault) → StepsReplay {T = Unit {0}} tells scan later mid now h1 h2 result → KeepsEngineReady {T = Unit {0}} {E = StoreFault} tells before now old h2 result
+  ready_then_on later result x = ready_then tells before mid now old h1 h2 (Ok tt) result sound so.ready x.ready
 
   pub so_far_more : (later : Scanned) → StepsReplay {T = Unit {0}} tells scan later mid now h1 h2 (Ok tt) → ReplaysSoFar tells start later end before now old h2
   so_far_more later x = record {
     bound = x.bound;
     from_one = omega (arith, so.from_one, next_rises scan.next x.passes.0, ap (λ (p : Place). p.seg) x.passes.1.1);
-    same = same_then later (Ok tt) x;
-    order = x.order ∙ so.order;
-    is_open = x.is_open;
-    clean = x.clean;
-    there = x.ends;
+    ready = ready_then_on later (Ok tt) x;
     ahead = x.ahead;
-    disk = λ t. then_disk old h1 h2 (sound t) (so.disk t) (x.disk t);
     sound = λ t last highest wanted told pairs c. (x.runs t last highest wanted told pairs end apart (so.sound t last highest wanted told pairs c).0, both_crash later (Ok tt) x t last highest wanted told pairs c);
     any = λ t over leads whole.
         let mid_is = so.any t over leads whole in
         let applied = x.applies t mid_is.pages in
         record {
-          reads = reads_next start.next end (map_in before old.world) scan later mid now old.world h1.world h2.world x.same.shape apart applied mid_is.reads;
+          reads = reads_next start.next end (map_in before old.world) scan later mid now old.world h1.world h2.world x.ready.same.shape apart applied mid_is.reads;
           pages = applied.pages;
         };
   }
 
   pub so_far_fails : (later : Scanned) (fault : StoreFault) → StepsReplay {T = Unit {0}} tells scan later mid now h1 h2 (Err fault) → ReplaysScan {T = Unit {0}} tells start end before now old h2 (Err fault)
   so_far_fails later fault x = record {
-    same = same_then later (Err fault) x;
-    order = x.order ∙ so.order;
-    is_open = tt;
-    clean = λ t. tt;
-    ends = λ t. tt;
-    disk = λ t. then_disk old h1 h2 (sound t) (so.disk t) (x.disk t);
+    ready = ready_then_on later (Err fault) x;
     sound = λ t last highest wanted told pairs c. record {
       replays = tt;
       map = tt;
@@ -540,7 +498,7 @@ module _ (tells : Type 0) (start scan : Scanned) (end : Place) (before mid now :
         record {
           applies = tt;
           no_page = x.no_page t mid_is.pages;
-          bad = λ at is. bad_next_in start.next end before mid scan old.world h1.world h2.world at so.same.shape apart (x.bad t mid_is.pages at is) mid_is;
+          bad = λ at is. bad_next_in start.next end before mid scan old.world h1.world h2.world at so.ready.same.shape apart (x.bad t mid_is.pages at is) mid_is;
         };
   }
 
@@ -556,12 +514,7 @@ all_applied pairs from end engine w can is = by can.rest can.to can.left
 
 pub so_far_ends : (tells : Type 0) (start scan : Scanned) (end : Place) (before now : FrameRunning) (old new : History) → ReplaysSoFar tells start scan end before now old new → scan.next ≡ end → ReplaysScan {T = Unit {0}} tells start end before now old new (Ok tt)
 so_far_ends tells start scan end before now old new so at = record {
-  same = so.same;
-  order = so.order;
-  is_open = so.is_open;
-  clean = so.clean;
-  ends = so.there;
-  disk = so.disk;
+  ready = so.ready;
   sound = λ t last highest wanted told pairs c.
       let x = so.sound t last highest wanted told pairs c in
       record {
@@ -580,7 +533,7 @@ so_far_ends tells start scan end before now old new so at = record {
           frames = x.reads.frames;
           stand = front_run (contents old.world.log) start.next x.reads.frames x.reads.stands.rest x.reads.stands.stood;
           to = sym x.reads.next ∙ at;
-          makes = subst (λ (k : Shape). all_replayed k x.reads.frames (Some (map_in before old.world)) ≡ Some (map_in now new.world)) so.same.shape x.reads.holds;
+          makes = subst (λ (k : Shape). all_replayed k x.reads.frames (Some (map_in before old.world)) ≡ Some (map_in now new.world)) so.ready.same.shape x.reads.holds;
           well_formed = x.pages.well_formed;
         };
         no_page = λ id is. absurd cc;

@@ -1,10 +1,9 @@
 -- A record is applied again, after a checkpoint where what its operation may need is lacking.
-use Rattle.std.proofs.Common.{◌≡◌, ℕ, ◌+◌, ◌≤◌, ◌<◌, ◌^◌, Bool, true, false, List, Option, Some, None, Result, Ok, Err, refl, sym, ap, ◌∙◌, subst, arith}
+use Rattle.std.proofs.Common.{◌≡◌, ℕ, ◌+◌, ◌≤◌, ◌<◌, ◌^◌, Bool, true, List, Option, Some, Result, Ok, Err, sym, ap, subst, arith}
 use Rattle.std.specs.Prelude.{IfOk, OnOk, IsErr, IsErrOf}
-use Rattle.std.proofs.lemmas.Bool.{false≢true}
 use Rattle.std.proofs.lemmas.Result.{on_ok_weaker}
 use Rattle.pm_types.specs.declared.fault.StoreFault.{StoreFault}
-use Rattle.pm_types.specs.declared.fault.StoreFault.TheVariants.{BadPage, Memory}
+use Rattle.pm_types.specs.declared.fault.StoreFault.TheVariants.{BadPage}
 use Rattle.pm_types.specs.declared.place.Place.{Place}
 use Rattle.pm_types.specs.declared.shape.Shape.{Shape}
 use Rattle.pm_frame.specs.Frames.{Frame}
@@ -14,44 +13,43 @@ use Rattle.pm_disk.proofs.Chain.{joined}
 use Rattle.pm_model.specs.Eval.{Pairs}
 use Rattle.pm_records.specs.LogFiles.{contents}
 use Rattle.pm_records.specs.Records.{Record}
-use Rattle.pm_segments.specs.Ends.{LogEnd, EndsThere}
+use Rattle.pm_segments.specs.Ends.{LogEnd}
 use Rattle.pm_segments.proofs.GrownLog.{extends_then}
-use Rattle.pm_core.specs.Calls.{ChangesDisk}
 use Rattle.pm_core.specs.Held.{AllWellFormed}
 use Rattle.pm_core.specs.Replays.{all_replayed}
 use Rattle.pm_core.specs.States.{State}
-use Rattle.pm_core.proofs.OnlyDisk.{then_disk}
 use Rattle.pm_ckpt.specs.Checkpoints.{KeepsLogFrom}
 use Rattle.pm_ckpt.specs.Marked as marked
-use Rattle.pm_stripe.specs.declared.halt.Halt.{Halt}
 use Rattle.pm_engine.specs.declared.frame_engine_replay.Applied.{Applied}
 use Rattle.pm_engine.specs.declared.frame_engine_replay.Applied.TheVariants as applied
-use Rattle.pm_engine.specs.FrameEngineReplays.{HasWholePages, IsReplayingIn, GoesOnInFrames, AppliesAs, ChecksInFrames, AppliesToWhole, NamesNoPage, ReplaysRecordFrom, ReplaysRecord, applied_once}
+use Rattle.pm_engine.specs.FrameEngineReplays.{HasWholePages, IsReplayingIn, GoesOnInFrames, AppliesAs, AppliesRecord, NamesNoPage}
 use Rattle.pm_engine.specs.FrameEngines.{FrameRunning, map_in}
-use Rattle.pm_engine.specs.FrameStores.{pages_in_frames, HasCleanPages}
-use Rattle.pm_engine.specs.PagedEngines.{number_of}
-use Rattle.pm_engine.specs.PagedReplays.{AreLasting, CrashHoldsMap, Replays}
+use Rattle.pm_engine.specs.FrameReplayCheckpoints.{ChecksInFrames, AppliesToWhole, ReplaysRecordFrom, ReplaysRecord, applied_once}
+use Rattle.pm_engine.specs.FrameStores.{pages_in_frames}
+use Rattle.pm_engine.specs.RunningStores.{number_of}
+use Rattle.pm_engine.specs.Replays.{AreLasting, CrashHoldsMap, Replays}
 use Rattle.pm_engine.specs.RunningStores.{HasSegmentsFor}
+use Rattle.pm_engine.proofs.ReadyEngines.{ready_applied, ready_err, ready_then}
 use Rattle.pm_engine.proofs.Results.{on_err}
 use Rattle.pm_engine.proofs.RunningLines.{map_moments}
 
 -- ---- what is answered
 
 -- where a record was applied once, it is as was said of it
-pub once_open : (answer : Result Applied StoreFault) (P : Type 0) → OnOk answer P → OnOk (applied_once answer) P
+once_open : (answer : Result Applied StoreFault) (P : Type 0) → OnOk answer P → OnOk (applied_once answer) P
 once_open (Ok applied.Done) P p = p
 once_open (Ok applied.Bad) P p = p
 once_open (Ok (applied.Halted halt)) P p = tt
 once_open (Err fault) P p = tt
 
-pub once_applies : (answer : Result Applied StoreFault) (shape : Shape) (found : Option Record) (before now : Pairs) → IfOk answer (λ a. AppliesAs a shape found before now) → IfOk (applied_once answer) (λ can. Replays can shape found before now)
+once_applies : (answer : Result Applied StoreFault) (shape : Shape) (found : Option Record) (before now : Pairs) → IfOk answer (λ a. AppliesAs a shape found before now) → IfOk (applied_once answer) (λ can. Replays can shape found before now)
 once_applies (Ok applied.Done) shape found before now p = p
 once_applies (Ok applied.Bad) shape found before now p = p
 once_applies (Ok (applied.Halted halt)) shape found before now p = tt
 once_applies (Err fault) shape found before now p = tt
 
 -- nor does it name another page than it did
-pub once_no_page : (answer : Result Applied StoreFault) → NamesNoPage answer → NamesNoPage (applied_once answer)
+once_no_page : (answer : Result Applied StoreFault) → NamesNoPage answer → NamesNoPage (applied_once answer)
 once_no_page (Ok applied.Done) none id is = absurd cc
 once_no_page (Ok applied.Bad) none id is = absurd cc
 once_no_page (Ok (applied.Halted halt)) none id is = absurd cc
@@ -73,14 +71,9 @@ module _ (tells : Type 0) (from : Place) (found : Option Record) (before now : F
       → (tells → AllWellFormed before.store.shape (pages_in_frames before.store old.world) → IfOk result (λ can. Replays can before.store.shape found (map_in before old.world) (map_in now new.world)))
       → (tells → AllWellFormed before.store.shape (pages_in_frames before.store old.world) → NamesNoPage result) → ReplaysRecord tells from found before now old new result
   record_alone result opens applies none = record {
-    same = goes.same;
-    order = goes.order;
-    is_open = opens;
+    ready = ready_applied tells before now old new result goes opens;
     rises = on_ok_weaker result (λ (on : now.store.is_open ≡ true). omega (arith, goes.rises on)) opens;
     number = on_ok_weaker result (λ (on : now.store.is_open ≡ true). omega (arith, ap (λ (k : marked.Kept). number_of k.mark) goes.ckpt)) opens;
-    clean = λ t. on_ok_weaker result (λ (on : now.store.is_open ≡ true). goes.clean t on) opens;
-    ends = λ t. on_ok_weaker result (λ (on : now.store.is_open ≡ true). goes.ends t on) opens;
-    disk = goes.disk;
     goes_on = λ t segments. on_ok_weaker result (λ (on : now.store.is_open ≡ true). (goes.grew t (omega (arith, segments)) on).rises) opens;
     log = λ t segments. on_ok_weaker result (λ (on : now.store.is_open ≡ true). λ seg low high. (goes.grew t (omega (arith, segments)) on).begins seg high) opens;
     whole = λ t whole. whole_after found before now old.world new.world result opens (λ on. goes.whole t on whole) (applies t whole.well_formed);
@@ -98,6 +91,13 @@ module _ (tells : Type 0) (from : Place) (found : Option Record) (before now : F
           record { state = goes_then.state; is = goes_then.is; lasts = goes_then.lasts from left (subst (λ (k : Shape). AreLasting from left k pairs s old.world) (sym goes.same.shape) lasts); applies = app }
       by t wanted told pairs s left is lasts segments (Err fault) on app = tt
 
+-- the same, of a record that isn't tried once more
+pub record_once : (tells : Type 0) (from : Place) (found : Option Record) (before now : FrameRunning) (old new : History) (answer : Result Applied StoreFault) → AppliesRecord tells found before now old new answer → ReplaysRecord tells from found before now old new (applied_once answer)
+record_once tells from found before now old new answer x =
+    record_alone tells from found before now old new x.goes_on (applied_once answer) (once_open answer (now.store.is_open ≡ true) x.is_open)
+    (λ t well. once_applies answer before.store.shape found (map_in before old.world) (map_in now new.world) (x.over_well_formed t well).applies)
+    (λ t well. once_no_page answer (x.over_well_formed t well).no_page)
+
 -- ---- after a checkpoint
 
 module _ (tells : Type 0) (from : Place) (found : Option Record) (before mid now : FrameRunning) (h0 h1 h2 : History) (sound : tells → IsHistory h1) where
@@ -105,18 +105,13 @@ module _ (tells : Type 0) (from : Place) (found : Option Record) (before mid now
     goes_room : HasSegmentsFor before.log 33 → HasSegmentsFor mid.log 32
     goes_room segments = omega (arith, segments, checks.rises)
 
-    pub record_checked : (result : Result Bool StoreFault) → OnOk result (now.store.is_open ≡ true)
+    record_checked : (result : Result Bool StoreFault) → OnOk result (now.store.is_open ≡ true)
         → (tells → AllWellFormed mid.store.shape (pages_in_frames mid.store h1.world) → IfOk result (λ can. Replays can mid.store.shape found (map_in mid h1.world) (map_in now h2.world)))
         → (tells → AllWellFormed mid.store.shape (pages_in_frames mid.store h1.world) → NamesNoPage result) → ReplaysRecord tells from found before now h0 h2 result
     record_checked result opens applies none = record {
-      same = record { shape = goes.same.shape ∙ checks.same.shape; region = goes.same.region ∙ checks.same.region; locks = goes.same.locks ∙ checks.same.locks };
-      order = goes.order ∙ checks.order;
-      is_open = opens;
+      ready = ready_then tells before mid now h0 h1 h2 (Ok tt) result sound checks.ready (ready_applied tells mid now h1 h2 result goes opens);
       rises = on_ok_weaker result (λ (on : now.store.is_open ≡ true). omega (arith, goes.rises on, checks.rises)) opens;
       number = on_ok_weaker result (λ (on : now.store.is_open ≡ true). omega (arith, ap (λ (k : marked.Kept). number_of k.mark) goes.ckpt, checks.number)) opens;
-      clean = λ t. on_ok_weaker result (λ (on : now.store.is_open ≡ true). goes.clean t on) opens;
-      ends = λ t. on_ok_weaker result (λ (on : now.store.is_open ≡ true). goes.ends t on) opens;
-      disk = λ t. then_disk h0 h1 h2 (sound t) (checks.disk t) (goes.disk t);
       goes_on = λ t segments. on_ok_weaker result (λ (on : now.store.is_open ≡ true). omega (arith, (goes.grew t (goes_room segments) on).rises, checks.goes_on (omega (arith, segments)))) opens;
       log = λ t segments. on_ok_weaker result (λ (on : now.store.is_open ≡ true).
           λ seg low high.
@@ -126,7 +121,7 @@ module _ (tells : Type 0) (from : Place) (found : Option Record) (before mid now
       whole = λ t whole.
           let kept = checks.whole t whole in
           whole_after found before now h0.world h2.world result opens (λ on. goes.whole t on kept.pages)
-          (as_before result checks.same.shape kept.map (applies t kept.pages.well_formed));
+          (as_before result checks.ready.same.shape kept.map (applies t kept.pages.well_formed));
       no_page = λ t whole. none t (checks.whole t whole).pages.well_formed;
       runs = λ t wanted told pairs s left is lasts makes segments numbered. by t wanted told pairs s left is lasts makes segments numbered result opens (applies t);
       crash = λ t wanted told pairs s left is lasts makes segments numbered.
@@ -136,7 +131,7 @@ module _ (tells : Type 0) (from : Place) (found : Option Record) (before mid now
           let then_is = checks.runs t wanted told pairs s left is lasts makes room numbered in
           joined h0 h1 h2 P
           (map_moments (before.log.end.seg + 2) (number_of before.ckpt.mark + 1) (before.log.end.seg + 34) (number_of before.ckpt.mark + 1) wanted before.store.shape pairs h0 h1 (omega arith) (omega arith) first)
-          (subst (λ (k : Shape). AllMoments h1 h2 (CrashHoldsMap (before.log.end.seg + 34) (number_of before.ckpt.mark + 1) wanted k pairs)) checks.same.shape
+          (subst (λ (k : Shape). AllMoments h1 h2 (CrashHoldsMap (before.log.end.seg + 34) (number_of before.ckpt.mark + 1) wanted k pairs)) checks.ready.same.shape
           (map_moments (mid.log.end.seg + 33) (number_of mid.ckpt.mark) (before.log.end.seg + 34) (number_of before.ckpt.mark + 1) wanted mid.store.shape pairs h1 h2 (omega (arith, checks.rises)) (omega (arith, checks.number))
           (goes.crash t wanted told pairs then_is.state then_is.is (goes_room segments))));
     }
@@ -155,21 +150,16 @@ module _ (tells : Type 0) (from : Place) (found : Option Record) (before mid now
               state = goes_then.state;
               is = goes_then.is;
               lasts = goes_then.lasts from left (subst (λ (k : Shape). AreLasting from left k pairs then_is.state h1.world) (sym goes.same.shape) then_is.lasts);
-              applies = subst (λ (q : Shape × Pairs). Replays can q.0 found q.1 (map_in now h2.world)) {x = (mid.store.shape, map_in mid h1.world)} {y = (before.store.shape, map_in before h0.world)} (λ i. (checks.same.shape i, then_is.map i)) (app then_is.is.runs.holds.well_formed);
+              applies = subst (λ (q : Shape × Pairs). Replays can q.0 found q.1 (map_in now h2.world)) {x = (mid.store.shape, map_in mid h1.world)} {y = (before.store.shape, map_in before h0.world)} (λ i. (checks.ready.same.shape i, then_is.map i)) (app then_is.is.runs.holds.well_formed);
             }
         by t wanted told pairs s left is lasts makes segments numbered (Err fault) on app = tt
 
   -- it couldn't be made
   pub record_unchecked : (fault : StoreFault) (result : Result Bool StoreFault) → IsErr result → NamesNoPage result → ChecksInFrames {T = Unit {0}} {E = StoreFault} tells from before mid h0 h1 (Err fault) → ReplaysRecord tells from found before mid h0 h1 result
   record_unchecked fault result err none checks = record {
-    same = checks.same;
-    order = checks.order;
-    is_open = on_err result err (mid.store.is_open ≡ true);
+    ready = ready_err tells before mid h0 h1 (Err fault) result err checks.ready;
     rises = on_err result err (mid.log.end.seg ≤ before.log.end.seg + 33);
     number = on_err result err (number_of mid.ckpt.mark ≤ number_of before.ckpt.mark + 1);
-    clean = λ t. on_err result err (HasCleanPages mid.store h1.world);
-    ends = λ t. on_err result err (EndsThere mid.log h1.world);
-    disk = checks.disk;
     goes_on = λ t segments. on_err result err (before.log.end.seg ≤ mid.log.end.seg);
     log = λ t segments. on_err result err (KeepsLogFrom from.seg before.log.end.seg h0.world h1.world);
     whole = λ t whole. unapplied result err;
@@ -188,6 +178,14 @@ module _ (tells : Type 0) (from : Place) (found : Option Record) (before mid now
       by wanted told pairs left (Ok can) is = absurd cc
       by wanted told pairs left (Err e) is = tt
 
+-- the same, of a record that isn't tried once more
+pub record_after : (tells : Type 0) (from : Place) (found : Option Record) (before mid now : FrameRunning) (h0 h1 h2 : History) → (tells → IsHistory h1) → ChecksInFrames {T = Unit {0}} {E = StoreFault} tells from before mid h0 h1 (Ok tt)
+    → (answer : Result Applied StoreFault) → AppliesRecord tells found mid now h1 h2 answer → ReplaysRecord tells from found before now h0 h2 (applied_once answer)
+record_after tells from found before mid now h0 h1 h2 sound checks answer x =
+    record_checked tells from found before mid now h0 h1 h2 sound checks x.goes_on (applied_once answer) (once_open answer (now.store.is_open ≡ true) x.is_open)
+    (λ t well. once_applies answer mid.store.shape found (map_in mid h1.world) (map_in now h2.world) (x.over_well_formed t well).applies)
+    (λ t well. once_no_page answer (x.over_well_formed t well).no_page)
+
 -- ---- where it halted before
 
 module _ (tells : Type 0) (from : Place) (found : Option Record) (before mid now : FrameRunning) (h0 h1 h2 : History) (sound : tells → IsHistory h1) (goes : GoesOnInFrames tells before mid h0 h1) (on : mid.store.is_open ≡ true) (log_is : mid.log ≡ before.log) (world_is : tells → h1.world ≡ h0.world)
@@ -203,14 +201,9 @@ module _ (tells : Type 0) (from : Place) (found : Option Record) (before mid now
 
   pub record_halted : (result : Result Bool StoreFault) → ReplaysRecord tells from found mid now h1 h2 result → ReplaysRecord tells from found before now h0 h2 result
   record_halted result x = record {
-    same = record { shape = x.same.shape ∙ goes.same.shape; region = x.same.region ∙ goes.same.region; locks = x.same.locks ∙ goes.same.locks };
-    order = x.order ∙ goes.order;
-    is_open = x.is_open;
+    ready = ready_then {T = Unit {0}} {E = StoreFault} tells before mid now h0 h1 h2 (Ok tt) result sound (ready_applied tells before mid h0 h1 (Ok tt) goes on) x.ready;
     rises = on_ok_weaker result (λ (le : now.log.end.seg ≤ mid.log.end.seg + 33). omega (arith, le, end_is)) x.rises;
     number = on_ok_weaker result (λ (le : number_of now.ckpt.mark ≤ number_of mid.ckpt.mark + 1). omega (arith, le, number_is)) x.number;
-    clean = x.clean;
-    ends = x.ends;
-    disk = λ t. then_disk h0 h1 h2 (sound t) (goes.disk t) (x.disk t);
     goes_on = λ t segments. on_ok_weaker result (λ (le : mid.log.end.seg ≤ now.log.end.seg). omega (arith, le, end_is)) (x.goes_on t (room_is 33 segments));
     log = λ t segments. subst (λ (q : ℕ × World). OnOk result (KeepsLogFrom from.seg q.0 q.1 h2.world)) {x = (mid.log.end.seg, h1.world)} {y = (before.log.end.seg, h0.world)} (λ i. (end_is i, world_is t i)) (x.log t (room_is 33 segments));
     whole = λ t whole. whole_then t whole result (x.whole t (goes.whole t on whole));

@@ -31,15 +31,15 @@ use Rattle.pm_ckpt.specs.Checkpoints.{CanCheckpoint, IsStateAfter, whole_steps}
 use Rattle.pm_ckpt.specs.Marked.{number_after, begin_frame, begin_log}
 use Rattle.pm_ckpt.specs.Writes.{Writing}
 use Rattle.pm_engine.specs.LineChains.{NameTheSame, renamed}
-use Rattle.pm_engine.specs.PagedEngines.{number_of}
-use Rattle.pm_engine.specs.PagedReplays.{AreLasting, CrashHoldsMap}
+use Rattle.pm_engine.specs.RunningStores.{number_of}
+use Rattle.pm_engine.specs.Replays.{AreLasting, CrashHoldsMap}
 use Rattle.pm_engine.specs.RunningLines.{KeepsLines}
 use Rattle.pm_engine.specs.RunningStores.{StoreState, RunsOver, HasSegmentsFor, MakesNewest, map_of, mark_at, checkpointed_at, ended_with}
 use Rattle.pm_engine.proofs.CheckpointedLines.{begin_no_map}
 use Rattle.pm_engine.proofs.CheckpointedStores.{store_checkpointed, leads_after, t_first, t_appended, t_pending}
 use Rattle.pm_engine.proofs.GrownStores.{unlogged, log_grown, first_grown}
 use Rattle.pm_engine.proofs.LineChains.{tracks_renamed, log_renamed}
-use Rattle.pm_engine.proofs.PagedForces.{mark_rises}
+use Rattle.pm_engine.proofs.RisenNumbers.{mark_rises}
 use Rattle.pm_engine.proofs.ReplayingStores.{newest, between_holds}
 use Rattle.pm_engine.proofs.RisenLogs.{grown_rises}
 use Rattle.pm_engine.proofs.RunningCheckpoints.{is_mark, may_checkpoint, leads_begun}

@@ -1,5 +1,5 @@
 -- A store that applies the records of its log again, and appends records that change no map.
-use Rattle.std.proofs.Common.{◌≡◌, ℕ, ◌+◌, ◌≤◌, List, [], ◌∷◌, ◌++◌, length, Some, refl, sym, ap, ◌∙◌, subst, arith, append-nil}
+use Rattle.std.proofs.Common.{◌≡◌, ℕ, ◌+◌, ◌≤◌, List, [], ◌++◌, length, Some, refl, sym, ap, ◌∙◌, subst, arith, append-nil}
 use Rattle.pm_types.specs.declared.page_id.PageId.{PageId}
 use Rattle.pm_types.specs.declared.place.Place.{Place}
 use Rattle.pm_types.specs.declared.shape.Shape.{Shape}
@@ -17,14 +17,14 @@ use Rattle.pm_core.specs.Starts.{appended}
 use Rattle.pm_core.specs.States.{State}
 use Rattle.pm_core.proofs.Replaying.{replayed-append}
 use Rattle.pm_engine.specs.AppendRuns.{append_all_steps, grown_all}
-use Rattle.pm_engine.specs.PagedEngines.{number_of}
-use Rattle.pm_engine.specs.PagedReplays.{CrashHoldsMap, AreLasting}
+use Rattle.pm_engine.specs.RunningStores.{number_of}
+use Rattle.pm_engine.specs.Replays.{CrashHoldsMap, AreLasting}
 use Rattle.pm_engine.specs.RunningLines.{KeepsLines, CrashHoldsLines}
 use Rattle.pm_engine.specs.RunningSteps.{appended_to, SayPagesOver}
 use Rattle.pm_engine.specs.RunningStores.{StoreState, RunsOver, HasSegmentsFor}
 use Rattle.pm_engine.specs.TrackedPages.{TracksPages}
 use Rattle.pm_engine.proofs.LastingFrames.{leads_all, lasts_further}
-use Rattle.pm_engine.proofs.PagedRuns.{all_rises}
+use Rattle.pm_engine.proofs.GrownLogs.{all_rises}
 use Rattle.pm_engine.proofs.RunningLines.{ChangeNoMap, appended_on, all_no_map, keeps_still, crash_holds, crash_one, map_further, number_at_rest}
 use Rattle.pm_engine.proofs.RunningLogs.{state_follows}
 use Rattle.pm_engine.proofs.RunningOperations.{store_append_goes, store_append_runs}

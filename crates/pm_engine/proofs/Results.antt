@@ -4,10 +4,6 @@ use Rattle.std.specs.Prelude.{OnOk, OnErr, IfOk, IsErr}
 use Rattle.std.specs.Result.{is_err}
 use Rattle.std.proofs.lemmas.Bool.{false≢true}
 
-pub on_ok_both : {T E : Type 0} (r : Result T E) (P Q R : Type 0) → (P → Q → R) → OnOk r P → OnOk r Q → OnOk r R
-on_ok_both (Ok x) P Q R f p q = f p q
-on_ok_both (Err e) P Q R f p q = tt
-
 -- an `Err` promises nothing
 pub on_err : {T E : Type 0} (r : Result T E) → IsErr r → (P : Type 0) → OnOk r P
 on_err (Ok x) is P = absurd cc
@@ -21,6 +17,10 @@ ok_holds r x P is holds = subst (λ q. OnOk q P) is holds
 pub ok_anyway : {T E : Type 0} (r : Result T E) (P : Type 0) → P → OnOk r P
 ok_anyway (Ok x) P p = p
 ok_anyway (Err e) P p = tt
+
+pub err_anyway : {T E : Type 0} (r : Result T E) (P : Type 0) → P → OnErr r P
+err_anyway (Ok x) P p = tt
+err_anyway (Err e) P p = p
 
 pub if_ok_holds : {T E : Type 0} (r : Result T E) (x : T) (P : T → Type 0) → r ≡ Ok x → IfOk r P → P x
 if_ok_holds r x P is holds = subst (λ q. IfOk q P) is holds

@@ -44,7 +44,7 @@ use Rattle.pm_engine.specs.FrameHosts.{RunsRound, SendsOutbox, ChangesNoWorld, m
 use Rattle.pm_engine.specs.FrameRounds.{HasDone, LeavesRound, EvaluatesLines, lines_from}
 use Rattle.pm_engine.specs.FrameStores.{FrameStoreView, pages_in_frames, IsDirtyPage, HasCleanPages, shut}
 use Rattle.pm_engine.specs.OutboxLogs.{SpellOperationRecords, SpellNumbers, HasNumberRoom, records_of, numbers_of}
-use Rattle.pm_engine.specs.PagedEngines.{number_of}
+use Rattle.pm_engine.specs.RunningStores.{number_of}
 use Rattle.pm_engine.specs.RunningLines.{HasRun, CrashHoldsLines}
 use Rattle.pm_engine.specs.RunningSteps.{appended_to}
 use Rattle.pm_engine.specs.RunningStores.{StoreState, HasSegmentsFor}
@@ -54,7 +54,7 @@ use Rattle.pm_engine.proofs.HandedOperations.{HandsLines, lines_hand}
 use Rattle.pm_engine.proofs.LentReaders.{clean_there}
 use Rattle.pm_engine.proofs.LineChains.{all_done, all_few}
 use Rattle.pm_engine.proofs.OperationSteps.{machine_steps}
-use Rattle.pm_engine.proofs.PagedRuns.{all_rises, all_size, all_from}
+use Rattle.pm_engine.proofs.GrownLogs.{all_rises, all_size, all_from}
 use Rattle.pm_engine.proofs.RunningLines.{crash_further}
 
 -- ---- lists

@@ -34,8 +34,8 @@ use Rattle.pm_core.proofs.LaterImages.{call_up_to}
 use Rattle.pm_core.proofs.Replaying.{replayed-append}
 use Rattle.pm_marks.specs.InForce.{number_in}
 use Rattle.pm_engine.specs.AppendRuns.{append_all_steps}
-use Rattle.pm_engine.specs.PagedEngines.{number_of}
-use Rattle.pm_engine.specs.PagedReplays.{CrashHoldsMap}
+use Rattle.pm_engine.specs.RunningStores.{number_of}
+use Rattle.pm_engine.specs.Replays.{CrashHoldsMap}
 use Rattle.pm_engine.specs.RunningLines.{IsAfterPrefix, KeepsLines, GoesUpTo, CrashHoldsLines}
 use Rattle.pm_engine.specs.RunningStores.{ended_with}
 use Rattle.pm_engine.proofs.RunningLogs.{seal_is}

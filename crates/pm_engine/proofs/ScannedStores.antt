@@ -1,6 +1,6 @@
 -- A scan of an open store leaves its pages as they were.
-use Rattle.std.proofs.Common.{◌≡◌, ℕ, ◌%◌, Bool, true, [], ◌∷◌, Option, Some, None, sym, refl, ap, subst, ◌∙◌, arith}
-use Rattle.std.specs.Prelude.{Result, Ok, Err, IsErrOf, OnOk, OnErr}
+use Rattle.std.proofs.Common.{◌≡◌, ℕ, ◌%◌, Bool, true, [], ◌∷◌, length, Option, Some, None, sym, refl, ap, subst, ◌∙◌, arith}
+use Rattle.std.specs.Prelude.{IfSome, Result, Ok, Err, IsErrOf, OnOk, OnErr}
 use Rattle.std.proofs.Math.Nat.{mod-one}
 use Rattle.pm_types.specs.declared.fault.PageFault.{PageFault}
 use Rattle.pm_types.specs.declared.fault.PageFault.TheVariants.{Failed, BadPage}
@@ -27,12 +27,13 @@ use Rattle.pm_engine.specs.declared.frame_rounds.RoundEnd.{RoundEnd}
 use Rattle.pm_engine.specs.declared.frame_scans.ScanStop.{ScanStop}
 use Rattle.pm_engine.specs.declared.frame_scans.ScanStop.TheVariants as scan
 use Rattle.pm_engine.specs.FrameCommands.{frame_pages}
-use Rattle.pm_engine.specs.FrameHosts.{ScansStore, may_go_on}
+use Rattle.pm_engine.specs.FrameHosts.{ScansStore, count_after, may_go_on}
 use Rattle.pm_engine.specs.FrameRounds.{LeavesRound, AnswersRound, HasDone}
 use Rattle.pm_engine.specs.FrameScans.{LooksUp, OwnsAll, HasScanCause, ReadsNoBadPage, may_go_on_after}
-use Rattle.pm_engine.specs.FrameStores.{FrameStoreView, pages_in_frames, HasCleanPages, IsOpenStore, IsFrameStore}
+use Rattle.pm_engine.specs.FrameStores.{FrameStoreView, pages_in_frames, HasCleanPages, IsOpenStore, IsFrameStore, dirty_count}
 use Rattle.pm_engine.proofs.FrameHosts.{bound_shape, bound_began, after_round, ended, runs_round}
 use Rattle.pm_engine.proofs.LentReaders.{clean_there}
+use Rattle.pm_engine.proofs.QuietRounds.{round_counted}
 use Rattle.pm_engine.proofs.Replied.{with_none}
 
 -- ---- a scan as a round without lines
@@ -108,9 +109,9 @@ module _ {Q R : Type 0} (tells : Type 0) (history : R → History) (state : R �
 
     module _ (c : Bound Q R) (was now : ReplyList) (looks : LooksUp tells history state b c) (cache : ℕ) (result : Result (Unit {0}) ScanStop) (cause : HasScanCause state b c result)
         (sound : tells → AllWellFormed old.shape (frame_pages history b) → ReadsNoBadPage result)
-        (s : Stripe) (seat : Sight) (r : R) (flag : Bool) (ends : EndsRound tells history c s seat) (rest : IsAtRest c.locks.now (kept s seat)) (flag_is : flag ≡ may_go_on_after result) where
+        (s : Stripe) (seat : Sight) (r : R) (dirty : Option ℕ) (flag : Bool) (ends : EndsRound tells history c s seat) (rest : IsAtRest c.locks.now (kept s seat)) (flag_is : flag ≡ may_go_on_after result) where
       abbrev new : FrameStoreView
-      new = record old { seat = seat; stripe = s; is_open = flag }
+      new = record old { seat = seat; stripe = s; dirty = dirty; is_open = flag }
 
       shape_is : old.shape ≡ b.stripe.shape
       shape_is = bound_shape tells history state old is b at_locks at_seat at_stripe
@@ -118,17 +119,21 @@ module _ {Q R : Type 0} (tells : Type 0) (history : R → History) (state : R �
       answers : AnswersRound tells history state 0 0 [] b c was was (end_by result)
       answers = as_round b c was looks result cause (λ t all. sound t (subst (λ s. AllWellFormed s (frame_pages history b)) (sym shape_is) all))
 
-      pub after_scan : IsFrameStore old → IsFrameStore new
-      after_scan = after_round tells history state old is b at_locks at_seat at_stripe 0 0 [] c was was (end_by result) answers s seat r flag ends rest (flag_is ∙ goes_on_by result)
+      pub after_scan : IsFrameStore old → IfSome dirty (λ count. count ≡ dirty_count new) → IsFrameStore new
+      after_scan = after_round tells history state old is b at_locks at_seat at_stripe 0 0 [] c was was (end_by result) answers s seat r dirty flag ends rest (flag_is ∙ goes_on_by result)
+
+      -- what is remembered of how many pages stay in Dirty frames is so
+      pub scan_counted : IsFrameStore old → IfSome (count_after old.dirty flag (length old.stripe.outbox) (length s.outbox)) (λ count. count ≡ dirty_count new)
+      scan_counted = round_counted tells history state old is b at_locks at_seat at_stripe 0 0 [] c was was (end_by result) answers s seat r flag ends rest (flag_is ∙ goes_on_by result)
 
       module _ (world : World) (at_world : (history b.reader).world ≡ world) where
         pub scans_store : r ≡ c.reader → (tells → AreClean (file_of s (history r)) (kept s seat)) → OnOk result (AppendsReply was now) → OnErr result (now ≡ was)
             → (tells → AllWellFormed old.shape (frame_pages history b) → OnOk result (now ≡ with_replies (reply_to old.shape (Good (Scan cache)) (pairs_in old.shape.partitions (frame_pages history b)) ∷ []) was))
             → ScansStore tells cache old new world was now result
         scans_store back clean replied no_reply evaluates =
-            let round = runs_round tells history state old is b at_locks at_seat at_stripe 0 0 [] c was was (end_by result) answers s seat r flag ends rest (flag_is ∙ goes_on_by result) world at_world back clean in
+            let round = runs_round tells history state old is b at_locks at_seat at_stripe 0 0 [] c was was (end_by result) answers s seat r dirty flag ends rest (flag_is ∙ goes_on_by result) world at_world back clean in
             let began = bound_began tells history state old is b at_locks at_seat at_stripe world at_world in
-            let at_end = ended tells history state old is b at_locks at_seat at_stripe 0 0 [] c was was (end_by (Ok tt)) (as_round b c was looks (Ok tt) (λ e. absurd cc) (λ t all id e. absurd cc)) s seat r true ends rest refl world at_world refl in
+            let at_end = ended tells history state old is b at_locks at_seat at_stripe 0 0 [] c was was (end_by (Ok tt)) (as_round b c was looks (Ok tt) (λ e. absurd cc) (λ t all id e. absurd cc)) s seat r dirty true ends rest refl world at_world refl in
             record {
               same = round.same;
               is_open = flag_is;

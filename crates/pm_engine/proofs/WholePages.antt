@@ -1,5 +1,5 @@
 -- Pages that a checkpoint leaves as they are, and those of an engine that applies its log again.
-use Rattle.std.proofs.Common.{◌≡◌, ◌≢◌, inl, inr, ℕ, ◌+◌, ◌*◌, ◌^◌, ◌<◌, ◌≤◌, Bool, true, false, List, [], length, Option, Some, None, refl, sym, ap, ◌∙◌, subst, arith}
+use Rattle.std.proofs.Common.{◌≡◌, ◌≢◌, inl, inr, ℕ, ◌+◌, ◌*◌, ◌^◌, ◌<◌, ◌≤◌, Bool, true, false, List, length, Option, Some, None, refl, sym, ap, ◌∙◌, subst, arith}
 use Rattle.std.specs.Prelude.{if◌then◌else◌, IsSome, is_some}
 use Rattle.std.specs.Option.{option_map, option_or}
 use Rattle.std.proofs.lemmas.Bool.{cases_eq, cases_lt}
@@ -15,7 +15,7 @@ use Rattle.pm_model.specs.Orders.{part_of_line}
 use Rattle.pm_records.proofs.Runs.{bool_cases, option_cases}
 use Rattle.pm_pages.specs.Rows.{Partition}
 use Rattle.pm_pages.specs.WellFormed.{IsWellFormed}
-use Rattle.pm_core.specs.BasePages.{Partitions, counted, page_in_file, laid_over, no_pages}
+use Rattle.pm_core.specs.BasePages.{Partitions, counted, page_in_file, laid_over}
 use Rattle.pm_core.specs.Held.{AllWellFormed, pairs_in}
 use Rattle.pm_core.specs.PageLaws.{Grows}
 use Rattle.pm_core.specs.PageSets.{has_index}

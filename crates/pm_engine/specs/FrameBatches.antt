@@ -32,8 +32,8 @@ use Rattle.pm_engine.specs.FrameEngines.{FrameRunning, HasDoneLines, HasLastingL
 use Rattle.pm_engine.specs.FrameHosts.{ChangesNoWorld, may_go_on}
 use Rattle.pm_engine.specs.FrameRounds.{EvaluatesLines}
 use Rattle.pm_engine.specs.FrameStores.{FrameStoreView, pages_in_frames, IsDirtyPage, HasCleanPages}
-use Rattle.pm_engine.specs.PagedBatches.{StaysOpen, checkpoints_in, asked_last}
-use Rattle.pm_engine.specs.PagedEngines.{number_of}
+use Rattle.pm_engine.specs.Batches.{StaysOpen, checkpoints_in, asked_last}
+use Rattle.pm_engine.specs.RunningStores.{number_of}
 use Rattle.pm_engine.specs.RunningLines.{CrashHoldsLines}
 use Rattle.pm_engine.specs.RunningStores.{HasSegmentsFor}
 
@@ -49,9 +49,9 @@ pub record LooksOnce (old new : Sight) : Type 0 where
   pub seat : new ≡ record old { view = record old.view { words = new.view.words; met = new.view.met } }
   pub words : (f : ℕ) → known_at new.view f ≡ known_at old.view f
 
--- the same of a store's seat, and all else is as it was
+-- the same of a store's seat; all else is as it was, but for what is remembered of how many frames are Dirty
 pub record LooksAtFrames (old new : FrameStoreView) : Type 0 where
-  pub store : new ≡ record old { seat = new.seat }
+  pub store : new ≡ record old { seat = new.seat; dirty = new.dirty }
   pub looks : LooksOnce old.seat new.seat
 
 -- the same of an engine's store, and all else is as it was

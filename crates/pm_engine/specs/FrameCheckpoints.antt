@@ -1,9 +1,14 @@
 -- A checkpoint of the pages of an open store in page frames.
 use Rattle.std.specs.Prelude.{◌≡◌, ◌<◌, ◌^◌, ℕ, true, false, List, Some}
 use Rattle.pm_types.specs.declared.page_id.PageId.{PageId}
+use Rattle.pm_types.specs.declared.shape.Mark.{Mark}
 use Rattle.pm_types.specs.Ids.{page_id}
 use Rattle.pm_disk.specs.Worlds.{World, pages_in}
+use Rattle.pm_segments.specs.Ends.{LogEnd}
 use Rattle.pm_core.specs.BasePages.{page_in_file}
+use Rattle.pm_ckpt.specs.Checkpoints.{LeavesLog}
+use Rattle.pm_ckpt.specs.Dirty.{IsNext}
+use Rattle.pm_ckpt.specs.Marked.{Kept, kept_segment, spent}
 use Rattle.pm_engine.specs.FrameStores.{FrameStoreView, pages_in_frames, IsDirtyPage, HasCleanPages}
 
 -- What a checkpoint that was made leaves of a store: no page is Dirty, and the partitions' files have pages. Each
@@ -34,3 +39,16 @@ pub record ClosesStore (old new : FrameStoreView) : Type 0 where
   pub locks : new.locks ≡ old.locks
   pub stripe : new.stripe ≡ old.stripe
   pub is_open : new.is_open ≡ false
+
+-- A checkpoint with this mark was made: what is kept for checkpoints and the log are those after it, no page stays in its
+-- frame, the log's last segment ends where the log does, and no segment that is kept loses what it had.
+pub record MakesCheckpoint (tells : Type 0) (mark : Mark) (kept kept_now : Kept) (log log_now : LogEnd)
+    (before after : World) (old new : FrameStoreView) : Type 0 where
+  pub next : IsNext mark kept kept_now log log_now
+  pub pages : IsCheckpointed tells before after old new
+  pub ends : tells → LeavesLog (kept_segment mark) log log_now before after
+
+-- A checkpoint failed: the store isn't open any more, and there is no room for another checkpoint.
+pub record FailsCheckpoint (kept kept_now : Kept) (old new : FrameStoreView) : Type 0 where
+  pub closed : ClosesStore old new
+  pub no_room : kept_now ≡ spent kept

@@ -2,12 +2,11 @@
 --
 -- The records of the pages that one changes are appended; it itself isn't. Where what its operation may need is lacking
 -- nothing is changed, and a checkpoint is made before it is tried again.
-use Rattle.std.specs.Prelude.{◌≡◌, ◌≤◌, ◌<◌, ◌+◌, ◌^◌, ℕ, Bool, true, false, List, [], Option, Some, None}
-use Rattle.std.specs.Prelude.{Result, Ok, Err, IfOk, IsErrOf, OnOk, OnErr}
+use Rattle.std.specs.Prelude.{◌≡◌, ◌≤◌, ◌<◌, ◌+◌, ℕ, Bool, true, false, List, [], Option, Some, None}
+use Rattle.std.specs.Prelude.{Result, Ok, Err, IfOk, IsErrOf, OnOk}
 use Rattle.pm_types.specs.declared.fault.PageFault.TheVariants.{BadPage}
 use Rattle.pm_types.specs.declared.fault.StoreFault.{StoreFault}
 use Rattle.pm_types.specs.declared.fault.StoreFault.TheVariants as fault
-use Rattle.pm_types.specs.declared.fault.StoreFault.TheVariants.{Memory}
 use Rattle.pm_types.specs.declared.limits.TheConstants.{OP_PAGES}
 use Rattle.pm_types.specs.declared.page_id.PageId.{PageId}
 use Rattle.pm_types.specs.declared.place.Place.{Place}
@@ -23,11 +22,10 @@ use Rattle.pm_model.specs.ReplyLists.{ReplyList}
 use Rattle.pm_records.specs.Records.{Record}
 use Rattle.pm_segments.specs.Ends.{EndsThere}
 use Rattle.pm_stripe.specs.declared.halt.Halt.{Halt}
-use Rattle.pm_ckpt.specs.Checkpoints.{KeepsLogFrom}
 use Rattle.pm_core.specs.BasePages.{page_in_file}
 use Rattle.pm_core.specs.Calls.{ChangesDisk}
 use Rattle.pm_core.specs.Held.{AllWellFormed}
-use Rattle.pm_core.specs.Replays.{replayed, all_replayed}
+use Rattle.pm_core.specs.Replays.{replayed}
 use Rattle.pm_core.specs.Starts.{appended}
 use Rattle.pm_core.specs.States.{State}
 use Rattle.pm_engine.specs.declared.frame_engine_replay.Applied.{Applied}
@@ -37,9 +35,9 @@ use Rattle.pm_engine.specs.declared.frame_lines.Stop.TheVariants.{Halted, Faulte
 use Rattle.pm_engine.specs.FrameEngines.{FrameRunning, running_in, map_in, NamesDirty, IsSameEngine}
 use Rattle.pm_engine.specs.FrameLines.{EvaluatesLine}
 use Rattle.pm_engine.specs.FrameReplays.{may_apply_more}
-use Rattle.pm_engine.specs.FrameStores.{FrameStoreView, pages_in_frames, IsDirtyPage, HasCleanPages}
-use Rattle.pm_engine.specs.PagedEngines.{number_of}
-use Rattle.pm_engine.specs.PagedReplays.{CrashHoldsMap, AreLasting, GrewAtEnd, Replays}
+use Rattle.pm_engine.specs.FrameStores.{FrameStoreView, pages_in_frames, HasCleanPages}
+use Rattle.pm_engine.specs.RunningStores.{number_of}
+use Rattle.pm_engine.specs.Replays.{CrashHoldsMap, AreLasting, GrewAtEnd}
 use Rattle.pm_engine.specs.RunningLines.{KeepsLines}
 use Rattle.pm_engine.specs.RunningStores.{RunsOver, HasSegmentsFor}
 use Rattle.pm_engine.specs.TrackedPages.{HaveFirstPages}
@@ -68,6 +66,18 @@ pub record ReplaysOnIn (wanted : Shape) (told : List ℕ → ℕ) (pairs : Pairs
   pub is : IsReplayingIn wanted told pairs engine state new
   pub lasts : (from : Place) (left : List Frame) → AreLasting from left engine.store.shape pairs s old
       → AreLasting from left engine.store.shape pairs state new
+
+-- What a call that applies the log again leaves of the engine, whatever became of the records. Its shape, region, locks
+-- and order are as they were, and at each moment nothing but the disk changed. At `Ok` it is open, what is Clean is as
+-- the files have it, and its log ends where its file does.
+pub record KeepsEngineReady {T E : Type 0} (tells : Type 0) (before now : FrameRunning) (old new : History)
+    (result : Result T E) : Type 0 where
+  pub same : IsSameEngine before now
+  pub order : now.order ≡ before.order
+  pub is_open : OnOk result (now.store.is_open ≡ true)
+  pub clean : tells → OnOk result (HasCleanPages now.store new.world)
+  pub ends : tells → OnOk result (EndsThere now.log new.world)
+  pub disk : tells → AllMoments old new (ChangesDisk old.world)
 
 -- A record was applied again, or wasn't. While the engine is open it goes on with it, the log has grown at its end, and
 -- pages that a checkpoint leaves as they are are so still. Whatever a crash leaves meanwhile of a sound store holds what
@@ -110,6 +120,10 @@ pub record EvaluatesAgain (tells : Type 0) (cmd : Cmd) (before now : FrameRunnin
   pub sound : tells → AllWellFormed before.store.shape (pages_in_frames before.store old) → (id : PageId)
       → IsErrOf answer (Faulted (BadPage id)) → ⊥
 
+-- no page was found bad
+abbrev pub NamesNoPage : {T : Type 0} → Result T StoreFault → Type 0
+NamesNoPage result = (id : PageId) → IsErrOf result (fault.BadPage id) → ⊥
+
 -- whether the pages are as the record says
 abbrev pub is_done : Applied → Bool
 is_done applied.Done = true
@@ -121,6 +135,26 @@ abbrev pub AppliesAs : Applied → Shape → Option Record → Pairs → Pairs �
 AppliesAs applied.Done shape found before now = replayed shape found before ≡ Some now
 AppliesAs applied.Bad shape found before now = replayed shape found before ≡ None
 AppliesAs (applied.Halted halt) shape found before now = now ≡ before
+
+-- A record was applied again to pages each of whose partitions was well formed. What became of it, and the map that it
+-- leaves, follow from the map that there was. Each partition is well formed still, and no page was found bad.
+pub record AppliesToWellFormed (found : Option Record) (before now : FrameRunning) (old new : World)
+    (result : Result Applied StoreFault) : Type 0 where
+  pub applies : IfOk result (λ became. AppliesAs became before.store.shape found (map_in before old)
+      (map_in now new))
+  pub well_formed : OnOk result (AllWellFormed before.store.shape (pages_in_frames now.store new))
+  pub no_page : NamesNoPage result
+
+-- A record of the log was applied again by an engine, or wasn't. At `Ok` the engine is open. What became of the record
+-- is said over well-formed pages; one that wasn't applied leaves the log and the disk as they were.
+pub record AppliesRecord (tells : Type 0) (found : Option Record) (before now : FrameRunning) (old new : History)
+    (result : Result Applied StoreFault) : Type 0 where
+  pub goes_on : GoesOnInFrames tells before now old new
+  pub is_open : OnOk result (now.store.is_open ≡ true)
+  pub over_well_formed : tells → AllWellFormed before.store.shape (pages_in_frames before.store old.world)
+      → AppliesToWellFormed found before now old.world new.world result
+  pub unlogged : IfOk result (λ became. is_done became ≡ false → now.log ≡ before.log)
+  pub refused : tells → IfOk result (λ became. is_done became ≡ false → new.world ≡ old.world)
 
 -- what became of the record of a put, or of a remove, whose command wasn't accepted: a remove of an absent key is
 -- applied by changing nothing
@@ -134,112 +168,3 @@ applied_as is_put (Ok true) = Ok applied.Done
 applied_as is_put (Ok false) = Ok (refused_as is_put)
 applied_as is_put (Err (Halted halt)) = Ok (applied.Halted halt)
 applied_as is_put (Err (Faulted fault)) = Err (store_fault_of fault)
-
--- In some state of the disk machine a store that had this world's pages before is replaying, with the same map, and
--- these frames from this place on are lasting and left to be applied.
-pub record ReplaysFromIn (wanted : Shape) (told : List ℕ → ℕ) (pairs : Pairs) (from : Place) (left : List Frame)
-    (before now : FrameRunning) (old new : World) : Type 0 where
-  pub state : State
-  pub is : IsReplayingIn wanted told pairs now state new
-  pub lasts : AreLasting from left now.store.shape pairs state new
-  pub map : map_in now new ≡ map_in before old
-
--- a checkpoint left the pages as they were, and the map of those that count
-pub record KeepsWholePages (before now : FrameRunning) (old new : World) : Type 0 where
-  pub pages : HasWholePages now.store new
-  pub map : map_in now new ≡ map_in before old
-
--- A checkpoint was made, after which a restart applies the log from this place on. At `Ok` the engine goes on with it,
--- and of a sound store the frames from there on are as lasting as they were, over the same map. Whatever a crash
--- leaves meanwhile holds what the store held. Of any store the log loses nothing from that place's segment on, where
--- there is a number for a segment more.
-pub record ChecksInFrames {T E : Type 0} (tells : Type 0) (from : Place) (before now : FrameRunning)
-    (old new : History) (result : Result T E) : Type 0 where
-  pub same : IsSameEngine before now
-  pub order : now.order ≡ before.order
-  pub is_open : OnOk result (now.store.is_open ≡ true)
-  pub closed : OnErr result (now.store.is_open ≡ false)
-  pub rises : OnOk result (now.log.end.seg ≤ before.log.end.seg + 1)
-  pub goes_on : HasSegmentsFor before.log 1 → OnOk result (before.log.end.seg ≤ now.log.end.seg)
-  pub number : OnOk result (number_of now.ckpt.mark ≤ number_of before.ckpt.mark + 1)
-  pub none_dirty : OnOk result ((id : PageId) → IsDirtyPage now.store id → ⊥)
-  pub clean : tells → OnOk result (HasCleanPages now.store new.world)
-  pub ends : tells → OnOk result (EndsThere now.log new.world)
-  pub log : tells → HasSegmentsFor before.log 1
-      → OnOk result (KeepsLogFrom from.seg before.log.end.seg old.world new.world)
-  pub whole : tells → HasWholePages before.store old.world
-      → OnOk result (KeepsWholePages before now old.world new.world)
-  pub disk : tells → AllMoments old new (ChangesDisk old.world)
-  pub runs : tells → (wanted : Shape) (told : List ℕ → ℕ) (pairs : Pairs) (s : State) (left : List Frame)
-      → IsReplayingIn wanted told pairs before s old.world
-      → AreLasting from left before.store.shape pairs s old.world
-      → all_replayed before.store.shape left (Some (map_in before old.world)) ≡ Some pairs
-      → HasSegmentsFor before.log 1 → number_of before.ckpt.mark + 1 < 2 ^ 64
-      → OnOk result (ReplaysFromIn wanted told pairs from left before now old.world new.world)
-  pub crash : tells → (wanted : Shape) (told : List ℕ → ℕ) (pairs : Pairs) (s : State) (left : List Frame)
-      → IsReplayingIn wanted told pairs before s old.world
-      → AreLasting from left before.store.shape pairs s old.world
-      → all_replayed before.store.shape left (Some (map_in before old.world)) ≡ Some pairs
-      → HasSegmentsFor before.log 1 → number_of before.ckpt.mark + 1 < 2 ^ 64
-      → AllMoments old new (CrashHoldsMap (before.log.end.seg + 2) (number_of before.ckpt.mark + 1)
-      wanted before.store.shape pairs)
-
--- In some state of the disk machine a store is replaying, and the frames from this place on that were left to be
--- applied are lasting still. A record could be applied to the map of its pages, or couldn't.
-pub record ReplaysRecordFrom (wanted : Shape) (told : List ℕ → ℕ) (pairs : Pairs) (from : Place) (left : List Frame)
-    (found : Option Record) (before now : FrameRunning) (old new : World) (can : Bool) : Type 0 where
-  pub state : State
-  pub is : IsReplayingIn wanted told pairs now state new
-  pub lasts : AreLasting from left now.store.shape pairs state new
-  pub applies : Replays can before.store.shape found (map_in before old) (map_in now new)
-
--- a record could be applied to the map of the pages, or couldn't, and the pages may be applied to still
-pub record AppliesToWhole (found : Option Record) (before now : FrameRunning) (old new : World) (can : Bool)
-    : Type 0 where
-  pub applies : Replays can before.store.shape found (map_in before old) (map_in now new)
-  pub pages : HasWholePages now.store new
-
--- no page was found bad
-abbrev pub NamesNoPage : {T : Type 0} → Result T StoreFault → Type 0
-NamesNoPage result = (id : PageId) → IsErrOf result (fault.BadPage id) → ⊥
-
--- The record that stands at this place was applied again, or couldn't be, after a checkpoint where one had to be made
--- first. At `Ok` the engine goes on with it, and the log lost nothing from that place's segment on. Whatever a crash
--- leaves meanwhile of a sound store holds what the store held. Of any store whose pages may be applied to, sound or
--- not, the pages are so still, and none is bad.
-pub record ReplaysRecord (tells : Type 0) (from : Place) (found : Option Record) (before now : FrameRunning)
-    (old new : History) (result : Result Bool StoreFault) : Type 0 where
-  pub same : IsSameEngine before now
-  pub order : now.order ≡ before.order
-  pub is_open : OnOk result (now.store.is_open ≡ true)
-  pub rises : OnOk result (now.log.end.seg ≤ before.log.end.seg + (OP_PAGES + 1))
-  pub number : OnOk result (number_of now.ckpt.mark ≤ number_of before.ckpt.mark + 1)
-  pub clean : tells → OnOk result (HasCleanPages now.store new.world)
-  pub ends : tells → OnOk result (EndsThere now.log new.world)
-  pub disk : tells → AllMoments old new (ChangesDisk old.world)
-  pub goes_on : tells → HasSegmentsFor before.log (OP_PAGES + 1) → OnOk result (before.log.end.seg ≤ now.log.end.seg)
-  pub log : tells → HasSegmentsFor before.log (OP_PAGES + 1)
-      → OnOk result (KeepsLogFrom from.seg before.log.end.seg old.world new.world)
-  pub whole : tells → HasWholePages before.store old.world
-      → IfOk result (AppliesToWhole found before now old.world new.world)
-  pub no_page : tells → HasWholePages before.store old.world → NamesNoPage result
-  pub runs : tells → (wanted : Shape) (told : List ℕ → ℕ) (pairs : Pairs) (s : State) (left : List Frame)
-      → IsReplayingIn wanted told pairs before s old.world
-      → AreLasting from left before.store.shape pairs s old.world
-      → all_replayed before.store.shape left (Some (map_in before old.world)) ≡ Some pairs
-      → HasSegmentsFor before.log (OP_PAGES + 1) → number_of before.ckpt.mark + 1 < 2 ^ 64
-      → IfOk result (ReplaysRecordFrom wanted told pairs from left found before now old.world new.world)
-  pub crash : tells → (wanted : Shape) (told : List ℕ → ℕ) (pairs : Pairs) (s : State) (left : List Frame)
-      → IsReplayingIn wanted told pairs before s old.world
-      → AreLasting from left before.store.shape pairs s old.world
-      → all_replayed before.store.shape left (Some (map_in before old.world)) ≡ Some pairs
-      → HasSegmentsFor before.log (OP_PAGES + 1) → number_of before.ckpt.mark + 1 < 2 ^ 64
-      → AllMoments old new (CrashHoldsMap (before.log.end.seg + (OP_PAGES + 2)) (number_of before.ckpt.mark + 1)
-      wanted before.store.shape pairs)
-
--- whether a record could be applied, where it isn't tried once more
-abbrev pub applied_once : Result Applied StoreFault → Result Bool StoreFault
-applied_once (Ok applied.Done) = Ok true
-applied_once (Ok applied.Bad) = Ok false
-applied_once (Ok (applied.Halted halt)) = Err Memory
-applied_once (Err fault) = Err fault

@@ -23,7 +23,7 @@ use Rattle.pm_engine.specs.declared.frame_rounds.RoundEnd.{RoundEnd}
 use Rattle.pm_engine.specs.FrameHosts.{may_go_on, ChangesNoWorld}
 use Rattle.pm_engine.specs.FrameRounds.{EvaluatesLines, lines_from}
 use Rattle.pm_engine.specs.FrameStores.{FrameStoreView, pages_in_frames, IsDirtyPage, HasCleanPages, shut}
-use Rattle.pm_engine.specs.PagedEngines.{number_of}
+use Rattle.pm_engine.specs.RunningStores.{number_of}
 use Rattle.pm_engine.specs.RunningLines.{HasRun, CrashHoldsLines}
 use Rattle.pm_engine.specs.RunningStores.{StoreState, IsMarkIn, HasSegmentsFor}
 

@@ -1,6 +1,6 @@
 -- A round of lines and a scan over the pages of an open store, with a host that lends a reader.
 use Rattle.std.specs.Prelude.{◌≡◌, ◌↔◌, ◌<◌, ℕ, Bool, true, false, [], ◌∷◌, List, Option, Some, None, IsTrue}
-use Rattle.std.specs.Prelude.{Result, OnOk, OnErr}
+use Rattle.std.specs.Prelude.{◌==◌, ◌&&◌, if◌then◌else◌, Result, OnOk, OnErr}
 use Rattle.pm_types.specs.declared.page_id.PageId.{PageId}
 use Rattle.pm_disk.specs.Moments.{History, AllMoments}
 use Rattle.pm_disk.specs.States.{DeviceState, Rose}
@@ -38,6 +38,11 @@ abbrev pub may_go_on : Option Stop → Bool
 may_go_on None = true
 may_go_on (Some (Halted halt)) = true
 may_go_on (Some (Faulted fault)) = false
+
+-- What is remembered, after a round, of how many pages stay in Dirty frames: the count as it was, where the round may be
+-- followed by another one and left the outbox as long as it was, so that it handed nothing over. Else nothing is.
+abbrev pub count_after : Option ℕ → Bool → ℕ → ℕ → Option ℕ
+count_after counted goes_on was now = if goes_on && was == now then counted else None
 
 -- What no round changes of a store's page frames, and what it has.
 pub record IsSameStore (old new : FrameStoreView) : Type 0 where

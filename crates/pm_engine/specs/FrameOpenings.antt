@@ -24,8 +24,8 @@ use Rattle.pm_redo.specs.Pictures.{files_in}
 use Rattle.pm_redo.specs.Restoring.{IsBadRestore, KeepsBase}
 use Rattle.pm_engine.specs.FrameEngines.{FrameRunning, HasDoneLines, map_in}
 use Rattle.pm_engine.specs.FrameStores.{FrameStoreView, pages_in_frames, IsDirtyPage, HasCleanPages}
-use Rattle.pm_engine.specs.PagedEngines.{number_of}
-use Rattle.pm_engine.specs.PagedOpenings.{IsBadOver, loaded_base, restored_base}
+use Rattle.pm_engine.specs.RunningStores.{number_of}
+use Rattle.pm_engine.specs.Openings.{IsBadOver, loaded_base, restored_base}
 use Rattle.pm_engine.specs.RunningStores.{HasSegmentsFor}
 
 -- An engine of this configuration's shape, with as many frames, that is open and has run no line.

@@ -15,18 +15,17 @@ use Rattle.pm_model.specs.Eval.{Pairs}
 use Rattle.pm_records.specs.LogFiles.{contents}
 use Rattle.pm_records.specs.Logs.{all_frames, record_in, after_frames, is_over, HasFrames}
 use Rattle.pm_records.specs.Records.{Record}
-use Rattle.pm_segments.specs.Ends.{EndsThere}
 use Rattle.pm_segments.specs.Scans.{Scanned, frame_ahead, Advances, IsAhead}
-use Rattle.pm_core.specs.Calls.{ChangesDisk}
 use Rattle.pm_core.specs.Held.{AllWellFormed}
 use Rattle.pm_core.specs.Replays.{replayed, all_replayed}
 use Rattle.pm_core.specs.States.{State}
 use Rattle.pm_ckpt.specs.Checkpoints.{KeepsLogFrom}
-use Rattle.pm_engine.specs.FrameEngineReplays.{HasWholePages, IsReplayingIn, NamesNoPage, ReplaysRecord}
-use Rattle.pm_engine.specs.FrameEngines.{FrameRunning, IsSameEngine, map_in}
-use Rattle.pm_engine.specs.FrameStores.{pages_in_frames, HasCleanPages}
-use Rattle.pm_engine.specs.PagedEngines.{number_of}
-use Rattle.pm_engine.specs.PagedReplays.{AreLasting, CrashHoldsMap, IsBadReplay, LogLeadsTo}
+use Rattle.pm_engine.specs.FrameEngineReplays.{HasWholePages, IsReplayingIn, KeepsEngineReady, NamesNoPage}
+use Rattle.pm_engine.specs.FrameReplayCheckpoints.{ReplaysRecord}
+use Rattle.pm_engine.specs.FrameEngines.{FrameRunning, map_in}
+use Rattle.pm_engine.specs.FrameStores.{pages_in_frames}
+use Rattle.pm_engine.specs.RunningStores.{number_of}
+use Rattle.pm_engine.specs.Replays.{AreLasting, CrashHoldsMap, IsBadReplay, LogLeadsTo}
 
 -- what a frame says, if one was found
 abbrev pub record_found : Option Frame → Option Record
@@ -102,20 +101,15 @@ pub record IsBadNextIn (scan : Scanned) (before : FrameRunning) (old new : World
 -- no page is bad, and a record is only where it can't be applied, or none stands there.
 pub record StepsReplay {T : Type 0} (tells : Type 0) (scan later : Scanned) (before now : FrameRunning)
     (old new : History) (result : Result T StoreFault) : Type 0 where
-  pub same : IsSameEngine before now
-  pub order : now.order ≡ before.order
-  pub is_open : OnOk result (now.store.is_open ≡ true)
+  pub ready : KeepsEngineReady tells before now old new result
   pub passes : OnOk result ((frame : Frame) × Advances scan later (Some frame))
   pub bound : OnOk result (later.next.off ≤ SEGMENT_END_MAX)
-  pub clean : tells → OnOk result (HasCleanPages now.store new.world)
-  pub ends : tells → OnOk result (EndsThere now.log new.world)
   pub ahead : tells → OnOk result (IsAhead later new.world)
   pub applies : tells → HasWholePages before.store old.world
       → OnOk result (AppliesFrameIn scan later before now old.world new.world)
   pub no_page : tells → HasWholePages before.store old.world → NamesNoPage result
   pub bad : tells → HasWholePages before.store old.world → (at : Place) → IsErrOf result (BadRecord at)
       → IsBadNextIn scan before old.world new.world at
-  pub disk : tells → AllMoments old new (ChangesDisk old.world)
   pub runs : tells → (last highest : ℕ) (wanted : Shape) (told : List ℕ → ℕ) (pairs : Pairs) (end : Place)
       → (scan.next ≡ end → ⊥) → CanReplayOn last highest wanted told pairs scan end before old.world
       → OnOk result (CanReplayOn last highest wanted told pairs later end now new.world)
@@ -163,12 +157,7 @@ pub record ReplaysWellFormed {T : Type 0} (from end : Place) (before now : Frame
 -- to that end, and its pages may be applied to.
 pub record ReplaysScan {T : Type 0} (tells : Type 0) (scan : Scanned) (end : Place) (before now : FrameRunning)
     (old new : History) (result : Result T StoreFault) : Type 0 where
-  pub same : IsSameEngine before now
-  pub order : now.order ≡ before.order
-  pub is_open : OnOk result (now.store.is_open ≡ true)
-  pub clean : tells → OnOk result (HasCleanPages now.store new.world)
-  pub ends : tells → OnOk result (EndsThere now.log new.world)
-  pub disk : tells → AllMoments old new (ChangesDisk old.world)
+  pub ready : KeepsEngineReady tells before now old new result
   pub sound : tells → (last highest : ℕ) (wanted : Shape) (told : List ℕ → ℕ) (pairs : Pairs)
       → CanReplayOn last highest wanted told pairs scan end before old.world
       → ReplaysAllIn last highest wanted told pairs before now old new result

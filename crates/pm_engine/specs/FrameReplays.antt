@@ -1,5 +1,5 @@
 -- A command that the log has a record of already, applied again over page frames.
-use Rattle.std.specs.Prelude.{◌≡◌, ◌<◌, ℕ, Bool, true, false, None, Some, Result, Ok, Err, IfOk}
+use Rattle.std.specs.Prelude.{◌≡◌, ◌<◌, Bool, true, false, None, Some, Result, Ok, Err, IfOk}
 use Rattle.pm_disk.specs.Moments.{History}
 use Rattle.pm_disk.specs.States.{DeviceState, Rose}
 use Rattle.pm_disk.specs.Worlds.{World}

@@ -16,11 +16,9 @@ use Rattle.pm_types.specs.Spans.{Coverage}
 use Rattle.pm_frame.specs.Frames.{Frame}
 use Rattle.pm_records.specs.Logs.{record_frame}
 use Rattle.pm_records.specs.Records.{Record, Snapshot, Delta}
-use Rattle.pm_pages.specs.declared.plain.PlainPages.{PlainPages}
 use Rattle.pm_pages.specs.Asked.{has_bytes, is_changed}
 use Rattle.pm_pages.specs.Deltas.{delta_of}
 use Rattle.pm_pages.specs.Paged.{Paged}
-use Rattle.pm_pages.specs.Plain.{plain_seen, plain_count}
 use Rattle.pm_pages.specs.Rows.{bytes_of}
 use Rattle.pm_core.specs.PageSets.{has_index}
 
@@ -81,21 +79,3 @@ pub record AreNoted (part : ℕ) (noted : NotedPages) : Type 0 where
   pub small : part < PARTITIONS_MAX
   pub few : noted.count ≤ 2 ^ 32
   pub below : (index : ℕ) → is_changed (noted.seen.patch index) ≡ true → index < noted.count
-
--- pages in memory as such: there are as many as their list has
-abbrev pub plain_noted : PlainPages → NotedPages
-plain_noted pages = record { seen = plain_seen pages; count = plain_count pages }
-
--- the frames of all pages of the list that were changed, where these pages were logged before
-abbrev pub change_frames : PlainPages → List PageId → List Frame
-change_frames pages logged = frames_below (plain_seen pages) logged (plain_count pages)
-
--- the names of those of them that are logged for the first time
-abbrev pub change_names : PlainPages → List PageId → List PageId
-change_names pages logged = names_below (plain_seen pages) logged (plain_count pages)
-
--- the pages are those of this partition, of a number that a store may have, and each has a name
-pub record HaveNames (part : ℕ) (pages : PlainPages) : Type 0 where
-  pub number : pages.part ≡ part
-  pub small : part < PARTITIONS_MAX
-  pub few : plain_count pages ≤ 2 ^ 32

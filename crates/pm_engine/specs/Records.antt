@@ -1,15 +1,14 @@
 -- Lines as records of the log, and records as lines.
-use Rattle.std.specs.Prelude.{◌≡◌, ℕ, List, [], ◌∷◌, ◌++◌, Option, Some, None, if◌then◌else◌}
+use Rattle.std.specs.Prelude.{◌≡◌, ℕ, List, [], ◌∷◌, Option, Some, None}
 use Rattle.pm_frame.specs.declared.kinds.TheConstants.{LOGICAL}
 use Rattle.pm_frame.specs.Frames.{Frame}
 use Rattle.pm_records.specs.declared.limits.TheConstants.{PUT, REMOVE}
 use Rattle.pm_records.specs.Logs.{record_frame}
 use Rattle.pm_records.specs.Records.{Record, IsRecord, Logical, payload_of}
-use Rattle.pm_types.specs.declared.shape.Shape.{Shape}
-use Rattle.pm_model.specs.declared.line.Cmd.TheVariants.{Put, Remove}
+use Rattle.pm_model.specs.declared.line.Cmd.{Cmd}
+use Rattle.pm_model.specs.declared.line.Cmd.TheVariants.{Put, Get, Remove, Scan, Checkpoint}
 use Rattle.pm_model.specs.declared.line.Line.{Line}
 use Rattle.pm_model.specs.declared.line.Line.TheVariants.{Good}
-use Rattle.pm_model.specs.Eval.{Pairs, is_accepted, after}
 
 -- the record of a line, where it has one
 abbrev pub record_of_line : Line → Option Record
@@ -34,9 +33,10 @@ frames_of_record (Some found) = record_frame found ∷ []
 abbrev pub line_frames : Line → List Frame
 line_frames line = frames_of_record (record_of_line line)
 
--- the frames that lines log over a map: that of each accepted line, in order
-abbrev pub logged : Shape → List Line → Pairs → List Frame
-logged shape [] pairs = []
-logged shape (line ∷ lines) pairs =
-    (if is_accepted shape line pairs then line_frames line else [])
-    ++ logged shape lines (after shape line pairs)
+-- a command of this key
+abbrev pub IsKeyOf : List ℕ → Cmd → Type 0
+IsKeyOf key (Put cache at value) = at ≡ key
+IsKeyOf key (Get cache at) = at ≡ key
+IsKeyOf key (Remove cache at) = at ≡ key
+IsKeyOf key (Scan cache) = ⊥
+IsKeyOf key Checkpoint = ⊥

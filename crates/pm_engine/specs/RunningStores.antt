@@ -146,3 +146,8 @@ HasSegmentsFor log count = log.end.seg + count + 1 < 2 ^ 64
 abbrev pub AreRecordFrames : List Frame → Type 0
 AreRecordFrames [] = Unit {0}
 AreRecordFrames (frame ∷ frames) = IsRecordFrame frame × AreRecordFrames frames
+
+-- the number of the checkpoint with the start marker in force, 0 where there is none
+abbrev pub number_of : Option Mark → ℕ
+number_of None = 0
+number_of (Some mark) = mark.number

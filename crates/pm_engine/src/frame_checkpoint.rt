@@ -9,10 +9,9 @@ ghost use Rattle.pm_marks.specs.Slots.{IsMark};
 ghost use Rattle.pm_segments.specs.Ends.{EndsThere};
 ghost use Rattle.pm_core.specs.Calls.{ChangesDisk};
 ghost use Rattle.pm_core.specs.States.{State};
-ghost use Rattle.pm_ckpt.specs.Checkpoints.{CanCheckpoint, MakesWhole, LeavesLog};
-ghost use Rattle.pm_ckpt.specs.Dirty.{IsNext};
-ghost use Rattle.pm_ckpt.specs.Marked.{mark_for, kept_segment, spent};
-ghost use Rattle.pm_engine.specs.FrameCheckpoints.{IsCheckpointed, ClosesStore};
+ghost use Rattle.pm_ckpt.specs.Checkpoints.{CanCheckpoint, MakesWhole};
+ghost use Rattle.pm_ckpt.specs.Marked.{mark_for};
+ghost use Rattle.pm_engine.specs.FrameCheckpoints.{MakesCheckpoint, FailsCheckpoint};
 ghost use Rattle.pm_engine.specs.FrameDirty.{ListsDirty, dirty_names, dirty_bytes};
 
 use crate::frame_store::FrameStore;
@@ -43,13 +42,10 @@ impl FrameStore {
         requires end { H.Device.tells → EndsThere log.old (H.Device.history host.old).world }
         ensures mark { IsMark (mark_for ckpt.old log.old replay) }
         ensures dirty { ListsDirty self.old (dirty_names self.old) (dirty_bytes self.old) }
-        ensures next { OnOk result (IsNext (mark_for ckpt.old log.old replay) ckpt.old ckpt.new log.old log.new) }
-        ensures pages { OnOk result (IsCheckpointed H.Device.tells (H.Device.history host.old).world
-            (H.Device.history host.new).world self.old self.new) }
-        ensures closed { OnErr result (ClosesStore self.old self.new) }
-        ensures spent { OnErr result (ckpt.new ≡ spent ckpt.old) }
-        ensures ends { H.Device.tells → OnOk result (LeavesLog (kept_segment (mark_for ckpt.old log.old replay))
-            log.old log.new (H.Device.history host.old).world (H.Device.history host.new).world) }
+        ensures made { OnOk result (MakesCheckpoint H.Device.tells (mark_for ckpt.old log.old replay)
+            ckpt.old ckpt.new log.old log.new (H.Device.history host.old).world (H.Device.history host.new).world
+            self.old self.new) }
+        ensures failed { OnErr result (FailsCheckpoint ckpt.old ckpt.new self.old self.new) }
 
         // From each state of the disk machine in which this checkpoint may be made: its steps were, each of
         // which meets its guard.
@@ -71,11 +67,13 @@ impl FrameStore {
             replay,
         ) {
             Err(failed) => {
+                self.dirty = None;
                 self.is_open = false;
                 Err(failed)
             }
             Ok(()) => {
                 self.stripe.has_files();
+                self.dirty = None;
                 Ok(())
             }
         }

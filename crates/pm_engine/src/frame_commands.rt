@@ -16,7 +16,7 @@ ghost use Rattle.pm_stripe.specs.Shown.{IsReady};
 ghost use Rattle.pm_engine.specs.FrameCommands.{frame_pages, part_seen, AreReadable, IsPartOf};
 ghost use Rattle.pm_engine.specs.FrameCommands.{HasWellFormed, LeavesWorker, DoesCommand, RunsLineOn};
 
-use crate::paged_map::was_accepted;
+use crate::accepting::was_accepted;
 use pm_disk::PageReader;
 use pm_model::{Cmd, Replies};
 use pm_part::Part;

@@ -1,6 +1,6 @@
 //! How many page frames of an open store have a page that stays there.
 
-ghost use Rattle.std.specs.Prelude.{◌≡◌, ◌≤◌, ◌<◌, true, [], ◌∷◌, length};
+ghost use Rattle.std.specs.Prelude.{◌≡◌, ◌≤◌, ◌<◌, ℕ, Some, true, [], ◌∷◌, length};
 ghost use Rattle.pm_ckpt.specs.Dirty.{dirty_below, dirty_page};
 ghost use Rattle.pm_ckpt.specs.Frames.{IsWholeSeat};
 ghost use Rattle.pm_engine.specs.FrameBatches.{LooksAtFrames, LooksOnce};
@@ -13,14 +13,21 @@ use pm_types::{Flag, FrameNo};
 
 impl FrameStore {
     /// How many of the frames, of which there are so many, have a page that stays there. It looks at each frame's word
-    /// once.
+    /// once and remembers the count. Where the count is remembered it looks at none.
     pub(crate) fn dirty_frames(&mut self, frames: u32) -> u32
         requires open { self.old.is_open ≡ true }
         requires frames { frames ≡ length self.old.locks.ranges }
         ensures counts { result ≡ length (dirty_names self.old) }
         ensures looks { LooksAtFrames self.old self.new }
+        ensures remembers { self.new.dirty ≡ Some result }
+        ensures at_once { (count : ℕ) → self.old.dirty ≡ Some count → self.new ≡ self.old }
     {
-        count_dirty(&self.locks, &mut self.seat, &self.stripe, frames)
+        if let Some(count) = self.dirty {
+            return count;
+        }
+        let count = count_dirty(&self.locks, &mut self.seat, &self.stripe, frames);
+        self.dirty = Some(count);
+        count
     }
 
     /// The names of the pages in Dirty frames are those of the pages that stay in their frames. It does nothing: its

@@ -16,7 +16,9 @@ use std::marker::Model;
 #[derive(Drop)]
 pub struct FrameEngine {
     pub(crate) pages: FrameStore,
-    pub(crate) log: Log,
+    // It holds a buffer for a record of any length, and the engine goes by value through many calls: so it is on the
+    // heap.
+    pub(crate) log: Box<Log>,
     pub(crate) ckpt: Ckpt,
     // The bytes that the log had appended when the last CP_BEGIN was, or when the store was opened.
     pub(crate) began: u64,
@@ -36,7 +38,7 @@ impl Model for FrameEngine {
 
     ghost view = { λ engine. record {
       store = engine.pages;
-      log = engine.log;
+      log = engine.log.value;
       ckpt = engine.ckpt;
       began = engine.began;
       order = engine.order.items;
@@ -44,7 +46,7 @@ impl Model for FrameEngine {
 
     ghost invariant = { λ engine. IsFrameEngine (record {
       store = engine.pages;
-      log = engine.log;
+      log = engine.log.value;
       ckpt = engine.ckpt;
       began = engine.began;
       order = engine.order.items;
@@ -53,18 +55,18 @@ impl Model for FrameEngine {
 
 impl FrameEngine {
     /// An engine over the pages of an open store, and its log, that has made no line yet.
-    pub(crate) fn new(pages: FrameStore, log: Log, ckpt: Ckpt, order: Vec<u32>) -> FrameEngine
+    pub(crate) fn new(pages: FrameStore, log: Box<Log>, ckpt: Ckpt, order: Vec<u32>) -> FrameEngine
         requires shape { ckpt.shape ≡ pages.shape }
         requires mark { IsMarkIn ckpt.mark }
         requires room { ckpt.room ≡ Some (length pages.locks.ranges) }
-        requires from_one { 1 ≤ log.end.seg }
-        requires size_to { log.segment_bytes ≤ SEGMENT_BYTES_MAX }
+        requires from_one { 1 ≤ log.value.end.seg }
+        requires size_to { log.value.segment_bytes ≤ SEGMENT_BYTES_MAX }
         requires sent { pages.stripe.outbox ≡ [] }
         ensures { result ≡ record {
           store = pages;
-          log = log;
+          log = log.value;
           ckpt = ckpt;
-          began = log.total;
+          began = log.value.total;
           order = order.items;
         } }
     {

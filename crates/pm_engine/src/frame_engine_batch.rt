@@ -9,7 +9,7 @@ ghost use Rattle.pm_segments.specs.Ends.{EndsThere};
 ghost use Rattle.pm_engine.specs.FrameBatches.{RunsFrameBatch, LeavesAllLastingIn, LeavesAllAtRest, TakesNumbersIn};
 ghost use Rattle.pm_engine.specs.FrameBatches.{RunsAllParts, MakesAskedIn, HasFrameFault, is_due_in};
 ghost use Rattle.pm_engine.specs.FrameStores.{HasCleanPages};
-ghost use Rattle.pm_engine.specs.PagedBatches.{StaysOpen};
+ghost use Rattle.pm_engine.specs.Batches.{StaysOpen};
 
 use crate::frame_engine::FrameEngine;
 use pm_config::Config;

@@ -1,6 +1,6 @@
 //! How the engine over page frames makes a checkpoint.
 
-ghost use Rattle.std.specs.Prelude.{◌≡◌, ◌+◌, ◌<◌, ◌^◌, ℕ, List, true, false, OnOk, OnErr, IfErr};
+ghost use Rattle.std.specs.Prelude.{◌≡◌, ◌+◌, ◌<◌, ◌^◌, ℕ, List, true, OnOk, IfErr};
 ghost use Rattle.pm_types.specs.declared.shape.Shape.{Shape};
 ghost use Rattle.pm_disk.specs.Moments.{AllMoments};
 ghost use Rattle.pm_disk.specs.States.{IsUsable};
@@ -10,11 +10,10 @@ ghost use Rattle.pm_model.specs.Eval.{Pairs};
 ghost use Rattle.pm_core.specs.Calls.{ChangesDisk};
 ghost use Rattle.pm_ckpt.specs.Marked.{begin_of};
 ghost use Rattle.pm_engine.specs.Batches.{HasPlainFault};
-ghost use Rattle.pm_engine.specs.CheckedEngines.{IsAfterCheckpoint};
-ghost use Rattle.pm_engine.specs.FrameCheckpoints.{IsCheckpointed};
-ghost use Rattle.pm_engine.specs.FrameEngines.{HasDoneLines, HasLastingLinesIn, IsSameEngine};
+ghost use Rattle.pm_engine.specs.CheckedEngines.{IsCheckpointedOrClosed, HasPagesInFiles};
+ghost use Rattle.pm_engine.specs.FrameEngines.{HasDoneLines, HasLastingLinesIn};
 ghost use Rattle.pm_engine.specs.FrameStores.{HasCleanPages};
-ghost use Rattle.pm_engine.specs.PagedEngines.{number_of};
+ghost use Rattle.pm_engine.specs.RunningStores.{number_of};
 ghost use Rattle.pm_engine.specs.RunningLines.{CrashHoldsLines};
 ghost use Rattle.pm_engine.specs.RunningStores.{HasSegmentsFor};
 
@@ -39,14 +38,9 @@ impl FrameEngine {
         requires is_open { self.old.store.is_open ≡ true }
         requires end { H.Device.tells → EndsThere self.old.log (H.Device.history host.old).world }
         requires clean { H.Device.tells → HasCleanPages self.old.store (H.Device.history host.old).world }
-        ensures done { OnOk result (IsAfterCheckpoint self.old self.new) }
-        ensures pages { OnOk result (IsCheckpointed H.Device.tells (H.Device.history host.old).world
-            (H.Device.history host.new).world self.old.store self.new.store) }
-        ensures clean { H.Device.tells
-            → OnOk result (HasCleanPages self.new.store (H.Device.history host.new).world) }
-        ensures ends { H.Device.tells → OnOk result (EndsThere self.new.log (H.Device.history host.new).world) }
-        ensures same { IsSameEngine self.old self.new }
-        ensures order { self.new.order ≡ self.old.order }
+        ensures engine { IsCheckpointedOrClosed self.old self.new result }
+        ensures pages { OnOk result (HasPagesInFiles H.Device.tells self.old self.new
+            (H.Device.history host.old).world (H.Device.history host.new).world) }
 
         // Whatever lines the store has done, it has done them still, and all of them last; a crash meanwhile
         // leaves a prefix of them. There have to be numbers for a segment and a checkpoint more.
@@ -64,15 +58,14 @@ impl FrameEngine {
             (CrashHoldsLines (self.old.log.end.seg + 2) (number_of self.old.ckpt.mark + 1)
             wanted self.old.store.shape start lines) }
         ensures failed { IfErr result (λ fault. fault ≡ StoreFault.Failed) }
-        ensures closed { OnErr result (self.new.store.is_open ≡ false) }
         ensures disk { H.Device.tells → AllMoments (H.Device.history host.old) (H.Device.history host.new)
             (ChangesDisk (H.Device.history host.old).world) }
         ensures cause { HasPlainFault (H.Device.state host.old) (H.Device.state host.new) result }
     {
         // The next CP_BEGIN stands in a segment that a place may name.
-        let _begin = begin_place(&self.log);
+        let _begin = begin_place(&*self.log);
         self.pages
-            .checkpoint(host, &mut self.log, &mut self.ckpt, None)?;
+            .checkpoint(host, &mut *self.log, &mut self.ckpt, None)?;
         self.began = self.log.appended();
         Ok(())
     }

@@ -1,6 +1,6 @@
 //! How the engine over page frames forces its log.
 
-ghost use Rattle.std.specs.Prelude.{◌≡◌, ◌+◌, ℕ, List, true, OnOk, OnErr};
+ghost use Rattle.std.specs.Prelude.{◌≡◌, ◌+◌, ℕ, List, true, OnOk};
 ghost use Rattle.pm_types.specs.declared.shape.Shape.{Shape};
 ghost use Rattle.pm_disk.specs.Moments.{AllMoments};
 ghost use Rattle.pm_disk.specs.States.{HasCause, IsUsable};
@@ -8,9 +8,9 @@ ghost use Rattle.pm_segments.specs.Ends.{EndsThere};
 ghost use Rattle.pm_model.specs.declared.line.Line.{Line};
 ghost use Rattle.pm_model.specs.Eval.{Pairs};
 ghost use Rattle.pm_core.specs.Calls.{ChangesDisk};
-ghost use Rattle.pm_engine.specs.FrameEngines.{HasDoneLines, HasLastingLinesIn, AllLastIn, closed_engine};
-ghost use Rattle.pm_engine.specs.FrameStores.{pages_in_frames, HasCleanPages};
-ghost use Rattle.pm_engine.specs.PagedEngines.{number_of};
+ghost use Rattle.pm_engine.specs.FrameEngines.{HasDoneLines, HasLastingLinesIn, AllLastIn};
+ghost use Rattle.pm_engine.specs.FrameForces.{IsSameOrClosed, ReadsAsBefore};
+ghost use Rattle.pm_engine.specs.RunningStores.{number_of};
 ghost use Rattle.pm_engine.specs.RunningLines.{CrashHoldsLines};
 
 use crate::frame_engine::FrameEngine;
@@ -24,15 +24,9 @@ impl FrameEngine {
         requires usable { IsUsable (H.Device.state host.old) }
         requires open { self.old.store.is_open ≡ true }
         requires end { H.Device.tells → EndsThere self.old.log (H.Device.history host.old).world }
-        ensures same { OnOk result (self.new ≡ self.old) }
-        ensures closed { OnErr result (self.new ≡ closed_engine self.old) }
-        ensures ends { H.Device.tells → OnOk result (EndsThere self.new.log (H.Device.history host.new).world) }
-
-        // The partitions' files are as they were.
-        ensures pages { H.Device.tells → OnOk result (pages_in_frames self.new.store (H.Device.history host.new).world
-            ≡ pages_in_frames self.old.store (H.Device.history host.old).world) }
-        ensures clean { H.Device.tells → HasCleanPages self.old.store (H.Device.history host.old).world
-            → OnOk result (HasCleanPages self.new.store (H.Device.history host.new).world) }
+        ensures engine { IsSameOrClosed self.old self.new result }
+        ensures reads { H.Device.tells → OnOk result (ReadsAsBefore self.old self.new
+            (H.Device.history host.old).world (H.Device.history host.new).world) }
 
         // Whatever lines the store has done, it has done them still, and a crash holds all of them from then on.
         ensures lasts { H.Device.tells → (wanted : Shape) (told : List ℕ → ℕ) (low : ℕ) (start : Pairs)

@@ -86,7 +86,7 @@ impl FrameEngine {
                 };
                 (unchanged, Err(StoreFault::Memory))
             }
-            Ok(end) => match pages.append_outbox(host, &mut log, &mut order) {
+            Ok(end) => match pages.append_outbox(host, &mut *log, &mut order) {
                 Err(_) => {
                     pages.shut();
                     let closed = FrameEngine {

@@ -9,7 +9,7 @@ ghost use Rattle.pm_model.specs.Batches.{HasCache};
 ghost use Rattle.pm_segments.specs.Ends.{EndsThere};
 ghost use Rattle.pm_engine.specs.FrameBatches.{RunsPart, HasFrameFault, LacksIfNone};
 ghost use Rattle.pm_engine.specs.FrameStores.{HasCleanPages};
-ghost use Rattle.pm_engine.specs.PagedBatches.{is_checkpoint};
+ghost use Rattle.pm_engine.specs.Batches.{is_checkpoint};
 
 use crate::frame_engine::FrameEngine;
 use pm_disk::Host;

@@ -1,36 +1,29 @@
 //! A record of the log, applied again by an engine over page frames whose store is opened.
 
-ghost use Rattle.std.specs.Prelude.{◌≡◌, ◌<◌, ◌≤◌, ◌+◌, true, false, Some, length, vec_capacity, IfOk, OnOk, IsErrOf};
+ghost use Rattle.std.specs.Prelude.{◌≡◌, ◌<◌, ◌≤◌, ◌+◌, true, Some, length, vec_capacity, IfOk, OnOk, IsErrOf};
 ghost use Rattle.pm_types.specs.declared.fault.PageFault.TheVariants.{Failed as PageFailed};
 ghost use Rattle.pm_types.specs.declared.fault.StoreFault.{StoreFault};
-ghost use Rattle.pm_types.specs.declared.page_id.PageId.{PageId as ThisId};
 ghost use Rattle.pm_types.specs.declared.place.Place.{Place as ThisPlace};
 ghost use Rattle.pm_disk.specs.States.{IsUsable, Rose};
 ghost use Rattle.pm_records.specs.Records.{IsLogical, Logical, record_of};
-ghost use Rattle.pm_marks.specs.Slots.{IsMarkPlace};
 ghost use Rattle.pm_segments.specs.Ends.{EndsThere};
 ghost use Rattle.pm_model.specs.declared.line.Line.TheVariants.{Good};
 ghost use Rattle.pm_model.specs.Batches.{HasCache};
-ghost use Rattle.pm_core.specs.Held.{AllWellFormed};
 ghost use Rattle.pm_engine.specs.declared.frame_lines.Stop.TheVariants.{Faulted};
 ghost use Rattle.pm_engine.specs.Batches.{HasPlainFault};
-ghost use Rattle.pm_engine.specs.FrameEngineReplays.{AppliesAs, ChecksInFrames, EvaluatesAgain, GoesOnInFrames};
-ghost use Rattle.pm_engine.specs.FrameEngineReplays.{ReplaysRecord, applied_as, applied_once, is_done};
-ghost use Rattle.pm_engine.specs.FrameEngines.{map_in};
-ghost use Rattle.pm_engine.specs.FrameStores.{HasCleanPages, pages_in_frames};
-ghost use Rattle.pm_engine.specs.PagedMaps.{IsKeyOf};
-ghost use Rattle.pm_engine.specs.PagedOpenings.{CountsFaults};
-ghost use Rattle.pm_engine.specs.PagedReplays.{line_in};
+ghost use Rattle.pm_engine.specs.FrameEngineReplays.{AppliesRecord, EvaluatesAgain, GoesOnInFrames, applied_as};
+ghost use Rattle.pm_engine.specs.FrameStores.{HasCleanPages};
+ghost use Rattle.pm_engine.specs.Records.{IsKeyOf};
+ghost use Rattle.pm_engine.specs.Openings.{CountsFaults};
+ghost use Rattle.pm_engine.specs.Replays.{line_in};
 
 use crate::frame_engine::FrameEngine;
-use crate::frame_engine_checkpoint::begin_place;
 use crate::frame_lines::Stop;
-use crate::paged_replay::make_room;
 use pm_disk::Host;
 use pm_model::{Cmd, Replies};
 use pm_records::{LogRecord, PUT, decode};
 use pm_stripe::Halt;
-use pm_types::{Key, Place, StoreFault, Value};
+use pm_types::{Key, StoreFault, Value};
 use std::alloc::{AllocError, Global};
 use std::sync::Wait;
 
@@ -64,31 +57,15 @@ impl FrameEngine {
         requires usable { IsUsable (H.Device.state host.old) }
         requires end { H.Device.tells → EndsThere self.log (H.Device.history host.old).world }
         requires clean { H.Device.tells → HasCleanPages self.store (H.Device.history host.old).world }
-        ensures goes_on { GoesOnInFrames H.Device.tells self result.0 (H.Device.history host.old)
-            (H.Device.history host.new) }
-        ensures is_open { OnOk result.1 (result.0.store.is_open ≡ true) }
-        ensures applies { H.Device.tells → AllWellFormed self.store.shape
-            (pages_in_frames self.store (H.Device.history host.old).world) → IfOk result.1 (λ applied.
-            AppliesAs applied self.store.shape (record_of kind payload.now)
-            (map_in self (H.Device.history host.old).world)
-            (map_in result.0 (H.Device.history host.new).world)) }
-        ensures well_formed { H.Device.tells → AllWellFormed self.store.shape
-            (pages_in_frames self.store (H.Device.history host.old).world) → OnOk result.1
-            (AllWellFormed self.store.shape (pages_in_frames result.0.store (H.Device.history host.new).world)) }
-        ensures refused { H.Device.tells → IfOk result.1 (λ applied. is_done applied ≡ false
-            → (H.Device.history host.new).world ≡ (H.Device.history host.old).world) }
-        ensures unlogged { IfOk result.1 (λ applied. is_done applied ≡ false → result.0.log ≡ self.log) }
+        ensures applies { AppliesRecord H.Device.tells (record_of kind payload.now) self result.0
+            (H.Device.history host.old) (H.Device.history host.new) result.1 }
         ensures unchanged { IsErrOf result.1 StoreFault.Memory → (result.0 ≡ self)
             × (H.Device.tells → (H.Device.history host.new).world ≡ (H.Device.history host.old).world) }
 
         // Each fault has its cause.
-        ensures sound { H.Device.tells → AllWellFormed self.store.shape
-            (pages_in_frames self.store (H.Device.history host.old).world) → (id : ThisId)
-            → IsErrOf result.1 (StoreFault.BadPage id) → ⊥ }
         ensures no_record { (at : ThisPlace) → IsErrOf result.1 (StoreFault.BadRecord at) → ⊥ }
         ensures cause { CountsFaults (H.Device.state host.old) (H.Device.state host.new) result.1 }
     {
-        self.stays(host);
         match decode(kind, payload) {
             Ok(
                 LogRecord::Logical {
@@ -107,15 +84,6 @@ impl FrameEngine {
         }
     }
 
-    // What a record leaves that changes nothing.
-    fn stays<H: Host>(&self, host: &H)
-        requires open { self.now.store.is_open ≡ true }
-        requires end { H.Device.tells → EndsThere self.now.log (H.Device.history host.now).world }
-        requires clean { H.Device.tells → HasCleanPages self.now.store (H.Device.history host.now).world }
-        ensures { GoesOnInFrames H.Device.tells self.now self.now (H.Device.history host.now)
-            (H.Device.history host.now) }
-    {}
-
     // Applies a put or a remove. A remove of an absent key changes nothing.
     fn apply_logical<Q: Wait, H: Host>(
         self,
@@ -133,29 +101,13 @@ impl FrameEngine {
         requires logical { IsLogical op cache key.now value.now }
         requires end { H.Device.tells → EndsThere self.log (H.Device.history host.old).world }
         requires clean { H.Device.tells → HasCleanPages self.store (H.Device.history host.old).world }
-        ensures goes_on { GoesOnInFrames H.Device.tells self result.0 (H.Device.history host.old)
-            (H.Device.history host.new) }
-        ensures is_open { OnOk result.1 (result.0.store.is_open ≡ true) }
-        ensures applies { H.Device.tells → AllWellFormed self.store.shape
-            (pages_in_frames self.store (H.Device.history host.old).world) → IfOk result.1 (λ applied.
-            AppliesAs applied self.store.shape (Some (Logical op cache key.now value.now))
-            (map_in self (H.Device.history host.old).world)
-            (map_in result.0 (H.Device.history host.new).world)) }
-        ensures well_formed { H.Device.tells → AllWellFormed self.store.shape
-            (pages_in_frames self.store (H.Device.history host.old).world) → OnOk result.1
-            (AllWellFormed self.store.shape (pages_in_frames result.0.store (H.Device.history host.new).world)) }
-        ensures refused { H.Device.tells → IfOk result.1 (λ applied. is_done applied ≡ false
-            → (H.Device.history host.new).world ≡ (H.Device.history host.old).world) }
-        ensures unlogged { IfOk result.1 (λ applied. is_done applied ≡ false → result.0.log ≡ self.log) }
+        ensures applies { AppliesRecord H.Device.tells (Some (Logical op cache key.now value.now)) self result.0
+            (H.Device.history host.old) (H.Device.history host.new) result.1 }
         ensures unchanged { IsErrOf result.1 StoreFault.Memory → (result.0 ≡ self)
             × (H.Device.tells → (H.Device.history host.new).world ≡ (H.Device.history host.old).world) }
-        ensures sound { H.Device.tells → AllWellFormed self.store.shape
-            (pages_in_frames self.store (H.Device.history host.old).world) → (id : ThisId)
-            → IsErrOf result.1 (StoreFault.BadPage id) → ⊥ }
         ensures no_record { (at : ThisPlace) → IsErrOf result.1 (StoreFault.BadRecord at) → ⊥ }
         ensures cause { CountsFaults (H.Device.state host.old) (H.Device.state host.new) result.1 }
     {
-        self.stays(host);
         match prepare(alloc, op, cache, key, value, replies) {
             Err(_) => (self, Err(StoreFault::Memory)),
             Ok((cmd, mut numbers)) => {
@@ -226,7 +178,7 @@ impl FrameEngine {
                 };
                 (unchanged, Err(StoreFault::Memory))
             }
-            Ok(answer) => match pages.append_outbox(host, &mut log, numbers) {
+            Ok(answer) => match pages.append_outbox(host, &mut *log, numbers) {
                 Err(_) => {
                     pages.shut();
                     let closed = FrameEngine {
@@ -249,110 +201,6 @@ impl FrameEngine {
                     (done, Ok(answer))
                 }
             },
-        }
-    }
-
-    /// Makes the next checkpoint while the log is applied again, of the pages that stay in their frames. A restart
-    /// applies the log from `replay` on then. It takes no memory.
-    ///
-    /// After `Failed` the engine is closed, and a prefix of the steps was made: the store on the disk holds what it
-    /// held.
-    pub(crate) fn checkpoint_from<H: Host>(
-        &mut self,
-        host: &mut H,
-        replay: Place,
-    ) -> Result<(), StoreFault>
-        requires usable { IsUsable (H.Device.state host.old) }
-        requires is_open { self.old.store.is_open ≡ true }
-        requires replay { IsMarkPlace replay }
-        requires end { H.Device.tells → EndsThere self.old.log (H.Device.history host.old).world }
-        requires clean { H.Device.tells → HasCleanPages self.old.store (H.Device.history host.old).world }
-        ensures checks { ChecksInFrames H.Device.tells replay self.old self.new
-            (H.Device.history host.old) (H.Device.history host.new) result }
-        ensures cause { HasPlainFault (H.Device.state host.old) (H.Device.state host.new) result }
-    {
-        // The next CP_BEGIN stands in a segment that a place may name.
-        let _begin = begin_place(&self.log);
-        match self
-            .pages
-            .checkpoint(host, &mut self.log, &mut self.ckpt, Some(replay))
-        {
-            Err(_) => Err(StoreFault::Failed),
-            Ok(()) => {
-                self.began = self.log.appended();
-                Ok(())
-            }
-        }
-    }
-
-    /// Applies the record that stands at this place of the log again, and answers whether it can be applied. Where
-    /// what its operation may need is lacking, a checkpoint is made first, after which a restart applies the log from
-    /// that record on.
-    ///
-    /// `Memory` also comes where it is lacking even then. After `Failed` and `BadPage` the engine is open no more.
-    pub(crate) fn apply_at<Q: Wait, H: Host>(
-        self,
-        rt: &Q,
-        alloc: Global,
-        host: &mut H,
-        at: Place,
-        kind: u8,
-        payload: &[u8],
-        replies: &mut Replies,
-    ) -> (FrameEngine, Result<bool, StoreFault>)
-        requires open { self.store.is_open ≡ true }
-        requires usable { IsUsable (H.Device.state host.old) }
-        requires at { IsMarkPlace at }
-        requires end { H.Device.tells → EndsThere self.log (H.Device.history host.old).world }
-        requires clean { H.Device.tells → HasCleanPages self.store (H.Device.history host.old).world }
-        ensures replays { ReplaysRecord H.Device.tells at (record_of kind payload.now) self result.0
-            (H.Device.history host.old) (H.Device.history host.new) result.1 }
-        ensures no_record { (place : ThisPlace) → IsErrOf result.1 (StoreFault.BadRecord place) → ⊥ }
-        ensures cause { CountsFaults (H.Device.state host.old) (H.Device.state host.new) result.1 }
-    {
-        let (engine, applied) = self.apply_record(rt, alloc, host, kind, payload, replies);
-        match applied {
-            Err(fault) => (engine, Err(fault)),
-            Ok(applied) => match applied {
-                Applied::Done => (engine, Ok(true)),
-                Applied::Bad => (engine, Ok(false)),
-                Applied::Halted(_) => {
-                    engine.apply_after_checkpoint(rt, alloc, host, at, kind, payload, replies)
-                }
-            },
-        }
-    }
-
-    // The same, by an engine that makes a checkpoint first.
-    fn apply_after_checkpoint<Q: Wait, H: Host>(
-        self,
-        rt: &Q,
-        alloc: Global,
-        host: &mut H,
-        at: Place,
-        kind: u8,
-        payload: &[u8],
-        replies: &mut Replies,
-    ) -> (FrameEngine, Result<bool, StoreFault>)
-        requires open { self.store.is_open ≡ true }
-        requires usable { IsUsable (H.Device.state host.old) }
-        requires at { IsMarkPlace at }
-        requires end { H.Device.tells → EndsThere self.log (H.Device.history host.old).world }
-        requires clean { H.Device.tells → HasCleanPages self.store (H.Device.history host.old).world }
-        ensures replays { ReplaysRecord H.Device.tells at (record_of kind payload.now) self result.0
-            (H.Device.history host.old) (H.Device.history host.new) result.1 }
-        ensures no_record { (place : ThisPlace) → IsErrOf result.1 (StoreFault.BadRecord place) → ⊥ }
-        ensures cause { CountsFaults (H.Device.state host.old) (H.Device.state host.new) result.1 }
-    {
-        let mut engine = self;
-        match engine.checkpoint_from(host, at) {
-            Err(fault) => (engine, Err(fault)),
-            Ok(()) => {
-                let (engine, applied) = engine.apply_record(
-                    rt, alloc, host, kind, payload, replies,
-                );
-                (engine, applied_once(applied))
-            }
         }
     }
 }
@@ -416,14 +264,13 @@ fn applied_by(is_put: bool, answer: Result<bool, Stop>) -> Result<Applied, Store
     }
 }
 
-// Whether a record could be applied, where it isn't tried once more.
-fn applied_once(applied: Result<Applied, StoreFault>) -> Result<bool, StoreFault>
-    ensures { result ≡ applied_once applied }
+// Makes room for one reply. Only a list that memory ran out for has none after it was cleared.
+fn make_room(alloc: Global, replies: &mut Replies) -> Result<(), AllocError>
+    ensures { OnOk result (0 < replies.new.spare) }
 {
-    match applied {
-        Ok(Applied::Done) => Ok(true),
-        Ok(Applied::Bad) => Ok(false),
-        Ok(Applied::Halted(_)) => Err(StoreFault::Memory),
-        Err(fault) => Err(fault),
+    replies.clear(alloc)?;
+    if replies.spare() == 0 {
+        *replies = Replies::with_room(alloc, 1)?;
     }
+    Ok(())
 }

@@ -8,7 +8,7 @@ ghost use Rattle.pm_engine.specs.Batches.{HasPlainFault};
 ghost use Rattle.pm_engine.specs.FrameBatches.{is_due_in, LooksAtEngine, EndsAtReplayIn, TakesNumbersIn};
 ghost use Rattle.pm_engine.specs.FrameBatches.{RunsFrameBatch, LeavesAllLastingIn, LeavesAllAtRest, ChecksBetween};
 ghost use Rattle.pm_engine.specs.FrameStores.{HasCleanPages};
-ghost use Rattle.pm_engine.specs.PagedBatches.{StaysOpen};
+ghost use Rattle.pm_engine.specs.Batches.{StaysOpen};
 
 use crate::frame_engine::FrameEngine;
 use pm_config::Config;

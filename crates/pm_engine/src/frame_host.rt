@@ -12,6 +12,7 @@ ghost use Rattle.pm_engine.specs.declared.frame_scans.ScanStop.TheVariants.{Faul
 ghost use Rattle.pm_engine.specs.FrameScans.{may_go_on_after};
 ghost use Rattle.pm_engine.specs.FrameStores.{HasCleanPages};
 ghost use Rattle.pm_engine.specs.FrameHosts.{IsStoreLine, RunsRound, RunsRoundOver, ChangesNoWorld, may_go_on};
+ghost use Rattle.pm_engine.specs.FrameHosts.{count_after};
 ghost use Rattle.pm_engine.specs.FrameHosts.{ScansStore};
 
 use crate::frame_lines::Stop;
@@ -130,18 +131,22 @@ impl FrameStore {
             locks,
             seat,
             stripe,
+            dirty,
             is_open: _,
         } = self;
+        let was = stripe.outbox().len();
         let mut bound = Bound::new(rt, &locks, stripe, seat, reader);
         let answer = scan_in_frames(&mut bound, alloc, shape, cache, replies);
         let (stripe, seat, reader) = bound.end();
         let is_open = goes_on_after(&answer);
+        let dirty = count_after(dirty, is_open, was, stripe.outbox().len());
         let store = FrameStore {
             shape,
             region,
             locks,
             seat,
             stripe,
+            dirty,
             is_open,
         };
         (store, reader, answer)
@@ -176,18 +181,22 @@ impl FrameStore {
             locks,
             seat,
             stripe,
+            dirty,
             is_open: _,
         } = self;
+        let was = stripe.outbox().len();
         let mut bound = Bound::new(rt, &locks, stripe, seat, reader);
         let end = lines_in_frames(&mut bound, shape, lines, from, first, replies);
         let (stripe, seat, reader) = bound.end();
         let is_open = goes_on(end);
+        let dirty = count_after(dirty, is_open, was, stripe.outbox().len());
         let store = FrameStore {
             shape,
             region,
             locks,
             seat,
             stripe,
+            dirty,
             is_open,
         };
         (store, reader, end)
@@ -203,6 +212,17 @@ fn goes_on(end: RoundEnd) -> bool
         Some(Stop::Halted(_)) => true,
         Some(Stop::Faulted(_)) => false,
     }
+}
+
+// What is remembered, after a round, of how many frames have a page that stays there: the count as it was, where the round
+// met no fault and left the outbox as long as it was, so that it handed nothing over.
+fn count_after(counted: Option<u32>, is_open: bool, was: usize, now: usize) -> Option<u32>
+    ensures { result ≡ count_after counted is_open was now }
+{
+    if is_open && was == now {
+        return counted;
+    }
+    None
 }
 
 // Whether more may be done with a store after a scan that was answered so.

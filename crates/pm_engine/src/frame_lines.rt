@@ -8,7 +8,7 @@ ghost use Rattle.pm_model.specs.ReplyLists.{with_replies};
 ghost use Rattle.pm_stripe.specs.Listings.{MayBeLogical};
 ghost use Rattle.pm_engine.specs.FrameCommands.{IsBetweenLines};
 ghost use Rattle.pm_engine.specs.FrameLines.{IsRoundLine, AnswersInFrames};
-ghost use Rattle.pm_engine.specs.PagedMaps.{IsKeyOf};
+ghost use Rattle.pm_engine.specs.Records.{IsKeyOf};
 ghost use Rattle.pm_engine.specs.Records.{record_of_line};
 
 use crate::frame_commands::run_in_frames;

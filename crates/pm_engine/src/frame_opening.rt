@@ -27,17 +27,17 @@ ghost use Rattle.pm_engine.specs.AppendRuns.{append_all_steps};
 ghost use Rattle.pm_engine.specs.Batches.{HasPlainFault};
 ghost use Rattle.pm_engine.specs.FrameOpenings.{IsFreshIn, IsReadyOver, OpensRunningIn, HasOpenCauseIn};
 ghost use Rattle.pm_engine.specs.FrameOpenings.{AreEmptyFrames, IsStartedEngine, HasNoStrayPages};
-ghost use Rattle.pm_engine.specs.PagedReplays.{CrashHoldsMap, LogLeadsTo};
-ghost use Rattle.pm_engine.specs.PagedOpenings.{HasFewNumbers, opened_last, opened_number};
-ghost use Rattle.pm_engine.specs.PagedOpenings.{IsPlainOpen, ComparesOpening, CountsFaults, CountsOpenFaults};
-ghost use Rattle.pm_engine.specs.PagedOpenings.{loaded_base, IsBadOver, IsRestoredHolding};
+ghost use Rattle.pm_engine.specs.Replays.{CrashHoldsMap, LogLeadsTo};
+ghost use Rattle.pm_engine.specs.Openings.{HasFewNumbers, opened_last, opened_number};
+ghost use Rattle.pm_engine.specs.Openings.{IsPlainOpen, ComparesOpening, CountsFaults, CountsOpenFaults};
+ghost use Rattle.pm_engine.specs.Openings.{loaded_base, IsBadOver, IsRestoredHolding};
 ghost use Rattle.pm_engine.specs.RunningStores.{ended_with};
 
 use crate::frame_engine::FrameEngine;
 use crate::frame_replay_log::replay_in_frames;
 use crate::frame_store::FrameStore;
-use crate::paged_opening::append_restart;
 use crate::replay_log::has_numbers;
+use crate::restarts::append_restart;
 use pm_ckpt::Ckpt;
 use pm_config::Config;
 use pm_disk::Host;
@@ -196,15 +196,22 @@ fn start_engine<H: Host>(
     if !has_numbers(log.end()) {
         return Err(StoreFault::Memory);
     }
+    let mut log = on_heap(alloc, log)?;
     let (pages, ckpt) = empty_frames(alloc, &config.shape, config.frames, mark)?;
-    let mut log = log;
-    match append_restart(host, &mut log, &config.shape) {
+    match append_restart(host, &mut *log, &config.shape) {
         Ok(()) => Ok(FrameEngine::new(pages, log, ckpt, Vec::new(alloc))),
         Err(_) => {
             pages.close();
             Err(StoreFault::Failed)
         }
     }
+}
+
+// The same log on the heap.
+fn on_heap(alloc: Global, log: Log) -> Result<Box<Log>, AllocError>
+    ensures { IfOk result (λ boxed. boxed.value ≡ log) }
+{
+    Ok(Box::new(alloc, log)?)
 }
 
 // So many page frames without a page, and what is kept for checkpoints of all of them. The partitions' files have pages

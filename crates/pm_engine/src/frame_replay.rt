@@ -13,7 +13,7 @@ ghost use Rattle.pm_engine.specs.FrameHosts.{ChangesNoWorld};
 ghost use Rattle.pm_engine.specs.FrameLines.{IsRoundLine};
 ghost use Rattle.pm_engine.specs.FrameReplays.{AppliesInFrames, AppliesToStore, AppliesOver, may_apply_more};
 ghost use Rattle.pm_engine.specs.FrameStores.{HasCleanPages};
-ghost use Rattle.pm_engine.specs.PagedMaps.{IsKeyOf};
+ghost use Rattle.pm_engine.specs.Records.{IsKeyOf};
 
 use crate::frame_commands::run_in_frames;
 use crate::frame_lines::Stop;
@@ -129,6 +129,7 @@ impl FrameStore {
             locks,
             seat,
             stripe,
+            dirty: _,
             is_open: _,
         } = self;
         let mut bound = Bound::new(rt, &locks, stripe, seat, reader);
@@ -141,6 +142,7 @@ impl FrameStore {
             locks,
             seat,
             stripe,
+            dirty: None,
             is_open,
         };
         (store, reader, answer)

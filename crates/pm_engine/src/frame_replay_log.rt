@@ -1,27 +1,21 @@
 //! The records of the log from the replay place on, applied again one after the other over page frames.
 
-ghost use Rattle.std.specs.Prelude.{◌≡◌, ◌≤◌, ◌<◌, ◌+◌, ◌^◌, ◌++◌, ℕ, List, true, OnOk, IsErrOf};
-ghost use Rattle.pm_types.specs.declared.limits.TheConstants.{OP_PAGES};
+ghost use Rattle.std.specs.Prelude.{◌≡◌, ◌≤◌, ℕ, List, true, OnOk, IsErrOf};
 ghost use Rattle.pm_types.specs.declared.place.Place.{Place as ThisPlace};
 ghost use Rattle.pm_types.specs.declared.shape.Shape.{Shape};
 ghost use Rattle.pm_frame.specs.declared.limits.TheConstants.{SEGMENT_END_MAX as last_end};
-ghost use Rattle.pm_disk.specs.Moments.{AllMoments};
 ghost use Rattle.pm_disk.specs.States.{IsUsable};
-ghost use Rattle.pm_disk.specs.Worlds.{World};
 ghost use Rattle.pm_model.specs.Eval.{Pairs};
-ghost use Rattle.pm_records.specs.LogFiles.{contents};
 ghost use Rattle.pm_marks.specs.Slots.{IsMarkPlace};
 ghost use Rattle.pm_segments.specs.Ends.{EndsThere};
-ghost use Rattle.pm_segments.specs.Scans.{IsAhead, StaysAt};
-ghost use Rattle.pm_core.specs.Calls.{ChangesDisk};
+ghost use Rattle.pm_segments.specs.Scans.{IsAhead};
 ghost use Rattle.pm_core.specs.States.{State};
-ghost use Rattle.pm_engine.specs.FrameEngineReplays.{HasWholePages};
-ghost use Rattle.pm_engine.specs.FrameEngines.{IsSameEngine};
+ghost use Rattle.pm_engine.specs.FrameEngineReplays.{HasWholePages, KeepsEngineReady};
 ghost use Rattle.pm_engine.specs.FrameReplayLogs.{AppliesNextIn, CanReplayIn, ReplaysAllIn, ReplaysScan};
 ghost use Rattle.pm_engine.specs.FrameReplayLogs.{StepsReplay, ReplaysWellFormed};
 ghost use Rattle.pm_engine.specs.FrameStores.{HasCleanPages};
-ghost use Rattle.pm_engine.specs.PagedReplays.{LogLeadsTo};
-ghost use Rattle.pm_engine.specs.PagedOpenings.{CountsFaults};
+ghost use Rattle.pm_engine.specs.Replays.{LogLeadsTo};
+ghost use Rattle.pm_engine.specs.Openings.{CountsFaults};
 
 use crate::frame_engine::FrameEngine;
 use crate::replay_log::{has_numbers, keep_ahead, may_stand, segment_of};
@@ -131,14 +125,8 @@ pub(crate) fn replay_in_frames<Q: Wait, H: Host>(
     requires within { from.off ≤ last_end }
     requires there { H.Device.tells → EndsThere engine.log (H.Device.history host.old).world }
     requires clean { H.Device.tells → HasCleanPages engine.store (H.Device.history host.old).world }
-    ensures same { IsSameEngine engine result.0 }
-    ensures order { result.0.order ≡ engine.order }
-    ensures is_open { OnOk result.1 (result.0.store.is_open ≡ true) }
-    ensures clean { H.Device.tells
-        → OnOk result.1 (HasCleanPages result.0.store (H.Device.history host.new).world) }
-    ensures ends { H.Device.tells → OnOk result.1 (EndsThere result.0.log (H.Device.history host.new).world) }
-    ensures disk { H.Device.tells → AllMoments (H.Device.history host.old) (H.Device.history host.new)
-        (ChangesDisk (H.Device.history host.old).world) }
+    ensures ready { KeepsEngineReady H.Device.tells engine result.0 (H.Device.history host.old)
+        (H.Device.history host.new) result.1 }
 
     // What it makes of a sound store, and what a crash leaves of it meanwhile.
     ensures sound { H.Device.tells → (last highest : ℕ) (wanted : Shape) (told : List ℕ → ℕ) (pairs : Pairs)

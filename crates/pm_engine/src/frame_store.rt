@@ -1,11 +1,11 @@
 //! The pages of an open store in page frames.
 
-ghost use Rattle.std.specs.Prelude.{◌≡◌, ◌≤◌, IfOk, [], true, length};
+ghost use Rattle.std.specs.Prelude.{◌≡◌, ◌≤◌, IfOk};
 ghost use Rattle.pm_types.specs.declared.page_id.PageId.{PageId};
 ghost use Rattle.pm_types.specs.Shapes.{IsShape};
 ghost use Rattle.pm_disk.specs.Worlds.{World};
 ghost use Rattle.pm_engine.specs.FrameStores.{pages_in_frames, pages_in_files, IsDirtyPage, HasCleanPages};
-ghost use Rattle.pm_engine.specs.FrameStores.{IsFrameStore, shut};
+ghost use Rattle.pm_engine.specs.FrameStores.{IsNewStore, shut};
 
 use pm_locks::{Locks, PageSeat};
 use pm_ptable::FRAMES_MAX;
@@ -27,6 +27,9 @@ pub struct FrameStore {
     // It stands for all numbers.
     pub(crate) seat: PageSeat,
     pub(crate) stripe: Stripe,
+    // How many frames have a page that stays there, where that was counted and nothing was handed over since. So a batch
+    // that changes no page doesn't look at each frame again.
+    pub(crate) dirty: Option<u32>,
     // A round that ends at a fault may leave pages half changed, and a checkpoint that fails frames that are to be
     // written: nothing more is done with them then.
     pub(crate) is_open: bool,
@@ -47,6 +50,7 @@ impl Model for FrameStore {
       locks = store.locks;
       seat = store.seat;
       stripe = store.stripe;
+      dirty = store.dirty;
       is_open = store.is_open;
     } };
 
@@ -56,6 +60,7 @@ impl Model for FrameStore {
       locks = store.locks;
       seat = store.seat;
       stripe = store.stripe;
+      dirty = store.dirty;
       is_open = store.is_open;
     }) };
 }
@@ -72,16 +77,11 @@ impl FrameStore {
         requires shape { IsShape shape.now }
         requires some { 1 ≤ frames }
         requires few { frames ≤ FRAMES_MAX }
-        ensures shape { IfOk result (λ store. store.shape ≡ shape.now) }
-        ensures frames { IfOk result (λ store. length store.locks.ranges ≡ frames) }
-        ensures files { IfOk result (λ store. store.stripe.files ≡ has_files) }
+        ensures begins { IfOk result (IsNewStore shape.now frames has_files) }
         ensures pages { IfOk result (λ store. (world : World)
             → pages_in_frames store world ≡ pages_in_files shape.now store.stripe world) }
         ensures clean { IfOk result (λ store. (id : PageId) → IsDirtyPage store id → ⊥) }
         ensures as_files { IfOk result (λ store. (world : World) → HasCleanPages store world) }
-        ensures open { IfOk result (λ store. store.is_open ≡ true) }
-        ensures outbox { IfOk result (λ store. store.stripe.outbox ≡ []) }
-        ensures rests { IfOk result IsFrameStore }
     {
         let stripe = Stripe::new(alloc, 0, shape, frames, has_files)?;
         let (region, leases) = Region::new(alloc, frames, shape.page_size)?;
@@ -92,6 +92,7 @@ impl FrameStore {
                 locks,
                 seat,
                 stripe,
+                dirty: None,
                 is_open: true,
             }),
             Err(leases) => {
@@ -116,6 +117,7 @@ impl FrameStore {
             locks,
             seat,
             stripe: _,
+            dirty: _,
             is_open: _,
         } = self;
         region.close(locks.close(seat));

@@ -1,4 +1,4 @@
-//! The engine: a store over a map in memory and a log, opened from what a crash left and run a batch at a time.
+//! The engine: a store over page frames and a log, opened from what a crash left and run a batch at a time.
 #![tactic(auto)]
 
 mod accepting;
@@ -12,6 +12,7 @@ mod frame_engine_forcing;
 mod frame_engine_lines;
 mod frame_engine_parts;
 mod frame_engine_replay;
+mod frame_engine_replay_checkpoint;
 mod frame_engine_rounds;
 mod frame_engine_settling;
 mod frame_host;
@@ -28,29 +29,14 @@ mod framed_stores;
 mod handed_pages;
 mod laws;
 mod line_chains;
-mod loading;
-mod logged_pages;
 mod merging;
-mod operation_log;
 mod outbox_log;
-mod page_log;
-mod page_marks;
-mod paged_batch;
-mod paged_checkpoint;
-mod paged_engine;
-mod paged_forcing;
-mod paged_lines;
-mod paged_map;
-mod paged_opening;
-mod paged_replay;
-mod partitions;
-mod record;
 mod replay_log;
+mod restarts;
 mod running;
 mod running_lines;
 mod tracking;
 
-pub use accepting::an_accepted_line_makes_pages;
 pub use frame_commands::run_in_frames;
 pub use frame_engine::FrameEngine;
 pub use frame_lines::{Stop, line_in_frames};
@@ -67,12 +53,7 @@ pub use handed_pages::{
 };
 pub use laws::a_store_is_its_partitions;
 pub use line_chains::{a_running_store_does_all_lines, logged_pages_have_no_order};
-pub use logged_pages::LoggedPages;
-pub use operation_log::log_operation;
 pub use outbox_log::{append_operations, note_operations};
-pub use page_log::log_changes;
-pub use paged_engine::PagedEngine;
-pub use paged_map::PagedMap;
 pub use running::{
     a_checkpoint_leaves_a_running_store, a_restored_store_may_be_opened,
     a_running_store_may_append, a_running_store_may_be_checkpointed, a_running_store_may_force,

@@ -18,7 +18,7 @@ ghost use Rattle.pm_ckpt.specs.Checkpoints.{CanCheckpoint, IsStateAfter, whole_s
 ghost use Rattle.pm_ckpt.specs.Marked.{number_after};
 ghost use Rattle.pm_ckpt.specs.Writes.{Writing};
 ghost use Rattle.pm_engine.specs.AppendRuns.{append_all_steps};
-ghost use Rattle.pm_engine.specs.PagedEngines.{number_of};
+ghost use Rattle.pm_engine.specs.RunningStores.{number_of};
 ghost use Rattle.pm_engine.specs.PageLogs.{NotedPages};
 ghost use Rattle.pm_engine.specs.RunningLines.{HasRun, CrashHoldsLines, SameDisk, says_nothing};
 ghost use Rattle.pm_engine.specs.RunningStores.{StoreState, IsRunning, HasSegmentsFor, map_of, mark_after};

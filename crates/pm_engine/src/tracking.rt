@@ -7,15 +7,13 @@ ghost use Rattle.pm_types.specs.Shapes.{IsShape};
 ghost use Rattle.pm_frame.specs.Frames.{Frame};
 ghost use Rattle.pm_records.specs.Logs.{record_in, without_seals};
 ghost use Rattle.pm_records.specs.Records.{Record, Restart};
-ghost use Rattle.pm_pages.specs.declared.plain.PlainPages.{PlainPages};
 ghost use Rattle.pm_pages.specs.Edits.{EditsPages};
 ghost use Rattle.pm_pages.specs.KeptPages.{KeepsPages};
 ghost use Rattle.pm_pages.specs.Paged.{Paged};
 ghost use Rattle.pm_core.specs.BasePages.{Partitions, laid_over};
 ghost use Rattle.pm_core.specs.Calls.{AreRebuilt};
 ghost use Rattle.pm_core.specs.States.{AllInGrammar};
-ghost use Rattle.pm_ckpt.specs.Writes.{IsHeld, held_in, named_of};
-ghost use Rattle.pm_engine.specs.PagedMaps.{pages_of_lists};
+ghost use Rattle.pm_ckpt.specs.Writes.{IsHeld, named_of};
 ghost use Rattle.pm_engine.specs.PageLogs.{NotedPages, AreNoted, noted_frames, noted_names};
 ghost use Rattle.pm_engine.specs.TrackedPages.{TracksPages, SaysNoPage, ChangesWithin, ChangesPart};
 ghost use Rattle.pm_engine.specs.TrackedPages.{KeepsPage, ChangesPage};
@@ -86,5 +84,4 @@ pub fn tracked_pages_are_rebuilt()
         → (tracks : TracksPages shape frames files pages logged) → HaveFirstPages shape pages
         → (part index : ℕ) → IsSome (tracks.rebuilt part index)
         → IsSome (laid_over tracks.rebuilt files part 0) }
-    ensures lists { (lists : List PlainPages) → held_in lists ≡ pages_of_lists lists }
 {}

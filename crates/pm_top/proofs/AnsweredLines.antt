@@ -20,7 +20,7 @@ use Rattle.pm_engine.specs.FrameBatches.{HasNumbersIn, LeavesAllAtRest, MayGoOn,
 use Rattle.pm_engine.specs.FrameEngines.{FrameRunning, map_in}
 use Rattle.pm_engine.specs.FrameRounds.{EvaluatesLines}
 use Rattle.pm_engine.specs.FrameStores.{pages_in_frames}
-use Rattle.pm_engine.specs.PagedEngines.{number_of}
+use Rattle.pm_engine.specs.RunningStores.{number_of}
 use Rattle.pm_engine.specs.RunningLines.{says_nothing}
 use Rattle.pm_engine.proofs.RunningLines.{crash_further}
 use Rattle.pm_top.specs.FrameRests.{FrameAtRest}

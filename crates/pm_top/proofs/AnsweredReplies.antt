@@ -18,7 +18,7 @@ use Rattle.pm_engine.specs.Batches.{IsPlainFault}
 use Rattle.pm_engine.specs.FrameBatches.{EndsAtReplayIn, LeavesAllAtRest, MakesAskedIn, RunsFrameBatch, TakesNumbersIn}
 use Rattle.pm_engine.specs.FrameEngines.{FrameRunning, IsSameEngine, map_in}
 use Rattle.pm_engine.specs.FrameOpenings.{IsReadyOver}
-use Rattle.pm_engine.specs.PagedBatches.{asked_last}
+use Rattle.pm_engine.specs.Batches.{asked_last}
 use Rattle.pm_top.specs.FrameRests.{FrameAtRest}
 use Rattle.pm_top.specs.declared.run.Run.{Run}
 use Rattle.pm_top.specs.ScriptOrder.{CrashHoldsAcknowledged, HasFailed, HasNoMemory}

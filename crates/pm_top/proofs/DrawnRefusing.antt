@@ -13,7 +13,7 @@ use Rattle.pm_model.proofs.OrderLaws.{script_tried}
 use Rattle.pm_types.specs.declared.limits.TheConstants.{BATCH_LINES_MAX}
 use Rattle.pm_core.specs.Calls.{ChangesDisk}
 use Rattle.pm_redo.specs.Rebuilding.{IsSame}
-use Rattle.pm_engine.specs.PagedReplays.{CrashHoldsMap}
+use Rattle.pm_engine.specs.Replays.{CrashHoldsMap}
 use Rattle.pm_engine.specs.RunningLines.{SameDisk}
 use Rattle.pm_top.specs.Configurations.{config_fault, fault_config, wanted_in}
 use Rattle.pm_top.specs.Crashes.{opened_number, opened_to}

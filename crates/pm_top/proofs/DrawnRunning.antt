@@ -19,8 +19,8 @@ use Rattle.pm_model.proofs.Runs.{replies_to-append, accepted-append, length-repl
 use Rattle.pm_core.specs.Calls.{ChangesDisk}
 use Rattle.pm_engine.specs.FrameBatches.{MayGoOn, RunsFrameBatch}
 use Rattle.pm_engine.specs.FrameEngines.{FrameRunning, HasDoneLines, HasLastingLinesIn, map_in}
-use Rattle.pm_engine.specs.PagedBatches.{StaysOpen}
-use Rattle.pm_engine.specs.PagedEngines.{number_of}
+use Rattle.pm_engine.specs.Batches.{StaysOpen}
+use Rattle.pm_engine.specs.RunningStores.{number_of}
 use Rattle.pm_engine.specs.RunningLines.{CrashHoldsLines, says_nothing}
 use Rattle.pm_engine.proofs.RunningLines.{crash_wider, moments_further}
 use Rattle.pm_top.specs.Crashes.{CrashKeeps}

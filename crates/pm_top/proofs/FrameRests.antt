@@ -6,7 +6,7 @@ use Rattle.pm_disk.specs.Worlds.{World, with_said}
 use Rattle.pm_script.specs.Reading.{OnlyTakes}
 use Rattle.pm_engine.specs.FrameEngines.{FrameRunning, AllLastIn, IsSameEngine, running_in, map_in}
 use Rattle.pm_engine.specs.FrameOpenings.{IsReadyOver}
-use Rattle.pm_engine.specs.PagedEngines.{number_of}
+use Rattle.pm_engine.specs.RunningStores.{number_of}
 use Rattle.pm_engine.specs.RunningLines.{SameDisk, CrashHoldsLines, says_nothing}
 use Rattle.pm_engine.proofs.CheckpointedLines.{between_crash}
 use Rattle.pm_engine.proofs.ConsoleRuns.{has_beside}

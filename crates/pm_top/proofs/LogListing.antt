@@ -12,7 +12,7 @@ use Rattle.pm_disk.proofs.Chain.{joined, weaker}
 use Rattle.pm_marks.specs.InForce.{number_in}
 use Rattle.pm_core.specs.Held.{in_force}
 use Rattle.pm_core.specs.LogAlone.{image_of}
-use Rattle.pm_engine.specs.PagedReplays.{CrashHoldsMap}
+use Rattle.pm_engine.specs.Replays.{CrashHoldsMap}
 use Rattle.pm_redo.specs.Rebuilding.{IsSame}
 use Rattle.pm_records.specs.LogFiles.{contents}
 use Rattle.pm_tools.specs.Listings.{list_place, IsListed, IsListedUpTo, IsSaid, SaysOfLog}

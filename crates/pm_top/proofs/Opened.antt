@@ -13,7 +13,7 @@ use Rattle.pm_core.specs.LogAlone.{image_of}
 use Rattle.pm_redo.specs.Rebuilding.{IsSame}
 use Rattle.pm_engine.specs.FrameEngines.{FrameRunning, HasDoneLines}
 use Rattle.pm_engine.specs.FrameOpenings.{OpensRunningIn}
-use Rattle.pm_engine.specs.PagedReplays.{CrashHoldsMap}
+use Rattle.pm_engine.specs.Replays.{CrashHoldsMap}
 use Rattle.pm_engine.specs.RunningLines.{says_nothing}
 use Rattle.pm_engine.proofs.RunningLines.{crash_further, crash_one}
 use Rattle.pm_top.specs.Configurations.{wanted_in}

@@ -15,7 +15,7 @@ use Rattle.pm_core.specs.Calls.{ChangesDisk}
 use Rattle.pm_core.specs.Held.{pairs_in}
 use Rattle.pm_engine.specs.FrameEngines.{FrameRunning, AllLastIn, map_in, closed_engine}
 use Rattle.pm_engine.specs.FrameStores.{pages_in_frames}
-use Rattle.pm_engine.specs.PagedEngines.{number_of}
+use Rattle.pm_engine.specs.RunningStores.{number_of}
 use Rattle.pm_engine.specs.RunningLines.{CrashHoldsLines, says_nothing}
 use Rattle.pm_engine.proofs.RunningLines.{moments_further}
 use Rattle.pm_top.specs.declared.batch.Continuation.{Continuation}

@@ -9,7 +9,7 @@ use Rattle.pm_core.specs.LogAlone.{image_of}
 use Rattle.pm_core.specs.Replays.{all_replayed}
 use Rattle.pm_core.specs.Starts.{CanBegin, start_state}
 use Rattle.pm_core.proofs.Starting.{stands_first}
-use Rattle.pm_engine.specs.PagedOpenings.{HasFewNumbers}
+use Rattle.pm_engine.specs.Openings.{HasFewNumbers}
 use Rattle.pm_engine.specs.RunningLines.{CrashHoldsLines, KeepsLines, says_nothing}
 use Rattle.pm_engine.proofs.RunningLines.{after_whole, crash_holds, crash_further}
 use Rattle.pm_top.specs.Crashes.{opened_to}

@@ -19,7 +19,7 @@ use Rattle.pm_core.specs.Held.{in_force}
 use Rattle.pm_core.specs.LogAlone.{image_of}
 use Rattle.pm_core.specs.Prefixes.{IsUpTo}
 use Rattle.pm_core.specs.Sound.{Sound}
-use Rattle.pm_engine.specs.PagedBatches.{asked_last}
+use Rattle.pm_engine.specs.Batches.{asked_last}
 use Rattle.pm_engine.specs.FrameOpenings.{HasBadBase, IsBadOpeningIn}
 use Rattle.pm_engine.specs.RunningLines.{SameDisk}
 use Rattle.pm_tools.specs.declared.verifying.Counts.{Counts}

@@ -15,8 +15,8 @@ use Rattle.pm_script.specs.Texts.{texts_of}
 use Rattle.pm_engine.specs.FrameBatches.{EndsAtReplayIn, TakesNumbersIn}
 use Rattle.pm_engine.specs.FrameEngines.{FrameRunning, IsSameEngine, map_in}
 use Rattle.pm_engine.specs.FrameOpenings.{IsReadyOver}
-use Rattle.pm_engine.specs.PagedBatches.{asked_last}
-use Rattle.pm_engine.specs.PagedEngines.{number_of}
+use Rattle.pm_engine.specs.Batches.{asked_last}
+use Rattle.pm_engine.specs.RunningStores.{number_of}
 use Rattle.pm_top.specs.FrameRests.{FrameAtRest}
 use Rattle.pm_top.specs.declared.batch.Continuation.{Continuation}
 use Rattle.pm_top.specs.declared.batch.Continuation.TheVariants as then_comes

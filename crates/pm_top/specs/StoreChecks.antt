@@ -10,7 +10,7 @@ use Rattle.pm_model.specs.Eval.{Pairs}
 use Rattle.pm_marks.specs.InForce.{number_in}
 use Rattle.pm_core.specs.Held.{in_force}
 use Rattle.pm_core.specs.LogAlone.{image_of}
-use Rattle.pm_engine.specs.PagedReplays.{CrashHoldsMap}
+use Rattle.pm_engine.specs.Replays.{CrashHoldsMap}
 use Rattle.pm_tools.specs.declared.verifying.Counts.{Counts}
 use Rattle.pm_tools.specs.Verifying.{IsVerified, IsBadRecord, IsBadBasePage}
 use Rattle.pm_top.specs.declared.status.Status.{Status}

@@ -28,7 +28,8 @@ pub fn print_found_page<H: Host>(alloc: Global, host: &mut H, met: PageId) -> St
     ensures failed { result ≡ Status.Failed → Rose (H.state host.old) (H.state host.new) }
     ensures state { IsLaterState (H.state host.old) (H.state host.new) }
 {
-    match verify(alloc, host) {
+    let checked = verify(alloc, host);
+    match checked {
         Ok(_) => print_page_fault(alloc, host, met),
         Err(StoreFault::Failed) => Status::Failed,
         Err(StoreFault::Memory) => Status::Memory,

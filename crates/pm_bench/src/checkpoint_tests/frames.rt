@@ -6,9 +6,8 @@ ghost use Rattle.pm_disk.specs.States.{IsUsable};
 ghost use Rattle.pm_ckpt.specs.Dirty.{AreResting};
 ghost use Rattle.pm_ckpt.specs.Frames.{IsWholeSeat};
 
-use crate::checkpoint_tests::kept_segments::{fill_log, segments_there};
+use crate::checkpoint_tests::kept_segments::{fill_log, no_files, segments_there};
 use crate::checkpoint_tests::one_page::{Written, all_written};
-use crate::checkpoint_tests::paged_stores::no_files;
 use crate::worker_pages::commands::SHAPE;
 use pm_ckpt::Ckpt;
 use pm_disk::{Failed, Host};

@@ -12,15 +12,23 @@ ghost use Rattle.pm_ckpt.specs.Writes.{held_in, IsHeld};
 use crate::checkpoint_tests::one_page::{
     Written, all_written, begin_log, log_page, make_checkpoint, partition, shape,
 };
-use crate::checkpoint_tests::paged_stores::no_files;
 use pm_ckpt::Ckpt;
 use pm_disk::{Failed, Host, LogFile, LogReader};
+use pm_disk_mem::{MemDisk, MemHost};
 use pm_frame::LOGICAL;
 use pm_pages::PlainPages;
 use pm_segments::Log;
 use pm_types::Place;
+use std::alloc::{AllocError, Global};
 use std::process::Abort;
 use std::test::Fail;
+
+/// A host in memory without a file, whose folder isn't bound yet.
+pub fn no_files(alloc: Global) -> Result<MemHost, AllocError>
+    ensures { IfOk result (λ host. host.is_lent ≡ false) }
+{
+    MemHost::new(alloc, b"", b"", MemDisk::empty(alloc), &[], None)
+}
 
 /// Appends a long record, which goes to a segment of its own.
 fn log_long<L: LogFile>(host: &mut L, log: &mut Log, long: &[u8]) -> Result<(), Failed>

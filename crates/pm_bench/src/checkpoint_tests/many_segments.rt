@@ -1,16 +1,21 @@
 //! The log of a store goes on over twenty segments, with five checkpoints.
 
-ghost use Rattle.std.specs.Prelude.{◌≡◌, true, false, OnOk};
+ghost use Rattle.std.specs.Prelude.{◌≡◌, ◌≤◌, false, length, IfOk, OnOk};
+ghost use Rattle.std.specs.List.{All};
 ghost use Rattle.pm_disk.specs.States.{IsUsable};
-ghost use Rattle.pm_segments.specs.Ends.{EndsThere};
+ghost use Rattle.pm_model.specs.Batches.{HasCache};
+ghost use Rattle.pm_bench.specs.OpenEngines.{IsOpenOver};
 
-use crate::checkpoint_tests::paged_stores::{begin, checkpoint, no_files, put_line, run};
+use crate::checkpoint_tests::framed_stores::{CONFIG, open, put_line, run};
+use crate::checkpoint_tests::kept_segments::no_files;
 use pm_disk::{Failed, Host, LogReader};
-use pm_engine::PagedEngine;
+use pm_engine::FrameEngine;
 use pm_marks::read_marks;
-use pm_types::StoreFault;
-use std::alloc::Global;
+use pm_model::Line;
+use pm_types::{OpenFault, StoreFault};
+use std::alloc::{AllocError, Global};
 use std::process::Abort;
+use std::sync::Wait;
 use std::test::Fail;
 
 /// More segments than there are.
@@ -67,60 +72,13 @@ fn with_segment(there: There, seg: u64, is_there: bool) -> There {
     }
 }
 
-/// Puts rows in both partitions, from this one on.
-fn put_rows<H: Host>(
-    alloc: Global,
-    host: &mut H,
-    engine: &mut PagedEngine,
-    first: u32,
-) -> Result<(), StoreFault>
-    requires usable { IsUsable (H.Device.state host.old) }
-    requires is_open { engine.old.is_open ≡ true }
-    requires end { H.Device.tells → EndsThere engine.old.log (H.Device.history host.old).world }
-    ensures usable { IsUsable (H.Device.state host.new) }
-    ensures is_open { OnOk result (engine.new.is_open ≡ true) }
-    ensures ends { H.Device.tells → OnOk result (EndsThere engine.new.log (H.Device.history host.new).world) }
-{
-    'rows: for i in 0..ROWS {
-        let row = first.wrapping_add(i);
-        let line = put_line(alloc, (i % 2) as u16, row, 900)?;
-        run(alloc, host, engine, &line)?;
-    }
-    Ok(())
-}
-
-/// What is there before a checkpoint and after it.
-#[derive(Clone, Copy, Debug, PartialEq, Eq)]
-struct Seen {
-    before: There,
-    after: There,
-}
-
-/// Puts rows from this many times `ROWS` on, and makes a checkpoint.
-fn put_and_checkpoint<H: Host>(
-    alloc: Global,
-    host: &mut H,
-    engine: &mut PagedEngine,
-    number: u32,
-) -> Result<Seen, StoreFault>
-    requires usable { IsUsable (H.Device.state host.old) }
-    requires is_open { engine.old.is_open ≡ true }
-    requires end { H.Device.tells → EndsThere engine.old.log (H.Device.history host.old).world }
-    ensures usable { IsUsable (H.Device.state host.new) }
-    ensures is_open { OnOk result (engine.new.is_open ≡ true) }
-    ensures ends { H.Device.tells → OnOk result (EndsThere engine.new.log (H.Device.history host.new).world) }
-{
-    put_rows(alloc, host, engine, number.wrapping_mul(ROWS))?;
-    let before = segments(host)?;
-    checkpoint(alloc, host, engine)?;
-    let after = segments(host)?;
-    Ok(Seen { before, after })
-}
-
-/// The segment of the begin of the checkpoint in force, 0 where there is none or its end marker isn't there.
+/// The segment of the begin of the checkpoint in force, 0 where there is none or its end marker isn't there. No file
+/// changes.
 fn begin_of<H: Host>(host: &mut H) -> Result<u64, Failed>
     requires { IsUsable (H.Device.state host.old) }
-    ensures { IsUsable (H.Device.state host.new) }
+    ensures usable { IsUsable (H.Device.state host.new) }
+    ensures same { H.Device.tells
+        → OnOk result ((H.Device.history host.new).world ≡ (H.Device.history host.old).world) }
 {
     let marks = read_marks(host)?;
     match marks.start {
@@ -129,17 +87,79 @@ fn begin_of<H: Host>(host: &mut H) -> Result<u64, Failed>
     }
 }
 
-/// Five checkpoints, with puts before each.
-fn five_checkpoints<H: Host>(alloc: Global, host: &mut H) -> Result<[Seen; 5], StoreFault>
-    requires { (H.Device.state host.old).access.is_lent ≡ false }
-    ensures { OnOk result (IsUsable (H.Device.state host.new)) }
+/// The lines that put rows in both partitions, from this one on.
+fn put_lines(alloc: Global, first: u32) -> Result<Vec<Line>, AllocError>
+    ensures caches { IfOk result (λ lines. All HasCache lines.items) }
+    ensures few { IfOk result (λ lines. length lines.items ≤ ROWS) }
 {
-    let mut engine = begin(alloc, host)?;
-    let one = put_and_checkpoint(alloc, host, &mut engine, 1)?;
-    let two = put_and_checkpoint(alloc, host, &mut engine, 2)?;
-    let three = put_and_checkpoint(alloc, host, &mut engine, 3)?;
-    let four = put_and_checkpoint(alloc, host, &mut engine, 4)?;
-    let five = put_and_checkpoint(alloc, host, &mut engine, 5)?;
+    let mut lines = Vec::new(alloc);
+    'rows: for i in 0..ROWS {
+        let row = first.wrapping_add(i);
+        lines.push(put_line(alloc, (i % 2) as u16, row, 900)?)?;
+    }
+    Ok(lines)
+}
+
+/// What is there before a checkpoint and after it, and where the checkpoint begins.
+#[derive(Clone, Copy, Debug, PartialEq, Eq)]
+struct Seen {
+    before: There,
+    after: There,
+    begin: u64,
+}
+
+/// Looks at the segments, makes a checkpoint, and looks at them again.
+fn checkpoint<H: Host>(host: &mut H, engine: &mut FrameEngine) -> Result<Seen, StoreFault>
+    requires usable { IsUsable (H.Device.state host.old) }
+    requires open { IsOpenOver H.Device.tells CONFIG (H.Device.history host.old).world engine.old }
+    ensures usable { IsUsable (H.Device.state host.new) }
+    ensures open { OnOk result (IsOpenOver H.Device.tells CONFIG (H.Device.history host.new).world engine.new) }
+{
+    let before = segments(host)?;
+    engine.checkpoint(host)?;
+    let after = segments(host)?;
+    let begin = begin_of(host)?;
+    Ok(Seen {
+        before,
+        after,
+        begin,
+    })
+}
+
+/// Puts rows from this many times `ROWS` on, and makes a checkpoint.
+fn put_and_checkpoint<Q: Wait, H: Host>(
+    rt: &Q,
+    alloc: Global,
+    host: &mut H,
+    engine: FrameEngine,
+    number: u32,
+) -> Result<(FrameEngine, Seen), StoreFault>
+    requires usable { IsUsable (H.Device.state host.old) }
+    requires open { IsOpenOver H.Device.tells CONFIG (H.Device.history host.old).world engine }
+    ensures usable { IsUsable (H.Device.state host.new) }
+    ensures open { IfOk result (λ r. IsOpenOver H.Device.tells CONFIG (H.Device.history host.new).world r.0) }
+{
+    let lines = put_lines(alloc, number.wrapping_mul(ROWS))?;
+    let mut engine = run(rt, alloc, host, engine, &lines)?;
+    let seen = checkpoint(host, &mut engine)?;
+    Ok((engine, seen))
+}
+
+/// Five checkpoints, with puts before each.
+fn five_checkpoints<Q: Wait, H: Host>(
+    rt: &Q,
+    alloc: Global,
+    host: &mut H,
+) -> Result<[Seen; 5], OpenFault>
+    requires { (H.Device.state host.old).access.is_lent ≡ false }
+{
+    let engine = open(rt, alloc, host)?;
+    let (engine, one) = put_and_checkpoint(rt, alloc, host, engine, 1)?;
+    let (engine, two) = put_and_checkpoint(rt, alloc, host, engine, 2)?;
+    let (engine, three) = put_and_checkpoint(rt, alloc, host, engine, 3)?;
+    let (engine, four) = put_and_checkpoint(rt, alloc, host, engine, 4)?;
+    let (engine, five) = put_and_checkpoint(rt, alloc, host, engine, 5)?;
+    let _order = engine.close();
     Ok([one, two, three, four, five])
 }
 
@@ -149,10 +169,17 @@ fn a_log_of_twenty_segments_keeps_those_that_it_needs(rt: HostRuntime) -> Result
     let alloc = rt.alloc();
     let mut host = no_files(alloc)?;
     let mut first = 1;
-    for seen in five_checkpoints(alloc, &mut host)? {
-        let Seen { before, after } = seen;
+    for seen in five_checkpoints(&rt, alloc, &mut host)? {
+        let Seen {
+            before,
+            after,
+            begin,
+        } = seen;
         assert!(rt; before.count >= 4 && before.first == first, "{seen:?}");
-        assert!(rt; after.first >= before.last && after.count <= 2, "{seen:?}");
+        assert!(rt;
+            after.first == begin && begin >= before.last && after.count <= 2,
+            "{seen:?}"
+        );
         assert_eq!(rt;
             after.count,
             after.last.saturating_sub(after.first).saturating_add(1)
@@ -160,6 +187,5 @@ fn a_log_of_twenty_segments_keeps_those_that_it_needs(rt: HostRuntime) -> Result
         first = after.first;
     }
     assert!(rt; first >= 20, "{first}");
-    assert_eq!(rt; begin_of(&mut host)?, first);
     Ok(())
 }

@@ -1,26 +1,35 @@
 //! The records that puts append to the log, byte by byte.
 
-ghost use Rattle.std.specs.Prelude.{◌≡◌, true, false, OnOk};
+ghost use Rattle.std.specs.Prelude.{◌≡◌, ◌≤◌, false, length, IfOk, OnOk};
+ghost use Rattle.std.specs.List.{All};
 ghost use Rattle.pm_disk.specs.States.{IsUsable};
-ghost use Rattle.pm_segments.specs.Ends.{EndsThere};
 ghost use Rattle.pm_segments.specs.Scans.{IsAhead};
 ghost use Rattle.pm_model.specs.Batches.{HasCache};
 
-use crate::checkpoint_tests::paged_stores::{BEGIN, begin, no_files, put_line, run};
-use crate::worker_pages::commands::SHAPE;
+use crate::checkpoint_tests::framed_stores::{open, put_line, run};
+use crate::checkpoint_tests::kept_segments::no_files;
+use crate::worker_pages::commands::{SHAPE, Step, command};
+use crate::worker_pages::plain::answer_plain;
 use crate::worker_pages::records::Logged;
+use crate::worker_pages::stop::Stop;
 use pm_disk::{Host, LogReader};
-use pm_engine::{PagedEngine, PagedMap};
-use pm_frame::{DELTA, LOGICAL, SNAPSHOT};
-use pm_model::{Cmd, Line, Replies};
+use pm_frame::{DELTA, LOGICAL, RESTART, SNAPSHOT};
+use pm_model::{Cmd, Line};
+use pm_pages::PlainPages;
+use pm_part::Part;
 use pm_segments::Scan;
-use pm_types::StoreFault;
+use pm_types::{OpenFault, Place, StoreFault};
 use std::alloc::{AllocError, Global};
 use std::process::Abort;
+use std::sync::Wait;
 use std::test::Fail;
 
 /// The rows of partition 0 that are put, and how long the value of each is, in bytes.
 const PUTS: [(u32, usize); 4] = [(7, 30), (7, 30), (7, 45), (8, 10)];
+
+/// The payload of the record of the store's opening, its shape: pages of 1,024 bytes, 2 partitions, version 1, 20,000
+/// rows at most, and segments of 65,536 bytes.
+const OPENING: [u8; 16] = [0, 4, 0, 0, 2, 0, 1, 0, 32, 78, 0, 0, 0, 0, 1, 0];
 
 /// Records, each as its kind, its payload's length and the payload.
 #[derive(Drop)]
@@ -48,9 +57,9 @@ impl Records {
 }
 
 /// The payload of a put's own record: its kind, its cache, the lengths of key and value, the key and the value.
-fn put_payload(alloc: Global, line: &Line) -> Result<Vec<u8>, AllocError> {
+fn put_payload(alloc: Global, cmd: &Cmd) -> Result<Vec<u8>, AllocError> {
     let mut payload = Vec::new(alloc);
-    if let Line::Good(Cmd::Put { cache, key, value }) = line {
+    if let Cmd::Put { cache, key, value } = cmd {
         let key_len = u8::try_from(key.bytes().len()).unwrap_or(0);
         let value_len = u32::try_from(value.bytes().len()).unwrap_or(0);
         payload.push(1)?;
@@ -63,22 +72,16 @@ fn put_payload(alloc: Global, line: &Line) -> Result<Vec<u8>, AllocError> {
     Ok(payload)
 }
 
-/// Answers a line from a map in pages, and appends the records that are to be in the log.
+/// Appends the records of a put that was done over a list of pages: its own, and those of the pages that it changed.
 fn expect(
     alloc: Global,
-    map: &mut PagedMap,
+    cmd: &Cmd,
+    plain: &PlainPages,
     logged: &mut Logged,
-    line: &Line,
     into: &mut Records,
-) -> Result<(), AllocError>
-    requires shape { map.old.shape ≡ SHAPE }
-    requires cache { HasCache line.now }
-    ensures { map.new.shape ≡ SHAPE }
-{
-    let mut replies = Replies::with_room(alloc, 1)?;
-    map.answer(alloc, line, &mut replies)?;
-    into.add(LOGICAL, &put_payload(alloc, line)?)?;
-    logged.add(alloc, 0, map.list(0))?;
+) -> Result<(), AllocError> {
+    into.add(LOGICAL, &put_payload(alloc, cmd)?)?;
+    logged.add(alloc, 0, plain)?;
     // the first eight bytes are the line's number and the length of all
     if let Some(records) = logged.bytes.get(8..) {
         into.bytes.extend_from_slice(records)?;
@@ -88,13 +91,16 @@ fn expect(
 }
 
 /// The records that are to be in the log after all puts.
-fn expected(alloc: Global) -> Result<Records, AllocError> {
+fn expected(alloc: Global) -> Result<Records, Stop> {
     let mut records = Records::none(alloc);
-    let mut map = PagedMap::new(alloc, SHAPE)?;
+    records.add(RESTART, &OPENING)?;
+    let mut plain = PlainPages::new(alloc, &SHAPE, 0)?;
+    let part = Part::new(SHAPE, 0);
     let mut logged = Logged::new(alloc);
     'puts: for (row, len) in PUTS {
-        let line = put_line(alloc, 0, row, len)?;
-        expect(alloc, &mut map, &mut logged, &line, &mut records)?;
+        let cmd = command(alloc, 0, row, Step::Put(len))?;
+        answer_plain(alloc, &mut plain, &part, &cmd)?;
+        expect(alloc, &cmd, &plain, &mut logged, &mut records)?;
     }
     Ok(records)
 }
@@ -122,7 +128,7 @@ fn read_all<L: LogReader>(alloc: Global, dev: &mut L) -> Result<Records, StoreFa
     requires { IsUsable (L.state dev.old) }
 {
     let mut records = Records::none(alloc);
-    let mut scan = Scan::new(alloc, BEGIN)?;
+    let mut scan = Scan::new(alloc, Place { seg: 1, off: 0 })?;
     'frames: for _ in 0..100 {
         if !read_next(dev, &mut scan, &mut records)? {
             return Ok(records);
@@ -131,27 +137,28 @@ fn read_all<L: LogReader>(alloc: Global, dev: &mut L) -> Result<Records, StoreFa
     Ok(records)
 }
 
-/// Runs all puts.
-fn put_all<H: Host>(alloc: Global, host: &mut H, engine: &mut PagedEngine) -> Result<(), StoreFault>
-    requires usable { IsUsable (H.Device.state host.old) }
-    requires is_open { engine.old.is_open ≡ true }
-    requires end { H.Device.tells → EndsThere engine.old.log (H.Device.history host.old).world }
-    ensures { IsUsable (H.Device.state host.new) }
+/// The lines of all puts.
+fn put_lines(alloc: Global) -> Result<Vec<Line>, AllocError>
+    ensures caches { IfOk result (λ lines. All HasCache lines.items) }
+    ensures few { IfOk result (λ lines. length lines.items ≤ 4) }
 {
-    'puts: for (row, len) in PUTS {
-        let line = put_line(alloc, 0, row, len)?;
-        run(alloc, host, engine, &line)?;
+    let mut lines = Vec::new(alloc);
+    'puts: for put in PUTS {
+        let (row, len) = put;
+        lines.push(put_line(alloc, 0, row, len)?)?;
     }
-    Ok(())
+    Ok(lines)
 }
 
-/// The records of the log of a store after all puts.
-fn found<H: Host>(alloc: Global, host: &mut H) -> Result<Records, StoreFault>
+/// The records of the log of a store once it ran all puts as one batch.
+fn found<Q: Wait, H: Host>(rt: &Q, alloc: Global, host: &mut H) -> Result<Records, OpenFault>
     requires whole { (H.Device.state host.old).access.is_lent ≡ false }
 {
-    let mut engine = begin(alloc, host)?;
-    put_all(alloc, host, &mut engine)?;
-    read_all(alloc, host)
+    let engine = open(rt, alloc, host)?;
+    let lines = put_lines(alloc)?;
+    let engine = run(rt, alloc, host, engine, &lines)?;
+    let _order = engine.close();
+    Ok(read_all(alloc, host)?)
 }
 
 // The first put makes the meta page, a page of rows and a leaf, each logged whole, by rising page. The second
@@ -161,12 +168,12 @@ fn found<H: Host>(alloc: Global, host: &mut H) -> Result<Records, StoreFault>
 fn a_put_is_logged_with_the_pages_that_it_changed(rt: HostRuntime) -> Result<(), Fail> {
     let alloc = rt.alloc();
     let mut host = no_files(alloc)?;
-    let found = found(alloc, &mut host)?;
+    let found = found(&rt, alloc, &mut host)?;
     let wanted = expected(alloc)?;
     assert_eq!(rt; found.bytes, wanted.bytes);
     let kinds = [
-        LOGICAL, SNAPSHOT, SNAPSHOT, SNAPSHOT, LOGICAL, DELTA, LOGICAL, DELTA, LOGICAL, DELTA,
-        DELTA, DELTA,
+        RESTART, LOGICAL, SNAPSHOT, SNAPSHOT, SNAPSHOT, LOGICAL, DELTA, LOGICAL, DELTA, LOGICAL,
+        DELTA, DELTA, DELTA,
     ];
     assert_eq!(rt; found.kinds.as_slice(), kinds.as_slice());
     Ok(())

@@ -15,10 +15,10 @@ use Rattle.pm_core.specs.BasePages.{Partitions}
 use Rattle.pm_engine.specs.declared.frame_lines.Stop.TheVariants.{Faulted}
 use Rattle.pm_engine.specs.FrameCommands.{frame_pages, HasWellFormed, RunsLineOn, HandsOverChange}
 use Rattle.pm_engine.specs.FrameLines.{HasKey}
-use Rattle.pm_engine.specs.PagedMaps.{IsKeyOf}
+use Rattle.pm_engine.specs.Records.{IsKeyOf}
 use Rattle.pm_engine.specs.PagedStores.{part_map}
 use Rattle.pm_engine.proofs.FrameAnswers.{ready_same, ready_between, ready_nothing, worker_same_then, nothing_then, hands_then, evaluates_line, accepted_record}
-use Rattle.pm_engine.proofs.PagedLines.{cmd_of_key, reply_accepts}
+use Rattle.pm_engine.proofs.PartAnswers.{cmd_of_key, reply_accepts}
 use Rattle.pm_engine.proofs.frame_lines.key_in_frames.Goals as goal
 
 pub run_in_frames-requires-clause-readable : goal.run_in_frames-requires-clause-readable

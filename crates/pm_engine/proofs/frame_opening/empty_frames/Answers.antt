@@ -6,11 +6,11 @@ pub returns-in-Ok : goal.returns-in-Ok
 returns-in-Ok c =
     let made = c.in_ok-pages.ensures in
     record {
-      shape_is = made.shape;
-      many = made.frames;
-      is_open = made.open;
-      sent = made.outbox;
-      pages = λ world. new_pages c.args.shape.now c.args.mark c.in_ok-pages.pages world c.requires.shape c.requires.marked made.rests made.open made.shape (made.files ∙ c.is_some.ensures) (made.pages world);
+      shape_is = made.begins.shape_is;
+      many = made.begins.many;
+      is_open = made.begins.is_open;
+      sent = made.begins.none_logged;
+      pages = λ world. new_pages c.args.shape.now c.args.mark c.in_ok-pages.pages world c.requires.shape c.requires.marked made.begins.rests made.begins.is_open made.begins.shape_is (made.begins.files_are ∙ c.is_some.ensures) (made.pages world);
       none_dirty = made.clean;
       clean = made.as_files;
       kept = c.in-Ok.ensures;

@@ -1,4 +1,4 @@
-use Rattle.std.proofs.Common.{rules, ◌+◌, ◌≤◌, ◌∙◌, Ok, Result, sym, ap, subst, arith, length, [], ◌∷◌}
+use Rattle.std.proofs.Common.{rules, ◌+◌, ◌≤◌, ◌∙◌, Result, sym, ap, subst, arith, length, [], ◌∷◌}
 use Rattle.std.specs.Prelude.{IfErr, IsErrOf}
 use Rattle.pm_types.specs.declared.fault.OpenFault.TheVariants as opening
 use Rattle.pm_types.specs.declared.fault.StoreFault.{StoreFault}
@@ -11,11 +11,11 @@ use Rattle.pm_locks.specs.Sight.{LockTable}
 use Rattle.pm_records.specs.FirstRecords.{restart_frame}
 use Rattle.pm_core.proofs.OnlyDisk.{logs_disk, then_disk}
 use Rattle.pm_engine.specs.AppendRuns.{append_all_steps}
-use Rattle.pm_engine.specs.PagedOpenings.{IsPlainOpen}
-use Rattle.pm_engine.specs.PagedReplays.{CrashHoldsMap}
+use Rattle.pm_engine.specs.Openings.{IsPlainOpen}
+use Rattle.pm_engine.specs.Replays.{CrashHoldsMap}
 use Rattle.pm_engine.proofs.FrameOpened.{can_replay_in, fault_of, no_plain_page, no_plain_record, opens_running_in, started_bad, started_leads, started_whole}
 use Rattle.pm_engine.proofs.HeldReplays.{mark_early, mark_from}
-use Rattle.pm_engine.proofs.PagedOpened.{load_moments, plain_fault}
+use Rattle.pm_engine.proofs.RestoredOpenings.{load_moments, plain_fault}
 use Rattle.pm_engine.proofs.Results.{ok_holds}
 use Rattle.pm_engine.proofs.frame_opening.open_restored.Goals as goal
 
@@ -48,12 +48,12 @@ returns-in-Ok-clause-fresh g c =
     let x = c.replay_in_frames-engine.ensures in
     let is = c.in-Ok.is in (
       record {
-        shape_is = x.same.shape ∙ made.fresh.shape_is;
-        frames = made.fresh.frames ∙ ap (λ (locks : LockTable). length locks.ranges) (sym x.same.locks);
-        order = x.order ∙ made.fresh.order;
-        is_open = ok_holds answer tt _ is x.is_open;
+        shape_is = x.ready.same.shape ∙ made.fresh.shape_is;
+        frames = made.fresh.frames ∙ ap (λ (locks : LockTable). length locks.ranges) (sym x.ready.same.locks);
+        order = x.ready.order ∙ made.fresh.order;
+        is_open = ok_holds answer tt _ is x.ready.is_open;
       },
-      λ t. record { ends = ok_holds answer tt _ is (x.ends t); clean = ok_holds answer tt _ is (x.clean t) },
+      λ t. record { ends = ok_holds answer tt _ is (x.ready.ends t); clean = ok_holds answer tt _ is (x.ready.clean t) },
     )
 
 pub returns-in_err-started-clause-bad_page : goal.returns-in_err-started-clause-bad_page
@@ -119,7 +119,7 @@ returns-in-Ok-clause-opened g c t last highest wanted told pairs s holding =
     let can = can_replay_in config base.mark base.log old.world mid.world engine made steps.all last highest wanted told pairs s holding fit.marked (c.requires.there t) base.replay base.log_end fit.replay fit.ends in
     let all = x.sound t last highest wanted told pairs can.0 can.1 in
     let is = c.in-Ok.is in
-    opens_running_in last highest wanted told config.shape pairs now new.world (x.same.shape ∙ made.fresh.shape_is) (ok_holds answer tt _ is all.map) (ok_holds answer tt _ is all.segment) (ok_holds answer tt _ is all.number) (ok_holds answer tt _ is all.replays)
+    opens_running_in last highest wanted told config.shape pairs now new.world (x.ready.same.shape ∙ made.fresh.shape_is) (ok_holds answer tt _ is all.map) (ok_holds answer tt _ is all.segment) (ok_holds answer tt _ is all.number) (ok_holds answer tt _ is all.replays)
 
 pub returns-in_err-started-clause-plain : goal.returns-in_err-started-clause-plain
 returns-in_err-started-clause-plain g c t last highest wanted told pairs s holding =
@@ -188,7 +188,7 @@ returns-in-Ok-clause-disk g c t =
     let now = c.replay_in_frames-engine.result.0 in
     let answer = c.replay_in_frames-engine.result.1 in
     let x = c.replay_in_frames-engine.ensures in
-    then_disk old mid new (g.H.Device.sound c.start_engine.new.host t) (logs_disk old mid (append_all_steps base.log (restart_frame config.shape ∷ [])) base.log.end (c.in_ok-started.ensures.steps t).moments) (x.disk t)
+    then_disk old mid new (g.H.Device.sound c.start_engine.new.host t) (logs_disk old mid (append_all_steps base.log (restart_frame config.shape ∷ [])) base.log.end (c.in_ok-started.ensures.steps t).moments) (x.ready.disk t)
 
 pub returns-in-Err-clause-within : goal.returns-in-Err-clause-within
 returns-in-Err-clause-within g c t last highest wanted told pairs s holding =
@@ -222,7 +222,7 @@ returns-in-Err-clause-disk g c t =
     let now = c.replay_in_frames-engine.result.0 in
     let answer = c.replay_in_frames-engine.result.1 in
     let x = c.replay_in_frames-engine.ensures in
-    then_disk old mid new (g.H.Device.sound c.start_engine.new.host t) (logs_disk old mid (append_all_steps base.log (restart_frame config.shape ∷ [])) base.log.end (c.in_ok-started.ensures.steps t).moments) (x.disk t)
+    then_disk old mid new (g.H.Device.sound c.start_engine.new.host t) (logs_disk old mid (append_all_steps base.log (restart_frame config.shape ∷ [])) base.log.end (c.in_ok-started.ensures.steps t).moments) (x.ready.disk t)
 
 pub returns-in_err-started-clause-disk : goal.returns-in_err-started-clause-disk
 returns-in_err-started-clause-disk g c t =

@@ -1,11 +1,11 @@
 -- The scan goes on by a frame, and it is applied.
-use Rattle.std.proofs.Common.{◌≡◌, Option, None, Some, Ok, sym, subst}
+use Rattle.std.proofs.Common.{None, Some, subst}
 use Rattle.pm_types.specs.declared.fault.StoreFault.TheVariants.{Failed}
 use Rattle.pm_types.specs.declared.place.Place.{Place}
 use Rattle.pm_frame.specs.Views.{frame_in, frame_of}
 use Rattle.pm_records.specs.Logs.{record_in}
 use Rattle.pm_segments.specs.Scans.{GivesNext}
-use Rattle.pm_engine.specs.FrameEngineReplays.{ReplaysRecord}
+use Rattle.pm_engine.specs.FrameReplayCheckpoints.{ReplaysRecord}
 use Rattle.pm_engine.proofs.LentReaders.{refused_world}
 use Rattle.pm_engine.proofs.ReplayedFrames.{next_unread, next_none, next_some}
 use Rattle.pm_engine.proofs.Results.{if_ok_holds}

@@ -1,4 +1,4 @@
-use Rattle.std.proofs.Common.{◌≡◌, ◌+◌, ◌-◌, ◌*◌, ◌^◌, ℕ}
+use Rattle.std.proofs.Common.{◌+◌, ◌-◌, ◌*◌, ◌^◌}
 use Rattle.pm_disk.specs.States.{IsLaterState}
 use Rattle.pm_engine.proofs.ReplayedFrames.{ReplaysSoFar}
 use Rattle.pm_engine.proofs.frame_replay_log.replay_all.Given as goal

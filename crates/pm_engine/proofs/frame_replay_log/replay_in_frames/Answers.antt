@@ -1,9 +1,11 @@
 -- The scan begins at the replay place.
-use Rattle.std.proofs.Common.{◌≡◌, ◌≤◌, [], false, None, sym, ap, subst, arith}
+use Rattle.std.proofs.Common.{[], false, None, sym, ap, subst}
+use Rattle.pm_types.specs.declared.fault.StoreFault.TheVariants.{Memory}
 use Rattle.pm_types.specs.declared.place.Place.{Place}
 use Rattle.pm_segments.specs.Scans.{Scanned, IsAhead, bytes_after}
 use Rattle.pm_engine.specs.FrameReplayLogs.{CanReplayIn, ReplaysWellFormed}
-use Rattle.pm_engine.specs.PagedReplays.{LogLeadsTo}
+use Rattle.pm_engine.specs.Replays.{LogLeadsTo}
+use Rattle.pm_engine.proofs.ReadyEngines.{ready_refused}
 use Rattle.pm_engine.proofs.ReplayedFrames.{none_replayed, none_applied}
 use Rattle.pm_engine.proofs.TakenLines.{take_none}
 use Rattle.pm_engine.proofs.frame_replay_log.replay_in_frames.Goals as goal
@@ -12,6 +14,12 @@ pub replay_all-requires-clause-ahead : goal.replay_all-requires-clause-ahead
 replay_all-requires-clause-ahead g c _ _ t =
     let old = g.H.Device.history c.args.host.now in
     subst (λ (s : Scanned). IsAhead s old.world) {x = record { place = c.args.from; next = c.args.from; ahead = []; is_whole = false; is_over = false; found = None }} (sym c.in-Ok.ensures) (record { front = sym (take_none (bytes_after c.args.from old.world)); whole = λ whole. absurd cc })
+
+pub returns-in-Err-clause-ready : goal.returns-in-Err-clause-ready
+returns-in-Err-clause-ready g c = ready_refused g.H.Device.tells c.args.engine (g.H.Device.history c.args.host.now) Memory (λ t. g.H.Device.sound c.args.host.now t)
+
+pub returns-in-Err-with_room-clause-ready : goal.returns-in-Err-with_room-clause-ready
+returns-in-Err-with_room-clause-ready g c = ready_refused g.H.Device.tells c.args.engine (g.H.Device.history c.args.host.now) Memory (λ t. g.H.Device.sound c.args.host.now t)
 
 pub returns-in-Err-clause-sound : goal.returns-in-Err-clause-sound
 returns-in-Err-clause-sound g c t last highest wanted told pairs s can = none_replayed last highest wanted told pairs c.args.from c.args.end c.args.engine s (g.H.Device.history c.args.host.now) (g.H.Device.sound c.args.host.now t) can

@@ -1,13 +1,13 @@
 -- The next record is applied, and the scan goes on after it.
-use Rattle.std.proofs.Common.{◌≡◌, ◌<◌, ◌≤◌, ◌+◌, ◌^◌, ℕ, List, ◌++◌, Bool, Option, Some, Result, true, false, Ok, Err, refl, sym, ap, ◌∙◌, subst, arith}
+use Rattle.std.proofs.Common.{◌≡◌, ◌<◌, ◌≤◌, Bool, Option, Result, true, Ok, Err, refl, ap, ◌∙◌, subst, arith}
 use Rattle.std.specs.Prelude.{IsErrOf}
 use Rattle.pm_types.specs.declared.fault.StoreFault.{StoreFault}
 use Rattle.pm_types.specs.declared.fault.StoreFault.TheVariants.{BadRecord}
 use Rattle.pm_types.specs.declared.place.Place.{Place}
 use Rattle.pm_frame.specs.declared.limits.TheConstants.{FRAME_END_MAX, SEGMENT_END_MAX}
 use Rattle.pm_frame.specs.Frames.{Frame}
-use Rattle.pm_records.specs.LogFiles.{contents}
 use Rattle.pm_records.proofs.Runs.{next_rises}
+use Rattle.pm_segments.specs.Ends.{LogEnd}
 use Rattle.pm_segments.specs.Scans.{Advances, IsAhead}
 use Rattle.pm_engine.specs.FrameEngines.{FrameRunning}
 use Rattle.pm_engine.specs.FrameReplayLogs.{AppliesNextIn}
@@ -41,7 +41,7 @@ returns-then-not-can-clause-steps g c =
     let old = g.H.Device.history c.args.host.now in
     let new = g.H.Device.history ran.new.host in
     let x = subst (λ (r : Result Bool StoreFault). AppliesNextIn g.H.Device.tells c.args.scan.now ran.new.scan c.args.engine ran.result.0 old new r) (c.in-Ok.is ∙ ap (λ (b : Bool). Ok b) c.if-not-can.true) ran.ensures.next in
-    let end_is : c.end-before.result ≡ c.args.engine.log.end = c.end-before.ensures ∙ ap (λ (r : FrameRunning). r.log.end) c.engine.view_is in
+    let end_is : c.end-before.result ≡ c.args.engine.log.end = c.end-before.ensures ∙ ap (λ (l : LogEnd). l.end) c.deref.ensures ∙ ap (λ (r : FrameRunning). r.log.end) c.engine.view_is in
     let numbers = c.has_numbers.ensures c.if-not-has_numbers.false in
     let room : HasSegmentsFor c.args.engine.log 33 = omega (arith, numbers, ap (λ (p : Place). p.seg) end_is) in
     steps_bad g.H.Device.tells c.args.scan.now ran.new.scan c.args.engine ran.result.0 old new ran.new.scan c.next_place-place.result c.next_place-place.ensures room x
@@ -60,7 +60,7 @@ returns-else-not-can-clause-steps g c =
     let one = x.there refl in
     let advances = subst (λ (o : Option Frame). Advances scan mid o) one.1 x.advances in
     let stays = c.keep_ahead.ensures.stays in
-    let end_is : c.end-before.result ≡ c.args.engine.log.end = c.end-before.ensures ∙ ap (λ (r : FrameRunning). r.log.end) c.engine.view_is in
+    let end_is : c.end-before.result ≡ c.args.engine.log.end = c.end-before.ensures ∙ ap (λ (l : LogEnd). l.end) c.deref.ensures ∙ ap (λ (r : FrameRunning). r.log.end) c.engine.view_is in
     let numbers = c.has_numbers.ensures c.if-not-has_numbers.false in
     let room : HasSegmentsFor c.args.engine.log 33 = omega (arith, numbers, ap (λ (p : Place). p.seg) end_is) in
     steps_on tells scan mid c.args.engine ran.result.0 old new later stays room (one.0, (stays.place ∙ advances.0, stays.next ∙ advances.1, stays.is_over ∙ advances.2))

@@ -10,7 +10,7 @@ use Rattle.pm_engine.specs.declared.frame_scans.ScanStop.TheVariants.{Faulted}
 use Rattle.pm_engine.specs.FrameCommands.{frame_pages}
 use Rattle.pm_engine.specs.Merges.{HasRisingKeys, JoinsByKey}
 use Rattle.pm_engine.proofs.FrameScans.{same_stop}
-use Rattle.pm_engine.proofs.PagedLines.{each_rising, rising_each, joined_pairs}
+use Rattle.pm_engine.proofs.PartAnswers.{each_rising, rising_each, joined_pairs}
 use Rattle.pm_engine.proofs.frame_scans.scan_in_frames.Goals as goal
 
 pub returns-in-Ok-join_by_key-clause-evaluates : goal.returns-in-Ok-join_by_key-clause-evaluates

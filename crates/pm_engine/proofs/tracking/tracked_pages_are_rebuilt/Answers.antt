@@ -1,4 +1,4 @@
-use Rattle.pm_engine.proofs.CheckpointPages.{lists_held, only_logged, base_is, has_first, all_held}
+use Rattle.pm_engine.proofs.CheckpointPages.{only_logged, base_is, has_first, all_held}
 use Rattle.pm_engine.proofs.tracking.tracked_pages_are_rebuilt.Goals as goal
 
 pub returns-clause-rebuilds : goal.returns-clause-rebuilds
@@ -15,6 +15,3 @@ returns-clause-base c = λ shape frames files pages logged tracks part index ins
 
 pub returns-clause-has_meta : goal.returns-clause-has_meta
 returns-clause-has_meta c = λ shape frames files pages logged tracks first part index some. has_first shape frames files pages logged tracks first part index some
-
-pub returns-clause-lists : goal.returns-clause-lists
-returns-clause-lists c = lists_held

@@ -12,7 +12,7 @@ use Rattle.pm_core.specs.Held.{in_force}
 use Rattle.pm_core.specs.LogAlone.{image_of}
 use Rattle.pm_redo.specs.Restoring.{ComparesShape}
 use Rattle.pm_engine.specs.FrameOpenings.{HasOpenCauseIn, OpensRunningIn}
-use Rattle.pm_engine.specs.PagedOpenings.{IsPlainOpen}
+use Rattle.pm_engine.specs.Openings.{IsPlainOpen}
 use Rattle.pm_engine.specs.RunningLines.{says_nothing}
 use Rattle.pm_top.specs.declared.status.Status.TheVariants.{Failed, Memory, Damaged}
 use Rattle.pm_top.specs.Configurations.{config_fault, fault_config, shape_fault, wanted_in}

@@ -7,7 +7,7 @@ use Rattle.pm_types.specs.declared.limits.TheConstants.{LINES_MAX}
 use Rattle.pm_model.specs.declared.line.Line.{Line}
 use Rattle.pm_model.specs.Eval.{replies_to}
 use Rattle.pm_engine.specs.FrameEngines.{FrameRunning, HasLastingLinesIn, map_in}
-use Rattle.pm_engine.specs.PagedBatches.{StaysOpen}
+use Rattle.pm_engine.specs.Batches.{StaysOpen}
 use Rattle.pm_engine.specs.RunningLines.{says_nothing}
 use Rattle.pm_tools.specs.DrawnLines.{drawn_lines}
 use Rattle.pm_top.specs.declared.counting.ReplyCounts.{ReplyCounts}
@@ -257,7 +257,7 @@ returns-in-Err-force-clause-tries g c =
     let is : script ≡ done = ap (drawn_lines seed 1) all in
     let few : length done ≤ LINES_MAX = omega (arith, done_len, so_far.within, c.requires.few) in
     let takes : TakesFor (length done) first engine = subst (λ (n : ℕ). TakesFor n first engine) (sym done_len) so_far.numbers in
-    forced_tries so_far.ran sound few takes c.force.ensures.disk c.force.ensures.crash script c.force.new.self is (ap (λ (e : FrameRunning). e.order) c.in-Err-force.ensures.closed)
+    forced_tries so_far.ran sound few takes c.force.ensures.disk c.force.ensures.crash script c.force.new.self is (ap (λ (e : FrameRunning). e.order) c.in-Err-force.ensures.engine.closed)
 
 pub returns-clause-tries : goal.returns-clause-tries
 returns-clause-tries g c =
@@ -280,7 +280,7 @@ returns-clause-tries g c =
     let is : script ≡ done = ap (drawn_lines seed 1) all in
     let few : length done ≤ LINES_MAX = omega (arith, done_len, so_far.within, c.requires.few) in
     let takes : TakesFor (length done) first engine = subst (λ (n : ℕ). TakesFor n first engine) (sym done_len) so_far.numbers in
-    forced_tries so_far.ran sound few takes c.force.ensures.disk c.force.ensures.crash script c.force.new.self is (ap (λ (e : FrameRunning). e.order) c.in-Ok-force.ensures.same)
+    forced_tries so_far.ran sound few takes c.force.ensures.disk c.force.ensures.crash script c.force.new.self is (ap (λ (e : FrameRunning). e.order) c.in-Ok-force.ensures.engine.same)
 
 pub returns-clause-ends : goal.returns-clause-ends
 returns-clause-ends g c =
@@ -303,7 +303,7 @@ returns-clause-ends g c =
     let is : script ≡ done = ap (drawn_lines seed 1) all in
     let few : length done ≤ LINES_MAX = omega (arith, done_len, so_far.within, c.requires.few) in
     let takes : TakesFor (length done) first engine = subst (λ (n : ℕ). TakesFor n first engine) (sym done_len) so_far.numbers in
-    let same = c.in-Ok-force.ensures.same in
+    let same = c.in-Ok-force.ensures.engine.same in
     record {
       ran = subst (λ (x : FrameRunning × List Line). HasRunDrawn tells old new first x.0 x.1) (λ i. (sym same i, sym is i))
           (forced_ran so_far.ran sound few takes c.force.ensures.disk c.force.ensures.crash

@@ -16,13 +16,13 @@ returns-clause-checks g c =
     let e = c.checkpoint.ensures in
     elim c.match-checkpoint.branch [
       | in-Err w ↦ subst (λ r. ChecksBetween tells old new before now r) (sym w.result-is)
-          (checks_failed tells old new before now e.same e.order e.disk e.crash w.in-Err.fault w.in-Err.ensures.failed w.in-Err.ensures.closed)
+          (checks_failed tells old new before now e.engine.same e.engine.order e.disk e.crash w.in-Err.fault w.in-Err.ensures.failed w.in-Err.ensures.engine.closed)
       | in-Ok w ↦
           let it = w.in-Ok.ensures in
-          let opens : now.store.is_open ≡ true = it.pages.is_open ∙ c.requires.is_open in
+          let opens : now.store.is_open ≡ true = it.pages.pages.is_open ∙ c.requires.is_open in
           let inside : c.self.inside.pages.is_open ≡ true = ap (λ (r : FrameRunning). r.store.is_open) c.self.view_is ∙ opens in
           let lists : ListsDirty now.store (dirty_names now.store) (dirty_bytes now.store) =
           subst (λ (r : FrameRunning). ListsDirty r.store (dirty_names r.store) (dirty_bytes r.store)) c.self.view_is (w.names_dirty.ensures inside (c.self.invariant.sent inside)) in
           subst (λ r. ChecksBetween tells old new before now r) (sym w.result-is)
-          (checks_made tells old new before now e.same e.order e.disk e.crash it.done opens it.ends it.clean it.lines lists it.pages.none_dirty)
+          (checks_made tells old new before now e.engine.same e.engine.order e.disk e.crash it.engine.done opens (λ t. (it.pages.ready t).ends) (λ t. (it.pages.ready t).clean) it.lines lists it.pages.pages.none_dirty)
     ]

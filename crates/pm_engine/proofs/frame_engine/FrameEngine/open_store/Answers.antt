@@ -14,11 +14,11 @@ use Rattle.pm_core.specs.LogAlone.{image_of}
 use Rattle.pm_redo.specs.LogEnds.{LogEndsAt}
 use Rattle.pm_engine.specs.FrameEngines.{FrameRunning}
 use Rattle.pm_engine.specs.FrameOpenings.{HasGoodBase, HasNoStrayPages, OpensRunningIn}
-use Rattle.pm_engine.specs.PagedOpenings.{loaded_base, IsPlainOpen, opened_last, opened_number}
-use Rattle.pm_engine.specs.PagedReplays.{CrashHoldsMap}
+use Rattle.pm_engine.specs.Openings.{loaded_base, IsPlainOpen, opened_last, opened_number}
+use Rattle.pm_engine.specs.Replays.{CrashHoldsMap}
 use Rattle.pm_engine.specs.RunningStores.{ended_with}
 use Rattle.pm_engine.proofs.FrameOpened.{open_cause_in, restore_cause_in, stray_marked}
-use Rattle.pm_engine.proofs.PagedOpened.{bad_uncut, leaves_passed, compares_failed, none_differs, compared_store, plain_open, field_named, restored_is, never_bad_record, cut_leads, holding, shape_is, restore_moments}
+use Rattle.pm_engine.proofs.RestoredOpenings.{bad_uncut, leaves_passed, compares_failed, none_differs, compared_store, plain_open, field_named, restored_is, never_bad_record, cut_leads, holding, shape_is, restore_moments}
 use Rattle.pm_engine.proofs.frame_engine.FrameEngine.open_store.Goals as goal
 
 pub open_restored-requires-clause-leads : goal.open_restored-requires-clause-leads

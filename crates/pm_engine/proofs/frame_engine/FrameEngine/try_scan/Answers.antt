@@ -9,7 +9,7 @@ use Rattle.pm_engine.proofs.frame_engine.FrameEngine.try_scan.Goals as goal
 
 pub returns-clause-tries : goal.returns-clause-tries
 returns-clause-tries g c =
-    let ins : FrameRunning = record { store = c.self.inside.pages; log = c.self.inside.log; ckpt = c.self.inside.ckpt; began = c.self.inside.began; order = c.self.inside.order.items } in
+    let ins : FrameRunning = record { store = c.self.inside.pages; log = c.self.inside.log.value; ckpt = c.self.inside.ckpt; began = c.self.inside.began; order = c.self.inside.order.items } in
     let tells = g.H.Device.tells in
     let old = g.H.Device.history c.args.host.now in
     let scan = c.scan-pages in

@@ -1,5 +1,5 @@
 -- The store's stripe and seat are bound, the command is applied again, and what the round's end leaves is a store.
-use Rattle.std.proofs.Common.{ℕ, sym, subst, ap, ◌∙◌}
+use Rattle.std.proofs.Common.{ℕ, None, sym, subst, ap, ◌∙◌}
 use Rattle.std.proofs.lemmas.Bool.{false≢true}
 use Rattle.pm_types.specs.Counts.{HasRisen}
 use Rattle.pm_disk.specs.Worlds.{World}
@@ -21,21 +21,21 @@ new-bound-requires-clause-clean g c t = subst (λ (v : FrameStoreView). HasClean
 
 pub apply_in_frames-answer-requires-clause-between : goal.apply_in_frames-answer-requires-clause-between
 apply_in_frames-answer-requires-clause-between g c =
-    let ins : FrameStoreView = record { shape = c.self.inside.shape; region = c.self.inside.region; locks = c.self.inside.locks; seat = c.self.inside.seat; stripe = c.self.inside.stripe; is_open = c.self.inside.is_open } in
+    let ins : FrameStoreView = record { shape = c.self.inside.shape; region = c.self.inside.region; locks = c.self.inside.locks; seat = c.self.inside.seat; stripe = c.self.inside.stripe; dirty = c.self.inside.dirty; is_open = c.self.inside.is_open } in
     let on = c.self.invariant.open_is (ap (λ (v : FrameStoreView). v.is_open) c.self.view_is ∙ c.requires.open) in
     let x = c.new-bound.ensures in
     bound_between g.R.Device.tells g.R.Device.history g.R.Device.state ins on c.new-bound.result x.locks x.seat x.stripe x.bound
 
 pub apply_in_frames-answer-requires-clause-shape : goal.apply_in_frames-answer-requires-clause-shape
 apply_in_frames-answer-requires-clause-shape g c =
-    let ins : FrameStoreView = record { shape = c.self.inside.shape; region = c.self.inside.region; locks = c.self.inside.locks; seat = c.self.inside.seat; stripe = c.self.inside.stripe; is_open = c.self.inside.is_open } in
+    let ins : FrameStoreView = record { shape = c.self.inside.shape; region = c.self.inside.region; locks = c.self.inside.locks; seat = c.self.inside.seat; stripe = c.self.inside.stripe; dirty = c.self.inside.dirty; is_open = c.self.inside.is_open } in
     let on = c.self.invariant.open_is (ap (λ (v : FrameStoreView). v.is_open) c.self.view_is ∙ c.requires.open) in
     let x = c.new-bound.ensures in
     bound_shape g.R.Device.tells g.R.Device.history g.R.Device.state ins on c.new-bound.result x.locks x.seat x.stripe
 
 pub apply_in_frames-answer-requires-clause-line : goal.apply_in_frames-answer-requires-clause-line
 apply_in_frames-answer-requires-clause-line g c =
-    let ins : FrameStoreView = record { shape = c.self.inside.shape; region = c.self.inside.region; locks = c.self.inside.locks; seat = c.self.inside.seat; stripe = c.self.inside.stripe; is_open = c.self.inside.is_open } in
+    let ins : FrameStoreView = record { shape = c.self.inside.shape; region = c.self.inside.region; locks = c.self.inside.locks; seat = c.self.inside.seat; stripe = c.self.inside.stripe; dirty = c.self.inside.dirty; is_open = c.self.inside.is_open } in
     let on = c.self.invariant.open_is (ap (λ (v : FrameStoreView). v.is_open) c.self.view_is ∙ c.requires.open) in
     let x = c.new-bound.ensures in
     bound_line g.R.Device.tells g.R.Device.history g.R.Device.state ins on c.new-bound.result x.locks x.seat x.stripe (Good c.args.cmd.now) (store_line c.args.key.now c.args.cmd.now c.requires.key c.requires.cache)
@@ -45,7 +45,7 @@ end-stripe-requires g c = record { bound = c.apply_in_frames-answer.ensures.boun
 
 pub invariant_of-store : goal.invariant_of-store
 invariant_of-store g c =
-    let ins : FrameStoreView = record { shape = c.self.inside.shape; region = c.self.inside.region; locks = c.self.inside.locks; seat = c.self.inside.seat; stripe = c.self.inside.stripe; is_open = c.self.inside.is_open } in
+    let ins : FrameStoreView = record { shape = c.self.inside.shape; region = c.self.inside.region; locks = c.self.inside.locks; seat = c.self.inside.seat; stripe = c.self.inside.stripe; dirty = c.self.inside.dirty; is_open = c.self.inside.is_open } in
     let on = c.self.invariant.open_is (ap (λ (v : FrameStoreView). v.is_open) c.self.view_is ∙ c.requires.open) in
     let x = c.new-bound.ensures in
     let r = c.end-stripe.result in
@@ -56,13 +56,13 @@ invariant_of-store g c =
 
 pub returns-clause-applies : goal.returns-clause-applies
 returns-clause-applies g c =
-    let ins : FrameStoreView = record { shape = c.self.inside.shape; region = c.self.inside.region; locks = c.self.inside.locks; seat = c.self.inside.seat; stripe = c.self.inside.stripe; is_open = c.self.inside.is_open } in
+    let ins : FrameStoreView = record { shape = c.self.inside.shape; region = c.self.inside.region; locks = c.self.inside.locks; seat = c.self.inside.seat; stripe = c.self.inside.stripe; dirty = c.self.inside.dirty; is_open = c.self.inside.is_open } in
     let on = c.self.invariant.open_is (ap (λ (v : FrameStoreView). v.is_open) c.self.view_is ∙ c.requires.open) in
     let x = c.new-bound.ensures in
     let r = c.end-stripe.result in
     let e = c.end-stripe.ensures in
     let world : World = (g.R.Device.history c.args.reader).world in
-    let new : FrameStoreView = record ins { seat = r.1; stripe = r.0; is_open = c.may_apply_more-is_open.result } in
+    let new : FrameStoreView = record ins { seat = r.1; stripe = r.0; dirty = None; is_open = c.may_apply_more-is_open.result } in
     let answers = c.apply_in_frames-answer.ensures in
     subst (λ (v : FrameStoreView). AppliesToStore g.row.Q.Denot g.R.Device.tells g.R.Device.history g.R.Device.state c.args.cmd.now v new world c.args.replies.now c.apply_in_frames-answer.new.replies r.2 c.apply_in_frames-answer.result) c.self.view_is
     (applies_store g.R.Device.tells g.R.Device.history g.R.Device.state c.args.cmd.now ins on c.new-bound.result x.locks x.seat x.stripe

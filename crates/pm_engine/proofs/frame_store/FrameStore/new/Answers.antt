@@ -72,6 +72,7 @@ invariant_of-result c =
         still = λ f. ap (λ (v : View). out_at v.outs f) c.in-Ok.ensures.seat.1;
       };
       outbox = ([], record { operations = []; are = tt; bytes_are = new.none_logged; frames_are = refl });
+      counted = tt;
       open_is = λ _. record {
         workers = made.0;
         number = new.number_is;
@@ -86,8 +87,19 @@ invariant_of-result c =
       ranges = frames_of locks region leases c.in_ok-region.ensures.leases made.1;
     }
 
-pub returns-in-Ok-clause-rests : goal.returns-in-Ok-clause-rests
-returns-in-Ok-clause-rests c = invariant_of-result c
+pub returns-in-Ok-clause-begins : goal.returns-in-Ok-clause-begins
+returns-in-Ok-clause-begins c =
+    let leases = c.in_ok-region.leases.items in
+    let made = c.in-Ok.ensures.locks in
+    let new = c.in_ok-stripe.ensures in
+    record {
+      shape_is = refl;
+      many = omega (arith, c.in_ok-region.ensures.shape.0, c.in_ok-region.ensures.leases.count, length-map leases (λ (y : Leased). y.range), ap length made.1);
+      files_are = new.files_are;
+      none_logged = new.none_logged;
+      is_open = refl;
+      rests = invariant_of-result c;
+    }
 
 pub returns-in-Ok-clause-pages : goal.returns-in-Ok-clause-pages
 returns-in-Ok-clause-pages c world =

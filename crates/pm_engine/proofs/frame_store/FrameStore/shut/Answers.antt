@@ -5,6 +5,7 @@ pub invariant_of-self : goal.invariant_of-self
 invariant_of-self c = record {
   seat = c.self.invariant.seat;
   outbox = c.self.invariant.outbox;
+  counted = c.self.invariant.counted;
   open_is = λ on. absurd (false≢true on);
   frames = c.self.invariant.frames;
   size = c.self.invariant.size;

@@ -1,4 +1,4 @@
-use Rattle.std.proofs.Common.{◌≡◌, ◌+◌, ◌≤◌, ◌++◌, List, ℕ, [], Ok, Err, length, sym, ap, ◌∙◌, subst, arith, length-append}
+use Rattle.std.proofs.Common.{◌≡◌, ◌≤◌, ◌++◌, List, ℕ, [], Ok, Err, length, sym, ap, ◌∙◌, subst, arith, length-append}
 use Rattle.std.specs.Prelude.{IfErr}
 use Rattle.pm_types.specs.declared.fault.StoreFault.TheVariants.{BadPage}
 use Rattle.pm_types.specs.declared.page_id.PageId.{PageId}

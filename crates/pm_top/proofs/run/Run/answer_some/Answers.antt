@@ -1,7 +1,7 @@
 use Rattle.std.proofs.Common.{◌+◌, ◌*◌, length, subst}
 use Rattle.std.specs.Prelude.{OnOk}
 use Rattle.pm_engine.specs.FrameBatches.{LeavesAllAtRest, MakesAskedIn, RunsFrameBatch, TakesNumbersIn}
-use Rattle.pm_engine.specs.PagedBatches.{StaysOpen}
+use Rattle.pm_engine.specs.Batches.{StaysOpen}
 use Rattle.pm_top.proofs.AnsweredReplies.{batch_stops, said_or_not}
 use Rattle.pm_top.proofs.run.Run.answer_some.Goals as goal
 

@@ -192,16 +192,16 @@ returns-in-Ok-forced-clause-served g c t wanted last number start same can =
     let crash = c.force-forced.ensures.crash t wanted says_nothing room.stands.from map_mid [] room.stands.has in
     let sound = g.H.Device.sound c.force-forced.new.host t in
     let lasts = ok.rests t wanted says_nothing room.stands.from map_mid [] room.stands.has in
-    let map = force_map run.engine c.force-forced.new.self mid.world new.world ok.same (ok.pages t) in
+    let map = force_map run.engine c.force-forced.new.self mid.world new.world ok.engine.same (ok.reads t).pages in
     let shape = first.engine.store.shape in
     let pairs = map_in first.engine old.world in
     let only = at_last mid new (ChangesDisk mid.world) sound disk in
     let none = end_none then_comes.End answered old.world.input refl in
     served_done wanted last number start shape pairs old new script first later (begins_here start old.world first same c.requires.lines c.requires.order) []
-    (goes_then wanted last number old mid new script [] [] first run later (Ok tt) reached (force_goes wanted last number 2048 mid new run later [] room sound refl disk crash ok.same map lasts))
+    (goes_then wanted last number old mid new script [] [] first run later (Ok tt) reached (force_goes wanted last number 2048 mid new run later [] room sound refl disk crash ok.engine.same map lasts))
     refl (only.input ∙ append_right batch.new.input.pending mid.world.input none)
     (omega (arith, end_limit then_comes.End answered old.world.input refl (so_far.limit t) (so_far.bytes t), ap (λ (l : List ℕ). length l) same.input)) counts.few
-    (λ at_end. force_leaves wanted last number 2048 mid new run later [] room sound refl disk crash ok.same map lasts refl start shape pairs at_end)
+    (λ at_end. force_leaves wanted last number 2048 mid new run later [] room sound refl disk crash ok.engine.same map lasts refl start shape pairs at_end)
 
 pub returns-in-Err-forced-clause-served : goal.returns-in-Err-forced-clause-served
 returns-in-Err-forced-clause-served g c t wanted last number start same can =
@@ -226,7 +226,7 @@ returns-in-Err-forced-clause-served g c t wanted last number start same can =
     let takes : TakesFor run.lines first.engine run.engine = subst (λ (n : ℕ). TakesFor n first.engine run.engine) (sym counts.lines) (takes_both c.batches.run.lines counts.more first.engine c.batches.run.engine run.engine so_far.numbers counts.numbers) in
     let room = may_next wanted last number old mid script [] first run can reached counts.few takes in
     let crash = c.force-forced.ensures.crash t wanted says_nothing room.stands.from (map_in run.engine mid.world) [] room.stands.has in
-    let stops = force_stops wanted last number 2048 mid new run later [] room (g.H.Device.sound c.force-forced.new.host t) refl (c.force-forced.ensures.disk t) crash c.in-Err-forced.ensures.closed in
+    let stops = force_stops wanted last number 2048 mid new run later [] room (g.H.Device.sound c.force-forced.new.host t) refl (c.force-forced.ensures.disk t) crash c.in-Err-forced.ensures.engine.closed in
     served_fault wanted last number start first.engine.store.shape (map_in first.engine old.world) old new script first later (begins_here start old.world first same c.requires.lines c.requires.order) [] Failed
     (goes_then wanted last number old mid new script [] [] first run later (Err Failed) reached stops)
 
