@@ -1,5 +1,6 @@
 -- What a command that is applied again over the pages of a store leaves of it.
 use Rattle.std.proofs.Common.{◌≡◌, ℕ, Bool, true, false, List, ◌++◌, None, Result, Ok, Err, refl, sym, ap, subst, ◌∙◌}
+use Rattle.std.specs.Prelude.{IsSome}
 use Rattle.std.proofs.lemmas.Bool.{false≢true}
 use Rattle.pm_disk.specs.Moments.{History}
 use Rattle.pm_disk.specs.States.{DeviceState}
@@ -7,9 +8,11 @@ use Rattle.pm_disk.specs.Worlds.{World}
 use Rattle.pm_model.specs.declared.line.Cmd.{Cmd}
 use Rattle.pm_model.specs.declared.line.Cmd.TheVariants.{Put, Get, Remove, Scan, Checkpoint}
 use Rattle.pm_model.specs.declared.line.Line.TheVariants.{Good}
+use Rattle.pm_model.specs.declared.reply.Reply.{Reply}
 use Rattle.pm_model.specs.Batches.{HasCache}
 use Rattle.pm_model.specs.ReplyLists.{ReplyList}
 use Rattle.pm_locks.specs.Sight.{Sight}
+use Rattle.pm_part.specs.Commands.{accepts}
 use Rattle.pm_stripe.specs.declared.bound.Bound.{Bound}
 use Rattle.pm_stripe.specs.declared.stripe.Stripe.{Stripe}
 use Rattle.pm_stripe.specs.Ends.{EndsRound}
@@ -23,7 +26,7 @@ use Rattle.pm_engine.specs.FrameLines.{is_scan}
 use Rattle.pm_engine.specs.FrameReplays.{AppliesCommand, LeavesApplied, AppliesInFrames, AppliesToStore, may_apply_more}
 use Rattle.pm_engine.specs.FrameStores.{FrameStoreView, IsOpenStore, IsFrameStore}
 use Rattle.pm_engine.specs.OutboxLogs.{AreOperationBytes}
-use Rattle.pm_engine.specs.Records.{IsKeyOf}
+use Rattle.pm_engine.specs.Records.{IsKeyOf, record_of_line}
 use Rattle.pm_engine.proofs.BoundStores.{store_after, same_store, settled_before, clean_after, ended}
 use Rattle.pm_engine.proofs.FrameHosts.{grown_bytes, bound_began}
 use Rattle.pm_engine.proofs.LentReaders.{clean_there, pages_there}
@@ -40,6 +43,14 @@ store_line key cmd is cache = record { cache = cache; no_scan = by cmd is }
     by (Remove cache at) is = refl
     by (Scan cache) is = absurd is
     by Checkpoint is = absurd is
+
+-- an accepted one is a put or a remove
+pub accepted_changes : (cmd : Cmd) (reply : Reply) → accepts cmd reply ≡ true → IsSome (record_of_line (Good cmd))
+accepted_changes (Put cache key value) reply is = refl
+accepted_changes (Get cache key) reply is = absurd (false≢true is)
+accepted_changes (Remove cache key) reply is = refl
+accepted_changes (Scan cache) reply is = absurd (false≢true is)
+accepted_changes Checkpoint reply is = absurd (false≢true is)
 
 -- ---- the worker
 

@@ -1,7 +1,7 @@
 -- What became of a logical record whose command was applied again.
 use Rattle.std.proofs.Common.{◌≡◌, ℕ, Bool, true, false, List, Option, Some, Result, Ok, Err, refl, sym, ap, ◌∙◌, subst}
 use Rattle.std.specs.Prelude.{◌==◌, IfOk, IfErr, OnOk, IsErrOf}
-use Rattle.std.proofs.lemmas.Bool.{eqb-true}
+use Rattle.std.proofs.lemmas.Bool.{eqb-true, false≢true}
 use Rattle.pm_types.specs.declared.fault.PageFault.TheVariants as page
 use Rattle.pm_types.specs.declared.fault.StoreFault.{StoreFault}
 use Rattle.pm_types.specs.declared.fault.StoreFault.TheVariants as store
@@ -30,7 +30,10 @@ use Rattle.pm_engine.specs.Batches.{IsPlainFault}
 use Rattle.pm_engine.specs.FrameLines.{EvaluatesLine}
 use Rattle.pm_engine.specs.FrameReplays.{may_apply_more}
 use Rattle.pm_engine.specs.FrameStores.{pages_in_frames}
-use Rattle.pm_engine.specs.Replays.{line_in}
+use Rattle.pm_engine.specs.MetPages.{AllowsLine, KeepsPagesBut}
+use Rattle.pm_engine.specs.Replays.{line_in, CanBeRefused}
+use Rattle.pm_engine.proofs.MetPages.{kept_same}
+use Rattle.pm_engine.proofs.OwnPages.{line_allowed, kept_equal}
 use Rattle.pm_engine.proofs.ReplayedLines.{put_applies, remove_applies}
 
 abbrev answered : Bool → Result Bool Stop
@@ -128,6 +131,24 @@ module _ (tells : Type 0) (cmd : Cmd) (before now : FrameRunning) (old new : Wor
       by put (Err (Faulted page.Failed)) none is = absurd cc
       by put (Err (Faulted (page.BadPage other))) none is = none (let same : other ≡ id = cc is in ap (λ (p : PageId). Err (Faulted (page.BadPage p))) same)
 
+-- a page that is named is one that the command met
+page_answered : (put : Bool) (r : Result Bool Stop) (id : PageId) → IsErrOf (applied_as put r) (store.BadPage id) → IsErrOf r (Faulted (page.BadPage id))
+page_answered put (Ok true) id is = absurd cc
+page_answered true (Ok false) id is = absurd cc
+page_answered false (Ok false) id is = absurd cc
+page_answered put (Err (Halted halt)) id is = absurd cc
+page_answered put (Err (Faulted page.Failed)) id is = absurd cc
+page_answered put (Err (Faulted (page.BadPage other))) id is = let same : other ≡ id = cc is in ap (λ (p : PageId). Err (Faulted (page.BadPage p))) same
+
+-- only a put is refused
+refused_put : (put : Bool) (r : Result Bool Stop) → applied_as put r ≡ Ok applied.Bad → put ≡ true
+refused_put put (Ok true) is = absurd cc
+refused_put true (Ok false) is = refl
+refused_put false (Ok false) is = absurd cc
+refused_put put (Err (Halted halt)) is = absurd cc
+refused_put put (Err (Faulted page.Failed)) is = absurd cc
+refused_put put (Err (Faulted (page.BadPage other))) is = absurd cc
+
 pub applied_no_record : (is_put : Bool) (answer : Result Bool Stop) (at : Place) → IsErrOf (applied_as is_put answer) (store.BadRecord at) → ⊥
 applied_no_record put (Ok true) at is = absurd cc
 applied_no_record true (Ok false) at is = absurd cc
@@ -165,17 +186,24 @@ applied_record tells cmd before now old new was replies answer x goes is_put op 
     well_formed = applied_well tells cmd before now old.world new.world was replies answer x is_put t well;
     no_page = applied_sound tells cmd before now old.world new.world was replies answer x is_put t well;
   };
+  meets = λ t may_change allows.
+      let lines : AllowsLine may_change before.store.shape (Good cmd) = subst (AllowsLine may_change before.store.shape) (sym line) (line_allowed may_change before.store.shape op cache key value allows) in
+      let met = x.meets t may_change lines in
+      record { keeps = met.keeps; meets = λ id bad. met.meets id (page_answered is_put answer id bad) };
+  refuses = λ is. eqb-true op PUT (sym put_is ∙ refused_put is_put answer is);
   unlogged = applied_unlogged tells cmd before now old.world new.world was replies answer x is_put;
   refused = applied_refused tells cmd before now old.world new.world was replies answer x is_put;
 }
 
 -- nothing was done, since there is nothing to be done, or it can't be
 pub applied_nothing : (tells : Type 0) (engine : FrameRunning) (old : History) (found : Option Record) (became : Applied) → GoesOnInFrames tells engine engine old old → engine.store.is_open ≡ true
-    → AppliesAs became engine.store.shape found (map_in engine old.world) (map_in engine old.world) → AppliesRecord tells found engine engine old old (Ok became)
-applied_nothing tells engine old found became goes on applies = record {
+    → AppliesAs became engine.store.shape found (map_in engine old.world) (map_in engine old.world) → (became ≡ applied.Bad → CanBeRefused found) → AppliesRecord tells found engine engine old old (Ok became)
+applied_nothing tells engine old found became goes on applies refuses = record {
   goes_on = goes;
   is_open = on;
   over_well_formed = λ t well. record { applies = applies; well_formed = well; no_page = λ id is. absurd cc };
+  meets = λ t may_change allows. record { keeps = λ open_still. kept_same may_change (pages_in_frames engine.store old.world); meets = λ id is. absurd cc };
+  refuses = λ is. refuses (let same : became ≡ applied.Bad = cc is in same);
   unlogged = λ off. refl;
   refused = λ t off. refl;
 }
@@ -184,17 +212,30 @@ applied_nothing tells engine old found became goes on applies = record {
 pub applied_quiet : (tells : Type 0) (engine : FrameRunning) (old : History) (found : Option Record) (rec : Record) → GoesOnInFrames tells engine engine old old → engine.store.is_open ≡ true → Some rec ≡ found
     → replayed engine.store.shape (Some rec) (map_in engine old.world) ≡ Some (map_in engine old.world) → AppliesRecord tells found engine engine old old (Ok applied.Done)
 applied_quiet tells engine old found rec goes on read quiet =
-    applied_nothing tells engine old found applied.Done goes on (subst (λ (o : Option Record). replayed engine.store.shape o (map_in engine old.world) ≡ Some (map_in engine old.world)) read quiet)
+    applied_nothing tells engine old found applied.Done goes on (subst (λ (o : Option Record). replayed engine.store.shape o (map_in engine old.world) ≡ Some (map_in engine old.world)) read quiet) (λ is. absurd cc)
 
 -- a fault came that names no page
-pub applied_fault : (tells : Type 0) (found : Option Record) (before now : FrameRunning) (old new : History) (fault : StoreFault) → GoesOnInFrames tells before now old new → NamesNoPage {T = Applied} (Err fault) → AppliesRecord tells found before now old new (Err fault)
-applied_fault tells found before now old new fault goes none = record {
+pub applied_fault : (tells : Type 0) (found : Option Record) (before now : FrameRunning) (old new : History) (fault : StoreFault) → GoesOnInFrames tells before now old new → NamesNoPage {T = Applied} (Err fault)
+    → (tells → (may_change : ℕ → Bool) → now.store.is_open ≡ true → KeepsPagesBut may_change (pages_in_frames before.store old.world) (pages_in_frames now.store new.world)) → AppliesRecord tells found before now old new (Err fault)
+applied_fault tells found before now old new fault goes none keeps = record {
   goes_on = goes;
   is_open = tt;
   over_well_formed = λ t well. record { applies = tt; well_formed = tt; no_page = none };
+  meets = λ t may_change allows. record { keeps = keeps t may_change; meets = λ id bad. absurd (none id bad) };
+  refuses = λ is. absurd cc;
   unlogged = tt;
   refused = λ t. tt;
 }
+
+-- after a plain fault the engine is as it was, or is open no more
+pub plain_keeps : (tells : Type 0) (before now : FrameRunning) (old new : World) (fault : StoreFault) → IsPlainFault fault → (fault ≡ store.Memory → (now ≡ before) × (tells → new ≡ old)) → (fault ≡ store.Failed → now.store.is_open ≡ false) → tells → (may_change : ℕ → Bool) → now.store.is_open ≡ true
+    → KeepsPagesBut may_change (pages_in_frames before.store old) (pages_in_frames now.store new)
+plain_keeps tells before now old new store.Failed plain same closed t may_change on = absurd (false≢true (sym (closed refl) ∙ on))
+plain_keeps tells before now old new store.Memory plain same closed t may_change on =
+    let is = same refl in
+    kept_equal may_change (pages_in_frames before.store old) (pages_in_frames now.store new) (λ i. pages_in_frames (is.0 i).store (is.1 t i))
+plain_keeps tells before now old new (store.BadPage id) plain same closed t may_change on = absurd plain
+plain_keeps tells before now old new (store.BadRecord at) plain same closed t may_change on = absurd plain
 
 -- a plain fault names none
 pub plain_no_page : {T : Type 0} (result : Result T StoreFault) → IfErr result IsPlainFault → NamesNoPage result

@@ -1,5 +1,5 @@
 -- An engine over page frames that applies its log again goes on after a checkpoint, and a crash meanwhile leaves what the store held.
-use Rattle.std.proofs.Common.{◌≡◌, ℕ, ◌+◌, ◌<◌, ◌≤◌, ◌^◌, List, [], ◌∷◌, length, Some, Result, Ok, sym, ap, ◌∙◌, subst, arith, false, true}
+use Rattle.std.proofs.Common.{◌≡◌, inl, ℕ, ◌+◌, ◌<◌, ◌≤◌, ◌^◌, List, [], ◌∷◌, length, Some, Result, Ok, sym, ap, ◌∙◌, subst, arith, Bool, false, true}
 use Rattle.std.specs.Prelude.{IsErr}
 use Rattle.pm_types.specs.declared.page_id.PageId.{PageId}
 use Rattle.pm_types.specs.declared.place.Place.{Place}
@@ -25,7 +25,8 @@ use Rattle.pm_engine.specs.FrameDirty.{ListsDirty}
 use Rattle.pm_engine.specs.FrameEngineReplays.{IsReplayingIn}
 use Rattle.pm_engine.specs.FrameEngines.{FrameRunning, IsFrameEngine, map_in}
 use Rattle.pm_engine.specs.FrameReplayCheckpoints.{ReplaysFromIn, KeepsWholePages, ChecksInFrames}
-use Rattle.pm_engine.specs.FrameStores.{HasCleanPages, IsDirtyPage}
+use Rattle.pm_engine.specs.FrameStores.{HasCleanPages, IsDirtyPage, pages_in_frames}
+use Rattle.pm_engine.specs.MetPages.{KeepsPagesBut}
 use Rattle.pm_engine.specs.RunningStores.{number_of}
 use Rattle.pm_engine.specs.Replays.{AreLasting, CrashHoldsMap}
 use Rattle.pm_engine.specs.RunningStores.{HasSegmentsFor, IsMarkIn}
@@ -97,6 +98,7 @@ module _ (before : FrameRunning) (is : IsFrameEngine before) (from : Place) (fit
       number = omega (arith, ap (λ (k : marked.Kept). number_of k.mark) next.kept, mark_rises before.ckpt.mark);
       none_dirty = done.none_dirty;
       log = λ t segments seg low high. (leaves t).begins (omega (arith, segments)) seg (omega (arith, low)) high;
+      pages = λ t may_change part index bytes was. inl (done.pages t part index bytes was);
       whole = λ t whole. record {
         pages = whole_checked before.store after.store old.world new.world tells t done (clean t) whole;
         map = map_checked before.store after.store old.world new.world tells t done (clean t) whole;
@@ -123,6 +125,7 @@ module _ (before : FrameRunning) (is : IsFrameEngine before) (from : Place) (fit
       number = on_err answer err (number_of after.ckpt.mark ≤ number_of before.ckpt.mark + 1);
       none_dirty = on_err answer err ((id : PageId) → IsDirtyPage after.store id → ⊥);
       log = λ t segments. on_err answer err (KeepsLogFrom from.seg before.log.end.seg old.world new.world);
+      pages = λ t. on_err answer err ((may_change : ℕ → Bool) → KeepsPagesBut may_change (pages_in_frames before.store old.world) (pages_in_frames after.store new.world));
       whole = λ t whole. on_err answer err (KeepsWholePages before after old.world new.world);
       runs = λ t wanted told pairs s left replaying lasts makes segments numbered. on_err answer err (ReplaysFromIn wanted told pairs from left before after old.world new.world);
       crash = λ t wanted told pairs s left replaying lasts makes segments numbered. check_crash wanted told pairs s left replaying lasts makes segments numbered {T = T} {E = E} result (steps t);

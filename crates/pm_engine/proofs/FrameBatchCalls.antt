@@ -1,8 +1,10 @@
 -- What the calls of a batch leave of an engine over page frames.
-use Rattle.std.proofs.Common.{◌≡◌, ℕ, ◌+◌, ◌*◌, ◌<◌, ◌≤◌, List, [], ◌∷◌, ◌++◌, length, take, true, false, Some}
+use Rattle.std.proofs.Common.{◌≡◌, ℕ, ◌+◌, ◌*◌, ◌<◌, ◌≤◌, List, [], ◌∷◌, ◌++◌, length, take, true, false, Some, inl}
 use Rattle.std.proofs.Common.{Result, Ok, Err, refl, sym, ◌∙◌, ap, subst, arith, append-nil}
-use Rattle.std.specs.Prelude.{IsErrOf, OnOk}
+use Rattle.std.specs.Prelude.{Bool, IsErrOf, OnOk}
+use Rattle.std.specs.List.{All}
 use Rattle.std.proofs.lemmas.List.{length-take-le, take-take}
+use Rattle.std.proofs.lemmas.List.Elements.{All-take}
 use Rattle.std.proofs.Math.Seq.{take-length}
 use Rattle.pm_types.specs.declared.fault.PageFault.{PageFault}
 use Rattle.pm_types.specs.declared.fault.PageFault.TheVariants as page
@@ -32,10 +34,12 @@ use Rattle.pm_engine.specs.FrameEngines.{FrameRunning, HasDoneLines, IsSameEngin
 use Rattle.pm_engine.specs.FrameHosts.{ChangesNoWorld, may_go_on}
 use Rattle.pm_engine.specs.FrameRounds.{EvaluatesLines, lines_from}
 use Rattle.pm_engine.specs.FrameStores.{pages_in_frames, HasCleanPages}
+use Rattle.pm_engine.specs.MetPages.{AllowsLine, MeetsBadPage}
 use Rattle.pm_engine.specs.Batches.{StaysOpen}
 use Rattle.pm_engine.specs.RunningStores.{number_of}
 use Rattle.pm_engine.specs.RunningLines.{HasRun, CrashHoldsLines}
 use Rattle.pm_engine.specs.RunningStores.{StoreState}
+use Rattle.pm_engine.proofs.OwnPages.{kept_equal}
 use Rattle.pm_engine.proofs.CheckpointedLines.{between_crash}
 use Rattle.pm_engine.proofs.FrameBatching.{evaluates_none, may_well_formed, batch_part}
 use Rattle.pm_engine.proofs.HasRunLines.{line_unchanged}
@@ -130,6 +134,8 @@ module _ (tells : Type 0) (old new : History) (before now : FrameRunning) (keeps
       (more : tells → (wanted : Shape) (told : List ℕ → ℕ) (from : ℕ) (start : Pairs) (done : List Line)
       → HasDoneLines wanted told from start done before old.world → HasDoneLines wanted told from start (done ++ lines) before old.world)
       (sound : tells → MayGoOn before old.world segments checkpoints → (id : PageId) → IsErrOf r (BadPage id) → ⊥)
+      (meets : tells → (may_change : ℕ → Bool) → (id : PageId) → IsErrOf r (BadPage id)
+      → MeetsBadPage tells may_change before.store.shape (pages_in_frames before.store old.world) id)
       (all : OnOk r (length lines ≡ length lines)) where
     whole : take (length lines) lines ≡ lines
     whole = take-length lines
@@ -157,6 +163,10 @@ module _ (tells : Type 0) (old new : History) (before now : FrameRunning) (keeps
           (λ i. (sym whole i, sym (keeps.pages t) i)) (evaluates t may);
       order = λ t may. same_order t;
       sound = sound;
+      meets = λ t may_change allows. record {
+        keeps = λ stays. kept_equal may_change (pages_in_frames before.store old.world) (pages_in_frames now.store new.world) (keeps.pages t);
+        meets = meets t may_change;
+      };
       runs = λ t stays wanted told from start done has some. subst (λ ls. HasDoneLines wanted told from start (done ++ ls) now new.world) (sym whole)
           (keeps_done t wanted told from start (done ++ lines) (more t wanted told from start done has));
       crash = λ t wanted told from start done has some.
@@ -173,13 +183,14 @@ module _ (tells : Type 0) (old new : History) (before now : FrameRunning) (keeps
       → (StaysOpen r → now.store.is_open ≡ true) → ((StaysOpen r → ⊥) → now.store.is_open ≡ false)
       → (tells → EndsThere before.log old.world)
       → (tells → MayGoOn before old.world segments checkpoints → (id : PageId) → IsErrOf r (BadPage id) → ⊥)
+      → (tells → (may_change : ℕ → Bool) → (id : PageId) → IsErrOf r (BadPage id) → MeetsBadPage tells may_change before.store.shape (pages_in_frames before.store old.world) id)
       → OnOk r (◌≡◌ {A = ℕ} 0 0) → RunsFrameBatch tells old new first [] segments checkpoints before now list list r
-  kept_none first segments checkpoints list r opens shuts ends_there sound all =
+  kept_none first segments checkpoints list r opens shuts ends_there sound meets all =
       kept_lines first segments checkpoints [] list list r opens shuts ends_there (omega arith)
       (λ t may. evaluates_none before.store.shape (pages_in_frames before.store old.world) list (may_well_formed before old.world segments checkpoints may))
       (λ t. refl)
       (λ t wanted told from start done has. done_none_more wanted told from start done before old.world has)
-      sound all
+      sound meets all
 
   -- a line that changes no map was answered
   pub kept_line : (first segments checkpoints : ℕ) (line : Line) (was replies : ReplyList) → now.store.is_open ≡ true
@@ -197,7 +208,7 @@ module _ (tells : Type 0) (old new : History) (before now : FrameRunning) (keeps
       })
       (λ t. none before.store.shape (map_in before old.world) first)
       (λ t wanted told from start done has. done_unchanged wanted told from start done line before old.world (same before.store.shape (map_in before old.world)) has)
-      (λ t may id bad. absurd (cc bad)) refl
+      (λ t may id bad. absurd (cc bad)) (λ t may_change id bad. absurd (cc bad)) refl
 
 -- ---- calls after which the same lines were done
 
@@ -229,13 +240,16 @@ module _ (tells : Type 0) (old new : History) (before now : FrameRunning) (segme
     evaluates = λ t stays may. absurd stays;
     order = λ t may. order ∙ sym (append-nil before.order);
     sound = λ t may id bad. absurd (cc bad);
+    meets = λ t may_change allows. record { keeps = λ on. absurd on; meets = λ id bad. absurd (cc bad) };
     runs = λ t stays wanted told from start done has some. absurd stays;
     crash = crash_none;
   }
 
   module _ (keeps : tells → (wanted : Shape) (told : List ℕ → ℕ) (from : ℕ) (start : Pairs) (lines : List Line)
       → HasDoneLines wanted told from start lines before old.world → HasNumbersIn before segments checkpoints
-      → HasDoneLines wanted told from start lines now new.world) where
+      → HasDoneLines wanted told from start lines now new.world)
+      (there_still : tells → (part index : ℕ) (bytes : List ℕ) → pages_in_frames before.store old.world part index ≡ Some bytes
+      → pages_in_frames now.store new.world part index ≡ Some bytes) where
     -- the map is the same, as that after the same lines
     same_map : tells → (may : MayGoOn before old.world segments checkpoints)
         → pairs_in before.store.shape.partitions (pages_in_frames now.store new.world) ≡ map_in before old.world
@@ -268,6 +282,7 @@ module _ (tells : Type 0) (old new : History) (before now : FrameRunning) (segme
       };
       order = λ t may. order ∙ sym (append-nil before.order);
       sound = λ t may id bad. absurd (cc bad);
+      meets = λ t may_change allows. record { keeps = λ stays part index bytes there. inl (there_still t part index bytes there); meets = λ id bad. absurd (cc bad) };
       runs = λ t stays wanted told from start done has some.
           keeps t wanted told from start (done ++ []) (done_none_more wanted told from start done before old.world has) some;
       crash = crash_none;
@@ -285,8 +300,9 @@ module _ (tells : Type 0) (old new : History) (first : ℕ) (lines : List Line) 
     round_batch : (ys : List Line) (r : Result (Unit {0}) StoreFault) → take end.done ys ≡ take end.done lines → end.done ≤ length ys
         → OnOk r (end.done ≡ length ys) → (StaysOpen r → may_go_on end.stop ≡ true) → ((StaysOpen r → ⊥) → may_go_on end.stop ≡ false)
         → ((id : PageId) → IsErrOf r (BadPage id) → end.stop ≡ Some (Faulted (page.BadPage id)))
+        → ((id : PageId) → IsErrOf r (BadPage id) → ys ≡ lines)
         → RunsFrameBatch tells old new first ys (33 * length lines) 0 before now was replies r
-    round_batch ys r same_lines inside all goes_on ends_at bad_is =
+    round_batch ys r same_lines inside all goes_on ends_at bad_is whole =
         let its = before.store.shape in
         let pairs = map_in before old.world in
         let ys_are : lines_from 0 end.done lines ≡ take end.done ys = from_first end.done lines ∙ sym same_lines in
@@ -312,6 +328,10 @@ module _ (tells : Type 0) (old new : History) (first : ℕ) (lines : List Line) 
               (does.evaluates t (opens stays) (well may));
           order = λ t may. order_is t (well may);
           sound = λ t may id bad. does.sound t (well may) id (bad_is id bad);
+          meets = λ t may_change allows. record {
+            keeps = λ stays. does.keeps t (opens stays) may_change (subst (All (AllowsLine may_change its)) (sym ys_are) (All-take (AllowsLine may_change its) end.done ys allows));
+            meets = λ id bad. does.meets t may_change (subst (All (AllowsLine may_change its)) (whole id bad) allows) id (bad_is id bad);
+          };
           runs = λ t stays wanted told from start done has some. subst (λ ls. HasDoneLines wanted told from start (done ++ ls) now new.world) ys_are
               (does.runs t (opens stays) wanted told from start done has some.in_log);
           crash = λ t wanted told from start done has some.
@@ -326,20 +346,20 @@ module _ (tells : Type 0) (old new : History) (first : ℕ) (lines : List Line) 
     pub round_done : may_go_on end.stop ≡ true → RunsFrameBatch tells old new first (take end.done lines) (33 * length lines) 0 before now was replies (Ok tt)
     round_done goes_on =
         let long : length (take end.done lines) ≡ end.done = length-take-le end.done lines round_inside in
-        round_batch (take end.done lines) (Ok tt) (take-take end.done end.done lines (omega arith)) (omega (arith, long)) (sym long) (λ stays. goes_on) (λ shut. absurd (shut tt)) (λ id bad. absurd (cc bad))
+        round_batch (take end.done lines) (Ok tt) (take-take end.done end.done lines (omega arith)) (omega (arith, long)) (sym long) (λ stays. goes_on) (λ shut. absurd (shut tt)) (λ id bad. absurd (cc bad)) (λ id bad. absurd (cc bad))
 
     -- none was done, and memory lacks
     pub round_lacks : may_go_on end.stop ≡ true → RunsFrameBatch tells old new first lines (33 * length lines) 0 before now was replies (Err Memory)
     round_lacks goes_on =
-        round_batch lines (Err Memory) refl round_inside tt (λ stays. goes_on) (λ shut. absurd (shut tt)) (λ id bad. absurd (cc bad))
+        round_batch lines (Err Memory) refl round_inside tt (λ stays. goes_on) (λ shut. absurd (shut tt)) (λ id bad. absurd (cc bad)) (λ id bad. refl)
 
     pub round_faulted : (fault : PageFault) → end.stop ≡ Some (Faulted fault)
         → RunsFrameBatch tells old new first lines (33 * length lines) 0 before now was replies (Err (store_fault_of fault))
     round_faulted page.Failed is =
-        round_batch lines (Err Failed) refl round_inside tt (λ stays. absurd stays) (λ shut. ap may_go_on is) (λ id bad. absurd (cc bad))
+        round_batch lines (Err Failed) refl round_inside tt (λ stays. absurd stays) (λ shut. ap may_go_on is) (λ id bad. absurd (cc bad)) (λ id bad. refl)
     round_faulted (page.BadPage id) is =
         round_batch lines (Err (BadPage id)) refl round_inside tt (λ stays. absurd stays) (λ shut. ap may_go_on is)
-        (λ other bad. is ∙ ap (λ (p : PageId). let s : Stop = Faulted (page.BadPage p) in Some s) (same_page id other bad))
+        (λ other bad. is ∙ ap (λ (p : PageId). let s : Stop = Faulted (page.BadPage p) in Some s) (same_page id other bad)) (λ other bad. refl)
       where
         same_page : (p q : PageId) → IsErrOf {T = Unit {0}} {E = StoreFault} (Err (BadPage p)) (BadPage q) → p ≡ q
         same_page p q is = cc is
@@ -374,6 +394,7 @@ module _ (tells : Type 0) (old new : History) (first : ℕ) (lines : List Line) 
             ∙ ap (λ n. before.order ++ accepted its n (lines_from 0 loses.tried lines) pairs) first_is
             ∙ ap (λ ls. before.order ++ accepted its first ls pairs) ys_are;
         sound = λ t may id bad. absurd (cc bad);
+        meets = λ t may_change allows. record { keeps = λ on. absurd on; meets = λ id bad. absurd (cc bad) };
         runs = λ t stays wanted told from start done has some. absurd stays;
         crash = λ t wanted told from start done has some.
             subst (λ ls. AllMoments old new (CrashHoldsLines (before.log.end.seg + (33 * length lines + 1)) (number_of before.ckpt.mark + 0) wanted its start (done ++ ls))) ys_are
@@ -403,5 +424,5 @@ pub none_done : (tells : Type 0) (old new : History) (before now : FrameRunning)
     → RunsFrameBatch tells old new first lines segments checkpoints before now list list (Err Memory)
 none_done tells old new before now keeps first segments checkpoints lines list opens ends_there =
     batch_part tells old new first [] lines segments checkpoints segments checkpoints before now list list Memory
-    (kept_none tells old new before now keeps first segments checkpoints list (Err Memory) (λ stays. opens) (λ shut. absurd (shut tt)) ends_there (λ t may id bad. absurd (cc bad)) tt)
+    (kept_none tells old new before now keeps first segments checkpoints list (Err Memory) (λ stays. opens) (λ shut. absurd (shut tt)) ends_there (λ t may id bad. absurd (cc bad)) (λ t may_change id bad. absurd (cc bad)) tt)
     (omega arith) (omega arith)

@@ -1,7 +1,8 @@
 -- How a batch of an engine over page frames goes on, call after call.
 use Rattle.std.proofs.Common.{◌≡◌, ℕ, ◌+◌, ◌≤◌, List, [], ◌++◌, length, take, Result, Ok, Err}
 use Rattle.std.proofs.Common.{refl, sym, ◌∙◌, ap, subst, arith, append_assoc, length-append}
-use Rattle.std.specs.Prelude.{OnOk, IsErrOf}
+use Rattle.std.specs.Prelude.{Bool, OnOk, IsErrOf}
+use Rattle.std.specs.List.{All}
 use Rattle.std.proofs.lemmas.Result.{on_ok_weaker}
 use Rattle.std.proofs.Math.Seq.{take-length, take-append-add, take-append-le}
 use Rattle.pm_types.specs.declared.fault.StoreFault.{StoreFault}
@@ -23,9 +24,12 @@ use Rattle.pm_engine.specs.FrameBatches.{HasNumbersIn, TakesNumbersIn, MayGoOn, 
 use Rattle.pm_engine.specs.FrameEngines.{FrameRunning, HasDoneLines, map_in}
 use Rattle.pm_engine.specs.FrameRounds.{EvaluatesLines}
 use Rattle.pm_engine.specs.FrameStores.{pages_in_frames}
+use Rattle.pm_engine.specs.MetPages.{AllowsLine, KeepsOrMeets}
 use Rattle.pm_engine.specs.Batches.{StaysOpen}
 use Rattle.pm_engine.specs.RunningStores.{number_of}
 use Rattle.pm_engine.specs.RunningLines.{CrashHoldsLines}
+use Rattle.pm_engine.proofs.BatchPages.{all_first, all_second}
+use Rattle.pm_engine.proofs.MetPages.{meets_then}
 use Rattle.pm_engine.proofs.Replied.{with_none, with_more}
 use Rattle.pm_engine.proofs.RunningLines.{crash_wider, moments_further}
 
@@ -119,9 +123,9 @@ is_itself r = record { stays = λ is. is; shuts = λ shut. shut; bad = λ id is.
 batch_as : (tells : Type 0) (old new : History) (first : ℕ) (xs ys : List Line) (a b segments checkpoints : ℕ)
     (start now : FrameRunning) (was replies : ReplyList) (r q : Result (Unit {0}) StoreFault) → IsNoMore r q
     → (it : RunsFrameBatch tells old new first xs a b start now was replies r) → take it.tried xs ≡ take it.tried ys
-    → it.tried ≤ length ys → OnOk q (it.tried ≡ length ys) → a ≤ segments → b ≤ checkpoints
+    → ((P : Line → Type 0) → All P ys → All P xs) → it.tried ≤ length ys → OnOk q (it.tried ≡ length ys) → a ≤ segments → b ≤ checkpoints
     → RunsFrameBatch tells old new first ys segments checkpoints start now was replies q
-batch_as tells old new first xs ys a b segments checkpoints start now was replies r q less it same inside all in_segments in_checkpoints =
+batch_as tells old new first xs ys a b segments checkpoints start now was replies r q less it same each inside all in_segments in_checkpoints =
     let fewer : MayGoOn start old.world segments checkpoints → MayGoOn start old.world a b =
     λ may. may_fewer start old.world segments checkpoints a b may in_segments in_checkpoints in
     let its = start.store.shape in
@@ -140,6 +144,9 @@ batch_as tells old new first xs ys a b segments checkpoints start now was replie
           (it.evaluates t (less.stays stays) (fewer may));
       order = λ t may. it.order t (fewer may) ∙ ap (λ ls. start.order ++ accepted its first ls (map_in start old.world)) same;
       sound = λ t may id bad. it.sound t (fewer may) id (less.bad id bad);
+      meets = λ t may_change allows.
+          let met = it.meets t may_change (each (AllowsLine may_change its) allows) in
+          record { keeps = λ stays. met.keeps (less.stays stays); meets = λ id bad. met.meets id (less.bad id bad) };
       runs = λ t stays wanted told from begin done has some. subst (λ ls. HasDoneLines wanted told from begin (done ++ ls) now new.world) same
           (it.runs t (less.stays stays) wanted told from begin done has (numbers_fewer start segments checkpoints a b some in_segments in_checkpoints));
       crash = λ t wanted told from begin done has some.
@@ -155,7 +162,7 @@ pub batch_wider : (tells : Type 0) (old new : History) (first : ℕ) (lines : Li
     → RunsFrameBatch tells old new first lines a b start now was replies r → a ≤ segments → b ≤ checkpoints
     → RunsFrameBatch tells old new first lines segments checkpoints start now was replies r
 batch_wider tells old new first lines a b segments checkpoints start now was replies r it in_segments in_checkpoints =
-    batch_as tells old new first lines lines a b segments checkpoints start now was replies r r (is_itself r) it refl it.within it.all in_segments in_checkpoints
+    batch_as tells old new first lines lines a b segments checkpoints start now was replies r r (is_itself r) it refl (λ P all. all) it.within it.all in_segments in_checkpoints
 
 -- a fault came before the last line
 pub batch_part : (tells : Type 0) (old new : History) (first : ℕ) (xs ys : List Line) (a b segments checkpoints : ℕ)
@@ -163,7 +170,7 @@ pub batch_part : (tells : Type 0) (old new : History) (first : ℕ) (xs ys : Lis
     → RunsFrameBatch tells old new first xs a b start now was replies (Err fault) → a ≤ segments → b ≤ checkpoints
     → RunsFrameBatch tells old new first (xs ++ ys) segments checkpoints start now was replies (Err fault)
 batch_part tells old new first xs ys a b segments checkpoints start now was replies fault it in_segments in_checkpoints =
-    batch_as tells old new first xs (xs ++ ys) a b segments checkpoints start now was replies (Err fault) (Err fault) (is_itself (Err fault)) it (sym (take-append-le it.tried xs ys it.within))
+    batch_as tells old new first xs (xs ++ ys) a b segments checkpoints start now was replies (Err fault) (Err fault) (is_itself (Err fault)) it (sym (take-append-le it.tried xs ys it.within)) (λ P all. all_first P xs ys all)
     (omega (arith, it.within, length-append xs ys)) tt in_segments in_checkpoints
 
 -- memory lacks for the next line
@@ -172,7 +179,7 @@ pub batch_lacks : (tells : Type 0) (old new : History) (first : ℕ) (xs ys : Li
     → a ≤ segments → b ≤ checkpoints → RunsFrameBatch tells old new first (xs ++ ys) segments checkpoints start now was replies (Err Memory)
 batch_lacks tells old new first xs ys a b segments checkpoints start now was replies it in_segments in_checkpoints =
     batch_as tells old new first xs (xs ++ ys) a b segments checkpoints start now was replies (Ok tt) (Err Memory)
-    (record { stays = λ is. tt; shuts = λ shut is. shut tt; bad = λ id bad. absurd (cc bad) }) it (sym (take-append-le it.tried xs ys it.within))
+    (record { stays = λ is. tt; shuts = λ shut is. shut tt; bad = λ id bad. absurd (cc bad) }) it (sym (take-append-le it.tried xs ys it.within)) (λ P all. all_first P xs ys all)
     (omega (arith, it.within, length-append xs ys)) tt in_segments in_checkpoints
 
 -- ---- calls that succeeded
@@ -313,6 +320,14 @@ module _ (tells : Type 0) (old mid : History) (first : ℕ) (xs : List Line) (a 
         (more.crash t wanted told from begin (done ++ xs) (all_run t wanted told from begin done has (for_first some)) (for_more some))) in
         subst (λ ls. AllMoments old new (CrashHoldsLines last most wanted its begin ls)) (lines_are done) (joined old mid new P one two)
 
+    both_meet : tells → (may_change : ℕ → Bool) → All (AllowsLine may_change its) (xs ++ ys)
+        → KeepsOrMeets tells may_change its (pages_in_frames start.store old.world) (pages_in_frames now.store new.world) (StaysOpen r) (λ id. IsErrOf r (BadPage id))
+    both_meet t may_change allows =
+        let one = before.meets t may_change (all_first (AllowsLine may_change its) xs ys allows) in
+        let two = subst (λ (s : Shape). All (AllowsLine may_change s) ys → KeepsOrMeets tells may_change s (pages_in_frames engine.store mid.world) (pages_in_frames now.store new.world) (StaysOpen r) (λ id. IsErrOf r (BadPage id)))
+        before.same.shape (more.meets t may_change) (all_second (AllowsLine may_change its) xs ys allows) in
+        meets_then may_change (pages_in_frames start.store old.world) (pages_in_frames engine.store mid.world) (one.keeps tt) tells its (pages_in_frames now.store new.world) (StaysOpen r) (λ id. IsErrOf r (BadPage id)) two
+
     pub batch_more : (tells → IsHistory mid) → RunsFrameBatch tells old new first (xs ++ ys) segments checkpoints start now was replies r
     batch_more sound = record {
       tried = length xs + more.tried;
@@ -332,6 +347,7 @@ module _ (tells : Type 0) (old mid : History) (first : ℕ) (xs : List Line) (a 
       evaluates = both_evaluate;
       order = both_order;
       sound = λ t may id bad. more.sound t (may_more t may) id bad;
+      meets = both_meet;
       runs = both_run;
       crash = both_crash;
     }

@@ -2,6 +2,7 @@
 use Rattle.std.proofs.Common.{◌≡◌, ℕ, ◌+◌, ◌-◌, ◌%◌, ◌<◌, ◌≤◌, Bool, List, [], ◌∷◌, ◌++◌, length, get_or, None, Some, sym, refl, ap, subst, ◌∙◌, arith}
 use Rattle.std.specs.Prelude.{Ok, Err, take, drop}
 use Rattle.std.proofs.lemmas.List.{length-take-le, length-drop, get_or-drop, take_more}
+use Rattle.std.proofs.lemmas.List.Elements.{All-get_or}
 use Rattle.pm_types.specs.declared.shape.Shape.{Shape}
 use Rattle.pm_disk.specs.Moments.{History}
 use Rattle.pm_disk.specs.States.{DeviceState}
@@ -22,6 +23,8 @@ use Rattle.pm_engine.specs.declared.frame_lines.Stop.TheVariants.{Halted, Faulte
 use Rattle.pm_engine.specs.FrameCommands.{frame_pages, IsSameWorker, IsBetweenLines, ChangesNothing, HandsOverChange}
 use Rattle.pm_engine.specs.FrameLines.{EvaluatesLine, DoesLine, IsRoundLine, AnswersInFrames}
 use Rattle.pm_engine.specs.FrameRounds.{lines_from, EvaluatesLines, LeavesRound, AnswersRound, DoesNext, DoesLines, HasDone, EndsAtFault}
+use Rattle.pm_engine.specs.MetPages.{AllowsLine, MeetsBadPage}
+use Rattle.pm_engine.proofs.MetPages.{met_before, all_from, done_keeps}
 use Rattle.pm_engine.proofs.Replied.{with_none, with_more}
 use Rattle.pm_engine.proofs.FrameAnswers.{worker_same_refl, worker_same_then, nothing_refl, nothing_then, hands_then}
 
@@ -188,8 +191,8 @@ module _ {Q R : Type 0} (tells : Type 0) (history : R → History) (state : R �
     no_stop : (stop : Stop) → Some stop ≡ None → ⊥
     no_stop stop e = cc
 
-    pub so_far_stops : (stop : Stop) → AnswersInFrames tells history state number line m c mid now (Err stop) → AnswersRound tells history state first from lines b c was now (record { done = at - from; stop = Some stop })
-    so_far_stops stop x = record {
+    pub so_far_stops : (stop : Stop) → line ≡ get_or lines at line → AnswersInFrames tells history state number line m c mid now (Err stop) → AnswersRound tells history state first from lines b c was now (record { done = at - from; stop = Some stop })
+    so_far_stops stop here x = record {
       inside = omega (arith, so_far.above, inside);
       all = λ e. absurd (no_stop stop e);
       room = omega (arith, so_far.above, so_far.room, ap (λ (list : ReplyList). list.spare) x.replied);
@@ -202,6 +205,13 @@ module _ {Q R : Type 0} (tells : Type 0) (history : R → History) (state : R �
       sound = λ t all id e.
           let there = subst (λ (s : Shape). AllWellFormed s (frame_pages history m)) (sym so_far.done.same.shape) (so_far.done.evaluates t all).well_formed in
           x.sound t there id (ap Err (same_stop stop (Faulted (BadPage id)) e));
+      meets = λ t changed allows id e.
+          let shape = so_far.done.same.shape in
+          let this : AllowsLine changed b.stripe.shape line = subst (AllowsLine changed b.stripe.shape) (sym here) (All-get_or (AllowsLine changed b.stripe.shape) lines at line inside allows) in
+          let allowed : AllowsLine changed m.stripe.shape line = subst (λ (s : Shape). AllowsLine changed s line) (sym shape) this in
+          let met = subst (λ (s : Shape). MeetsBadPage tells changed s (frame_pages history m) id) shape (x.meets t changed allowed id (ap Err (same_stop stop (Faulted (BadPage id)) e))) in
+          let before = all_from (AllowsLine changed b.stripe.shape) from count lines allows in
+          met_before changed (frame_pages history b) (frame_pages history m) (done_keeps tells t history changed (first + from) (lines_from from count lines) b m was mid so_far.done.does before) tells b.stripe.shape id met;
     }
 
   pub so_far_ends : (b m : Bound Q R) (was mid : ReplyList) (at : ℕ) → RoundSoFar b m was mid at → at ≡ length lines → AnswersRound tells history state first from lines b m was mid (record { done = length lines - from; stop = None })
@@ -213,4 +223,5 @@ module _ {Q R : Type 0} (tells : Type 0) (history : R → History) (state : R �
     leaves = subst (λ n. HasDone tells history state (first + from) (lines_from from (n - from) lines) b m was mid) is so_far.done;
     cause = λ e. absurd cc;
     sound = λ t all id e. cc;
+    meets = λ t changed allows id e. absurd cc;
   }

@@ -242,7 +242,7 @@ parts_begin tells old first lines start list sound opens ends_there clean =
     record {
       inside = omega arith;
       runs = subst (λ ls. RunsFrameBatch tells old old first ls (34 * length lines) (length lines) start start list list (Ok tt)) (sym (none_first lines))
-          (kept_none tells old old start start keeps first (34 * length lines) (length lines) list (Ok tt) (λ stays. opens) (λ shut. absurd (shut tt)) ends_there (λ t may id bad. absurd (cc bad)) refl);
+          (kept_none tells old old start start keeps first (34 * length lines) (length lines) list (Ok tt) (λ stays. opens) (λ shut. absurd (shut tt)) ends_there (λ t may id bad. absurd (cc bad)) (λ t may_change id bad. absurd (cc bad)) refl);
       numbers = numbers_none start (34 * 0) 0;
       asked = subst (λ ls. MakesAskedIn start start ls 0) (sym (none_first lines)) (asked_nothing start 0);
     }

@@ -1,6 +1,6 @@
 -- A store over page frames that was opened: its pages are the base pages of a store that was restored.
 use Rattle.std.proofs.Common.{◌≡◌, ◌⊎◌, inl, inr, ℕ, ◌+◌, ◌-◌, ◌*◌, ◌^◌, ◌≤◌, ◌<◌, Bool, true, false, List, [], ◌∷◌, ◌++◌, length, take, drop, Option, Some, None, Result, Ok, Err, refl, sym, ap, ◌∙◌, subst, arith, append-nil}
-use Rattle.std.specs.Prelude.{◌||◌, ◌==◌, nat_lt, nat_le, slice_range, if◌then◌else◌, IsSome, is_some, IsErrOf, IfErr}
+use Rattle.std.specs.Prelude.{◌||◌, ◌==◌, nat_lt, nat_le, slice_range, if◌then◌else◌, IsSome, is_some, IsErr, IsErrOf, IfErr}
 use Rattle.std.proofs.lemmas.Bool.{false≢true, cases_lt, eqb-true, ltb-true}
 use Rattle.pm_types.specs.declared.fault.OpenFault.{OpenFault}
 use Rattle.pm_types.specs.declared.fault.OpenFault.TheVariants as opening
@@ -56,13 +56,14 @@ use Rattle.pm_stripe.specs.Stripes.{kept, file_in}
 use Rattle.pm_engine.specs.AppendRuns.{append_all_steps, grown_all}
 use Rattle.pm_engine.specs.FrameEngineReplays.{HasWholePages, IsReplayingIn}
 use Rattle.pm_engine.specs.FrameEngines.{FrameRunning, running_in, map_in}
-use Rattle.pm_engine.specs.FrameOpenings.{HasBadBase, HasBasePages, HasNoStrayPages, HasOpenCauseIn, IsBadOpeningIn, IsStartedEngine, OpensRunningIn}
-use Rattle.pm_engine.specs.FrameReplayLogs.{CanReplayIn, HasRecordsIn, HasNumbersIn}
+use Rattle.pm_engine.specs.FrameOpenings.{AllowsRecords, HasBasePages, HasNoStrayPages, HasOpenCauseIn, IsBadOpeningIn, IsBadOpeningPage, IsStartedEngine, KeepsBasePagesBut, OpensOverAny, OpensRunningIn}
+use Rattle.pm_engine.specs.FrameReplayLogs.{CanReplayIn, HasRecordsIn, HasNumbersIn, ReplaysOverAny}
 use Rattle.pm_engine.specs.FrameStores.{FrameStoreView, IsFrameStore, pages_in_frames, pages_in_files}
+use Rattle.pm_engine.specs.MetPages.{MeetsBadPage}
 use Rattle.pm_engine.specs.OpenedStores.{BeginWithFirst, IsRestoredStore, opened_store}
 use Rattle.pm_engine.specs.RunningStores.{number_of}
 use Rattle.pm_engine.specs.Openings.{loaded_base, IsBadOver, IsRestoredHolding}
-use Rattle.pm_engine.specs.Replays.{AreLasting, GrewAtEnd, IsBadReplay, LogLeadsTo}
+use Rattle.pm_engine.specs.Replays.{AreLasting, GrewAtEnd, IsBadReplay, IsRefusedReplay, LogLeadsTo}
 use Rattle.pm_engine.specs.RunningLines.{KeepsLines}
 use Rattle.pm_engine.specs.RunningStores.{StoreState, RunsOver, HasSegmentsFor, ended_with}
 use Rattle.pm_engine.proofs.CheckpointedFrames.{cut_past}
@@ -72,8 +73,9 @@ use Rattle.pm_engine.proofs.GrownStores.{unlogged}
 use Rattle.pm_engine.proofs.GrownWorlds.{all_grew}
 use Rattle.pm_engine.proofs.HeldReplays.{HoldsMap}
 use Rattle.pm_engine.proofs.LoadedStores.{HasMark, loaded_counted}
+use Rattle.pm_engine.proofs.MetBasePages.{kept_from_base, met_in_base}
 use Rattle.pm_engine.proofs.OpenedStores.{good, not_rebuilt, well, opened_runs, file_begins}
-use Rattle.pm_engine.proofs.RestoredOpenings.{bad_stands, base_same}
+use Rattle.pm_engine.proofs.RestoredOpenings.{bad_stands, base_same, refused_stands}
 use Rattle.pm_engine.proofs.PageNames.{part_named, index_named}
 use Rattle.pm_engine.proofs.ReplayingCheckpoints.{over_grown}
 use Rattle.pm_engine.proofs.ReplayStarts.{keeps_from_first, segments, holds_map, records, run_here, to_end, lasts_then}
@@ -82,22 +84,22 @@ use Rattle.pm_engine.proofs.RunningLogs.{state_follows}
 
 -- ---- why a fault came
 
-pub open_cause_in : (shape : Shape) (checkpoint : Checkpoint) (old new : World) (fault : StoreFault) → ((id : PageId) → fault ≡ BadPage id → HasBadBase shape checkpoint old) → ((at : Place) → fault ≡ BadRecord at → IsBadOpeningIn shape checkpoint old new at)
-    → HasOpenCauseIn shape checkpoint old new (opening.Store fault)
-open_cause_in shape checkpoint old new Failed page found = tt
-open_cause_in shape checkpoint old new Memory page found = tt
-open_cause_in shape checkpoint old new (BadPage id) page found = page id refl
-open_cause_in shape checkpoint old new (BadRecord at) page found = found at refl
+pub open_cause_in : (tells : Type 0) (shape : Shape) (checkpoint : Checkpoint) (old new : World) (fault : StoreFault) → ((id : PageId) → fault ≡ BadPage id → IsBadOpeningPage tells shape checkpoint old id)
+    → ((at : Place) → fault ≡ BadRecord at → IsBadOpeningIn shape checkpoint old new at) → HasOpenCauseIn tells shape checkpoint old new (opening.Store fault)
+open_cause_in tells shape checkpoint old new Failed page found = tt
+open_cause_in tells shape checkpoint old new Memory page found = tt
+open_cause_in tells shape checkpoint old new (BadPage id) page found = page id refl
+open_cause_in tells shape checkpoint old new (BadRecord at) page found = found at refl
 
 -- a restart's fault
-pub restore_cause_in : {T : Type 0} (shape : Shape) (checkpoint : Checkpoint) (old new : World) (result : Result T OpenFault) → ((at : Place) → IsErrOf result (opening.Store (BadRecord at)) → IsBadRestore checkpoint (contents old.log) at)
-    → ((id : PageId) → IsErrOf result (opening.Store (BadPage id)) → ⊥) → IfErr result (LeavesStore old new) → IfErr result (HasOpenCauseIn shape checkpoint old new)
-restore_cause_in shape checkpoint old new (Ok x) found page untouched = tt
-restore_cause_in shape checkpoint old new (Err (opening.Shape field)) found page untouched = untouched
-restore_cause_in shape checkpoint old new (Err (opening.Store Failed)) found page untouched = tt
-restore_cause_in shape checkpoint old new (Err (opening.Store Memory)) found page untouched = tt
-restore_cause_in shape checkpoint old new (Err (opening.Store (BadPage id))) found page untouched = absurd (page id refl)
-restore_cause_in shape checkpoint old new (Err (opening.Store (BadRecord at))) found page untouched = inl (found at refl)
+pub restore_cause_in : {T : Type 0} (tells : Type 0) (shape : Shape) (checkpoint : Checkpoint) (old new : World) (result : Result T OpenFault) → ((at : Place) → IsErrOf result (opening.Store (BadRecord at)) → IsBadRestore checkpoint (contents old.log) at)
+    → ((id : PageId) → IsErrOf result (opening.Store (BadPage id)) → ⊥) → IfErr result (LeavesStore old new) → IfErr result (HasOpenCauseIn tells shape checkpoint old new)
+restore_cause_in tells shape checkpoint old new (Ok x) found page untouched = tt
+restore_cause_in tells shape checkpoint old new (Err (opening.Shape field)) found page untouched = untouched
+restore_cause_in tells shape checkpoint old new (Err (opening.Store Failed)) found page untouched = tt
+restore_cause_in tells shape checkpoint old new (Err (opening.Store Memory)) found page untouched = tt
+restore_cause_in tells shape checkpoint old new (Err (opening.Store (BadPage id))) found page untouched = absurd (page id refl)
+restore_cause_in tells shape checkpoint old new (Err (opening.Store (BadRecord at))) found page untouched = inl (found at refl)
 
 -- a fault that is plain names nothing
 pub no_plain_page : {T : Type 0} (result : Result T StoreFault) (id : PageId) → IfErr result IsPlainFault → IsErrOf result (BadPage id) → ⊥
@@ -109,6 +111,16 @@ no_plain_record {T} result at plain is = subst (λ (r : Result T StoreFault). If
 -- the fault that is passed on is the one that came
 pub fault_of : {S T : Type 0} (came : Result T StoreFault) (fault named : StoreFault) → came ≡ Err fault → IsErrOf {T = S} {E = StoreFault} (Err fault) named → IsErrOf came named
 fault_of came fault named was is = let same : fault ≡ named = cc is in was ∙ ap (λ (f : StoreFault). Err f) same
+
+-- it couldn't be opened by a fault that names nothing
+pub opens_over_none : (tells : Type 0) (shape : Shape) (from end : Place) (frames : List Frame) (base : Partitions) (old new : World) (answer : Result FrameRunning StoreFault) → IsErr answer → ((id : PageId) → IsErrOf answer (BadPage id) → ⊥) → ((at : Place) → IsErrOf answer (BadRecord at) → ⊥)
+    → OpensOverAny tells shape from end frames base old new answer
+opens_over_none tells shape from end frames base old new (Ok engine) err page found = absurd cc
+opens_over_none tells shape from end frames base old new (Err fault) err page found = record {
+  pages = λ may_change all. tt;
+  meets = λ may_change all id is. absurd (page id is);
+  refuses = λ at is. absurd (found at is);
+}
 
 -- ---- the pages of a partition, of which those with an index of more than 32 bits are left out
 
@@ -422,17 +434,17 @@ module _ (config : Config) (mark : Option Mark) (log : LogEnd) (old mid : World)
     within part inside = grows_seen (seen part) (base part) (seen_is part inside) (seen_past part) (base_begins mark old part)
 
   module _ (there : EndsThere log old) (from end : Place) (leads : LogLeadsTo from end log old) where
-    restart_grew : GrewAtEnd log engine.log old mid
+    pub restart_grew : GrewAtEnd log engine.log old mid
     restart_grew =
         let fs : List Frame = restart_frame shape ∷ [] in
         subst (λ (q : LogEnd × World). GrewAtEnd log q.0 old q.1) {x = (grown_all log fs, world_after (append_all_steps log fs) log.end old)} {y = (engine.log, mid)} (λ i. (sym started.log_is i, sym is i)) (all_grew log fs old there started.numbered)
 
-    restart_run : HasFrames all_frames (contents mid.log) from leads.frames
+    pub restart_run : HasFrames all_frames (contents mid.log) from leads.frames
     restart_run =
         run_stays (contents old.log) (contents mid.log) from leads.frames end.seg (λ seg le. restart_grew.begins seg (omega (arith, le, leads.behind))) (omega (arith, ap (λ (p : Place). p.seg) leads.to)) leads.run
 
     -- the frames that it had still lead to where it ended
-    pub started_leads : LogLeadsTo from end engine.log mid
+    abbrev pub started_leads : LogLeadsTo from end engine.log mid
     started_leads = record { frames = leads.frames; run = restart_run; to = leads.to; behind = omega (arith, leads.behind, restart_grew.rises) }
 
     -- a record that can't be applied again to the pages in frames
@@ -443,6 +455,39 @@ module _ (config : Config) (mark : Option Mark) (log : LogEnd) (old mid : World)
         subst (λ (q : Shape × Pairs). IsBadReplay q.0 q.1 (contents old.log) from end new at) {x = (engine.store.shape, map_in engine mid)} {y = (shape, pairs_in shape.partitions base)}
         (λ i. (started.fresh.shape_is i, started_map sound well_formed i))
         (bad_stands engine.store.shape (map_in engine mid) (contents mid.log) (contents old.log) from end new at bad (subst (HasFrames all_frames (contents old.log) from) (sym same) leads.run))
+
+    -- ---- over any store's base pages
+
+    seen_keeps : (may_change : ℕ → Bool) → KeepsBasePagesBut shape may_change base seen
+    seen_keeps may_change part index bytes inside low there = inl (seen_is part inside index low ∙ there)
+
+    refused_before : (new : World) (at : Place) → IsRefusedReplay (contents mid.log) from end new at → IsRefusedReplay (contents old.log) from end new at
+    refused_before new at x =
+        let all : List Frame = x.before ++ x.rest in
+        let same : all ≡ leads.frames = one_run (contents mid.log) from all leads.frames x.stand restart_run (x.to ∙ sym leads.to) in
+        refused_stands (contents mid.log) (contents old.log) from end new at x (subst (HasFrames all_frames (contents old.log) from) (sym same) leads.run)
+
+    module _ (tells : Type 0) (now : FrameRunning) (new : World) (answer : Result (Unit {0}) StoreFault) (x : ReplaysOverAny {T = Unit {0}} tells from end leads.frames engine now mid new answer) where
+      shaped : (may_change : ℕ → Bool) → AllowsRecords may_change shape leads.frames → AllowsRecords may_change engine.store.shape leads.frames
+      shaped may_change all = subst (λ (k : Shape). AllowsRecords may_change k leads.frames) (sym started.fresh.shape_is) all
+
+      -- all records were applied
+      pub started_over_all : now.store.is_open ≡ true → OpensOverAny tells shape from end leads.frames base old new (Ok now)
+      started_over_all on = record {
+        pages = λ may_change all. kept_from_base shape may_change base seen (seen_keeps may_change) (pages_in_frames now.store new) ((x.meets may_change (shaped may_change all)).keeps on);
+        meets = λ may_change all id is. absurd cc;
+        refuses = λ at is. absurd cc;
+      }
+
+      -- a fault came
+      pub started_over_fault : (fault : StoreFault) → answer ≡ Err fault → OpensOverAny tells shape from end leads.frames base old new (Err fault)
+      started_over_fault fault was = record {
+        pages = λ may_change all. tt;
+        meets = λ may_change all id is.
+            let its = (x.meets may_change (shaped may_change all)).meets id (fault_of answer fault (BadPage id) was is) in
+            met_in_base shape may_change base seen (seen_keeps may_change) tells id (subst (λ (k : Shape). MeetsBadPage tells may_change k seen id) started.fresh.shape_is its);
+        refuses = λ at is. refused_before new at (x.refuses at (fault_of answer fault (BadRecord at) was is));
+      }
 
   -- ---- where it was sound
 

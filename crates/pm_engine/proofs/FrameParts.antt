@@ -31,6 +31,7 @@ use Rattle.pm_engine.specs.FrameEngines.{FrameRunning, DoesRoundLines, LosesRoun
 use Rattle.pm_engine.specs.FrameHosts.{IsStoreLine, ChangesNoWorld, ScansStore}
 use Rattle.pm_engine.specs.FrameLines.{is_scan}
 use Rattle.pm_engine.specs.FrameStores.{FrameStoreView, pages_in_frames, HasCleanPages}
+use Rattle.pm_engine.specs.MetPages.{MeetsBadPage}
 use Rattle.pm_engine.specs.Batches.{StaysOpen, is_checkpoint, checkpoints_in, asked_last}
 use Rattle.pm_engine.proofs.FrameBatchCalls.{keeps_itself, keeps_numbers, kept_none, kept_line, none_done, round_inside, round_done, round_lacks, round_faulted, round_numbers, round_lost}
 use Rattle.pm_engine.proofs.FrameBatching.{may_well_formed, batch_wider, batch_part}
@@ -241,12 +242,14 @@ module _ (tells : Type 0) (old new : History) (first cache : ℕ) (before : Fram
 
     scan_fails : (fault : StoreFault) → (StaysOpen (Err fault) → ⊥) → after.is_open ≡ false → replies ≡ was
         → (tells → MayGoOn before old.world 33 0 → (id : PageId) → IsErrOf {T = Unit {0}} {E = StoreFault} (Err fault) (BadPage id) → ⊥)
+        → (tells → (may_change : ℕ → Bool) → (id : PageId) → IsErrOf {T = Unit {0}} {E = StoreFault} (Err fault) (BadPage id)
+        → MeetsBadPage tells may_change before.store.shape (pages_in_frames before.store old.world) id)
         → TriesLines tells old new first (line ∷ []) before scanned was replies (Err fault)
-    scan_fails fault shut off none sound = record {
+    scan_fails fault shut off none sound meets = record {
       inside = tt;
       runs = batch_part tells old new first [] (line ∷ []) 33 0 33 0 before scanned was replies fault
           (subst (λ (l : ReplyList). RunsFrameBatch tells old new first [] 33 0 before scanned was l (Err fault)) (sym none)
-          (kept_none tells old new before scanned scan_keeps first 33 0 was (Err fault) (λ stays. absurd (shut stays)) (λ is. off) ends_there sound tt)) (omega arith) (omega arith);
+          (kept_none tells old new before scanned scan_keeps first 33 0 was (Err fault) (λ stays. absurd (shut stays)) (λ is. off) ends_there sound meets tt)) (omega arith) (omega arith);
       numbers = λ stays. absurd (shut stays);
       none_asked = tt;
     }
@@ -267,7 +270,7 @@ module _ (tells : Type 0) (old new : History) (first cache : ℕ) (before : Fram
         inside = omega arith;
         runs = subst (λ (l : ReplyList). RunsFrameBatch tells old new first [] 33 0 before scanned was l (Ok tt)) (sym scans.no_reply)
             (kept_none tells old new before scanned (scan_keeps (Err (scan.Halted halt)) scans) first 33 0 was (Ok tt) (λ stays. scans.is_open) (λ shut. absurd (shut tt)) ends_there
-            (λ t may id bad. absurd (cc bad)) refl);
+            (λ t may id bad. absurd (cc bad)) (λ t may_change id bad. absurd (cc bad)) refl);
         numbers = λ stays. scan_numbers (Err (scan.Halted halt)) scans;
         none_asked = refl;
       })
@@ -279,11 +282,12 @@ module _ (tells : Type 0) (old new : History) (first cache : ℕ) (before : Fram
       (scan_lacks (Err scan.Memory) scans scans.is_open scans.no_reply)
   scan_tried (Err (scan.Faulted page.Failed)) scans r counts =
       subst (λ (q : Result ℕ StoreFault). TriesLines tells old new first (line ∷ []) before scanned was replies q) (sym counts)
-      (scan_fails (Err (scan.Faulted page.Failed)) scans Failed (λ stays. stays) scans.is_open scans.no_reply (λ t may id bad. absurd (cc bad)))
+      (scan_fails (Err (scan.Faulted page.Failed)) scans Failed (λ stays. stays) scans.is_open scans.no_reply (λ t may id bad. absurd (cc bad)) (λ t may_change id bad. absurd (cc bad)))
   scan_tried (Err (scan.Faulted (page.BadPage id))) scans r counts =
       subst (λ (q : Result ℕ StoreFault). TriesLines tells old new first (line ∷ []) before scanned was replies q) (sym counts)
       (scan_fails (Err (scan.Faulted (page.BadPage id))) scans (BadPage id) (λ stays. stays) scans.is_open scans.no_reply
-      (λ t may other bad. scans.sound t (may_well_formed before old.world 33 0 may) other (same_bad id other bad)))
+      (λ t may other bad. scans.sound t (may_well_formed before old.world 33 0 may) other (same_bad id other bad))
+      (λ t may_change other bad. scans.meets t may_change other (same_bad id other bad)))
     where
       same_bad : (p q : PageId) → IsErrOf {T = Unit {0}} {E = StoreFault} (Err (BadPage p)) (BadPage q) → IsErrOf {T = Unit {0}} {E = ScanStop} (Err (scan.Faulted (page.BadPage p))) (scan.Faulted (page.BadPage q))
       same_bad p q is = ap (λ (n : PageId). let r : Result (Unit {0}) ScanStop = Err (scan.Faulted (page.BadPage n)) in r) (cc is)

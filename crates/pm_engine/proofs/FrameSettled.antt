@@ -21,12 +21,13 @@ use Rattle.pm_model.specs.Eval.{Pairs}
 use Rattle.pm_model.specs.ReplyLists.{ReplyList}
 use Rattle.pm_ckpt.specs.Marked.{Kept, number_after, begin_frame, mark_for}
 use Rattle.pm_ckpt.proofs.GoingOn.{payload_len}
+use Rattle.pm_core.specs.BasePages.{Partitions}
 use Rattle.pm_core.specs.Calls.{ChangesDisk}
 use Rattle.pm_engine.specs.CheckedEngines.{IsAfterCheckpoint}
 use Rattle.pm_engine.specs.FrameBatches.{is_due_in, HasNumbersIn, TakesNumbersIn, EndsAtReplayIn, KeepsFrameEngine, RunsFrameBatch, ChecksBetween, LeavesAllLastingIn, LeavesAllAtRest, LooksAtEngine}
 use Rattle.pm_engine.specs.FrameDirty.{ListsDirty, dirty_names, dirty_bytes}
 use Rattle.pm_engine.specs.FrameEngines.{FrameRunning, HasDoneLines, HasLastingLinesIn, AllLastIn, IsSameEngine, closed_engine, map_in}
-use Rattle.pm_engine.specs.FrameStores.{FrameStoreView, HasCleanPages, IsDirtyPage}
+use Rattle.pm_engine.specs.FrameStores.{FrameStoreView, pages_in_frames, HasCleanPages, IsDirtyPage}
 use Rattle.pm_engine.specs.Batches.{StaysOpen}
 use Rattle.pm_engine.specs.RunningStores.{number_of}
 use Rattle.pm_engine.specs.RunningLines.{CrashHoldsLines}
@@ -114,11 +115,12 @@ module _ (tells : Type 0) (old new : History) (before now : FrameRunning) (same 
       → (tells → (wanted : Shape) (told : List ℕ → ℕ) (from : ℕ) (start : Pairs) (lines : List Line)
       → HasDoneLines wanted told from start lines before old.world → HasSegmentsFor before.log 1 → number_of before.ckpt.mark + 1 < 2 ^ 64
       → HasLastingLinesIn wanted told from start lines now new.world)
+      → (tells → (part index : ℕ) (bytes : List ℕ) → pages_in_frames before.store old.world part index ≡ Some bytes → pages_in_frames now.store new.world part index ≡ Some bytes)
       → ListsDirty now.store (dirty_names now.store) (dirty_bytes now.store) → ((id : PageId) → IsDirtyPage now.store id → ⊥)
       → ChecksBetween tells old new before now (Ok tt)
-  checks_made next opens ends_now clean lasts lists none = record {
+  checks_made next opens ends_now clean lasts there_still lists none = record {
     runs = λ first list. done_none tells old new before now 1 1 same order disk crashes
-        (λ t wanted told from start lines has some. (lasts t wanted told from start lines has some.in_log some.in_marks).done) first list opens ends_now clean;
+        (λ t wanted told from start lines has some. (lasts t wanted told from start lines has some.in_log some.in_marks).done) there_still first list opens ends_now clean;
     lasts = λ t wanted told from start done has some.
         lasts t wanted told from start (done ++ []) (done_none_more wanted told from start done before old.world has) some.in_log some.in_marks;
     numbers = λ stays. next_takes before now next;
@@ -179,13 +181,14 @@ module _ (tells : Type 0) (old mid : History) (before forced looked : FrameRunni
       → HasDoneLines wanted told from start lines before old.world → HasDoneLines wanted told from start lines looked mid.world
   looked_done t wanted told from start lines has = keeps_done tells mid mid forced looked keeps t wanted told from start lines (lasts t wanted told from start lines has).done
 
-  pub looked_runs : (first segments checkpoints : ℕ) (list : ReplyList) → RunsFrameBatch tells old mid first [] segments checkpoints before looked list list (Ok tt)
-  looked_runs first segments checkpoints list =
+  pub looked_runs : (tells → pages_in_frames forced.store mid.world ≡ pages_in_frames before.store old.world) → (first segments checkpoints : ℕ) (list : ReplyList) → RunsFrameBatch tells old mid first [] segments checkpoints before looked list list (Ok tt)
+  looked_runs pages_mid first segments checkpoints list =
       done_none tells old mid before looked segments checkpoints kept.same kept.order disk
       (λ t wanted told from start lines has some.
       moments_further (before.log.end.seg + 1) (number_of before.ckpt.mark) (before.log.end.seg + (segments + 1)) (number_of before.ckpt.mark + checkpoints) wanted before.store.shape start lines old mid
       (omega arith) (omega arith) (crash t wanted told from start lines has))
-      (λ t wanted told from start lines has some. looked_done t wanted told from start lines has) first list looked_opens looked_ends looked_clean
+      (λ t wanted told from start lines has some. looked_done t wanted told from start lines has)
+      (λ t part index bytes there. ap (λ (pages : Partitions). pages part index) (keeps.pages t ∙ pages_mid t) ∙ there) first list looked_opens looked_ends looked_clean
 
   pub looked_lasts : LeavesAllLastingIn tells old mid [] 1 1 before looked (Ok tt)
   looked_lasts t wanted told from start done has some =
@@ -218,9 +221,9 @@ module _ (tells : Type 0) (old mid : History) (before forced looked : FrameRunni
 
   -- and a checkpoint
   module _ (new : History) (now : FrameRunning) (r : Result (Unit {0}) StoreFault) (checks : ChecksBetween tells mid new looked now r) where
-    pub then_runs : (first : ℕ) (list : ReplyList) → RunsFrameBatch tells old new first [] 1 1 before now list list r
-    then_runs first list =
-        batch_more tells old mid first [] 1 1 before looked list list (looked_runs first 1 1 list) new first [] 1 1 now list r (checks.runs first list)
+    pub then_runs : (tells → pages_in_frames forced.store mid.world ≡ pages_in_frames before.store old.world) → (first : ℕ) (list : ReplyList) → RunsFrameBatch tells old new first [] 1 1 before now list list r
+    then_runs pages_mid first list =
+        batch_more tells old mid first [] 1 1 before looked list list (looked_runs pages_mid first 1 1 list) new first [] 1 1 now list r (checks.runs first list)
         (omega arith) 0 0 looked_takes 1 1 (omega arith) (omega arith) (omega arith) (omega arith) sound
 
     pub then_lasts : LeavesAllLastingIn tells old new [] 1 1 before now r

@@ -1,8 +1,10 @@
 pub mod AcceptedLines
+pub mod AnyReplays
 pub mod AppendChains
 pub mod AppliedCommands
 pub mod AppliedRecords
 pub mod Applying
+pub mod BatchPages
 pub mod BoundStores
 pub mod ChangedFrames
 pub mod CheckedEngines
@@ -52,10 +54,14 @@ pub mod LoadedStores
 pub mod LoggedLines
 pub mod LogRooms
 pub mod MergedLists
+pub mod MetBasePages
+pub mod MetCommands
+pub mod MetPages
 pub mod OpenedStores
 pub mod OperationFrames
 pub mod OperationSteps
 pub mod OutboxLoops
+pub mod OwnPages
 pub mod PageNames
 pub mod PartAnswers
 pub mod ReadyEngines
@@ -93,5 +99,6 @@ pub mod SentOutboxes
 pub mod StillEnds
 pub mod StoreMaps
 pub mod TakenLines
+pub mod ToldFaults
 pub mod TrackedFrames
 pub mod WholePages

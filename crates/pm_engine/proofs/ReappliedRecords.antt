@@ -1,7 +1,8 @@
 -- A command that an engine over page frames applies again, once what it handed over is appended.
 use Rattle.std.proofs.Common.{◌≡◌, inl, inr, ℕ, ◌+◌, ◌<◌, ◌≤◌, Bool, true, false, List, [], ◌++◌, length, Option, Some, None, Result, Ok, Err, refl, sym, ap, ◌∙◌, subst, arith}
-use Rattle.std.specs.Prelude.{◌↔◌, if◌then◌else◌, IfOk, IsSome, is_some}
+use Rattle.std.specs.Prelude.{◌↔◌, if◌then◌else◌, IfOk, IsSome, IsErrOf, is_some}
 use Rattle.std.proofs.lemmas.Bool.{false≢true}
+use Rattle.pm_types.specs.declared.fault.PageFault.TheVariants.{BadPage}
 use Rattle.pm_types.specs.declared.page_id.PageId.{PageId}
 use Rattle.pm_types.specs.declared.place.Place.{Place}
 use Rattle.pm_types.specs.declared.shape.Shape.{Shape}
@@ -50,6 +51,7 @@ use Rattle.pm_engine.specs.FrameHosts.{SendsOutbox, ChangesNoWorld}
 use Rattle.pm_engine.specs.FrameLines.{EvaluatesLine}
 use Rattle.pm_engine.specs.FrameReplays.{LeavesApplied, AppliesToStore, may_apply_more}
 use Rattle.pm_engine.specs.FrameStores.{FrameStoreView, pages_in_frames, IsDirtyPage, HasCleanPages, shut}
+use Rattle.pm_engine.specs.MetPages.{AllowsLine, KeepsPagesBut, MeetsBadPage}
 use Rattle.pm_engine.specs.OutboxLogs.{SpellOperationRecords, SpellNumbers, HasNumberRoom, records_of, numbers_of}
 use Rattle.pm_engine.specs.RunningStores.{number_of}
 use Rattle.pm_engine.specs.Replays.{CrashHoldsMap, AreLasting, GrewAtEnd}
@@ -60,10 +62,12 @@ use Rattle.pm_engine.proofs.GrownWorlds.{all_grew, grew_none}
 use Rattle.pm_engine.proofs.LentReaders.{clean_there}
 use Rattle.pm_engine.proofs.OperationSteps.{machine_steps}
 use Rattle.pm_engine.proofs.GrownLogs.{all_rises, all_size, all_from}
+use Rattle.pm_engine.proofs.OwnPages.{kept_but_own, kept_equal}
 use Rattle.pm_engine.proofs.ReappliedStores.{HandsAgain, hands_again, Reapplies, reapplies}
 use Rattle.pm_engine.proofs.ReplayingStores.{holds_soon, then_runs, then_keeps, still_lasts, then_crash}
 use Rattle.pm_engine.proofs.RoundLines.{numbers_long}
 use Rattle.pm_engine.proofs.RunningLines.{ChangeNoMap}
+use Rattle.pm_engine.proofs.ToldFaults.{met_told}
 use Rattle.pm_engine.proofs.WholePages.{ChangesOwnPart, whole_same, whole_changed}
 
 -- ---- nothing was changed
@@ -433,6 +437,23 @@ module _ {Q R : Type 0} (tells rtells : Type 0) (history : R → History) (state
         let on : after.is_open ≡ true = is_open_then ∙ ap (λ (r : Result Bool Stop). may_apply_more r) is in
         sym (frames_after t on) ∙ leaves.0.nothing.told (told t) ∙ applied.began.pages (told t)
 
+    -- ---- the pages of any store
+
+    kept_again : (t : tells) (may_change : ℕ → Bool) → AllowsLine may_change before.store.shape (Good cmd) → after.is_open ≡ true → KeepsPagesBut may_change (pages_in_frames before.store h0.world) (pages_in_frames after h2.world)
+    kept_again t may_change allows on = by answer refl applied.applies.leaves
+      where
+        by : (r : Result Bool Stop) → answer ≡ r → LeavesApplied rtells history state cmd start finish r → KeepsPagesBut may_change (pages_in_frames before.store h0.world) (pages_in_frames after h2.world)
+        by (Ok true) is leaves = kept_but_own may_change before.store.shape cmd (pages_in_frames before.store h0.world) (pages_in_frames after h2.world) (leaves.1.changes refl) allows (changed_again t on (leaves.1.hands refl))
+        by (Ok false) is leaves = kept_equal may_change (pages_in_frames before.store h0.world) (pages_in_frames after h2.world) (same_again t on (leaves.1.refused refl))
+        by (Err (Halted halt)) is leaves = kept_equal may_change (pages_in_frames before.store h0.world) (pages_in_frames after h2.world) (same_again t on leaves.0.nothing)
+        by (Err (Faulted fault)) is leaves = absurd (false≢true (sym (is_open_then ∙ ap (λ (r : Result Bool Stop). may_apply_more r) is) ∙ on))
+
+    met_again : (t : tells) (may_change : ℕ → Bool) → AllowsLine may_change before.store.shape (Good cmd) → (id : PageId) → IsErrOf answer (Faulted (BadPage id)) → MeetsBadPage tells may_change before.store.shape (pages_in_frames before.store h0.world) id
+    met_again t may_change allows id bad =
+        met_told rtells tells told may_change before.store.shape (pages_in_frames before.store h0.world) id
+        (subst (λ (p : Shape × Partitions). MeetsBadPage rtells may_change p.0 p.1 id) {x = (start.stripe.shape, frame_pages history start)} {y = (before.store.shape, pages_in_frames before.store h0.world)} (λ i. (applied.began.shape i, applied.began.pages (told t) i))
+        (applied.applies.meets (told t) may_change (subst (λ (k : Shape). AllowsLine may_change k (Good cmd)) (sym applied.began.shape) allows) id bad))
+
     pub evaluates_again : EvaluatesAgain tells cmd before engine h0.world h2.world was now answer
     evaluates_again = record {
       is_open = is_open_then;
@@ -441,4 +462,5 @@ module _ {Q R : Type 0} (tells rtells : Type 0) (history : R → History) (state
       refused = λ t not. nothing_appended t not;
       halted = λ t halt is. still_there t halt is;
       sound = λ t well id is. applied.applies.sound (told t) (well_there t well) id is;
+      meets = λ t may_change allows. record { keeps = kept_again t may_change allows; meets = met_again t may_change allows };
     }

@@ -4,6 +4,7 @@ use Rattle.std.specs.Prelude.{◌||◌, if◌then◌else◌, IsErrOf}
 use Rattle.std.proofs.lemmas.Option.{same_Some}
 use Rattle.pm_types.specs.declared.fault.StoreFault.{StoreFault}
 use Rattle.pm_types.specs.declared.fault.StoreFault.TheVariants.{BadPage, BadRecord, Memory}
+use Rattle.pm_types.specs.declared.page_id.PageId.{PageId}
 use Rattle.pm_types.specs.declared.place.Place.{Place}
 use Rattle.pm_types.specs.declared.shape.Shape.{Shape}
 use Rattle.pm_frame.specs.declared.limits.TheConstants.{FRAME_END_MAX, SEGMENT_END_MAX}
@@ -27,14 +28,17 @@ use Rattle.pm_engine.specs.FrameEngineReplays.{HasWholePages, GoesOnInFrames, Ke
 use Rattle.pm_engine.specs.FrameEngines.{FrameRunning, map_in, running_in}
 use Rattle.pm_engine.specs.FrameHosts.{ChangesNoWorld}
 use Rattle.pm_engine.specs.FrameReplayCheckpoints.{ReplaysRecordFrom, ReplaysRecord}
-use Rattle.pm_engine.specs.FrameReplayLogs.{AppliesNextIn, AppliesFrameIn, IsBadNextIn, HasRecordsIn, CanReplayIn, CanReplayOn, StepsReplay, ReplaysAllIn, ReplaysWellFormed, ReplaysScan, record_found}
-use Rattle.pm_engine.specs.FrameStores.{HasCleanPages}
+use Rattle.pm_engine.specs.FrameReplayLogs.{AppliesNextIn, AppliesFrameIn, IsBadNextIn, HasRecordsIn, CanReplayIn, CanReplayOn, StepsReplay, ReplaysAllIn, ReplaysOverAny, ReplaysWellFormed, ReplaysScan, record_found}
+use Rattle.pm_engine.specs.FrameStores.{HasCleanPages, pages_in_frames}
+use Rattle.pm_engine.specs.MetPages.{AllowsRecord, KeepsOrMeets}
 use Rattle.pm_engine.specs.RunningStores.{number_of}
-use Rattle.pm_engine.specs.Replays.{AreLasting, CrashHoldsMap, IsBadAt, EndsBefore, IsBadReplay, LogLeadsTo}
+use Rattle.pm_engine.specs.Replays.{AreLasting, CanBeRefused, CrashHoldsMap, IsBadAt, EndsBefore, IsBadReplay, LogLeadsTo}
 use Rattle.pm_engine.specs.RunningStores.{HasSegmentsFor}
+use Rattle.pm_engine.proofs.AnyReplays.{AppliesFront, allows_next, front_none, front_more, front_refused}
+use Rattle.pm_engine.proofs.MetPages.{kept_same, meets_then}
 use Rattle.pm_engine.proofs.ReadyEngines.{ready_same, ready_refused, ready_ok, ready_err, ready_then}
 use Rattle.pm_engine.proofs.ReappliedRecords.{goes_on_quiet}
-use Rattle.pm_engine.proofs.ReplayedRecords.{record_alone, record_halted}
+use Rattle.pm_engine.proofs.ReplayedRecords.{quiet_keeps, quiet_meets, record_alone, record_halted}
 use Rattle.pm_engine.proofs.ReplayedLog.{StandsAhead, ReadsSoFar, stands_on, front_run, run_on, reads_none, or_false, lasts_next}
 use Rattle.pm_engine.proofs.ReplayingStores.{holds_now, holds_soon}
 use Rattle.pm_engine.proofs.Results.{ok_anyway}
@@ -116,10 +120,12 @@ module _ (tells : Type 0) (scan later : Scanned) (engine : FrameRunning) (old mi
   next_unread fault plain = record {
     found = None;
     stands = λ t. tt;
+    is_next = λ t frame is. absurd (none_some frame is);
     advances = tt;
     there = λ is. absurd cc;
     still = λ t none. tt;
-    replays = record_alone tells scan.next None engine engine old mid goes (Err fault) tt (λ t well. tt) (λ t well. plain);
+    replays = record_alone tells scan.next None engine engine old mid goes (Err fault) tt (λ t well. tt) (λ t well. plain)
+        (quiet_meets tells None engine old.world mid.world (Err fault) (λ t. (quiet t).world) plain) (λ is. tt);
   }
 
   -- none stands there
@@ -127,10 +133,12 @@ module _ (tells : Type 0) (scan later : Scanned) (engine : FrameRunning) (old mi
   next_none stands advances = record {
     found = None;
     stands = stands;
+    is_next = λ t frame is. absurd (none_some frame is);
     advances = advances;
     there = λ is. absurd cc;
     still = λ t none. (quiet t).world;
-    replays = record_alone tells scan.next None engine engine old mid goes (Ok false) on (λ t well. refl) (λ t well id is. absurd cc);
+    replays = record_alone tells scan.next None engine engine old mid goes (Ok false) on (λ t well. refl) (λ t well id is. absurd cc)
+        (quiet_meets tells None engine old.world mid.world (Ok false) (λ t. (quiet t).world) (λ id is. absurd cc)) (λ is. tt);
   }
 
   -- one stands there, which was applied
@@ -139,10 +147,12 @@ module _ (tells : Type 0) (scan later : Scanned) (engine : FrameRunning) (old mi
   next_some f now new result sound stands advances x = record {
     found = Some f;
     stands = λ t. ok_anyway result (Some f ≡ frame_ahead scan old.world) (stands t);
+    is_next = λ t frame is. sym (stands t) ∙ is;
     advances = ok_anyway result (Advances scan later (Some f)) advances;
     there = λ is. (f, refl);
     still = λ t none. absurd (none_some f (sym none));
-    replays = record_halted tells scan.next (record_in f) engine engine now old mid new sound goes on refl (λ t. (quiet t).world) (λ t well. ap (λ (w : World). map_in engine w) (quiet t).world) result x;
+    replays = record_halted tells scan.next (record_in f) engine engine now old mid new sound goes on refl (λ t. (quiet t).world) (λ t well. ap (λ (w : World). map_in engine w) (quiet t).world) result x
+        (λ t may_change allows. quiet_keeps tells engine old.world mid.world (λ t. (quiet t).world) t may_change);
   }
 
 -- ---- it was applied, or couldn't be
@@ -222,6 +232,22 @@ module _ (tells : Type 0) (scan mid : Scanned) (before now : FrameRunning) (old 
   same_bad : (made at : Place) → IsErrOf {T = Unit {0}} {E = StoreFault} (Err (BadRecord made)) (BadRecord at) → made ≡ at
   same_bad made at is = cc is
 
+  -- what the frame that stands next may change, the one that was found may
+  found_allowed : (t : tells) (result : Result Bool StoreFault) (x : AppliesNextIn tells scan mid before now old new result) (may_change : ℕ → Bool) → AllowsRecord may_change before.store.shape (record_found (frame_ahead scan old.world)) → AllowsRecord may_change before.store.shape (record_found x.found)
+  found_allowed t result x may_change allows = by x.found refl
+    where
+      by : (o : Option Frame) → x.found ≡ o → AllowsRecord may_change before.store.shape (record_found o)
+      by None is = tt
+      by (Some f) is = subst (λ (o : Option Frame). AllowsRecord may_change before.store.shape (record_found o)) (x.is_next t f is) allows
+
+  -- which partition it changes, and which page is found bad
+  found_meets : (t : tells) (result : Result Bool StoreFault) (x : AppliesNextIn tells scan mid before now old new result) (may_change : ℕ → Bool) → AllowsRecord may_change before.store.shape (record_found (frame_ahead scan old.world))
+      → KeepsOrMeets tells may_change before.store.shape (pages_in_frames before.store old.world) (pages_in_frames now.store new.world) (now.store.is_open ≡ true) (λ id. IsErrOf result (BadPage id))
+  found_meets t result x may_change allows = x.replays.meets t may_change (found_allowed t result x may_change allows)
+
+  named_page : (fault : StoreFault) (id : PageId) → IsErrOf {T = Unit {0}} (Err fault) (BadPage id) → IsErrOf {T = Bool} (Err fault) (BadPage id)
+  named_page fault id is = let same : fault ≡ BadPage id = cc is in ap (λ (f : StoreFault). Err f) same
+
   -- a fault
   pub steps_fault : (later : Scanned) (fault : StoreFault) → ((at : Place) → IsErrOf {T = Unit {0}} (Err fault) (BadRecord at) → ⊥) → AppliesNextIn tells scan mid before now old new (Err fault) → StepsReplay {T = Unit {0}} tells scan later before now old new (Err fault)
   steps_fault later fault plain x = record {
@@ -230,6 +256,16 @@ module _ (tells : Type 0) (scan mid : Scanned) (before now : FrameRunning) (old 
     bound = tt;
     ahead = λ t. tt;
     applies = λ t whole. tt;
+    any = λ t. record {
+      meets = λ may_change allows.
+          let its = found_meets t (Err fault) x may_change allows in
+          record { keeps = its.keeps; meets = λ id is. its.meets id (named_page fault id is) };
+      refuses = λ at is. absurd (plain at is);
+      log = λ at is. absurd (plain at is);
+      stands = tt;
+      loses_none = tt;
+      goes_on = tt;
+    };
     no_page = λ t whole. same_page fault (x.replays.no_page t whole);
     bad = λ t whole at is. absurd (plain at is);
     runs = λ t last highest wanted told pairs end apart c. tt;
@@ -245,6 +281,18 @@ module _ (tells : Type 0) (scan mid : Scanned) (before now : FrameRunning) (old 
     bound = tt;
     ahead = λ t. tt;
     applies = λ t whole. tt;
+    any = λ t. record {
+      meets = λ may_change allows. record { keeps = (found_meets t (Ok false) x may_change allows).keeps; meets = λ id is. absurd cc };
+      refuses = λ place is. (
+        sym (same_bad at place is) ∙ here,
+        subst (λ (o : Option Frame). CanBeRefused (record_found o)) (x.stands t) (x.replays.refuses refl),
+        λ none. x.still t (x.stands t ∙ none),
+      );
+      log = λ place is. x.replays.log t room;
+      stands = tt;
+      loses_none = tt;
+      goes_on = tt;
+    };
     no_page = λ t whole id is. absurd cc;
     bad = λ t whole place is. record {
       there = sym (same_bad at place is) ∙ here;
@@ -280,6 +328,17 @@ module _ (tells : Type 0) (scan mid : Scanned) (before now : FrameRunning) (old 
           log = x.replays.log t room;
           goes_on = x.replays.goes_on t room;
         };
+    any = λ t.
+        let one = x.there refl in
+        let a = subst (λ (o : Option Frame). Advances scan mid o) one.1 x.advances in
+        record {
+          meets = λ may_change allows. record { keeps = (found_meets t (Ok true) x may_change allows).keeps; meets = λ id is. absurd cc };
+          refuses = λ at is. absurd cc;
+          log = λ at is. absurd cc;
+          stands = (one.0, sym (x.stands t) ∙ one.1, (stays.place ∙ a.0, stays.next ∙ a.1, stays.is_over ∙ a.2));
+          loses_none = x.replays.log t room;
+          goes_on = x.replays.goes_on t room;
+        };
     no_page = λ t whole id is. absurd cc;
     bad = λ t whole at is. absurd cc;
     runs = λ t last highest wanted told pairs end apart c. next_goes t last highest wanted told pairs end apart c later stays x;
@@ -289,14 +348,23 @@ module _ (tells : Type 0) (scan mid : Scanned) (before now : FrameRunning) (old 
 
 -- nothing was done
 module _ (tells : Type 0) (scan : Scanned) (engine : FrameRunning) (old : History) (sound : tells → IsHistory old) where
-  steps_none : (fault : StoreFault) → NamesNoPage {T = Unit {0}} (Err fault) → (tells → (at : Place) → IsErrOf {T = Unit {0}} (Err fault) (BadRecord at) → IsBadNextIn scan engine old.world old.world at) → (tells → (last highest : ℕ) (wanted : Shape) (told : List ℕ → ℕ) (pairs : Pairs) (end : Place) → (scan.next ≡ end → ⊥) → CanReplayOn last highest wanted told pairs scan end engine old.world → (at : Place) → IsErrOf {T = Unit {0}} (Err fault) (BadRecord at) → ⊥)
+  steps_none : (fault : StoreFault) → NamesNoPage {T = Unit {0}} (Err fault) → ((at : Place) → IsErrOf {T = Unit {0}} (Err fault) (BadRecord at) → (at ≡ scan.next) × CanBeRefused (record_found (frame_ahead scan old.world)))
+      → (tells → (at : Place) → IsErrOf {T = Unit {0}} (Err fault) (BadRecord at) → IsBadNextIn scan engine old.world old.world at) → (tells → (last highest : ℕ) (wanted : Shape) (told : List ℕ → ℕ) (pairs : Pairs) (end : Place) → (scan.next ≡ end → ⊥) → CanReplayOn last highest wanted told pairs scan end engine old.world → (at : Place) → IsErrOf {T = Unit {0}} (Err fault) (BadRecord at) → ⊥)
       → StepsReplay {T = Unit {0}} tells scan scan engine engine old old (Err fault)
-  steps_none fault no_page bad no_bad = record {
+  steps_none fault no_page refuses bad no_bad = record {
     ready = ready_refused tells engine old fault sound;
     passes = tt;
     bound = tt;
     ahead = λ t. tt;
     applies = λ t whole. tt;
+    any = λ t. record {
+      meets = λ may_change allows. record { keeps = λ on. kept_same may_change (pages_in_frames engine.store old.world); meets = λ id is. absurd (no_page id is) };
+      refuses = λ at is. let its = refuses at is in (its.0, its.1, λ none. refl);
+      log = λ at is. λ seg low high. ([], sym (append-nil (contents old.world.log seg)));
+      stands = tt;
+      loses_none = tt;
+      goes_on = tt;
+    };
     no_page = λ t whole. no_page;
     bad = λ t whole. bad t;
     runs = λ t last highest wanted told pairs end apart c. tt;
@@ -306,10 +374,11 @@ module _ (tells : Type 0) (scan : Scanned) (engine : FrameRunning) (old : Histor
   }
 
   pub steps_unnumbered : StepsReplay {T = Unit {0}} tells scan scan engine engine old old (Err Memory)
-  steps_unnumbered = steps_none Memory (λ id is. absurd cc) (λ t at is. absurd cc) (λ t last highest wanted told pairs end apart c at is. absurd cc)
+  steps_unnumbered = steps_none Memory (λ id is. absurd cc) (λ at is. absurd cc) (λ t at is. absurd cc) (λ t last highest wanted told pairs end apart c at is. absurd cc)
 
   pub steps_past : (at : Place) → at ≡ scan.next → FRAME_END_MAX < scan.next.off → StepsReplay {T = Unit {0}} tells scan scan engine engine old old (Err (BadRecord at))
   steps_past at here past = steps_none (BadRecord at) (λ id is. absurd cc)
+      (λ place is. (sym (named at place is) ∙ here, subst (λ (o : Option Frame). CanBeRefused (record_found o)) (sym (none_fits scan old.world past)) tt))
       (λ t place is. record {
         there = sym (named at place is) ∙ here;
         found = None;
@@ -344,6 +413,7 @@ pub record ReplaysSoFar (tells : Type 0) (start scan : Scanned) (end : Place) (b
   pub sound : tells → (last highest : ℕ) (wanted : Shape) (told : List ℕ → ℕ) (pairs : Pairs) → CanReplayOn last highest wanted told pairs start end before old.world
       → CanReplayOn last highest wanted told pairs scan end now new.world × AllMoments old new (CrashHoldsMap (last + 1) highest wanted before.store.shape pairs)
   pub any : tells → start.is_over ≡ false → LogLeadsTo start.next end before.log old.world → HasWholePages before.store old.world → ReadsWhole start.next end scan before now old.world new.world
+  pub over_any : tells → start.is_over ≡ false → (leads : LogLeadsTo start.next end before.log old.world) → AppliesFront start.next end leads.frames scan before now old.world new.world
 
 -- what a crash leaves of a store that can be replayed
 rests_hold : (last highest : ℕ) (wanted : Shape) (told : List ℕ → ℕ) (pairs : Pairs) (from end : Place) (engine : FrameRunning) (s : State) (old : History) → IsHistory old → CanReplayIn last highest wanted told pairs from end engine s old.world
@@ -375,11 +445,18 @@ so_far_none tells scan end engine old sound bound from_one on clean there ahead 
   ahead = ahead;
   sound = λ t last highest wanted told pairs c. (c, rests_hold last highest wanted told pairs scan.next end engine c.state old (sound t) c.can);
   any = λ t over leads whole. record { reads = reads_none scan.next end (map_in engine old.world) scan engine.store.shape old.world engine.log refl over leads; pages = whole };
+  over_any = λ t over leads. front_none scan.next end scan engine old.world refl over leads;
 }
 
 -- memory ran out before
 pub none_applied : (from end : Place) (engine : FrameRunning) (w : World) → ReplaysWellFormed {T = Unit {0}} from end engine engine w w (Err Memory)
 none_applied from end engine w = record { applies = tt; no_page = λ id is. absurd cc; bad = λ at is. absurd cc }
+
+pub none_refused : (tells : Type 0) (from end : Place) (frames : List Frame) (engine : FrameRunning) (w : World) → ReplaysOverAny {T = Unit {0}} tells from end frames engine engine w w (Err Memory)
+none_refused tells from end frames engine w = record {
+  meets = λ may_change all. record { keeps = λ on. kept_same may_change (pages_in_frames engine.store w); meets = λ id is. absurd cc };
+  refuses = λ at is. absurd cc;
+}
 
 -- the next one was applied
 reads_next : (from end : Place) (base : Pairs) (scan later : Scanned) (before now : FrameRunning) (was old new : World) → now.store.shape ≡ before.store.shape → (scan.next ≡ end → ⊥) → AppliesFrameIn scan later before now old new
@@ -477,6 +554,11 @@ module _ (tells : Type 0) (start scan : Scanned) (end : Place) (before mid now :
           reads = reads_next start.next end (map_in before old.world) scan later mid now old.world h1.world h2.world x.ready.same.shape apart applied mid_is.reads;
           pages = applied.pages;
         };
+    over_any = λ t over leads.
+        let any = x.any t in
+        let one = any.stands in
+        front_more start.next end leads.frames scan before mid old.world h1.world (so.over_any t over leads) apart later now h2.world one.0 so.ready.same.shape one.1 one.2 any.loses_none any.goes_on
+        (λ may_change allows. (any.meets may_change allows).keeps x.ready.is_open);
   }
 
   pub so_far_fails : (later : Scanned) (fault : StoreFault) → StepsReplay {T = Unit {0}} tells scan later mid now h1 h2 (Err fault) → ReplaysScan {T = Unit {0}} tells start end before now old h2 (Err fault)
@@ -499,6 +581,22 @@ module _ (tells : Type 0) (start scan : Scanned) (end : Place) (before mid now :
           applies = tt;
           no_page = x.no_page t mid_is.pages;
           bad = λ at is. bad_next_in start.next end before mid scan old.world h1.world h2.world at so.ready.same.shape apart (x.bad t mid_is.pages at is) mid_is;
+        };
+    over_any = λ t over leads.
+        let front = so.over_any t over leads in
+        let any = x.any t in
+        let was = pages_in_frames before.store old.world in
+        let had = pages_in_frames mid.store h1.world in
+        let has = pages_in_frames now.store h2.world in
+        let frames = leads.frames in
+        record {
+          meets = λ may_change all.
+              let its = any.meets may_change (allows_next start.next end frames scan before mid old.world h1.world front apart may_change so.ready.same.shape all) in
+              meets_then may_change was had (front.keeps may_change all) tells before.store.shape has (now.store.is_open ≡ true) (λ id. IsErrOf {T = Unit {0}} (Err fault) (BadPage id))
+              (subst (λ (k : Shape). KeepsOrMeets tells may_change k had has (now.store.is_open ≡ true) (λ id. IsErrOf {T = Unit {0}} (Err fault) (BadPage id))) so.ready.same.shape its);
+          refuses = λ at is.
+              let its = any.refuses at is in
+              front_refused start.next end frames scan before mid old.world h1.world front apart h2.world at its.0 its.1 its.2 (any.log at is);
         };
   }
 
@@ -539,4 +637,8 @@ so_far_ends tells start scan end before now old new so at = record {
         no_page = λ id is. absurd cc;
         bad = λ place is. absurd cc;
       };
+  over_any = λ t over leads. record {
+    meets = λ may_change all. record { keeps = λ on. (so.over_any t over leads).keeps may_change all; meets = λ id is. absurd cc };
+    refuses = λ place is. absurd cc;
+  };
 }

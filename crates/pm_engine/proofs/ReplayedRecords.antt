@@ -1,9 +1,11 @@
 -- A record is applied again, after a checkpoint where what its operation may need is lacking.
-use Rattle.std.proofs.Common.{◌≡◌, ℕ, ◌+◌, ◌≤◌, ◌<◌, ◌^◌, Bool, true, List, Option, Some, Result, Ok, Err, sym, ap, subst, arith}
+use Rattle.std.proofs.Common.{◌≡◌, ℕ, ◌+◌, ◌≤◌, ◌<◌, ◌^◌, Bool, true, false, List, Option, Some, Result, Ok, Err, sym, ap, ◌∙◌, refl, subst, arith}
 use Rattle.std.specs.Prelude.{IfOk, OnOk, IsErr, IsErrOf}
+use Rattle.std.proofs.lemmas.Bool.{false≢true}
 use Rattle.std.proofs.lemmas.Result.{on_ok_weaker}
 use Rattle.pm_types.specs.declared.fault.StoreFault.{StoreFault}
 use Rattle.pm_types.specs.declared.fault.StoreFault.TheVariants.{BadPage}
+use Rattle.pm_types.specs.declared.page_id.PageId.{PageId}
 use Rattle.pm_types.specs.declared.place.Place.{Place}
 use Rattle.pm_types.specs.declared.shape.Shape.{Shape}
 use Rattle.pm_frame.specs.Frames.{Frame}
@@ -15,6 +17,7 @@ use Rattle.pm_records.specs.LogFiles.{contents}
 use Rattle.pm_records.specs.Records.{Record}
 use Rattle.pm_segments.specs.Ends.{LogEnd}
 use Rattle.pm_segments.proofs.GrownLog.{extends_then}
+use Rattle.pm_core.specs.BasePages.{Partitions}
 use Rattle.pm_core.specs.Held.{AllWellFormed}
 use Rattle.pm_core.specs.Replays.{all_replayed}
 use Rattle.pm_core.specs.States.{State}
@@ -26,9 +29,12 @@ use Rattle.pm_engine.specs.FrameEngineReplays.{HasWholePages, IsReplayingIn, Goe
 use Rattle.pm_engine.specs.FrameEngines.{FrameRunning, map_in}
 use Rattle.pm_engine.specs.FrameReplayCheckpoints.{ChecksInFrames, AppliesToWhole, ReplaysRecordFrom, ReplaysRecord, applied_once}
 use Rattle.pm_engine.specs.FrameStores.{pages_in_frames}
+use Rattle.pm_engine.specs.MetPages.{AllowsRecord, KeepsPagesBut, KeepsOrMeets}
 use Rattle.pm_engine.specs.RunningStores.{number_of}
-use Rattle.pm_engine.specs.Replays.{AreLasting, CrashHoldsMap, Replays}
+use Rattle.pm_engine.specs.Replays.{AreLasting, CrashHoldsMap, Replays, CanBeRefused}
 use Rattle.pm_engine.specs.RunningStores.{HasSegmentsFor}
+use Rattle.pm_engine.proofs.MetPages.{meets_then}
+use Rattle.pm_engine.proofs.OwnPages.{kept_equal}
 use Rattle.pm_engine.proofs.ReadyEngines.{ready_applied, ready_err, ready_then}
 use Rattle.pm_engine.proofs.Results.{on_err}
 use Rattle.pm_engine.proofs.RunningLines.{map_moments}
@@ -58,6 +64,36 @@ once_no_page (Err fault) none id is = none id (same_fault fault (BadPage id) is)
     same_fault : (one other : StoreFault) → IsErrOf {T = Bool} (Err one) other → IsErrOf {T = Applied} (Err one) other
     same_fault one other is = let same : one ≡ other = cc is in ap (λ (f : StoreFault). Err f) same
 
+-- a page that is named then was named before
+once_page : (answer : Result Applied StoreFault) (id : PageId) → IsErrOf (applied_once answer) (BadPage id) → IsErrOf answer (BadPage id)
+once_page (Ok applied.Done) id is = absurd cc
+once_page (Ok applied.Bad) id is = absurd cc
+once_page (Ok (applied.Halted halt)) id is = absurd cc
+once_page (Err fault) id is = let same : fault ≡ BadPage id = cc is in ap (λ (f : StoreFault). Err f) same
+
+-- a record that can't be applied was refused
+once_refused : (answer : Result Applied StoreFault) → applied_once answer ≡ Ok false → answer ≡ Ok applied.Bad
+once_refused (Ok applied.Done) is = absurd cc
+once_refused (Ok applied.Bad) is = refl
+once_refused (Ok (applied.Halted halt)) is = absurd cc
+once_refused (Err fault) is = absurd cc
+
+-- what is said of any store of one answer is said of another that names no other pages
+meets_once : (tells : Type 0) (may_change : ℕ → Bool) (shape : Shape) (old new : Partitions) (goes_on : Type 0) (answer : Result Applied StoreFault) → KeepsOrMeets tells may_change shape old new goes_on (λ id. IsErrOf answer (BadPage id))
+    → KeepsOrMeets tells may_change shape old new goes_on (λ id. IsErrOf (applied_once answer) (BadPage id))
+meets_once tells may_change shape old new goes_on answer x = record { keeps = x.keeps; meets = λ id bad. x.meets id (once_page answer id bad) }
+
+-- ---- nothing was changed, and the host said nothing
+
+pub quiet_keeps : (tells : Type 0) (engine : FrameRunning) (old new : World) → (tells → new ≡ old) → tells → (may_change : ℕ → Bool) → KeepsPagesBut may_change (pages_in_frames engine.store old) (pages_in_frames engine.store new)
+quiet_keeps tells engine old new same t may_change = kept_equal may_change (pages_in_frames engine.store old) (pages_in_frames engine.store new) (ap (λ (w : World). pages_in_frames engine.store w) (same t))
+
+pub quiet_meets : (tells : Type 0) (found : Option Record) (engine : FrameRunning) (old new : World) (result : Result Bool StoreFault) → (tells → new ≡ old) → NamesNoPage result → tells → (may_change : ℕ → Bool) → AllowsRecord may_change engine.store.shape found
+    → KeepsOrMeets tells may_change engine.store.shape (pages_in_frames engine.store old) (pages_in_frames engine.store new) (engine.store.is_open ≡ true) (λ id. IsErrOf result (BadPage id))
+quiet_meets tells found engine old new result same none t may_change allows = record { keeps = λ on. quiet_keeps tells engine old new same t may_change; meets = λ id bad. absurd (none id bad) }
+
+-- ---- where it may be applied
+
 -- where it may be applied to the pages, they may be applied to afterwards
 whole_after : (found : Option Record) (before now : FrameRunning) (old new : World) (result : Result Bool StoreFault) → OnOk result (now.store.is_open ≡ true) → (now.store.is_open ≡ true → HasWholePages now.store new)
     → IfOk result (λ can. Replays can before.store.shape found (map_in before old) (map_in now new)) → IfOk result (AppliesToWhole found before now old new)
@@ -69,8 +105,11 @@ whole_after found before now old new (Err fault) on pages applies = tt
 module _ (tells : Type 0) (from : Place) (found : Option Record) (before now : FrameRunning) (old new : History) (goes : GoesOnInFrames tells before now old new) where
   pub record_alone : (result : Result Bool StoreFault) → OnOk result (now.store.is_open ≡ true)
       → (tells → AllWellFormed before.store.shape (pages_in_frames before.store old.world) → IfOk result (λ can. Replays can before.store.shape found (map_in before old.world) (map_in now new.world)))
-      → (tells → AllWellFormed before.store.shape (pages_in_frames before.store old.world) → NamesNoPage result) → ReplaysRecord tells from found before now old new result
-  record_alone result opens applies none = record {
+      → (tells → AllWellFormed before.store.shape (pages_in_frames before.store old.world) → NamesNoPage result)
+      → (tells → (may_change : ℕ → Bool) → AllowsRecord may_change before.store.shape found
+      → KeepsOrMeets tells may_change before.store.shape (pages_in_frames before.store old.world) (pages_in_frames now.store new.world) (now.store.is_open ≡ true) (λ id. IsErrOf result (BadPage id)))
+      → (result ≡ Ok false → CanBeRefused found) → ReplaysRecord tells from found before now old new result
+  record_alone result opens applies none meets refuses = record {
     ready = ready_applied tells before now old new result goes opens;
     rises = on_ok_weaker result (λ (on : now.store.is_open ≡ true). omega (arith, goes.rises on)) opens;
     number = on_ok_weaker result (λ (on : now.store.is_open ≡ true). omega (arith, ap (λ (k : marked.Kept). number_of k.mark) goes.ckpt)) opens;
@@ -78,6 +117,8 @@ module _ (tells : Type 0) (from : Place) (found : Option Record) (before now : F
     log = λ t segments. on_ok_weaker result (λ (on : now.store.is_open ≡ true). λ seg low high. (goes.grew t (omega (arith, segments)) on).begins seg high) opens;
     whole = λ t whole. whole_after found before now old.world new.world result opens (λ on. goes.whole t on whole) (applies t whole.well_formed);
     no_page = λ t whole. none t whole.well_formed;
+    meets = meets;
+    refuses = refuses;
     runs = λ t wanted told pairs s left is lasts makes segments numbered. by t wanted told pairs s left is lasts segments result opens (applies t is.runs.holds.well_formed);
     crash = λ t wanted told pairs s left is lasts makes segments numbered.
         map_moments (before.log.end.seg + 33) (number_of before.ckpt.mark) (before.log.end.seg + 34) (number_of before.ckpt.mark + 1) wanted before.store.shape pairs old new (omega arith) (omega arith)
@@ -97,8 +138,19 @@ record_once tells from found before now old new answer x =
     record_alone tells from found before now old new x.goes_on (applied_once answer) (once_open answer (now.store.is_open ≡ true) x.is_open)
     (λ t well. once_applies answer before.store.shape found (map_in before old.world) (map_in now new.world) (x.over_well_formed t well).applies)
     (λ t well. once_no_page answer (x.over_well_formed t well).no_page)
+    (λ t may_change allows. meets_once tells may_change before.store.shape (pages_in_frames before.store old.world) (pages_in_frames now.store new.world) (now.store.is_open ≡ true) answer (x.meets t may_change allows))
+    (λ is. x.refuses (once_refused answer is))
 
 -- ---- after a checkpoint
+
+-- from a store that kept its pages, and has the same shape
+meets_after : (tells : Type 0) (found : Option Record) (before mid now : FrameRunning) (w0 w1 w2 : World) → mid.store.shape ≡ before.store.shape → (may_change : ℕ → Bool) → KeepsPagesBut may_change (pages_in_frames before.store w0) (pages_in_frames mid.store w1) → (result : Result Bool StoreFault)
+    → AllowsRecord may_change before.store.shape found
+    → (AllowsRecord may_change mid.store.shape found → KeepsOrMeets tells may_change mid.store.shape (pages_in_frames mid.store w1) (pages_in_frames now.store w2) (now.store.is_open ≡ true) (λ id. IsErrOf result (BadPage id)))
+    → KeepsOrMeets tells may_change before.store.shape (pages_in_frames before.store w0) (pages_in_frames now.store w2) (now.store.is_open ≡ true) (λ id. IsErrOf result (BadPage id))
+meets_after tells found before mid now w0 w1 w2 shape may_change kept result allows meets =
+    meets_then may_change (pages_in_frames before.store w0) (pages_in_frames mid.store w1) kept tells before.store.shape (pages_in_frames now.store w2) (now.store.is_open ≡ true) (λ id. IsErrOf result (BadPage id))
+    (subst (λ (k : Shape). AllowsRecord may_change k found → KeepsOrMeets tells may_change k (pages_in_frames mid.store w1) (pages_in_frames now.store w2) (now.store.is_open ≡ true) (λ id. IsErrOf result (BadPage id))) shape meets allows)
 
 module _ (tells : Type 0) (from : Place) (found : Option Record) (before mid now : FrameRunning) (h0 h1 h2 : History) (sound : tells → IsHistory h1) where
   module _ (checks : ChecksInFrames {T = Unit {0}} {E = StoreFault} tells from before mid h0 h1 (Ok tt)) (goes : GoesOnInFrames tells mid now h1 h2) where
@@ -107,8 +159,11 @@ module _ (tells : Type 0) (from : Place) (found : Option Record) (before mid now
 
     record_checked : (result : Result Bool StoreFault) → OnOk result (now.store.is_open ≡ true)
         → (tells → AllWellFormed mid.store.shape (pages_in_frames mid.store h1.world) → IfOk result (λ can. Replays can mid.store.shape found (map_in mid h1.world) (map_in now h2.world)))
-        → (tells → AllWellFormed mid.store.shape (pages_in_frames mid.store h1.world) → NamesNoPage result) → ReplaysRecord tells from found before now h0 h2 result
-    record_checked result opens applies none = record {
+        → (tells → AllWellFormed mid.store.shape (pages_in_frames mid.store h1.world) → NamesNoPage result)
+        → (tells → (may_change : ℕ → Bool) → AllowsRecord may_change mid.store.shape found
+        → KeepsOrMeets tells may_change mid.store.shape (pages_in_frames mid.store h1.world) (pages_in_frames now.store h2.world) (now.store.is_open ≡ true) (λ id. IsErrOf result (BadPage id)))
+        → (result ≡ Ok false → CanBeRefused found) → ReplaysRecord tells from found before now h0 h2 result
+    record_checked result opens applies none meets refuses = record {
       ready = ready_then tells before mid now h0 h1 h2 (Ok tt) result sound checks.ready (ready_applied tells mid now h1 h2 result goes opens);
       rises = on_ok_weaker result (λ (on : now.store.is_open ≡ true). omega (arith, goes.rises on, checks.rises)) opens;
       number = on_ok_weaker result (λ (on : now.store.is_open ≡ true). omega (arith, ap (λ (k : marked.Kept). number_of k.mark) goes.ckpt, checks.number)) opens;
@@ -123,6 +178,9 @@ module _ (tells : Type 0) (from : Place) (found : Option Record) (before mid now
           whole_after found before now h0.world h2.world result opens (λ on. goes.whole t on kept.pages)
           (as_before result checks.ready.same.shape kept.map (applies t kept.pages.well_formed));
       no_page = λ t whole. none t (checks.whole t whole).pages.well_formed;
+      meets = λ t may_change allows.
+          meets_after tells found before mid now h0.world h1.world h2.world checks.ready.same.shape may_change (checks.pages t may_change) result allows (meets t may_change);
+      refuses = refuses;
       runs = λ t wanted told pairs s left is lasts makes segments numbered. by t wanted told pairs s left is lasts makes segments numbered result opens (applies t);
       crash = λ t wanted told pairs s left is lasts makes segments numbered.
           let P : World → Type 0 = CrashHoldsMap (before.log.end.seg + 34) (number_of before.ckpt.mark + 1) wanted before.store.shape pairs in
@@ -154,6 +212,10 @@ module _ (tells : Type 0) (from : Place) (found : Option Record) (before mid now
             }
         by t wanted told pairs s left is lasts makes segments numbered (Err fault) on app = tt
 
+  err_not_ok : (r : Result Bool StoreFault) (can : Bool) → IsErr r → r ≡ Ok can → ⊥
+  err_not_ok (Ok other) can err is = cc err
+  err_not_ok (Err e) can err is = cc is
+
   -- it couldn't be made
   pub record_unchecked : (fault : StoreFault) (result : Result Bool StoreFault) → IsErr result → NamesNoPage result → ChecksInFrames {T = Unit {0}} {E = StoreFault} tells from before mid h0 h1 (Err fault) → ReplaysRecord tells from found before mid h0 h1 result
   record_unchecked fault result err none checks = record {
@@ -164,6 +226,8 @@ module _ (tells : Type 0) (from : Place) (found : Option Record) (before mid now
     log = λ t segments. on_err result err (KeepsLogFrom from.seg before.log.end.seg h0.world h1.world);
     whole = λ t whole. unapplied result err;
     no_page = λ t whole. none;
+    meets = λ t may_change allows. record { keeps = λ on. absurd (false≢true (sym checks.closed ∙ on)); meets = λ id bad. absurd (none id bad) };
+    refuses = λ is. absurd (err_not_ok result false err is);
     runs = λ t wanted told pairs s left is lasts makes segments numbered. by wanted told pairs left result err;
     crash = λ t wanted told pairs s left is lasts makes segments numbered.
         map_moments (before.log.end.seg + 2) (number_of before.ckpt.mark + 1) (before.log.end.seg + 34) (number_of before.ckpt.mark + 1) wanted before.store.shape pairs h0 h1 (omega arith) (omega arith)
@@ -185,6 +249,8 @@ record_after tells from found before mid now h0 h1 h2 sound checks answer x =
     record_checked tells from found before mid now h0 h1 h2 sound checks x.goes_on (applied_once answer) (once_open answer (now.store.is_open ≡ true) x.is_open)
     (λ t well. once_applies answer mid.store.shape found (map_in mid h1.world) (map_in now h2.world) (x.over_well_formed t well).applies)
     (λ t well. once_no_page answer (x.over_well_formed t well).no_page)
+    (λ t may_change allows. meets_once tells may_change mid.store.shape (pages_in_frames mid.store h1.world) (pages_in_frames now.store h2.world) (now.store.is_open ≡ true) answer (x.meets t may_change allows))
+    (λ is. x.refuses (once_refused answer is))
 
 -- ---- where it halted before
 
@@ -199,8 +265,9 @@ module _ (tells : Type 0) (from : Place) (found : Option Record) (before mid now
   room_is : (n : ℕ) → HasSegmentsFor before.log n → HasSegmentsFor mid.log n
   room_is n segments = subst (λ (l : LogEnd). HasSegmentsFor l n) (sym log_is) segments
 
-  pub record_halted : (result : Result Bool StoreFault) → ReplaysRecord tells from found mid now h1 h2 result → ReplaysRecord tells from found before now h0 h2 result
-  record_halted result x = record {
+  pub record_halted : (result : Result Bool StoreFault) → ReplaysRecord tells from found mid now h1 h2 result
+      → (tells → (may_change : ℕ → Bool) → AllowsRecord may_change before.store.shape found → KeepsPagesBut may_change (pages_in_frames before.store h0.world) (pages_in_frames mid.store h1.world)) → ReplaysRecord tells from found before now h0 h2 result
+  record_halted result x keeps = record {
     ready = ready_then {T = Unit {0}} {E = StoreFault} tells before mid now h0 h1 h2 (Ok tt) result sound (ready_applied tells before mid h0 h1 (Ok tt) goes on) x.ready;
     rises = on_ok_weaker result (λ (le : now.log.end.seg ≤ mid.log.end.seg + 33). omega (arith, le, end_is)) x.rises;
     number = on_ok_weaker result (λ (le : number_of now.ckpt.mark ≤ number_of mid.ckpt.mark + 1). omega (arith, le, number_is)) x.number;
@@ -208,6 +275,8 @@ module _ (tells : Type 0) (from : Place) (found : Option Record) (before mid now
     log = λ t segments. subst (λ (q : ℕ × World). OnOk result (KeepsLogFrom from.seg q.0 q.1 h2.world)) {x = (mid.log.end.seg, h1.world)} {y = (before.log.end.seg, h0.world)} (λ i. (end_is i, world_is t i)) (x.log t (room_is 33 segments));
     whole = λ t whole. whole_then t whole result (x.whole t (goes.whole t on whole));
     no_page = λ t whole. x.no_page t (goes.whole t on whole);
+    meets = λ t may_change allows. meets_after tells found before mid now h0.world h1.world h2.world goes.same.shape may_change (keeps t may_change allows) result allows (x.meets t may_change);
+    refuses = x.refuses;
     runs = λ t wanted told pairs s left is lasts makes segments numbered.
         let first = goes.runs t on wanted told pairs s is (omega (arith, segments)) in
         by t is.runs.holds.well_formed wanted told pairs left result

@@ -60,10 +60,11 @@ use Rattle.pm_redo.proofs.Restored.{left_of}
 use Rattle.pm_redo.proofs.RestoringSteps.{one_end}
 use Rattle.pm_redo.proofs.SoundStores.{no_bad_record}
 use Rattle.pm_engine.specs.AppendRuns.{append_all_steps}
+use Rattle.pm_engine.specs.FrameOpenings.{HasRecords}
 use Rattle.pm_engine.specs.OpenedStores.{IsRestoredStore}
 use Rattle.pm_engine.specs.RunningStores.{number_of}
 use Rattle.pm_engine.specs.Openings.{loaded_base, restored_base, IsBadOver, IsRestoredHolding, HasFewNumbers, opened_last, opened_number, IsPlainOpen, ComparesOpening}
-use Rattle.pm_engine.specs.Replays.{CrashHoldsMap, IsBadReplay, LogLeadsTo}
+use Rattle.pm_engine.specs.Replays.{CrashHoldsMap, IsBadReplay, IsRefusedReplay, LogLeadsTo}
 use Rattle.pm_engine.specs.RunningStores.{ended_with}
 use Rattle.pm_engine.proofs.LoadedStores.{HasMark}
 use Rattle.pm_engine.proofs.OpenedStores.{restored_store, ended_mark}
@@ -140,6 +141,18 @@ bad_stands shape base log other from end new at bad stand = record {
   bad = bad.bad;
 }
 
+-- and a record that is refused
+pub refused_stands : (log other : ℕ → List ℕ) (from end : Place) (new : World) (at : Place) (refused : IsRefusedReplay log from end new at) → HasFrames all_frames other from (refused.before ++ refused.rest) → IsRefusedReplay other from end new at
+refused_stands log other from end new at x stand = record {
+  before = x.before;
+  rest = x.rest;
+  stand = stand;
+  to = x.to;
+  there = x.there;
+  not_end = x.not_end;
+  refused = x.refused;
+}
+
 -- ---- a log that was cut
 
 -- the segment of its end is cut there
@@ -185,7 +198,7 @@ ends_before p end f fs to same = elim (bool_cases (enters_next p f)) [
 ]
 
 -- frames that lead to its end stand still
-run_left : (end : Place) (w : World) (p : Place) (fs : List Frame) → length (contents (world_after cut_steps end w).log end.seg) ≡ end.off → after_frames p fs ≡ end → HasFrames all_frames (contents w.log) p fs → HasFrames all_frames (contents (world_after cut_steps end w).log) p fs
+pub run_left : (end : Place) (w : World) (p : Place) (fs : List Frame) → length (contents (world_after cut_steps end w).log end.seg) ≡ end.off → after_frames p fs ≡ end → HasFrames all_frames (contents w.log) p fs → HasFrames all_frames (contents (world_after cut_steps end w).log) p fs
 run_left end w p [] long to run = tt
 run_left end w p (f ∷ fs) long to run = (here, run.1, run_left end w (next_place p f) fs long to run.2)
   where
@@ -199,7 +212,7 @@ run_left end w p (f ∷ fs) long to run = (here, run.1, run_left end w (next_pla
     ]
 
 -- once it is restored its frames lead to its end
-pub cut_leads : (shape : Shape) (checkpoint : Checkpoint) (old mid : World) (base : Base) → IsFit shape base → IsBase checkpoint shape (contents old.log) mid base → OnlyCutsLog checkpoint old mid → LogLeadsTo base.replay base.log_end base.log mid
+abbrev pub cut_leads : (shape : Shape) (checkpoint : Checkpoint) (old mid : World) (base : Base) → IsFit shape base → IsBase checkpoint shape (contents old.log) mid base → OnlyCutsLog checkpoint old mid → LogLeadsTo base.replay base.log_end base.log mid
 cut_leads shape checkpoint old mid base fit is only =
     let fs = is.ends.frames in
     let to : after_frames base.replay fs ≡ base.log_end = sym is.ends.ends in
@@ -213,6 +226,15 @@ cut_leads shape checkpoint old mid base fit is only =
       to = to;
       behind = omega (arith, ap (λ (p : Place). p.seg) fit.ends);
     }
+
+-- and they stood in the log that it had
+pub opened_records : (shape : Shape) (checkpoint : Checkpoint) (old mid : World) (base : Base) → (is : IsBase checkpoint shape (contents old.log) mid base) → HasRecords checkpoint old is.ends.frames
+opened_records shape checkpoint old mid base is = record {
+  end = base.log_end;
+  ends = subst (λ (p : Place). LogEndsAt (contents old.log) p base.log_end) is.replay is.ends;
+  stand = subst (λ (p : Place). HasFrames all_frames (contents old.log) p is.ends.frames) is.replay is.ends.is_log.run;
+  to = ap (λ (p : Place). after_frames p is.ends.frames) (sym is.replay) ∙ sym is.ends.ends;
+}
 
 -- each segment had what it has once the store is restored, and maybe more
 had_more : (shape : Shape) (checkpoint : Checkpoint) (old mid : World) (base : Base) → IsBase checkpoint shape (contents old.log) mid base → OnlyCutsLog checkpoint old mid → (seg : ℕ) → Extends (contents mid.log seg) (contents old.log seg)
@@ -229,6 +251,15 @@ bad_uncut shape checkpoint old mid new base at is only bad =
     run_stays (contents mid.log) (contents old.log) base.replay all base.log_end.seg (λ seg le. had_more shape checkpoint old mid base is only seg) (omega (arith, ap (λ (p : Place). p.seg) bad.to)) bad.stand in
     subst (λ (q : Partitions × Place). IsBadOver shape q.0 (contents old.log) q.1 base.log_end new at) {x = (loaded_base base.mark mid, base.replay)} {y = (restored_base checkpoint mid, replay_of checkpoint)} (λ i. (restored_is checkpoint base.mark mid is.mark i, is.replay i))
     (bad_stands shape (pairs_in shape.partitions (loaded_base base.mark mid)) (contents mid.log) (contents old.log) base.replay base.log_end new at bad stand)
+
+-- the same of a record that is refused
+pub refused_uncut : (shape : Shape) (checkpoint : Checkpoint) (old mid new : World) (base : Base) (at : Place) → IsBase checkpoint shape (contents old.log) mid base → OnlyCutsLog checkpoint old mid
+    → IsRefusedReplay (contents mid.log) base.replay base.log_end new at → IsRefusedReplay (contents old.log) (replay_of checkpoint) base.log_end new at
+refused_uncut shape checkpoint old mid new base at is only x =
+    let all : List Frame = x.before ++ x.rest in
+    let stand : HasFrames all_frames (contents old.log) base.replay all =
+    run_stays (contents mid.log) (contents old.log) base.replay all base.log_end.seg (λ seg le. had_more shape checkpoint old mid base is only seg) (omega (arith, ap (λ (p : Place). p.seg) x.to)) x.stand in
+    subst (λ (p : Place). IsRefusedReplay (contents old.log) p base.log_end new at) is.replay (refused_stands (contents mid.log) (contents old.log) base.replay base.log_end new at x stand)
 
 pub load_moments : (last highest : ℕ) (wanted : Shape) (told : List ℕ → ℕ) (shape : Shape) (pairs : Pairs) (log : LogEnd) (mark : Option Mark) (s : State) (old new : History) → IsRestoredHolding last highest wanted told shape pairs log mark s old.world
     → AllMoments old new (DoesPrefix (append_all_steps log (restart_frame shape ∷ [])) log.end old.world) → AllMoments old new (CrashHoldsMap (last + 1) highest wanted shape pairs)

@@ -1,6 +1,7 @@
 -- The lines of a round over page frames as lines that a store does while it runs, once what they handed over is appended.
 use Rattle.std.proofs.Common.{◌≡◌, ℕ, zero, suc, ◌+◌, ◌*◌, ◌<◌, ◌≤◌, true, List, [], ◌∷◌, ◌++◌, length, take, drop, Option, Some, None, Result, Ok, Err, refl, sym, ap, ◌∙◌, subst, arith}
-use Rattle.std.specs.Prelude.{◌↔◌, if◌then◌else◌}
+use Rattle.std.specs.Prelude.{◌↔◌, Bool, if◌then◌else◌}
+use Rattle.std.specs.List.{All}
 use Rattle.std.proofs.lemmas.Bool.{false≢true}
 use Rattle.pm_types.specs.declared.fault.PageFault.TheVariants.{BadPage}
 use Rattle.pm_types.specs.declared.page_id.PageId.{PageId}
@@ -43,6 +44,7 @@ use Rattle.pm_engine.specs.FramedStores.{HasStore, StepsStore}
 use Rattle.pm_engine.specs.FrameHosts.{RunsRound, SendsOutbox, ChangesNoWorld, may_go_on}
 use Rattle.pm_engine.specs.FrameRounds.{HasDone, LeavesRound, EvaluatesLines, lines_from}
 use Rattle.pm_engine.specs.FrameStores.{FrameStoreView, pages_in_frames, IsDirtyPage, HasCleanPages, shut}
+use Rattle.pm_engine.specs.MetPages.{AllowsLine, KeepsPagesBut, MeetsBadPage}
 use Rattle.pm_engine.specs.OutboxLogs.{SpellOperationRecords, SpellNumbers, HasNumberRoom, records_of, numbers_of}
 use Rattle.pm_engine.specs.RunningStores.{number_of}
 use Rattle.pm_engine.specs.RunningLines.{HasRun, CrashHoldsLines}
@@ -53,9 +55,11 @@ use Rattle.pm_engine.proofs.FramedStores.{lines_step}
 use Rattle.pm_engine.proofs.HandedOperations.{HandsLines, lines_hand}
 use Rattle.pm_engine.proofs.LentReaders.{clean_there}
 use Rattle.pm_engine.proofs.LineChains.{all_done, all_few}
+use Rattle.pm_engine.proofs.MetPages.{done_keeps}
 use Rattle.pm_engine.proofs.OperationSteps.{machine_steps}
 use Rattle.pm_engine.proofs.GrownLogs.{all_rises, all_size, all_from}
 use Rattle.pm_engine.proofs.RunningLines.{crash_further}
+use Rattle.pm_engine.proofs.ToldFaults.{met_told}
 
 -- ---- lists
 
@@ -136,6 +140,16 @@ module _ {Q R : Type 0} (tells rtells : Type 0) (history : R → History) (state
 
     pub no_bad_page : AllWellFormed before.store.shape (pages_in_frames before.store h0.world) → (id : PageId) → end.stop ≡ Some (Faulted (BadPage id)) → ⊥
     no_bad_page well = round.answers.sound (told t) (well_there well)
+
+    -- a page that couldn't be used is one that a line met
+    meets_there : (may_change : ℕ → Bool) → All (AllowsLine may_change before.store.shape) lines → (id : PageId) → end.stop ≡ Some (Faulted (BadPage id))
+        → MeetsBadPage tells may_change before.store.shape (pages_in_frames before.store h0.world) id
+    meets_there may_change allows id is =
+        let met : MeetsBadPage rtells may_change start.stripe.shape (frame_pages history start) id =
+        round.answers.meets (told t) may_change (subst (λ (s : Shape). All (AllowsLine may_change s) lines) (sym round.began.shape) allows) id is in
+        met_told rtells tells told may_change before.store.shape (pages_in_frames before.store h0.world) id
+        (subst (λ (p : Shape × Partitions). MeetsBadPage rtells may_change p.0 p.1 id) {x = (start.stripe.shape, frame_pages history start)} {y = (before.store.shape, pages_in_frames before.store h0.world)}
+        (λ i. (round.began.shape i, round.began.pages (told t) i)) met)
 
     numbers_are : AllWellFormed before.store.shape (pages_in_frames before.store h0.world) → numbers_of operations ≡ accepted before.store.shape (first + from) xs (map_in before h0.world)
     numbers_are well =
@@ -311,6 +325,12 @@ module _ {Q R : Type 0} (tells rtells : Type 0) (history : R → History) (state
             subst (λ (p : Shape × Partitions × Partitions). EvaluatesLines p.0 xs p.1 p.2 was now) {x = (start.stripe.shape, frame_pages history start, frame_pages history upto)} {y = (before.store.shape, pages_in_frames before.store h0.world, pages_in_frames after h2.world)}
             (λ i. (round.began.shape i, round.began.pages (told t) i, frames_after i)) (up.done.evaluates (told t) (well_there t well))
 
+        keeps_all : (may_change : ℕ → Bool) → All (AllowsLine may_change before.store.shape) xs → KeepsPagesBut may_change (pages_in_frames before.store h0.world) (pages_in_frames after h2.world)
+        keeps_all may_change allows =
+            subst (λ (p : Partitions × Partitions). KeepsPagesBut may_change p.0 p.1) {x = (frame_pages history start, frame_pages history upto)} {y = (pages_in_frames before.store h0.world, pages_in_frames after h2.world)}
+            (λ i. (round.began.pages (told t) i, frames_after i))
+            (done_keeps rtells (told t) history may_change (first + from) xs start upto was now up.done.does (subst (λ (s : Shape). All (AllowsLine may_change s) xs) (sym round.began.shape) allows))
+
         staying_then : (id : PageId) → IsStaying (kept_by upto) id ↔ IsDirtyPage after id
         staying_then id =
             subst (λ (p : Kept × Kept). IsStaying p.0 id ↔ IsStaying p.1 id) {x = (kept_by round.finish, kept mid.stripe mid.seat)} {y = (kept_by upto, kept after.stripe after.seat)}
@@ -362,4 +382,6 @@ module _ {Q R : Type 0} (tells rtells : Type 0) (history : R → History) (state
       crash = λ t wanted says low pairs done has segments. round_crash h2 (Ok tt) log appends t wanted says low pairs done has segments;
       disk = round_disk h2 (Ok tt) log appends;
       sound = λ t well. no_bad_page t well;
+      keeps = λ t on may_change allows. keeps_all t on may_change allows;
+      meets = λ t may_change allows. meets_there t may_change allows;
     }

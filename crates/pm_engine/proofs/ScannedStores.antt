@@ -4,6 +4,7 @@ use Rattle.std.specs.Prelude.{IfSome, Result, Ok, Err, IsErrOf, OnOk, OnErr}
 use Rattle.std.proofs.Math.Nat.{mod-one}
 use Rattle.pm_types.specs.declared.fault.PageFault.{PageFault}
 use Rattle.pm_types.specs.declared.fault.PageFault.TheVariants.{Failed, BadPage}
+use Rattle.pm_types.specs.declared.shape.Shape.{Shape}
 use Rattle.pm_disk.specs.Files.{File}
 use Rattle.pm_disk.specs.Moments.{History}
 use Rattle.pm_disk.specs.States.{DeviceState}
@@ -31,10 +32,12 @@ use Rattle.pm_engine.specs.FrameHosts.{ScansStore, count_after, may_go_on}
 use Rattle.pm_engine.specs.FrameRounds.{LeavesRound, AnswersRound, HasDone}
 use Rattle.pm_engine.specs.FrameScans.{LooksUp, OwnsAll, HasScanCause, ReadsNoBadPage, may_go_on_after}
 use Rattle.pm_engine.specs.FrameStores.{FrameStoreView, pages_in_frames, HasCleanPages, IsOpenStore, IsFrameStore, dirty_count}
+use Rattle.pm_engine.specs.MetPages.{MeetsBadPage, MeetsInScan}
 use Rattle.pm_engine.proofs.FrameHosts.{bound_shape, bound_began, after_round, ended, runs_round}
 use Rattle.pm_engine.proofs.LentReaders.{clean_there}
 use Rattle.pm_engine.proofs.QuietRounds.{round_counted}
 use Rattle.pm_engine.proofs.Replied.{with_none}
+use Rattle.pm_engine.proofs.ToldFaults.{met_told}
 
 -- ---- a scan as a round without lines
 
@@ -84,8 +87,8 @@ module _ {Q R : Type 0} (tells : Type 0) (history : R → History) (state : R �
     leaves_by (Err (scan.Faulted fault)) = record { before = c; done = none_done; same = looks.same; bound = looks.between.bound; outbox = refl }
 
     pub as_round : (result : Result (Unit {0}) ScanStop) → HasScanCause state b c result → (tells → AllWellFormed b.stripe.shape (frame_pages history b) → ReadsNoBadPage result)
-        → AnswersRound tells history state 0 0 [] b c was was (end_by result)
-    as_round result cause sound = record {
+        → (tells → (may_change : ℕ → Bool) → MeetsInScan tells may_change b.stripe.shape (frame_pages history b) result) → AnswersRound tells history state 0 0 [] b c was was (end_by result)
+    as_round result cause sound meets = record {
       inside = omega arith;
       all = λ e. refl;
       room = omega arith;
@@ -93,6 +96,7 @@ module _ {Q R : Type 0} (tells : Type 0) (history : R → History) (state : R �
       leaves = leaves_by result;
       cause = λ e. cause (fault_by result Failed e);
       sound = λ t all id e. sound t all id (fault_by result (BadPage id) e);
+      meets = λ t changed allows id e. meets t changed id (fault_by result (BadPage id) e);
     }
 
   -- ---- a store is bound
@@ -109,6 +113,7 @@ module _ {Q R : Type 0} (tells : Type 0) (history : R → History) (state : R �
 
     module _ (c : Bound Q R) (was now : ReplyList) (looks : LooksUp tells history state b c) (cache : ℕ) (result : Result (Unit {0}) ScanStop) (cause : HasScanCause state b c result)
         (sound : tells → AllWellFormed old.shape (frame_pages history b) → ReadsNoBadPage result)
+        (meets : tells → (may_change : ℕ → Bool) → MeetsInScan tells may_change old.shape (frame_pages history b) result)
         (s : Stripe) (seat : Sight) (r : R) (dirty : Option ℕ) (flag : Bool) (ends : EndsRound tells history c s seat) (rest : IsAtRest c.locks.now (kept s seat)) (flag_is : flag ≡ may_go_on_after result) where
       abbrev new : FrameStoreView
       new = record old { seat = seat; stripe = s; dirty = dirty; is_open = flag }
@@ -118,6 +123,7 @@ module _ {Q R : Type 0} (tells : Type 0) (history : R → History) (state : R �
 
       answers : AnswersRound tells history state 0 0 [] b c was was (end_by result)
       answers = as_round b c was looks result cause (λ t all. sound t (subst (λ s. AllWellFormed s (frame_pages history b)) (sym shape_is) all))
+          (λ t changed. subst (λ (s : Shape). MeetsInScan tells changed s (frame_pages history b) result) shape_is (meets t changed))
 
       pub after_scan : IsFrameStore old → IfSome dirty (λ count. count ≡ dirty_count new) → IsFrameStore new
       after_scan = after_round tells history state old is b at_locks at_seat at_stripe 0 0 [] c was was (end_by result) answers s seat r dirty flag ends rest (flag_is ∙ goes_on_by result)
@@ -133,7 +139,7 @@ module _ {Q R : Type 0} (tells : Type 0) (history : R → History) (state : R �
         scans_store back clean replied no_reply evaluates =
             let round = runs_round tells history state old is b at_locks at_seat at_stripe 0 0 [] c was was (end_by result) answers s seat r dirty flag ends rest (flag_is ∙ goes_on_by result) world at_world back clean in
             let began = bound_began tells history state old is b at_locks at_seat at_stripe world at_world in
-            let at_end = ended tells history state old is b at_locks at_seat at_stripe 0 0 [] c was was (end_by (Ok tt)) (as_round b c was looks (Ok tt) (λ e. absurd cc) (λ t all id e. absurd cc)) s seat r dirty true ends rest refl world at_world refl in
+            let at_end = ended tells history state old is b at_locks at_seat at_stripe 0 0 [] c was was (end_by (Ok tt)) (as_round b c was looks (Ok tt) (λ e. absurd cc) (λ t all id e. absurd cc) (λ t changed id e. absurd cc)) s seat r dirty true ends rest refl world at_world refl in
             record {
               same = round.same;
               is_open = flag_is;
@@ -150,6 +156,7 @@ module _ {Q R : Type 0} (tells : Type 0) (history : R → History) (state : R �
                   subst (λ (pages : Partitions). OnOk result (now ≡ with_replies (reply_to old.shape (Good (Scan cache)) (pairs_in old.shape.partitions pages) ∷ []) was)) (began.pages t)
                   (evaluates t (subst (λ (pages : Partitions). AllWellFormed old.shape pages) (sym (began.pages t)) all));
               sound = λ t all. sound t (subst (λ (pages : Partitions). AllWellFormed old.shape pages) (sym (began.pages t)) all);
+              meets = λ t changed. subst (λ (pages : Partitions). MeetsInScan tells changed old.shape pages result) (began.pages t) (meets t changed);
             }
 
 -- ---- by a reader that a host lent
@@ -172,6 +179,7 @@ scan_there tells told cache old new v w was now result to same x =
       evaluates = λ t all.
           subst (λ (pages : Partitions). OnOk result (now ≡ with_replies (reply_to old.shape (Good (Scan cache)) (pairs_in old.shape.partitions pages) ∷ []) was)) (at t old) (x.evaluates (to t) (well t all));
       sound = λ t all. x.sound (to t) (well t all);
+      meets = λ t changed id is. subst (λ (pages : Partitions). MeetsBadPage tells changed old.shape pages id) (at t old) (met_told told tells to changed old.shape (pages_in_frames old w) id (x.meets (to t) changed id is));
     }
 
 -- no reader was lent
@@ -187,4 +195,5 @@ not_scanned tells cache store world was on clean = record {
   no_reply = refl;
   evaluates = λ t all. tt;
   sound = λ t all id e. absurd cc;
+  meets = λ t changed id e. absurd cc;
 }

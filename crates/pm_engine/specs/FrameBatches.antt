@@ -1,6 +1,6 @@
 -- What calls leave of an engine over page frames, where they run a batch of lines and make checkpoints.
 use Rattle.std.specs.Prelude.{◌≡◌, ◌≤◌, ◌<◌, ◌+◌, ◌-◌, ◌*◌, ◌^◌, ◌↔◌, ◌||◌, nat_lt, ℕ, List, [], ◌++◌, length, take}
-use Rattle.std.specs.Prelude.{◌⊎◌, Bool, true, false, Some, Result, Ok, Err, IfOk, IfErr, OnOk, IsErrOf, slice_get}
+use Rattle.std.specs.Prelude.{◌⊎◌, Bool, true, false, Some, Result, Ok, Err, IfOk, IfErr, OnOk, IsErrOf, All, slice_get}
 use Rattle.pm_types.specs.declared.fault.PageFault.{PageFault}
 use Rattle.pm_types.specs.declared.fault.StoreFault.{StoreFault}
 use Rattle.pm_types.specs.declared.fault.StoreFault.TheVariants.{Failed, Memory, BadPage, BadRecord}
@@ -32,6 +32,7 @@ use Rattle.pm_engine.specs.FrameEngines.{FrameRunning, HasDoneLines, HasLastingL
 use Rattle.pm_engine.specs.FrameHosts.{ChangesNoWorld, may_go_on}
 use Rattle.pm_engine.specs.FrameRounds.{EvaluatesLines}
 use Rattle.pm_engine.specs.FrameStores.{FrameStoreView, pages_in_frames, IsDirtyPage, HasCleanPages}
+use Rattle.pm_engine.specs.MetPages.{AllowsLine, KeepsOrMeets}
 use Rattle.pm_engine.specs.Batches.{StaysOpen, checkpoints_in, asked_last}
 use Rattle.pm_engine.specs.RunningStores.{number_of}
 use Rattle.pm_engine.specs.RunningLines.{CrashHoldsLines}
@@ -114,7 +115,8 @@ pub record KeepsFrameEngine (tells : Type 0) (old new : History) (before now : F
 -- lines handed over is in the log then.
 --
 -- Where the engine's store has done some lines, and there are numbers for so many segments and checkpoints more, it
--- does what the model of lines says, and no page is found bad.
+-- does what the model of lines says, and no page is found bad. Of any store, a page that couldn't be used is one that a
+-- line met.
 pub record RunsFrameBatch (tells : Type 0) (old new : History) (first : ℕ) (lines : List Line)
     (segments checkpoints : ℕ) (before now : FrameRunning) (was replies : ReplyList)
     (result : Result (Unit {0}) StoreFault) : Type 0 where
@@ -138,6 +140,10 @@ pub record RunsFrameBatch (tells : Type 0) (old new : History) (first : ℕ) (li
   pub order : tells → MayGoOn before old.world segments checkpoints
       → now.order ≡ before.order ++ accepted before.store.shape first (take tried lines) (map_in before old.world)
   pub sound : tells → MayGoOn before old.world segments checkpoints → (id : PageId) → IsErrOf result (BadPage id) → ⊥
+  -- of any store: which partitions change, and which page is found bad
+  pub meets : tells → (may_change : ℕ → Bool) → All (AllowsLine may_change before.store.shape) lines
+      → KeepsOrMeets tells may_change before.store.shape (pages_in_frames before.store old.world)
+      (pages_in_frames now.store new.world) (StaysOpen result) (λ id. IsErrOf result (BadPage id))
   -- Whatever lines the store had done, it has done these too, and a crash meanwhile leaves a prefix of all, and goes
   -- no further than these segments and one more, and these checkpoints.
   pub runs : tells → StaysOpen result → (wanted : Shape) (told : List ℕ → ℕ) (from : ℕ) (start : Pairs)

@@ -36,8 +36,9 @@ use Rattle.pm_engine.specs.FrameEngines.{FrameRunning, running_in, map_in, Names
 use Rattle.pm_engine.specs.FrameLines.{EvaluatesLine}
 use Rattle.pm_engine.specs.FrameReplays.{may_apply_more}
 use Rattle.pm_engine.specs.FrameStores.{FrameStoreView, pages_in_frames, HasCleanPages}
+use Rattle.pm_engine.specs.MetPages.{AllowsLine, AllowsRecord, KeepsOrMeets}
 use Rattle.pm_engine.specs.RunningStores.{number_of}
-use Rattle.pm_engine.specs.Replays.{CrashHoldsMap, AreLasting, GrewAtEnd}
+use Rattle.pm_engine.specs.Replays.{CrashHoldsMap, AreLasting, GrewAtEnd, CanBeRefused}
 use Rattle.pm_engine.specs.RunningLines.{KeepsLines}
 use Rattle.pm_engine.specs.RunningStores.{RunsOver, HasSegmentsFor}
 use Rattle.pm_engine.specs.TrackedPages.{HaveFirstPages}
@@ -119,6 +120,9 @@ pub record EvaluatesAgain (tells : Type 0) (cmd : Cmd) (before now : FrameRunnin
       → pages_in_frames now.store new ≡ pages_in_frames before.store old
   pub sound : tells → AllWellFormed before.store.shape (pages_in_frames before.store old) → (id : PageId)
       → IsErrOf answer (Faulted (BadPage id)) → ⊥
+  pub meets : tells → (may_change : ℕ → Bool) → AllowsLine may_change before.store.shape (Good cmd)
+      → KeepsOrMeets tells may_change before.store.shape (pages_in_frames before.store old)
+      (pages_in_frames now.store new) (now.store.is_open ≡ true) (λ id. IsErrOf answer (Faulted (BadPage id)))
 
 -- no page was found bad
 abbrev pub NamesNoPage : {T : Type 0} → Result T StoreFault → Type 0
@@ -153,6 +157,11 @@ pub record AppliesRecord (tells : Type 0) (found : Option Record) (before now : 
   pub is_open : OnOk result (now.store.is_open ≡ true)
   pub over_well_formed : tells → AllWellFormed before.store.shape (pages_in_frames before.store old.world)
       → AppliesToWellFormed found before now old.world new.world result
+  -- of any store: which partition changes, which page is found bad, and which records may be refused
+  pub meets : tells → (may_change : ℕ → Bool) → AllowsRecord may_change before.store.shape found
+      → KeepsOrMeets tells may_change before.store.shape (pages_in_frames before.store old.world)
+      (pages_in_frames now.store new.world) (now.store.is_open ≡ true) (λ id. IsErrOf result (fault.BadPage id))
+  pub refuses : result ≡ Ok applied.Bad → CanBeRefused found
   pub unlogged : IfOk result (λ became. is_done became ≡ false → now.log ≡ before.log)
   pub refused : tells → IfOk result (λ became. is_done became ≡ false → new.world ≡ old.world)
 

@@ -1,5 +1,5 @@
 -- What contracts see of an engine over page frames, and how its lines stand over the disk.
-use Rattle.std.specs.Prelude.{◌≡◌, ◌≤◌, ◌<◌, ◌+◌, ◌*◌, ◌^◌, ◌↔◌, ◌++◌, ℕ, List, [], length, true, false}
+use Rattle.std.specs.Prelude.{◌≡◌, ◌≤◌, ◌<◌, ◌+◌, ◌*◌, ◌^◌, ◌↔◌, ◌++◌, ℕ, List, [], length, All, Bool, true, false}
 use Rattle.std.specs.Prelude.{Some, None}
 use Rattle.pm_types.specs.declared.fault.PageFault.TheVariants.{BadPage}
 use Rattle.pm_types.specs.declared.limits.TheConstants.{OP_PAGES, SEGMENT_BYTES_MAX}
@@ -23,6 +23,7 @@ use Rattle.pm_engine.specs.declared.frame_rounds.RoundEnd.{RoundEnd}
 use Rattle.pm_engine.specs.FrameHosts.{may_go_on, ChangesNoWorld}
 use Rattle.pm_engine.specs.FrameRounds.{EvaluatesLines, lines_from}
 use Rattle.pm_engine.specs.FrameStores.{FrameStoreView, pages_in_frames, IsDirtyPage, HasCleanPages, shut}
+use Rattle.pm_engine.specs.MetPages.{AllowsLine, KeepsPagesBut, MeetsBadPage}
 use Rattle.pm_engine.specs.RunningStores.{number_of}
 use Rattle.pm_engine.specs.RunningLines.{HasRun, CrashHoldsLines}
 use Rattle.pm_engine.specs.RunningStores.{StoreState, IsMarkIn, HasSegmentsFor}
@@ -139,6 +140,14 @@ pub record DoesRoundLines (tells : Type 0) (old new : History) (first from : ℕ
   -- where each partition was well formed no page is found bad
   pub sound : tells → AllWellFormed before.store.shape (pages_in_frames before.store old.world) → (id : PageId)
       → end.stop ≡ Some (Faulted (BadPage id)) → ⊥
+  -- of any store: where the engine stays open, no partition changed but those of the lines that were done
+  pub keeps : tells → now.store.is_open ≡ true → (may_change : ℕ → Bool)
+      → All (AllowsLine may_change before.store.shape) (lines_from from end.done lines)
+      → KeepsPagesBut may_change (pages_in_frames before.store old.world) (pages_in_frames now.store new.world)
+  -- of any store: what couldn't be used is a page that one of these lines met
+  pub meets : tells → (may_change : ℕ → Bool) → All (AllowsLine may_change before.store.shape) lines → (id : PageId)
+      → end.stop ≡ Some (Faulted (BadPage id))
+      → MeetsBadPage tells may_change before.store.shape (pages_in_frames before.store old.world) id
 
 -- What the lines of a round handed over couldn't be appended whole, and the engine is open no more. Whatever a crash
 -- leaves holds a prefix of the lines that were done before and of those that the round did. The order has the numbers

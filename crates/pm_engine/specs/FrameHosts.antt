@@ -27,6 +27,7 @@ use Rattle.pm_engine.specs.FrameLines.{is_scan}
 use Rattle.pm_engine.specs.FrameRounds.{AnswersRound}
 use Rattle.pm_engine.specs.FrameScans.{ReadsNoBadPage, may_go_on_after}
 use Rattle.pm_engine.specs.FrameStores.{FrameStoreView, pages_in_frames, IsDirtyPage, HasCleanPages}
+use Rattle.pm_engine.specs.MetPages.{MeetsInScan}
 
 -- A line that a round over a store's pages may have: its cache is there, and it is no scan.
 pub record IsStoreLine (line : Line) : Type 0 where
@@ -68,7 +69,8 @@ pub record ChangesNoWorld (old new : History) : Type 0 where
 
 -- A scan of a cache was answered over the pages of a store, where the partitions' files are those of this world. No
 -- page changed, and nothing was handed over. Where the files' content is told, and each partition is well formed, the
--- reply is the model's, and no page was found bad. After a fault the store is open no more.
+-- reply is the model's, and no page was found bad. After a fault the store is open no more. A page that couldn't be used
+-- is one that the scan met.
 pub record ScansStore (tells : Type 0) (cache : ℕ) (old new : FrameStoreView) (world : World) (was now : ReplyList)
     (result : Result (Unit {0}) ScanStop) : Type 0 where
   pub same : IsSameStore old new
@@ -82,6 +84,8 @@ pub record ScansStore (tells : Type 0) (cache : ℕ) (old new : FrameStoreView) 
   pub evaluates : tells → AllWellFormed old.shape (pages_in_frames old world) → OnOk result (now ≡ with_replies
       (reply_to old.shape (Good (Scan cache)) (pairs_in old.shape.partitions (pages_in_frames old world)) ∷ []) was)
   pub sound : tells → AllWellFormed old.shape (pages_in_frames old world) → ReadsNoBadPage result
+  pub meets : tells → (may_change : ℕ → Bool)
+      → MeetsInScan tells may_change old.shape (pages_in_frames old world) result
 
 module _ {Q R : Type 0} where
   -- A worker has the pages of this store, where the partitions' files are those of this world: what stays in its

@@ -24,6 +24,7 @@ use Rattle.pm_engine.specs.declared.frame_lines.Stop.{Stop}
 use Rattle.pm_engine.specs.declared.frame_lines.Stop.TheVariants.{Halted, Faulted}
 use Rattle.pm_engine.specs.FrameCommands.{frame_pages, IsSameWorker, IsBetweenLines, ChangesNothing}
 use Rattle.pm_engine.specs.FrameCommands.{HandsOverChange}
+use Rattle.pm_engine.specs.MetPages.{AllowsLine, MeetsInRound}
 use Rattle.pm_engine.specs.Records.{record_of_line}
 
 -- a line of a key
@@ -109,7 +110,7 @@ module _ {Q R : Type 0} where
 
   -- A line was answered over a worker's page frames. Where the reader tells, and each partition of the
   -- store is well formed as this worker has it, it was evaluated as the model of lines says, and no page
-  -- was found bad.
+  -- was found bad. Of any store, a page that couldn't be used is one that the line met.
   pub record AnswersInFrames (tells : Type 0) (history : R → History) (state : R → DeviceState) (number : ℕ)
       (line : Line) (b c : Bound Q R) (was now : ReplyList) (result : Result Bool Stop) : Type 0 where
     pub same : IsSameWorker tells history state b c
@@ -120,3 +121,5 @@ module _ {Q R : Type 0} where
     pub evaluates : tells → AllWellFormed b.stripe.shape (frame_pages history b) → IfOk result
         (EvaluatesLine b.stripe.shape line (frame_pages history b) (frame_pages history c) was now)
     pub sound : tells → AllWellFormed b.stripe.shape (frame_pages history b) → FindsNoBadPage result
+    pub meets : tells → (may_change : ℕ → Bool) → AllowsLine may_change b.stripe.shape line
+        → MeetsInRound tells may_change b.stripe.shape (frame_pages history b) result

@@ -1,29 +1,35 @@
 -- How a store over page frames is opened: it is restored, a RESTART is appended, and the records that its log had
 -- before it are applied again. No page is read but those that these records need.
-use Rattle.std.specs.Prelude.{◌≡◌, ◌⊎◌, ◌≤◌, ◌<◌, ◌^◌, ℕ, [], List, true, length, Option, Some, None}
+use Rattle.std.specs.Prelude.{◌≡◌, ◌⊎◌, ◌≤◌, ◌<◌, ◌^◌, ℕ, [], List, Bool, IsTrue, true, length, All, Option, Some, None}
+use Rattle.std.specs.Prelude.{Result, IfOk, IsErrOf}
 use Rattle.pm_types.specs.declared.fault.OpenFault.{OpenFault}
 use Rattle.pm_types.specs.declared.fault.OpenFault.TheVariants as opening
+use Rattle.pm_types.specs.declared.fault.StoreFault.{StoreFault}
 use Rattle.pm_types.specs.declared.fault.StoreFault.TheVariants.{Failed, Memory, BadPage, BadRecord}
 use Rattle.pm_types.specs.declared.page_id.PageId.{PageId}
 use Rattle.pm_types.specs.declared.place.Place.{Place}
 use Rattle.pm_types.specs.declared.shape.Mark.{Mark}
 use Rattle.pm_types.specs.declared.shape.Shape.{Shape}
 use Rattle.pm_config.specs.declared.config.Config.{Config}
+use Rattle.pm_frame.specs.Frames.{Frame}
 use Rattle.pm_disk.specs.Worlds.{World}
 use Rattle.pm_model.specs.Eval.{Pairs}
 use Rattle.pm_records.specs.FirstRecords.{restart_frame}
 use Rattle.pm_records.specs.LogFiles.{contents}
+use Rattle.pm_records.specs.Logs.{all_frames, record_in, after_frames, HasFrames}
 use Rattle.pm_segments.specs.Appends.{grown}
 use Rattle.pm_segments.specs.Ends.{LogEnd, EndsThere}
 use Rattle.pm_marks.specs.InForce.{Checkpoint, NoStart, Started, Ended, replay_of}
 use Rattle.pm_ckpt.specs.Marked.{Kept}
-use Rattle.pm_core.specs.BasePages.{page_in_file}
+use Rattle.pm_core.specs.BasePages.{Partitions, page_in_file}
 use Rattle.pm_core.specs.Held.{AllWellFormed}
 use Rattle.pm_redo.specs.LogEnds.{LogEndsAt}
 use Rattle.pm_redo.specs.Pictures.{files_in}
 use Rattle.pm_redo.specs.Restoring.{IsBadRestore, KeepsBase}
 use Rattle.pm_engine.specs.FrameEngines.{FrameRunning, HasDoneLines, map_in}
 use Rattle.pm_engine.specs.FrameStores.{FrameStoreView, pages_in_frames, IsDirtyPage, HasCleanPages}
+use Rattle.pm_engine.specs.MetPages.{AllowsRecord, MeetsBadPage}
+use Rattle.pm_engine.specs.Replays.{IsRefusedReplay}
 use Rattle.pm_engine.specs.RunningStores.{number_of}
 use Rattle.pm_engine.specs.Openings.{IsBadOver, loaded_base, restored_base}
 use Rattle.pm_engine.specs.RunningStores.{HasSegmentsFor}
@@ -87,32 +93,80 @@ HasNoStrayPages shape NoStart world = (part : ℕ) → part < shape.partitions
 HasNoStrayPages shape (Started mark) world = Unit {0}
 HasNoStrayPages shape (Ended mark) world = Unit {0}
 
+-- the records that stand from the replay place up to the log's end
+pub record HasRecords (checkpoint : Checkpoint) (old : World) (frames : List Frame) : Type 0 where
+  pub end : Place
+  pub ends : LogEndsAt (contents old.log) (replay_of checkpoint) end
+  pub stand : HasFrames all_frames (contents old.log) (replay_of checkpoint) frames
+  pub to : after_frames (replay_of checkpoint) frames ≡ end
+
+-- Only the partitions of these records' keys may have changed since the store was restored.
+abbrev pub AllowsRecords : (ℕ → Bool) → Shape → List Frame → Type 0
+AllowsRecords may_change shape frames = All (λ frame. AllowsRecord may_change shape (record_in frame)) frames
+
+-- each base page that a store of this shape may have is there with its bytes, but of changed partitions
+abbrev pub KeepsBasePagesBut : Shape → (ℕ → Bool) → Partitions → Partitions → Type 0
+KeepsBasePagesBut shape may_change base new = (part index : ℕ) (bytes : List ℕ) → part < shape.partitions → index < 2 ^ 32
+    → base part index ≡ Some bytes → (new part index ≡ Some bytes) ⊎ IsTrue (may_change part)
+
+-- What is said of any store that is opened once it was restored, with these base pages, where these frames stand from the
+-- replay place up to the log's end: which partitions change, and which page is found bad. A record that is refused stands
+-- among them and can be, or none stands there.
+pub record OpensOverAny (tells : Type 0) (shape : Shape) (from end : Place) (frames : List Frame) (base : Partitions)
+    (old new : World) (result : Result FrameRunning StoreFault) : Type 0 where
+  pub pages : (may_change : ℕ → Bool) → AllowsRecords may_change shape frames
+      → IfOk result (λ engine. KeepsBasePagesBut shape may_change base (pages_in_frames engine.store new))
+  pub meets : (may_change : ℕ → Bool) → AllowsRecords may_change shape frames → (id : PageId)
+      → IsErrOf result (BadPage id) → MeetsBadPage tells may_change shape base id
+  pub refuses : (at : Place) → IsErrOf result (BadRecord at) → IsRefusedReplay (contents old.log) from end new at
+
 -- the base pages of a store that was restored are well formed, and its files have no others that may be read
 pub record HasGoodBase (shape : Shape) (checkpoint : Checkpoint) (world : World) : Type 0 where
   pub well_formed : AllWellFormed shape (restored_base checkpoint world)
   pub none_stray : HasNoStrayPages shape checkpoint world
 
 -- The base pages that the store had once it was restored aren't well formed, or it has no start marker and its files
--- have pages.
-pub record HasBadBase (shape : Shape) (checkpoint : Checkpoint) (old : World) : Type 0 where
+-- have pages. A page that couldn't be used has this name: a record that was applied again met it, and of the base pages
+-- only those of such records' partitions may have changed before.
+pub record IsBadOpeningPage (tells : Type 0) (shape : Shape) (checkpoint : Checkpoint) (old : World) (id : PageId)
+    : Type 0 where
   pub mid : World
   pub keeps : KeepsBase checkpoint old mid
   pub bad : HasGoodBase shape checkpoint mid → ⊥
+  pub frames : List Frame
+  pub records : HasRecords checkpoint old frames
+  pub meets : (may_change : ℕ → Bool) → AllowsRecords may_change shape frames
+      → MeetsBadPage tells may_change shape (restored_base checkpoint mid) id
 
--- A record is bad where the store can't be restored; or where, if the base pages that it had once it was restored are
--- well formed, and its files have no others that may be read, it can't be replayed from its replay place to the log's
--- end over them.
+-- A record is bad where the store can't be restored; or where it can't be replayed from its replay place to the log's
+-- end: it is in no grammar, or is a put that meets a full partition, or none stands at its place. Where the base pages
+-- that the store had once it was restored are well formed, and its files have no others that may be read, it can't be
+-- applied to the map of the records before it over theirs.
 abbrev pub IsBadOpeningIn : Shape → Checkpoint → World → World → Place → Type 0
 IsBadOpeningIn shape checkpoint old new at = IsBadRestore checkpoint (contents old.log) at
     ⊎ ((end : Place) × LogEndsAt (contents old.log) (replay_of checkpoint) end
+    × IsRefusedReplay (contents old.log) (replay_of checkpoint) end new at
     × (mid : World) × KeepsBase checkpoint old mid
     × (HasGoodBase shape checkpoint mid
     → IsBadOver shape (restored_base checkpoint mid) (contents old.log) (replay_of checkpoint) end new at))
 
 -- why a fault came; a shape that differs is found before anything is changed
-abbrev pub HasOpenCauseIn : Shape → Checkpoint → World → World → OpenFault → Type 0
-HasOpenCauseIn shape checkpoint old new (opening.Shape field) = new ≡ old
-HasOpenCauseIn shape checkpoint old new (opening.Store Failed) = Unit {0}
-HasOpenCauseIn shape checkpoint old new (opening.Store Memory) = Unit {0}
-HasOpenCauseIn shape checkpoint old new (opening.Store (BadPage id)) = HasBadBase shape checkpoint old
-HasOpenCauseIn shape checkpoint old new (opening.Store (BadRecord at)) = IsBadOpeningIn shape checkpoint old new at
+abbrev pub HasOpenCauseIn : Type 0 → Shape → Checkpoint → World → World → OpenFault → Type 0
+HasOpenCauseIn tells shape checkpoint old new (opening.Shape field) = new ≡ old
+HasOpenCauseIn tells shape checkpoint old new (opening.Store Failed) = Unit {0}
+HasOpenCauseIn tells shape checkpoint old new (opening.Store Memory) = Unit {0}
+HasOpenCauseIn tells shape checkpoint old new (opening.Store (BadPage id)) =
+    IsBadOpeningPage tells shape checkpoint old id
+HasOpenCauseIn tells shape checkpoint old new (opening.Store (BadRecord at)) =
+    IsBadOpeningIn shape checkpoint old new at
+
+-- A store was opened: of the base pages that it had once it was restored only those of its records' partitions may have
+-- changed.
+pub record OpensOverBase (shape : Shape) (checkpoint : Checkpoint) (old new : World) (engine : FrameRunning)
+    : Type 0 where
+  pub mid : World
+  pub keeps : KeepsBase checkpoint old mid
+  pub frames : List Frame
+  pub records : HasRecords checkpoint old frames
+  pub pages : (may_change : ℕ → Bool) → AllowsRecords may_change shape frames
+      → KeepsBasePagesBut shape may_change (restored_base checkpoint mid) (pages_in_frames engine.store new)

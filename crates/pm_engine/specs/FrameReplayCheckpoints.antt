@@ -2,9 +2,9 @@
 --
 -- It is made where what the record's operation may need is lacking. A restart applies the log from that record on then.
 use Rattle.std.specs.Prelude.{◌≡◌, ◌≤◌, ◌<◌, ◌+◌, ◌^◌, ℕ, Bool, true, false, List, Option, Some}
-use Rattle.std.specs.Prelude.{Result, Ok, Err, IfOk, OnOk, OnErr}
+use Rattle.std.specs.Prelude.{Result, Ok, Err, IfOk, OnOk, OnErr, IsErrOf}
 use Rattle.pm_types.specs.declared.fault.StoreFault.{StoreFault}
-use Rattle.pm_types.specs.declared.fault.StoreFault.TheVariants.{Memory}
+use Rattle.pm_types.specs.declared.fault.StoreFault.TheVariants.{Memory, BadPage}
 use Rattle.pm_types.specs.declared.limits.TheConstants.{OP_PAGES}
 use Rattle.pm_types.specs.declared.page_id.PageId.{PageId}
 use Rattle.pm_types.specs.declared.place.Place.{Place}
@@ -21,9 +21,10 @@ use Rattle.pm_engine.specs.declared.frame_engine_replay.Applied.{Applied}
 use Rattle.pm_engine.specs.declared.frame_engine_replay.Applied.TheVariants as applied
 use Rattle.pm_engine.specs.FrameEngineReplays.{HasWholePages, IsReplayingIn, KeepsEngineReady, NamesNoPage}
 use Rattle.pm_engine.specs.FrameEngines.{FrameRunning, map_in}
-use Rattle.pm_engine.specs.FrameStores.{IsDirtyPage}
+use Rattle.pm_engine.specs.FrameStores.{IsDirtyPage, pages_in_frames}
+use Rattle.pm_engine.specs.MetPages.{AllowsRecord, KeepsPagesBut, KeepsOrMeets}
 use Rattle.pm_engine.specs.RunningStores.{number_of}
-use Rattle.pm_engine.specs.Replays.{CrashHoldsMap, AreLasting, Replays}
+use Rattle.pm_engine.specs.Replays.{CrashHoldsMap, AreLasting, Replays, CanBeRefused}
 use Rattle.pm_engine.specs.RunningStores.{HasSegmentsFor}
 
 -- In some state of the disk machine a store that had this world's pages before is replaying, with the same map, and
@@ -54,6 +55,9 @@ pub record ChecksInFrames {T E : Type 0} (tells : Type 0) (from : Place) (before
   pub none_dirty : OnOk result ((id : PageId) → IsDirtyPage now.store id → ⊥)
   pub log : tells → HasSegmentsFor before.log 1
       → OnOk result (KeepsLogFrom from.seg before.log.end.seg old.world new.world)
+  -- each page that was there is there with its bytes
+  pub pages : tells → OnOk result ((may_change : ℕ → Bool) → KeepsPagesBut may_change
+      (pages_in_frames before.store old.world) (pages_in_frames now.store new.world))
   pub whole : tells → HasWholePages before.store old.world
       → OnOk result (KeepsWholePages before now old.world new.world)
   pub runs : tells → (wanted : Shape) (told : List ℕ → ℕ) (pairs : Pairs) (s : State) (left : List Frame)
@@ -100,6 +104,11 @@ pub record ReplaysRecord (tells : Type 0) (from : Place) (found : Option Record)
   pub whole : tells → HasWholePages before.store old.world
       → IfOk result (AppliesToWhole found before now old.world new.world)
   pub no_page : tells → HasWholePages before.store old.world → NamesNoPage result
+  -- of any store: which partition changes, which page is found bad, and which records may be refused
+  pub meets : tells → (may_change : ℕ → Bool) → AllowsRecord may_change before.store.shape found
+      → KeepsOrMeets tells may_change before.store.shape (pages_in_frames before.store old.world)
+      (pages_in_frames now.store new.world) (now.store.is_open ≡ true) (λ id. IsErrOf result (BadPage id))
+  pub refuses : result ≡ Ok false → CanBeRefused found
   pub runs : tells → (wanted : Shape) (told : List ℕ → ℕ) (pairs : Pairs) (s : State) (left : List Frame)
       → IsReplayingIn wanted told pairs before s old.world
       → AreLasting from left before.store.shape pairs s old.world

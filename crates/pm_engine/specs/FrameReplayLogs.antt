@@ -1,6 +1,6 @@
 -- How an engine over page frames applies the log of a store that is opened again, from its replay place on.
 use Rattle.std.specs.Prelude.{◌≡◌, ◌≤◌, ◌<◌, ◌+◌, ◌*◌, ◌^◌, ℕ, Bool, true, false, List, length, Option, Some, None}
-use Rattle.std.specs.Prelude.{Result, Ok, OnOk, IsErrOf}
+use Rattle.std.specs.Prelude.{Result, Ok, OnOk, IsErrOf, All}
 use Rattle.pm_types.specs.declared.fault.StoreFault.{StoreFault}
 use Rattle.pm_types.specs.declared.fault.StoreFault.TheVariants.{BadPage, BadRecord}
 use Rattle.pm_types.specs.declared.limits.TheConstants.{OP_PAGES}
@@ -24,8 +24,10 @@ use Rattle.pm_engine.specs.FrameEngineReplays.{HasWholePages, IsReplayingIn, Kee
 use Rattle.pm_engine.specs.FrameReplayCheckpoints.{ReplaysRecord}
 use Rattle.pm_engine.specs.FrameEngines.{FrameRunning, map_in}
 use Rattle.pm_engine.specs.FrameStores.{pages_in_frames}
+use Rattle.pm_engine.specs.MetPages.{AllowsRecord, KeepsOrMeets}
 use Rattle.pm_engine.specs.RunningStores.{number_of}
-use Rattle.pm_engine.specs.Replays.{AreLasting, CrashHoldsMap, IsBadReplay, LogLeadsTo}
+use Rattle.pm_engine.specs.Replays.{AreLasting, CrashHoldsMap, IsBadReplay, IsRefusedReplay, LogLeadsTo}
+use Rattle.pm_engine.specs.Replays.{CanBeRefused}
 
 -- what a frame says, if one was found
 abbrev pub record_found : Option Frame → Option Record
@@ -37,6 +39,8 @@ pub record AppliesNextIn (tells : Type 0) (scan later : Scanned) (before now : F
     (result : Result Bool StoreFault) : Type 0 where
   pub found : Option Frame
   pub stands : tells → OnOk result (found ≡ frame_ahead scan old.world)
+  -- also where a fault came, what was found stands next
+  pub is_next : tells → (frame : Frame) → found ≡ Some frame → frame_ahead scan old.world ≡ Some frame
   pub advances : OnOk result (Advances scan later found)
   pub there : result ≡ Ok true → (frame : Frame) × (found ≡ Some frame)
   pub still : tells → found ≡ None → OnOk result (new.world ≡ old.world)
@@ -95,6 +99,22 @@ pub record IsBadNextIn (scan : Scanned) (before : FrameRunning) (old new : World
   pub still : found ≡ None → new ≡ old
   pub log : KeepsLogFrom scan.next.seg before.log.end.seg old new
 
+-- Of any store: which partition the frame that stands next changes, and which page is found bad. A record that is refused
+-- stands there and can be, or none does. At `Ok` a frame was there, the scan goes on after it, and from its segment on
+-- the log lost nothing.
+pub record StepsOverAny {T : Type 0} (tells : Type 0) (scan later : Scanned) (before now : FrameRunning)
+    (old new : World) (result : Result T StoreFault) : Type 0 where
+  pub meets : (may_change : ℕ → Bool)
+      → AllowsRecord may_change before.store.shape (record_found (frame_ahead scan old))
+      → KeepsOrMeets tells may_change before.store.shape (pages_in_frames before.store old)
+      (pages_in_frames now.store new) (now.store.is_open ≡ true) (λ id. IsErrOf result (BadPage id))
+  pub refuses : (at : Place) → IsErrOf result (BadRecord at)
+      → (at ≡ scan.next) × CanBeRefused (record_found (frame_ahead scan old)) × (frame_ahead scan old ≡ None → new ≡ old)
+  pub log : (at : Place) → IsErrOf result (BadRecord at) → KeepsLogFrom scan.next.seg before.log.end.seg old new
+  pub stands : OnOk result ((frame : Frame) × (frame_ahead scan old ≡ Some frame) × Advances scan later (Some frame))
+  pub loses_none : OnOk result (KeepsLogFrom scan.next.seg before.log.end.seg old new)
+  pub goes_on : OnOk result (before.log.end.seg ≤ now.log.end.seg)
+
 -- The frame that stands next was applied again. At `Ok` the scan and the engine go on after it. Where it stood before
 -- the log's old end, and a sound store could be replayed from there, it can be from the next one; no record is bad.
 -- Whatever a crash leaves meanwhile holds what the store held. Of any store whose pages may be applied to, sound or not,
@@ -107,6 +127,7 @@ pub record StepsReplay {T : Type 0} (tells : Type 0) (scan later : Scanned) (bef
   pub ahead : tells → OnOk result (IsAhead later new.world)
   pub applies : tells → HasWholePages before.store old.world
       → OnOk result (AppliesFrameIn scan later before now old.world new.world)
+  pub any : tells → StepsOverAny tells scan later before now old.world new.world result
   pub no_page : tells → HasWholePages before.store old.world → NamesNoPage result
   pub bad : tells → HasWholePages before.store old.world → (at : Place) → IsErrOf result (BadRecord at)
       → IsBadNextIn scan before old.world new.world at
@@ -152,6 +173,16 @@ pub record ReplaysWellFormed {T : Type 0} (from end : Place) (before now : Frame
   pub bad : (at : Place) → IsErrOf result (BadRecord at)
       → IsBadReplay before.store.shape (map_in before old) (contents old.log) from end new at
 
+-- What is said of any store, where these frames stand from this place on, up to the log's old end: which partitions
+-- change, and which page is found bad. A record that is refused stands among them and can be, or none stands there.
+pub record ReplaysOverAny {T : Type 0} (tells : Type 0) (from end : Place) (frames : List Frame)
+    (before now : FrameRunning) (old new : World) (result : Result T StoreFault) : Type 0 where
+  pub meets : (may_change : ℕ → Bool)
+      → All (λ frame. AllowsRecord may_change before.store.shape (record_in frame)) frames
+      → KeepsOrMeets tells may_change before.store.shape (pages_in_frames before.store old)
+      (pages_in_frames now.store new) (now.store.is_open ≡ true) (λ id. IsErrOf result (BadPage id))
+  pub refuses : (at : Place) → IsErrOf result (BadRecord at) → IsRefusedReplay (contents old.log) from end new at
+
 -- The records from where a scan goes on up to the log's old end were applied, or a fault ended it. What is said of a
 -- sound store holds where it could be replayed from there, and what is said of any store where frames lead from there
 -- to that end, and its pages may be applied to.
@@ -163,3 +194,5 @@ pub record ReplaysScan {T : Type 0} (tells : Type 0) (scan : Scanned) (end : Pla
       → ReplaysAllIn last highest wanted told pairs before now old new result
   pub any : tells → scan.is_over ≡ false → LogLeadsTo scan.next end before.log old.world
       → HasWholePages before.store old.world → ReplaysWellFormed scan.next end before now old.world new.world result
+  pub over_any : tells → scan.is_over ≡ false → (leads : LogLeadsTo scan.next end before.log old.world)
+      → ReplaysOverAny tells scan.next end leads.frames before now old.world new.world result

@@ -1,5 +1,5 @@
 -- A command that the log has a record of already, applied again over page frames.
-use Rattle.std.specs.Prelude.{◌≡◌, ◌<◌, Bool, true, false, None, Some, Result, Ok, Err, IfOk}
+use Rattle.std.specs.Prelude.{◌≡◌, ◌<◌, ℕ, Bool, true, false, None, Some, IsSome, Result, Ok, Err, IfOk}
 use Rattle.pm_disk.specs.Moments.{History}
 use Rattle.pm_disk.specs.States.{DeviceState, Rose}
 use Rattle.pm_disk.specs.Worlds.{World}
@@ -19,6 +19,8 @@ use Rattle.pm_engine.specs.FrameCommands.{HandsOverChange}
 use Rattle.pm_engine.specs.FrameHosts.{IsSameStore, HasPagesOf, may_go_on}
 use Rattle.pm_engine.specs.FrameLines.{EvaluatesLine, HaltsLine, RepliesIfDone, HasReaderCause, FindsNoBadPage}
 use Rattle.pm_engine.specs.FrameStores.{FrameStoreView, HasCleanPages}
+use Rattle.pm_engine.specs.MetPages.{AllowsLine, MeetsInRound}
+use Rattle.pm_engine.specs.Records.{record_of_line}
 
 -- whether more may be done after a command that was answered so
 abbrev pub may_apply_more : Result Bool Stop → Bool
@@ -26,11 +28,12 @@ may_apply_more (Ok accepted) = true
 may_apply_more (Err stop) = may_go_on (Some stop)
 
 module _ {Q R : Type 0} where
-  -- A command was applied again. An accepted one handed over what it changed of the pages of its key's partition, and
-  -- no record of its own; one that wasn't accepted changed nothing.
+  -- A command was applied again. An accepted one is a put or a remove, and handed over what it changed of the pages of
+  -- its key's partition, and no record of its own; one that wasn't accepted changed nothing.
   pub record AppliesCommand (tells : Type 0) (history : R → History) (cmd : Cmd) (b c : Bound Q R) (accepted : Bool)
       : Type 0 where
     pub refused : accepted ≡ false → ChangesNothing tells history b c
+    pub changes : accepted ≡ true → IsSome (record_of_line (Good cmd))
     pub hands : accepted ≡ true
         → HandsOverChange tells history 0 None (part_of_line b.stripe.shape (Good cmd)) b c
 
@@ -45,7 +48,8 @@ module _ {Q R : Type 0} where
   LeavesApplied tells history state cmd b c (Err (Faulted fault)) = c.stripe.outbox ≡ b.stripe.outbox
 
   -- A command was applied again over a worker's page frames. Where the reader tells, and each partition of the store
-  -- is well formed as this worker has it, it was evaluated as the model of lines says, and no page was found bad.
+  -- is well formed as this worker has it, it was evaluated as the model of lines says, and no page was found bad. Of any
+  -- store, a page that couldn't be used is one that the command met.
   pub record AppliesInFrames (tells : Type 0) (history : R → History) (state : R → DeviceState) (cmd : Cmd)
       (b c : Bound Q R) (was now : ReplyList) (result : Result Bool Stop) : Type 0 where
     pub same : IsSameWorker tells history state b c
@@ -56,6 +60,8 @@ module _ {Q R : Type 0} where
     pub evaluates : tells → AllWellFormed b.stripe.shape (frame_pages history b) → IfOk result
         (EvaluatesLine b.stripe.shape (Good cmd) (frame_pages history b) (frame_pages history c) was now)
     pub sound : tells → AllWellFormed b.stripe.shape (frame_pages history b) → FindsNoBadPage result
+    pub meets : tells → (may_change : ℕ → Bool) → AllowsLine may_change b.stripe.shape (Good cmd)
+        → MeetsInRound tells may_change b.stripe.shape (frame_pages history b) result
 
 module _ {R : Type 0} where
   -- A command was applied again over the pages of a store, by a worker that had them at its start, when no checkpoint

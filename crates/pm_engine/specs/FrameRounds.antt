@@ -1,5 +1,5 @@
 -- What a worker does in a round for its lines, one after the other.
-use Rattle.std.specs.Prelude.{◌≡◌, ◌≤◌, ℕ, ◌+◌, Bool, List, [], ◌∷◌, length, take, drop, Option, None, Some}
+use Rattle.std.specs.Prelude.{◌≡◌, ◌≤◌, ℕ, ◌+◌, Bool, List, [], ◌∷◌, length, take, drop, All, Option, None, Some}
 use Rattle.pm_types.specs.declared.fault.PageFault.TheVariants.{Failed, BadPage}
 use Rattle.pm_types.specs.declared.page_id.PageId.{PageId}
 use Rattle.pm_types.specs.declared.shape.Shape.{Shape}
@@ -18,6 +18,7 @@ use Rattle.pm_engine.specs.declared.frame_lines.Stop.TheVariants.{Halted, Faulte
 use Rattle.pm_engine.specs.declared.frame_rounds.RoundEnd.{RoundEnd}
 use Rattle.pm_engine.specs.FrameCommands.{frame_pages, IsSameWorker, IsBetweenLines, ChangesNothing}
 use Rattle.pm_engine.specs.FrameLines.{EvaluatesLine, DoesLine}
+use Rattle.pm_engine.specs.MetPages.{AllowsLine, MeetsBadPage}
 
 -- so many of the lines, from this one on
 abbrev pub lines_from : ℕ → ℕ → List Line → List Line
@@ -92,3 +93,7 @@ module _ {Q R : Type 0} where
     pub cause : end.stop ≡ Some (Faulted Failed) → HasRisen (state b.reader).faults (state c.reader).faults
     pub sound : tells → AllWellFormed b.stripe.shape (frame_pages history b) → (id : PageId)
         → end.stop ≡ Some (Faulted (BadPage id)) → ⊥
+    -- what couldn't be used is a page that the next line met, after those that were done
+    pub meets : tells → (may_change : ℕ → Bool) → All (AllowsLine may_change b.stripe.shape) lines → (id : PageId)
+        → end.stop ≡ Some (Faulted (BadPage id))
+        → MeetsBadPage tells may_change b.stripe.shape (frame_pages history b) id

@@ -22,6 +22,7 @@ pub mod FrameStores
 pub mod HandedPages
 pub mod LineChains
 pub mod Merges
+pub mod MetPages
 pub mod OpenedStores
 pub mod Openings
 pub mod OutboxLogs

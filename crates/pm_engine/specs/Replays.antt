@@ -13,7 +13,7 @@ use Rattle.pm_model.specs.declared.line.Line.TheVariants.{Good}
 use Rattle.pm_model.specs.Eval.{Pairs}
 use Rattle.pm_records.specs.LogFiles.{HasLasting, contents}
 use Rattle.pm_records.specs.Logs.{all_frames, record_in, after_frames, is_over, HasFrames}
-use Rattle.pm_records.specs.Records.{Record}
+use Rattle.pm_records.specs.Records.{Record, Logical}
 use Rattle.pm_records.specs.declared.limits.TheConstants.{PUT}
 use Rattle.pm_segments.specs.Ends.{LogEnd}
 use Rattle.pm_core.specs.Replays.{replayed, all_replayed}
@@ -69,6 +69,29 @@ abbrev pub IsBadAt : Shape → Pairs → World → Place → Type 0
 IsBadAt shape map world at = (frame : Frame)
     × (all_frames.frame_at at.seg at.off (contents world.log at.seg) ≡ Some frame)
     × (replayed shape (record_in frame) map ≡ None)
+
+-- a record that can't be applied is in no grammar, or is a put, which may meet a full partition
+abbrev pub CanBeRefused : Option Record → Type 0
+CanBeRefused None = Unit {0}
+CanBeRefused (Some (Logical op cache key value)) = op ≡ PUT
+CanBeRefused (Some other) = ⊥
+
+-- such a record stands there
+abbrev pub IsRefusedAt : World → Place → Type 0
+IsRefusedAt world at = (frame : Frame)
+    × (all_frames.frame_at at.seg at.off (contents world.log at.seg) ≡ Some frame)
+    × CanBeRefused (record_in frame)
+
+-- The frames that stood in these segments' bytes from the replay place up to the log's old end begin with some that
+-- lead to this place, before that end. There a frame stands that is in no grammar, or is a put, or none stands there.
+pub record IsRefusedReplay (log : ℕ → List ℕ) (from end : Place) (world : World) (at : Place) : Type 0 where
+  pub before : List Frame
+  pub rest : List Frame
+  pub stand : HasFrames all_frames log from (before ++ rest)
+  pub to : after_frames from (before ++ rest) ≡ end
+  pub there : after_frames from before ≡ at
+  pub not_end : at ≡ end → ⊥
+  pub refused : IsRefusedAt world at ⊎ EndsBefore before from world at
 
 -- The frames that stood in these segments' bytes from the replay place up to the log's old end begin with some that
 -- lead to this place, before that end, and make a map of the one of the base pages. There a frame stands that is in

@@ -1,6 +1,6 @@
 //! A command of one partition over a worker's page frames: an operation of a round.
 
-ghost use Rattle.std.specs.Prelude.{◌≡◌, ◌<◌, ◌∷◌, ◌++◌, List, [], Some, None, length, OnOk, IfOk};
+ghost use Rattle.std.specs.Prelude.{◌≡◌, ◌<◌, ◌∷◌, ◌++◌, ℕ, List, [], Some, None, length, OnOk, IfOk};
 ghost use Rattle.std.specs.Option.{option_copied};
 ghost use Rattle.std.specs.Prelude.{if◌then◌else◌};
 ghost use Rattle.pm_model.specs.declared.line.Line.TheVariants.{Good};
@@ -8,6 +8,7 @@ ghost use Rattle.pm_model.specs.declared.reply.Reply.{Reply};
 ghost use Rattle.pm_pages.specs.SoundPages.{NoBadPage};
 ghost use Rattle.pm_part.specs.Commands.{IsPartCmd, RepliesOnce, accepts};
 ghost use Rattle.pm_part.specs.Faults.{HasPartCause, IsFaultOf};
+ghost use Rattle.pm_part.specs.Runs.{IsGet};
 ghost use Rattle.pm_stripe.specs.Begins.{MayBegin};
 ghost use Rattle.pm_stripe.specs.Dones.{HasOutboxRoom, EndsOperation};
 ghost use Rattle.pm_stripe.specs.Listings.{MayBeLogical, GrowsByOperation, given_record};
@@ -29,7 +30,7 @@ use std::sync::Wait;
 /// operation of this line. It appends the reply, and says whether the command was accepted.
 ///
 /// An accepted command hands over this record, where there is one, and what it changed, to be appended to the
-/// log. One that isn't accepted hands over nothing, and changes no page.
+/// log. One that isn't accepted hands over nothing, and changes no page. A get changes no page, whatever it answers.
 ///
 /// `Failed` comes only where a call on the disk failed, and `BadPage` only of a partition that isn't well
 /// formed. After a fault no reply was appended and nothing was handed over, and pages in hand may be half
@@ -52,6 +53,9 @@ pub fn run_in_frames<'a, Q: Wait, R: PageReader>(
     ensures replied { RepliesOnce replies.old replies.new result }
     ensures does { IfOk result (DoesCommand R.tells R.history line (given_record (option_copied rec.entry)) part.now.part cmd.now
         bound.old bound.new replies.old replies.new) }
+    ensures looks { R.tells → IsGet cmd.now → (index : ℕ)
+        → (part_seen R.history R.state bound.new part.now.part).pages index
+        ≡ (part_seen R.history R.state bound.old part.now.part).pages index }
     ensures cause { HasPartCause R.tells (part_seen R.history R.state bound.old part.now.part)
         (part_seen R.history R.state bound.new part.now.part)
         (IsFaultOf R.tells (part_seen R.history R.state bound.new part.now.part) cmd.now) result }

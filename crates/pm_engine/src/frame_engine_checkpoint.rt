@@ -73,8 +73,7 @@ impl FrameEngine {
 
 /// Where the next CP_BEGIN goes.
 pub(crate) fn begin_place(log: &Log) -> Place
-    ensures is { result ≡ begin_of log.now }
-    ensures numbered { result.seg < 2 ^ 64 }
+    ensures { (result ≡ begin_of log.now) × (result.seg < 2 ^ 64) }
 {
     log.next_place(CP_BEGIN_LEN)
 }

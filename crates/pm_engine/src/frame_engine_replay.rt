@@ -1,6 +1,6 @@
 //! A record of the log, applied again by an engine over page frames whose store is opened.
 
-ghost use Rattle.std.specs.Prelude.{◌≡◌, ◌<◌, ◌≤◌, ◌+◌, true, Some, length, vec_capacity, IfOk, OnOk, IsErrOf};
+ghost use Rattle.std.specs.Prelude.{◌≡◌, ◌<◌, ◌≤◌, ◌+◌, true, false, Some, length, vec_capacity, IfOk, OnOk, IsErrOf};
 ghost use Rattle.pm_types.specs.declared.fault.PageFault.TheVariants.{Failed as PageFailed};
 ghost use Rattle.pm_types.specs.declared.fault.StoreFault.{StoreFault};
 ghost use Rattle.pm_types.specs.declared.place.Place.{Place as ThisPlace};
@@ -155,6 +155,7 @@ impl FrameEngine {
             (H.Device.history host.old).world (H.Device.history host.new).world replies.old replies.new) }
         ensures unchanged { IsErrOf result.1 StoreFault.Memory → (result.0 ≡ self)
             × (H.Device.tells → (H.Device.history host.new).world ≡ (H.Device.history host.old).world) }
+        ensures closed { IsErrOf result.1 StoreFault.Failed → result.0.store.is_open ≡ false }
         ensures failed { IfOk result.1 (λ answer. IsErrOf answer (Faulted PageFailed)
             → Rose (H.Device.state host.old) (H.Device.state host.new)) }
         ensures cause { HasPlainFault (H.Device.state host.old) (H.Device.state host.new) result.1 }

@@ -27,6 +27,7 @@ ghost use Rattle.pm_engine.specs.AppendRuns.{append_all_steps};
 ghost use Rattle.pm_engine.specs.Batches.{HasPlainFault};
 ghost use Rattle.pm_engine.specs.FrameOpenings.{IsFreshIn, IsReadyOver, OpensRunningIn, HasOpenCauseIn};
 ghost use Rattle.pm_engine.specs.FrameOpenings.{AreEmptyFrames, IsStartedEngine, HasNoStrayPages};
+ghost use Rattle.pm_engine.specs.FrameOpenings.{OpensOverBase, OpensOverAny};
 ghost use Rattle.pm_engine.specs.Replays.{CrashHoldsMap, LogLeadsTo};
 ghost use Rattle.pm_engine.specs.Openings.{HasFewNumbers, opened_last, opened_number};
 ghost use Rattle.pm_engine.specs.Openings.{IsPlainOpen, ComparesOpening, CountsFaults, CountsOpenFaults};
@@ -57,11 +58,12 @@ impl FrameEngine {
     ///
     /// `Shape` comes exactly where the store has a shape and it differs, unless a call failed or memory ran
     /// out, and leaves everything as it was. `BadRecord` and `BadPage` come only where the store isn't sound.
-    /// `BadRecord` names the record without which the store can't be restored, or, where the base pages are well
-    /// formed, the one that can't be applied again. `BadPage` names a page that can't be used, and comes only where the
-    /// base pages aren't well formed. Both are said of a store whose files have no page where it has no start marker:
-    /// others come to light with a checkpoint. A page that isn't read isn't checked. What a crash leaves of a sound
-    /// store, meanwhile or after any fault, holds what it held, and may be opened again.
+    /// `BadRecord` names the record without which the store can't be restored, or one that can't be applied again: none
+    /// stands at its place, or it is in no grammar, or is a put that meets a full partition. `BadPage` names a page that
+    /// a record met, which fails its check, isn't there, or names a wrong page or row; it comes only where the base
+    /// pages aren't well formed. That is said of a store whose files have no page where it has no start marker: others
+    /// come to light with a checkpoint. A page that isn't read isn't checked. What a crash leaves of a sound store,
+    /// meanwhile or after any fault, holds what it held, and may be opened again.
     ///
     /// What it makes of a sound store is said where there are numbers for the segments that it may begin: one
     /// for the RESTART, and `OP_PAGES + 1` for each record from the replay place on; and for a checkpoint for
@@ -84,7 +86,10 @@ impl FrameEngine {
             (in_force (image_of (H.Device.history host.old).world))
             (contents (H.Device.history host.old).world.log)) config.now.shape)
             (H.Device.history host.old) (H.Device.history host.new) result }
-        ensures bad { H.Device.tells → IfErr result (HasOpenCauseIn config.now.shape
+        ensures bad { H.Device.tells → IfErr result (HasOpenCauseIn H.Device.tells config.now.shape
+            (in_force (image_of (H.Device.history host.old).world))
+            (H.Device.history host.old).world (H.Device.history host.new).world) }
+        ensures kept { H.Device.tells → IfOk result (OpensOverBase config.now.shape
             (in_force (image_of (H.Device.history host.old).world))
             (H.Device.history host.old).world (H.Device.history host.new).world) }
 
@@ -141,6 +146,10 @@ fn open_restored<Q: Wait, H: Host>(
         → IsBadOver config.now.shape (loaded_base base.mark (H.Device.history host.old).world)
         (contents (H.Device.history host.old).world.log) base.replay base.log_end
         (H.Device.history host.new).world at }
+    ensures over_any { H.Device.tells → (leads : LogLeadsTo base.replay base.log_end base.log
+        (H.Device.history host.old).world) → OpensOverAny H.Device.tells config.now.shape base.replay base.log_end
+        leads.frames (loaded_base base.mark (H.Device.history host.old).world) (H.Device.history host.old).world
+        (H.Device.history host.new).world result }
     ensures opened { H.Device.tells → (last highest : ℕ) (wanted : ThisShape) (told : List ℕ → ℕ) (pairs : Pairs)
         (s : State) → IsRestoredHolding last highest wanted told config.now.shape pairs base.log base.mark s
         (H.Device.history host.old).world

@@ -12,7 +12,7 @@ ghost use Rattle.pm_segments.specs.Scans.{IsAhead};
 ghost use Rattle.pm_core.specs.States.{State};
 ghost use Rattle.pm_engine.specs.FrameEngineReplays.{HasWholePages, KeepsEngineReady};
 ghost use Rattle.pm_engine.specs.FrameReplayLogs.{AppliesNextIn, CanReplayIn, ReplaysAllIn, ReplaysScan};
-ghost use Rattle.pm_engine.specs.FrameReplayLogs.{StepsReplay, ReplaysWellFormed};
+ghost use Rattle.pm_engine.specs.FrameReplayLogs.{StepsReplay, ReplaysWellFormed, ReplaysOverAny};
 ghost use Rattle.pm_engine.specs.FrameStores.{HasCleanPages};
 ghost use Rattle.pm_engine.specs.Replays.{LogLeadsTo};
 ghost use Rattle.pm_engine.specs.Openings.{CountsFaults};
@@ -139,6 +139,11 @@ pub(crate) fn replay_in_frames<Q: Wait, H: Host>(
     ensures any { H.Device.tells → LogLeadsTo from end engine.log (H.Device.history host.old).world
         → HasWholePages engine.store (H.Device.history host.old).world
         → ReplaysWellFormed from end engine result.0 (H.Device.history host.old).world
+        (H.Device.history host.new).world result.1 }
+
+    // What it makes of any store.
+    ensures over_any { H.Device.tells → (leads : LogLeadsTo from end engine.log (H.Device.history host.old).world)
+        → ReplaysOverAny H.Device.tells from end leads.frames engine result.0 (H.Device.history host.old).world
         (H.Device.history host.new).world result.1 }
     ensures cause { CountsFaults (H.Device.state host.old) (H.Device.state host.new) result.1 }
 {

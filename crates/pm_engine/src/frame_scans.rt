@@ -1,6 +1,6 @@
 //! A scan over a worker's page frames: all pairs of a cache, read between two rounds.
 
-ghost use Rattle.std.specs.Prelude.{◌≡◌, ℕ, ◌<◌, ◌∷◌, ◌++◌, [], IfOk, IsErrOf, OnErr, OnOk, map};
+ghost use Rattle.std.specs.Prelude.{◌≡◌, ℕ, ◌<◌, ◌∷◌, ◌++◌, [], Bool, IfOk, IsErrOf, OnErr, OnOk, map};
 ghost use Rattle.std.specs.List.{range_with_len};
 ghost use Rattle.pm_types.specs.declared.fault.PageFault.TheVariants.{Failed as PageFailed, BadPage as PageBad};
 ghost use Rattle.pm_types.specs.declared.fault.StoreFault.TheVariants.{Failed as StoreFailed, BadPage as StoreBad};
@@ -19,9 +19,10 @@ ghost use Rattle.pm_core.specs.Held.{AllWellFormed, pairs_in};
 ghost use Rattle.pm_stripe.specs.declared.halt.Halt.{Halt as ThisHalt};
 ghost use Rattle.pm_stripe.specs.Begins.{MayBegin};
 ghost use Rattle.pm_engine.specs.declared.frame_scans.ScanStop.TheVariants.{Halted, Faulted};
-ghost use Rattle.pm_engine.specs.FrameCommands.{frame_pages, AreReadable, IsPartOf, HasWellFormed};
+ghost use Rattle.pm_engine.specs.FrameCommands.{frame_pages, part_seen, AreReadable, IsPartOf, HasWellFormed};
 ghost use Rattle.pm_engine.specs.FrameCommands.{IsBetweenLines};
 ghost use Rattle.pm_engine.specs.FrameScans.{ReadsNoBadPage, LooksUp, OwnsAll, HasScanCause, IsLackingFor};
+ghost use Rattle.pm_engine.specs.MetPages.{IsMetBy, MeetsInScan};
 ghost use Rattle.pm_engine.specs.PagedStores.{part_map};
 
 use crate::merging::join_by_key;
@@ -72,6 +73,10 @@ pub(crate) fn scan_in_frames<'a, Q: Wait, R: PageReader>(
         → OnOk result (replies.new ≡ with_replies (reply_to shape (Good (Scan cache))
         (pairs_in shape.partitions (frame_pages R.history bound.old)) ∷ []) replies.old) }
     ensures sound { R.tells → AllWellFormed shape (frame_pages R.history bound.old) → ReadsNoBadPage result }
+
+    // Of any store, a page that couldn't be used is one that the scan met.
+    ensures meets { R.tells → (may_change : ℕ → Bool)
+        → MeetsInScan R.tells may_change shape (frame_pages R.history bound.old) result }
 {
     match pairs_by_partition(bound, alloc, shape, cache) {
         Err(stop) => Err(stop),
@@ -103,6 +108,8 @@ fn pairs_by_partition<'a, Q: Wait, R: PageReader>(
         ≡ map (λ part. pairs_of cache (part_map (frame_pages R.history bound.old) part))
         (range_with_len 0 shape.partitions)) }
     ensures sound { R.tells → AllWellFormed shape (frame_pages R.history bound.old) → ReadsNoBadPage result }
+    ensures meets { R.tells → (may_change : ℕ → Bool)
+        → MeetsInScan R.tells may_change shape (frame_pages R.history bound.old) result }
 {
     let Ok(mut found) = Vec::with_capacity(alloc, shape.partitions as usize) else {
         return Err(ScanStop::Memory);
@@ -135,6 +142,8 @@ fn pairs_of_partition<'a, Q: Wait, R: PageReader>(
         → IfOk result (λ pairs. pairs.items ≡ pairs_of cache (part_map (frame_pages R.history bound.old) part)) }
     ensures sound { R.tells → HasWellFormed shape (frame_pages R.history bound.old) part
         → ReadsNoBadPage result }
+    ensures meets { R.tells → (may_change : ℕ → Bool)
+        → MeetsInScan R.tells may_change shape (frame_pages R.history bound.old) result }
 {
     let mut list = PairList {
         pairs: Vec::new(alloc),
@@ -174,6 +183,10 @@ pub fn pairs_in_frames<'a, Q: Wait, R: PageReader>(
         (part_map (frame_pages R.history bound.old) part.now.part)) }
     ensures sound { R.tells → HasWellFormed part.now.shape (frame_pages R.history bound.old) part.now.part
         → ReadsNoBadPage result }
+
+    // Of any store, a page that couldn't be used is one that the scan met.
+    ensures meets { R.tells → (may_change : ℕ → Bool)
+        → MeetsInScan R.tells may_change part.now.shape (frame_pages R.history bound.old) result }
 {
     match bound.ready() {
         Err(halt) => Err(ScanStop::Halted(halt)),
@@ -205,6 +218,8 @@ fn read_ready<'a, Q: Wait, R: PageReader>(
         (part_map (frame_pages R.history bound.old) part.now.part)) }
     ensures sound { R.tells → HasWellFormed part.now.shape (frame_pages R.history bound.old) part.now.part
         → NamesNoBadPage result }
+    ensures met { (id : PageId) → IsErrOf result (StoreBad id) → IsMetBy R.tells (Scan cache)
+        (part_seen R.history R.state bound.old part.now.part) (part_seen R.history R.state bound.old part.now.part) id }
 {
     bound.at(part.number());
     let read = part.pairs(alloc, cache, bound, into);

@@ -12,6 +12,7 @@ use Rattle.pm_model.specs.declared.line.Line.{Line}
 use Rattle.pm_script.specs.Reading.{OnlyTakes}
 use Rattle.pm_engine.specs.FrameEngines.{map_in}
 use Rattle.pm_engine.specs.FrameOpenings.{IsReadyOver}
+use Rattle.pm_engine.specs.FrameStores.{pages_in_frames}
 use Rattle.pm_engine.specs.RunningLines.{SameDisk}
 use Rattle.pm_top.specs.declared.run.Run.{Run}
 use Rattle.pm_top.specs.ScriptOrder.{CrashHoldsAcknowledged}
@@ -20,6 +21,7 @@ use Rattle.pm_top.proofs.AnsweredLines.{err_same, rest_crash, takes_both, takes_
 use Rattle.pm_top.proofs.FrameRests.{rest_beside, same_both, same_engine, same_taken}
 use Rattle.pm_top.proofs.KeptConfigs.{answers_none, answers_then}
 use Rattle.pm_top.proofs.Lasting.{keeps_beside, keeps_rest, order_longer}
+use Rattle.pm_top.proofs.MetLines.{LinesMeet, both_meet, fault_met, first_meet, none_met}
 use Rattle.pm_top.proofs.Progressing.{failed_still, memory_still, progress_still}
 
 -- ---- orders
@@ -132,6 +134,7 @@ no_lines tells old lines run sound is_open none ready =
       counts = record { counted = omega arith; is_open = is_open; numbers = takes_none run.engine };
       ready = ready;
       only_answers = λ t. answers_none old (sound t);
+      meets = λ t. none_met run.engine.store.shape [] (pages_in_frames run.engine.store old.world) (Ok tt) (λ id is. absurd (let both : Ok tt ≡ Err (BadPage id) = is in cc));
       goes = λ t wanted last number can left. idle_goes wanted last number 0 old old run left can (sound t) (idle_none old (sound t));
     })
 
@@ -142,6 +145,7 @@ lines_unbegun tells old lines run sound = record {
   counts = tt;
   ready = λ t. tt;
   only_answers = λ t. answers_none old (sound t);
+  meets = λ t. fault_met run.engine.store.shape lines (pages_in_frames run.engine.store old.world) (pages_in_frames run.engine.store old.world) Memory (λ id is. absurd cc);
   goes = λ t wanted last number can left. idle_stops wanted last number (length lines) old old run (lines ++ left) can (sound t) (idle_none old (sound t)) left Memory (λ id is. absurd cc);
 }
 
@@ -160,6 +164,7 @@ module _ (tells : Type 0) (old mid : History) (xs ys : List Line) (before at : R
     counts = tt;
     ready = λ t. tt;
     only_answers = first.only_answers;
+    meets = λ t. first_meet before.engine.store.shape xs ys (pages_in_frames before.engine.store old.world) (pages_in_frames at.engine.store mid.world) (Err fault) (first.meets t);
     goes = λ t wanted last number can left.
         subst (λ (ls : List Line). GoesOn {T = Unit {0}} wanted last number old mid ls left before at (Err fault)) (sym (append_assoc xs ys left))
         (stops_anywhere wanted last number old mid (xs ++ (ys ++ left)) (ys ++ left) left before at fault (first.goes t wanted last number (first_may wanted last number xs ys before old.world can) (ys ++ left)));
@@ -181,6 +186,11 @@ module _ (tells : Type 0) (old mid : History) (xs ys : List Line) (before at : R
         subst (λ (ls : List Line). GoesOn wanted last number old new ls left before now result) (sym (append_assoc xs ys left))
         (goes_then wanted last number old mid new (xs ++ (ys ++ left)) (ys ++ left) left before at now result (first.goes t wanted last number may (ys ++ left)) (second.goes t wanted last number since left))
 
+    both_met : (result : Result (Unit {0}) StoreFault) → AnswersLines tells mid new ys at now result → tells
+        → LinesMeet before.engine.store.shape (xs ++ ys) (pages_in_frames before.engine.store old.world) (pages_in_frames now.engine.store new.world) result
+    both_met result second t =
+        both_meet before.engine.store.shape at.engine.store.shape xs ys (pages_in_frames before.engine.store old.world) (pages_in_frames at.engine.store mid.world) (pages_in_frames now.engine.store new.world) result first.keeps.shape (first.meets t) (second.meets t)
+
     -- the others were answered too
     pub both_answered : AnswersLines tells mid new ys at now (Ok tt) → AnswersLines tells old new (xs ++ ys) before now (Ok tt)
     both_answered second = record {
@@ -192,6 +202,7 @@ module _ (tells : Type 0) (old mid : History) (xs ys : List Line) (before at : R
       };
       ready = second.ready;
       only_answers = λ t. answers_then old mid new (sound t) (first.only_answers t) (second.only_answers t);
+      meets = both_met (Ok tt) second;
       goes = both_go (Ok tt) second;
     }
 
@@ -202,6 +213,7 @@ module _ (tells : Type 0) (old mid : History) (xs ys : List Line) (before at : R
       counts = tt;
       ready = λ t. tt;
       only_answers = λ t. answers_then old mid new (sound t) (first.only_answers t) (second.only_answers t);
+      meets = both_met (Err fault) second;
       goes = both_go (Err fault) second;
     }
 

@@ -13,12 +13,15 @@ use Rattle.pm_model.specs.declared.line.Line.{Line}
 use Rattle.pm_model.specs.Eval.{Pairs, replies_to, accepted}
 use Rattle.pm_model.specs.ReplyLists.{ReplyList}
 use Rattle.pm_script.specs.Texts.{texts_of}
+use Rattle.pm_core.specs.BasePages.{Partitions}
 use Rattle.pm_core.specs.Calls.{ChangesDisk}
 use Rattle.pm_engine.specs.Batches.{IsPlainFault}
 use Rattle.pm_engine.specs.FrameBatches.{EndsAtReplayIn, LeavesAllAtRest, MakesAskedIn, RunsFrameBatch, TakesNumbersIn}
 use Rattle.pm_engine.specs.FrameEngines.{FrameRunning, IsSameEngine, map_in}
 use Rattle.pm_engine.specs.FrameOpenings.{IsReadyOver}
+use Rattle.pm_engine.specs.FrameStores.{pages_in_frames}
 use Rattle.pm_engine.specs.Batches.{asked_last}
+use Rattle.pm_engine.specs.RunningLines.{SameDisk}
 use Rattle.pm_top.specs.FrameRests.{FrameAtRest}
 use Rattle.pm_top.specs.declared.run.Run.{Run}
 use Rattle.pm_top.specs.ScriptOrder.{CrashHoldsAcknowledged, HasFailed, HasNoMemory}
@@ -26,17 +29,19 @@ use Rattle.pm_top.specs.Runs.{AnswersLines, GoesOn, MayRun, Progress, TakesFor}
 use Rattle.pm_top.proofs.AnsweredLines.{all_map, all_order, all_replies, at_rest, batch_takes, err_same, fault_goes, same_shape, said_stands, saying_moments}
 use Rattle.pm_top.proofs.FrameRests.{ready_beside, same_said}
 use Rattle.pm_top.proofs.KeptConfigs.{answers_disk, answers_said}
+use Rattle.pm_top.proofs.MetLines.{LinesMeet, batch_meets, fault_met, pages_beside}
 use Rattle.pm_top.proofs.Progressing.{failed_saying, failed_still, memory_still, memory_unsaid, progress_more}
 
 -- a fault came in the batch
 pub batch_stops : {tells : Type 0} {old mid : History} (run : Run) {later : FrameRunning} {lines : List Line} {was replies : ReplyList} (fault : StoreFault)
     → RunsFrameBatch tells old mid (run.lines + 1) lines (34 * length lines + 1) (length lines + 1) run.engine later was replies (Err fault)
     → (tells → IsHistory mid) → 1 ≤ length lines → length lines ≤ BATCH_LINES_MAX → AnswersLines tells old mid lines run (record run { engine = later }) (Err fault)
-batch_stops {old = old} {mid = mid} run fault tries sound some few = record {
+batch_stops {tells = tells} {old = old} {mid = mid} run {later = later} {lines = lines} fault tries sound some few = record {
   keeps = tries.same;
   counts = tt;
   ready = λ t. tt;
   only_answers = λ t. answers_disk old mid (tries.disk t);
+  meets = λ t. batch_meets tells t run.engine.store.shape lines (pages_in_frames run.engine.store old.world) (pages_in_frames later.store mid.world) (Err fault) (tries.meets t);
   goes = λ t wanted last number can left. fault_goes run fault tries t wanted last number some few can (sound t) left;
 }
 
@@ -108,6 +113,15 @@ module _ {tells : Type 0} {old mid : History} (run : Run) {later : FrameRunning}
         moments = λ start shape pairs progress. all_moments t can {S = Unit {0}} {F = StoreFault} (Ok tt) (call t) start shape pairs left progress;
       }
 
+    -- what is said leaves the pages as they are
+    pages_now : tells → pages_in_frames now.engine.store new.world ≡ pages_in_frames later.store mid.world
+    pages_now t = ap (λ (e : FrameRunning). pages_in_frames e.store new.world) engine_is ∙ pages_beside later mid.world new.world (subst (SameDisk mid.world) (sym (there t)) (same_said (texts_of replies.replies) mid.world))
+
+    meets_now : tells → LinesMeet run.engine.store.shape lines (pages_in_frames run.engine.store old.world) (pages_in_frames now.engine.store new.world) (Ok tt)
+    meets_now t =
+        subst (λ (p : Partitions). LinesMeet run.engine.store.shape lines (pages_in_frames run.engine.store old.world) p (Ok tt)) (sym (pages_now t))
+        (batch_meets tells t run.engine.store.shape lines (pages_in_frames run.engine.store old.world) (pages_in_frames later.store mid.world) (Ok tt) (tries.meets t))
+
     pub all_said : AnswersLines tells old new lines run now (Ok tt)
     all_said = record {
       keeps = keeps;
@@ -118,6 +132,7 @@ module _ {tells : Type 0} {old mid : History} (run : Run) {later : FrameRunning}
       };
       ready = ready_now;
       only_answers = λ t. answers_said old mid new (Ok tt) (texts_of replies.replies) (sound t) (answers_disk old mid (tries.disk t)) (call t);
+      meets = meets_now;
       goes = said_goes;
     }
 
@@ -160,6 +175,7 @@ module _ {tells : Type 0} {old mid : History} (run : Run) {later : FrameRunning}
       counts = tt;
       ready = λ t. tt;
       only_answers = λ t. answers_said old mid new (Err fault) (texts_of replies.replies) (sound t) (answers_disk old mid (tries.disk t)) (call t);
+      meets = λ t. fault_met run.engine.store.shape lines (pages_in_frames run.engine.store old.world) (pages_in_frames now.engine.store new.world) fault (λ id is. subst IsPlainFault is plain);
       goes = unsaid_goes;
     }
 

@@ -27,20 +27,20 @@ use Rattle.pm_top.proofs.DrawnOutcomes.{idle_drawn, says_fault, says_none, three
 use Rattle.pm_top.proofs.Lasting.{keeps_said}
 use Rattle.pm_top.proofs.Opened.{map_keeps, rest_keeps}
 use Rattle.pm_top.proofs.Orders.{fault_line, take_none}
-use Rattle.pm_top.proofs.Refusing.{AnswersNone, damaged_run, field_refused_run, idle_run, same_disk}
+use Rattle.pm_top.proofs.Refusing.{AnswersNone, damaged_opening, damaged_run, field_refused_run, idle_run, same_disk}
 
 -- ---- a run that ends before it runs a line
 
 -- one over a script that says the same of it
 none_run_drawn : (script : List Line) (old new : History) (status : Status) (lines : ℕ) (order : List ℕ) → RunHolds old new status lines order → (status ≡ Done → ⊥) → (status ≡ Long → ⊥)
-    → ((shape : Shape) (pairs : Pairs) → CanOpen old.world shape pairs → DrawnOutcomeIs script status old.world new.world shape pairs lines order) → GenHolds script old new status lines order
-none_run_drawn script old new status lines order run isnt short outcome = record {
+    → (status ≡ Damaged → IsDamaged script old.world new.world lines order) → ((shape : Shape) (pairs : Pairs) → CanOpen old.world shape pairs → DrawnOutcomeIs script status old.world new.world shape pairs lines order) → GenHolds script old new status lines order
+none_run_drawn script old new status lines order run isnt short damaged outcome = record {
   outcome = outcome;
   configured = λ is. absurd (isnt is);
   untouched = run.untouched;
   leaves = λ is. absurd (isnt is);
   misconfigured = run.misconfigured;
-  damaged = run.damaged;
+  damaged = damaged;
   within = short;
 }
 
@@ -63,6 +63,7 @@ pub idle_gen : (script : List Line) (old new : History) (status : Status) (lines
 idle_gen script old new status lines order cases same unread none no_order untouched =
     none_run_drawn script old new status lines order (idle_run old new status lines order cases same none no_order untouched)
     (two_arent status Done 0 cases refl (λ e. omega (arith, e)) (λ e. omega (arith, e))) (two_arent status Long 6 cases refl (λ e. omega (arith, e)) (λ e. omega (arith, e)))
+    (λ is. absurd (two_arent status Damaged 5 cases refl (λ e. omega (arith, e)) (λ e. omega (arith, e)) is))
     (λ shape pairs can.
     let cut = none_cut script old.world new.world shape pairs lines order same unread none no_order in
     elim cases [
@@ -76,6 +77,7 @@ pub field_refused_gen : (script : List Line) (old new : History) (status : Statu
 field_refused_gen script old new status lines order field is cases said all none no_order =
     none_run_drawn script old new status lines order (field_refused_run old new status lines order field is cases said all none no_order)
     (three_arent status Misconfigured Done 2 0 cases refl refl (λ e. omega (arith, e)) (λ e. omega (arith, e)) (λ e. omega (arith, e))) (three_arent status Misconfigured Long 2 6 cases refl refl (λ e. omega (arith, e)) (λ e. omega (arith, e)) (λ e. omega (arith, e)))
+    (λ it. absurd (three_arent status Misconfigured Damaged 2 5 cases refl refl (λ e. omega (arith, e)) (λ e. omega (arith, e)) (λ e. omega (arith, e)) it))
     (λ shape pairs can. absurd (let both : Some field ≡ None = sym is ∙ can.configured in cc))
 
 -- a record or a page is bad
@@ -85,6 +87,7 @@ pub damaged_gen : (script : List Line) (old mid new : History) (status : Status)
 damaged_gen script old mid new status lines order alike unsound restored cases named none no_order =
     none_run_drawn script old new status lines order (damaged_run old mid new status lines order alike unsound restored cases named none no_order)
     (three_arent status Damaged Done 5 0 cases refl refl (λ e. omega (arith, e)) (λ e. omega (arith, e)) (λ e. omega (arith, e))) (three_arent status Damaged Long 5 6 cases refl refl (λ e. omega (arith, e)) (λ e. omega (arith, e)) (λ e. omega (arith, e)))
+    (λ is. damaged_opening script old mid new lines order alike unsound restored (named is) none no_order)
     (λ shape pairs can. absurd (unsound shape pairs can.start))
 
 -- ---- calls that come after ones that changed nothing
@@ -98,7 +101,7 @@ gen_from script old mid new status lines order first same run = record {
       (subst (λ (w : World). (f : Field) → config_fault w ≡ Some f → AllMoments mid new (SameDisk w)) same run.untouched field refused);
   leaves = subst (λ (w : World). status ≡ Done → (shape : Shape) (pairs : Pairs) (start : IsStart (wanted_in w) w shape pairs) → DrawnIsLeft (wanted_in w) (last_after start) (number_after start) script new.world shape pairs) same run.leaves;
   misconfigured = λ is. subst (λ (w : World). IsMisconfigured w new.world lines order) same (run.misconfigured is);
-  damaged = λ is. subst (λ (w : World). IsDamaged w new.world lines order) same (run.damaged is);
+  damaged = λ is. subst (λ (w : World). IsDamaged script w new.world lines order) same (run.damaged is);
   within = run.within;
 }
 

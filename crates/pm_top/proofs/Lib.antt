@@ -38,3 +38,5 @@ pub mod DrawnRefusing
 pub mod WordsRead
 pub mod WordsTaken
 pub mod WordsGiven
+pub mod MetLines
+pub mod MetOpenings

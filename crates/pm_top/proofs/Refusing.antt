@@ -5,6 +5,7 @@ use Rattle.pm_types.specs.declared.shape.Shape.{Shape}
 use Rattle.pm_disk.specs.Worlds.{World, with_said}
 use Rattle.pm_disk.specs.Moments.{History, AllMoments}
 use Rattle.pm_disk.proofs.Chain.{joined, weaker}
+use Rattle.pm_model.specs.declared.line.Line.{Line}
 use Rattle.pm_model.specs.Eval.{Pairs, accepted}
 use Rattle.pm_script.specs.Texts.{texts_of}
 use Rattle.pm_core.specs.Calls.{ChangesDisk}
@@ -100,6 +101,18 @@ field_refused_run old new status lines order field is cases said all none no_ord
     (λ shape pairs can. absurd (let both : Some field ≡ None = sym is ∙ can.configured in cc))
     (λ _ _. said_disk old new (fault_config field) all)
 
+-- what was found in the opening was named
+pub damaged_opening : (script : List Line) (old mid new : History) (lines : ℕ) (order : List ℕ) → config_fault old.world ≡ None → ((shape : Shape) (pairs : Pairs) → IsStart (wanted_in old.world) old.world shape pairs → ⊥) → ChangesDisk old.world mid.world
+    → SaysLine (NamesBadOpening old.world mid.world) mid.world new.world → lines ≡ 0 → order ≡ [] → IsDamaged script old.world new.world lines order
+damaged_opening script old mid new lines order alike unsound restored line none no_order = record {
+  configured = alike;
+  unsound = unsound;
+  left = mid.world;
+  text = line.0;
+  bad = inl (record { restored = restored; names = line.1; none = none; order_is = no_order });
+  says = line.2;
+}
+
 -- a record or a page is bad
 pub damaged_run : (old mid new : History) (status : Status) (lines : ℕ) (order : List ℕ) → config_fault old.world ≡ None → ((shape : Shape) (pairs : Pairs) → IsStart (wanted_in old.world) old.world shape pairs → ⊥) → ChangesDisk old.world mid.world
     → (status ≡ Damaged) ⊎ (status ≡ Failed) ⊎ (status ≡ Memory) → (status ≡ Damaged → SaysLine (NamesBadOpening old.world mid.world) mid.world new.world) → lines ≡ 0 → order ≡ [] → RunHolds old new status lines order
@@ -115,15 +128,7 @@ damaged_run old mid new status lines order alike unsound restored cases named no
       untouched = λ field differs. absurd (let both : Some field ≡ None = sym differs ∙ alike in cc);
       leaves = λ is shape pairs start. absurd (unsound shape pairs start);
       misconfigured = λ is. absurd (was (λ s. s ≡ Misconfigured → ⊥) (λ e. (let clash : 5 ≡ 2 = ap code_of e in omega (arith, clash))) (λ e. (let clash : 3 ≡ 2 = ap code_of e in omega (arith, clash))) (λ e. (let clash : 4 ≡ 2 = ap code_of e in omega (arith, clash))) is);
-      damaged = λ is. (let line = named is in
-          record {
-            configured = alike;
-            unsound = unsound;
-            left = mid.world;
-            text = line.0;
-            bad = inl (record { restored = restored; names = line.1; none = none; order_is = no_order });
-            says = line.2;
-          });
+      damaged = λ is. damaged_opening (script_of old.world.input) old mid new lines order alike unsound restored (named is) none no_order;
     }
 
 -- ---- calls that come after ones that changed nothing
@@ -137,5 +142,5 @@ run_from old mid new status lines order first same run = record {
       (subst (λ (w : World). (f : Field) → config_fault w ≡ Some f → AllMoments mid new (SameDisk w)) same run.untouched field refused);
   leaves = subst (λ (w : World). status ≡ Done → (shape : Shape) (pairs : Pairs) (start : IsStart (wanted_in w) w shape pairs) → IsLeft (wanted_in w) (last_after start) (number_after start) w new.world shape pairs) same run.leaves;
   misconfigured = λ is. subst (λ (w : World). IsMisconfigured w new.world lines order) same (run.misconfigured is);
-  damaged = λ is. subst (λ (w : World). IsDamaged w new.world lines order) same (run.damaged is);
+  damaged = λ is. subst (λ (w : World). IsDamaged (script_of w.input) w new.world lines order) same (run.damaged is);
 }

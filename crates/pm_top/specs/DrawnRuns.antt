@@ -112,7 +112,7 @@ pub record GenHolds (script : List Line) (old new : History) (status : Status) (
       → DrawnIsLeft (wanted_in old.world) (last_after start) (number_after start) script new.world shape pairs
   -- a field that is refused is named so, and a bad record or page too
   pub misconfigured : status ≡ Misconfigured → IsMisconfigured old.world new.world lines order
-  pub damaged : status ≡ Damaged → IsDamaged old.world new.world lines order
+  pub damaged : status ≡ Damaged → IsDamaged script old.world new.world lines order
   -- drawn lines pass no limit
   pub within : status ≢ Long
 

@@ -1,6 +1,7 @@
 -- What a run promises.
 use Rattle.std.specs.Prelude.{◌≡◌, ◌⊎◌, None, Some, true, false, ℕ, ◌+◌, ◌≤◌, ◌^◌, List, [], ◌++◌, take}
-use Rattle.std.specs.Prelude.{drop, length, codes, decimal}
+use Rattle.std.specs.Prelude.{drop, length, codes, decimal, Bool}
+use Rattle.std.specs.List.{All}
 use Rattle.pm_types.specs.declared.limits.TheConstants.{BATCH_LINES_MAX}
 use Rattle.pm_types.specs.declared.fault.Field.{Field}
 use Rattle.pm_types.specs.declared.page_id.PageId.{PageId}
@@ -11,16 +12,22 @@ use Rattle.pm_disk.specs.Moments.{History, AllMoments}
 use Rattle.pm_disk.specs.States.{DeviceState, Rose}
 use Rattle.pm_disk.specs.Worlds.{World, with_said}
 use Rattle.pm_model.specs.declared.reply.Reply.{Reply}
+use Rattle.pm_model.specs.declared.line.Line.{Line}
 use Rattle.pm_model.specs.Eval.{Pairs, replies_to, after_all}
 use Rattle.pm_model.specs.Orders.{HasAccepted, HasTried}
 use Rattle.pm_script.specs.Texts.{texts_of}
+use Rattle.pm_frame.specs.Frames.{Frame}
+use Rattle.pm_core.specs.BasePages.{Partitions}
 use Rattle.pm_core.specs.Calls.{ChangesDisk}
 use Rattle.pm_core.specs.Held.{in_force}
 use Rattle.pm_core.specs.LogAlone.{image_of}
 use Rattle.pm_core.specs.Prefixes.{IsUpTo}
 use Rattle.pm_core.specs.Sound.{Sound}
+use Rattle.pm_redo.specs.Restoring.{KeepsBase}
 use Rattle.pm_engine.specs.Batches.{asked_last}
-use Rattle.pm_engine.specs.FrameOpenings.{HasBadBase, IsBadOpeningIn}
+use Rattle.pm_engine.specs.FrameOpenings.{AllowsRecords, HasRecords, IsBadOpeningIn, IsBadOpeningPage}
+use Rattle.pm_engine.specs.MetPages.{AllowsLine, MeetsBadPage}
+use Rattle.pm_engine.specs.Openings.{restored_base}
 use Rattle.pm_engine.specs.RunningLines.{SameDisk}
 use Rattle.pm_tools.specs.declared.verifying.Counts.{Counts}
 use Rattle.pm_tools.specs.Lines.{page_text}
@@ -157,17 +164,34 @@ IsWhole world = (counts : Counts) × IsVerified world counts
 abbrev pub NamesMet : PageId → World → List ℕ → Type 0
 NamesMet met left text = NamesBad left text ⊎ (IsWhole left × (text ≡ fault_page met))
 
--- the same of some page that couldn't be used, over the store as it was left then
-abbrev pub NamesFound : World → List ℕ → Type 0
-NamesFound left text = (met : PageId) × NamesMet met left text
+-- One of these lines, over a store of this shape that had these pages at first, met this page, which fails its check,
+-- isn't there, or names a wrong page or row. Only the partitions that these lines may change may have changed before.
+abbrev pub IsMetByLine : Shape → Partitions → List Line → PageId → Type 0
+IsMetByLine shape start lines met =
+    (may_change : ℕ → Bool) → All (AllowsLine may_change shape) lines → MeetsBadPage (Unit {0}) may_change shape start met
+
+-- The same of a store that was opened: of the base pages that it had once it was restored only those may have changed
+-- before of partitions that the records from its replay place on, or these lines, may change.
+pub record IsMetOver (wanted : Shape) (old : World) (lines : List Line) (met : PageId) : Type 0 where
+  pub mid : World
+  pub keeps : KeepsBase (in_force (image_of old)) old mid
+  pub frames : List Frame
+  pub records : HasRecords (in_force (image_of old)) old frames
+  pub meets : (may_change : ℕ → Bool) → AllowsRecords may_change wanted frames → All (AllowsLine may_change wanted) lines
+      → MeetsBadPage (Unit {0}) may_change wanted (restored_base (in_force (image_of old)) mid) met
+
+-- one of these lines met a page that couldn't be used, and this line names what was found bad then, over the store as it
+-- was left
+abbrev pub NamesFound : Shape → World → List Line → World → List ℕ → Type 0
+NamesFound wanted old lines left text = (met : PageId) × IsMetOver wanted old lines met × NamesMet met left text
 
 -- Where this shape is wanted, the opening of a store found a bad record, when it had restored the store so, and this
--- line names it. Or the base pages aren't well formed, and a page couldn't be used: this line names what was found bad
--- then.
+-- line names it. Or the base pages aren't well formed, and a record met a page that couldn't be used: this line names
+-- what was found bad then.
 abbrev pub NamesBadFor : Shape → World → World → List ℕ → Type 0
 NamesBadFor wanted old left text =
     ((at : Place) × IsBadOpeningIn wanted (in_force (image_of old)) old left at × (text ≡ fault_record at))
-    ⊎ (HasBadBase wanted (in_force (image_of old)) old × NamesFound left text)
+    ⊎ ((met : PageId) × IsBadOpeningPage (Unit {0}) wanted (in_force (image_of old)) old met × NamesMet met left text)
 
 abbrev pub NamesBadOpening : World → World → List ℕ → Type 0
 NamesBadOpening old left text = NamesBadFor (wanted_in old) old left text
@@ -179,11 +203,14 @@ pub record IsFoundOpening (old left : World) (text : List ℕ) (lines : ℕ) (or
   pub none : lines ≡ 0
   pub order_is : order ≡ []
 
--- A line read a page that couldn't be used: what was found bad then was named, and nothing was done after that.
-pub record IsFoundByLine (new : World) : Type 0 where
+-- One of these lines, over an open store of this shape that had these pages at first, met a page that couldn't be used:
+-- what was found bad then was named, and nothing was done after that.
+pub record IsFoundByLine (shape : Shape) (start : Partitions) (lines : List Line) (new : World) : Type 0 where
   pub left : World
   pub text : List ℕ
-  pub names : NamesFound left text
+  pub met : PageId
+  pub meets : IsMetByLine shape start lines met
+  pub names : NamesMet met left text
   pub says : new ≡ with_said text left
 
 -- nothing was done but that this was said
@@ -198,14 +225,14 @@ pub record IsMisconfigured (old new : World) (lines : ℕ) (order : List ℕ) : 
   pub refused : config_fault old ≡ Some field
   pub says : OnlySays (fault_config field) old new lines order
 
--- A record or a page is bad, so that the store isn't sound: it was found in the opening, or a line read a page that
--- couldn't be used. What was found bad was named, and nothing was done after that.
-pub record IsDamaged (old new : World) (lines : ℕ) (order : List ℕ) : Type 0 where
+-- A record or a page is bad, so that the store isn't sound: it was found in the opening, or a line of this script met a
+-- page that couldn't be used. What was found bad was named, and nothing was done after that.
+pub record IsDamaged (script : List Line) (old new : World) (lines : ℕ) (order : List ℕ) : Type 0 where
   pub configured : config_fault old ≡ None
   pub unsound : (shape : Shape) (pairs : Pairs) → IsStart (wanted_in old) old shape pairs → ⊥
   pub left : World
   pub text : List ℕ
-  pub bad : IsFoundOpening old left text lines order ⊎ NamesFound left text
+  pub bad : IsFoundOpening old left text lines order ⊎ NamesFound (wanted_in old) old script left text
   pub says : new ≡ with_said text left
 
 -- what each status says where the words aren't a command: nothing was done but that this was said, or a prefix
@@ -232,7 +259,7 @@ pub record RunHolds (old new : History) (status : Status) (lines : ℕ) (order :
       → IsLeft (wanted_in old.world) (last_after start) (number_after start) old.world new.world shape pairs
   -- a field that is refused is named so, and a bad record or page too
   pub misconfigured : status ≡ Misconfigured → IsMisconfigured old.world new.world lines order
-  pub damaged : status ≡ Damaged → IsDamaged old.world new.world lines order
+  pub damaged : status ≡ Damaged → IsDamaged (script_of old.world.input) old.world new.world lines order
 
 -- At each moment a crash leaves a sound store, which holds what was acknowledged, and whose numbers are at most
 -- those that a run may take.

@@ -1,6 +1,7 @@
 -- How far a run has come.
 use Rattle.std.specs.Prelude.{◌≡◌, ◌+◌, ◌*◌, ◌≤◌, ◌<◌, ◌^◌, ℕ, List, [], ◌++◌, length, true, false, Result, Ok, Err}
-use Rattle.std.specs.Prelude.{IfOk, OnOk, IsErrOf}
+use Rattle.std.specs.Prelude.{IfOk, OnOk, IsErrOf, Bool}
+use Rattle.std.specs.List.{All}
 use Rattle.pm_types.specs.declared.limits.TheConstants.{LINES_MAX}
 use Rattle.pm_types.specs.declared.fault.StoreFault.{StoreFault}
 use Rattle.pm_types.specs.declared.fault.StoreFault.TheVariants.{BadPage, Failed, Memory}
@@ -15,6 +16,8 @@ use Rattle.pm_script.specs.Texts.{texts_of}
 use Rattle.pm_engine.specs.FrameBatches.{EndsAtReplayIn, TakesNumbersIn}
 use Rattle.pm_engine.specs.FrameEngines.{FrameRunning, IsSameEngine, map_in}
 use Rattle.pm_engine.specs.FrameOpenings.{IsReadyOver}
+use Rattle.pm_engine.specs.FrameStores.{pages_in_frames}
+use Rattle.pm_engine.specs.MetPages.{AllowsLine, KeepsPagesBut, KeepsOrMeets}
 use Rattle.pm_engine.specs.Batches.{asked_last}
 use Rattle.pm_engine.specs.RunningStores.{number_of}
 use Rattle.pm_top.specs.FrameRests.{FrameAtRest}
@@ -25,7 +28,7 @@ use Rattle.pm_top.specs.declared.run.Stop.{Stop}
 use Rattle.pm_top.specs.declared.run.Stop.TheVariants as stops
 use Rattle.pm_top.specs.declared.status.Status.{Status}
 use Rattle.pm_top.specs.declared.status.Status.TheVariants.{Done}
-use Rattle.pm_top.specs.Promises.{IsLeft, SameConfig}
+use Rattle.pm_top.specs.Promises.{IsLeft, IsMetByLine, SameConfig}
 use Rattle.pm_top.specs.ScriptOrder.{CrashHoldsAcknowledged, HasFailed, HasNoMemory, OutcomeIs, StopIs}
 use Rattle.pm_top.specs.Scripts.{LinesAreTaken, ContinuationIs}
 use Rattle.pm_top.specs.Served.{script_of}
@@ -148,8 +151,26 @@ pub record AnswersLines (tells : Type 0) (old new : History) (lines : List Line)
   pub counts : OnOk result (CountsLines before now (length lines))
   pub ready : tells → OnOk result (IsReadyOver now.engine new.world)
   pub only_answers : tells → AllMoments old new (OnlyAnswers old.world)
+  -- of any store: which partitions changed, and which page a line met that couldn't be used
+  pub meets : tells → (may_change : ℕ → Bool) → All (AllowsLine may_change before.engine.store.shape) lines
+      → KeepsOrMeets (Unit {0}) may_change before.engine.store.shape (pages_in_frames before.engine.store old.world)
+      (pages_in_frames now.engine.store new.world) (result ≡ Ok tt) (λ id. IsErrOf result (BadPage id))
   pub goes : tells → (wanted : Shape) (last number : ℕ) → MayRun wanted last number (length lines) before.engine old.world
       → (left : List Line) → GoesOn wanted last number old new (lines ++ left) left before now result
+
+-- Of any store: a run did lines of its script, of which these were to come, and at `Ok` others come after them: those are
+-- left, unless the script goes on with a line that isn't ended within the limits. Which partitions changed, and which page
+-- a line met that couldn't be used.
+pub record MeetsOnScript (script left : List Line) (old new : World) (before now : Run)
+    (result : Result Continuation StoreFault) : Type 0 where
+  pub lines : List Line
+  pub others : List Line
+  pub taken : OnOk result (script ≡ lines ++ others)
+  pub left_are : IfOk result (λ continuation. (continuation ≡ then_comes.Over → ⊥) → others ≡ left)
+  pub keeps : OnOk result ((may_change : ℕ → Bool) → All (AllowsLine may_change before.engine.store.shape) lines
+      → KeepsPagesBut may_change (pages_in_frames before.engine.store old) (pages_in_frames now.engine.store new))
+  pub meets : (id : PageId) → IsErrOf result (BadPage id)
+      → IsMetByLine before.engine.store.shape (pages_in_frames before.engine.store old) script id
 
 -- a fault came on the way of a run, of whose script these lines were to come
 abbrev pub StopsAtFault : History → History → List Line → Run → Run → StoreFault → Type 0

@@ -14,6 +14,8 @@ ghost use Rattle.pm_top.specs.RunCauses.{HasRunCause, HasScriptCause};
 ghost use Rattle.pm_top.specs.Configurations.{AsksFor};
 ghost use Rattle.pm_top.specs.LogListings.{WalHolds};
 ghost use Rattle.pm_top.specs.FrameRests.{IsServing};
+ghost use Rattle.pm_engine.specs.FrameStores.{pages_in_frames};
+ghost use Rattle.pm_top.specs.Served.{script_of};
 ghost use Rattle.pm_top.specs.Promises.{HoldsAtEachMoment, IsFoundByLine, RunHolds, SameConfig};
 ghost use Rattle.pm_top.specs.Runs.{CanRun, SameConsole, ScriptIsAnswered};
 ghost use Rattle.pm_top.specs.Statuses.{status_of, code_of};
@@ -268,7 +270,9 @@ fn answer_script<Q: Wait, H: Host>(
         CanRun wanted last number engine (H.history host.old).world →
         ScriptIsAnswered wanted last number start engine.store.shape (map_in engine (H.history host.old).world)
         (H.history host.old) (H.history host.new) result.status result.lines result.order.items }
-    ensures damaged { H.tells → result.status ≡ Status.Damaged → IsFoundByLine (H.history host.new).world }
+    ensures damaged { H.tells → result.status ≡ Status.Damaged → IsFoundByLine engine.store.shape
+        (pages_in_frames engine.store (H.history host.old).world) (script_of (H.history host.old).world.input)
+        (H.history host.new).world }
     ensures cause { HasScriptCause result.status (H.state host.old) (H.state host.new) }
 {
     let run = Run::new(alloc, engine);

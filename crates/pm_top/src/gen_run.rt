@@ -8,7 +8,9 @@ ghost use Rattle.pm_model.specs.Eval.{replies_to};
 ghost use Rattle.pm_engine.specs.FrameBatches.{HasFrameFault};
 ghost use Rattle.pm_engine.specs.FrameEngines.{map_in};
 ghost use Rattle.pm_engine.specs.FrameOpenings.{IsReadyOver};
+ghost use Rattle.pm_engine.specs.FrameStores.{pages_in_frames};
 ghost use Rattle.pm_tools.specs.DrawnLines.{drawn_lines};
+ghost use Rattle.pm_top.specs.Promises.{IsMetByLine};
 ghost use Rattle.pm_top.specs.DrawnSteps.{DrawsNext, EndsDrawn, IfCanRun, TriesDrawn};
 ghost use Rattle.pm_top.specs.FrameRests.{IsServing};
 ghost use Rattle.pm_top.specs.ReplyCounts.{counts_of};
@@ -28,8 +30,8 @@ use std::sync::Wait;
 /// Runs so many lines, which are drawn from a number, batch after batch. Then the log is forced. Gives the engine
 /// back, and how many replies of each kind there were.
 ///
-/// `BadPage` comes only over a store that isn't sound, at a line that reads the page. What was run is said of a store
-/// over which a run may begin.
+/// `BadPage` comes only over a store that isn't sound, at a line that met the page, which fails its check or names a wrong
+/// page or row. What was run is said of a store over which a run may begin.
 pub fn run_drawn<Q: Wait, H: Host>(
     engine: FrameEngine,
     rt: &Q,
@@ -55,6 +57,9 @@ pub fn run_drawn<Q: Wait, H: Host>(
         (replies_to engine.store.shape (drawn_lines seed 1 count) (map_in engine (H.history host.old).world)))) }
     ensures sound { (page : Page) → IsErrOf result.1 (StoreFault.BadPage page)
         → IfCanRun H.tells engine (H.history host.old).world ⊥ }
+    ensures meets { H.tells → (page : Page) → IsErrOf result.1 (StoreFault.BadPage page)
+        → IsMetByLine engine.store.shape (pages_in_frames engine.store (H.history host.old).world)
+        (drawn_lines seed 1 count) page }
     ensures cause { HasFrameFault (H.state host.old) (H.state host.new) result.1 }
 {
     // Its memory serves all batches, so that a batch that has begun takes none for its replies.

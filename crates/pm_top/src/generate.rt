@@ -13,6 +13,7 @@ ghost use Rattle.pm_tools.specs.DrawnLines.{drawn_lines};
 ghost use Rattle.pm_top.specs.Configurations.{AsksFor};
 ghost use Rattle.pm_top.specs.DrawnRuns.{CrashHoldsDrawn, DrawnIsLeft, DrawnOutcomeIs, GenHolds, GenIsSafe};
 ghost use Rattle.pm_top.specs.FrameRests.{IsServing};
+ghost use Rattle.pm_engine.specs.FrameStores.{pages_in_frames};
 ghost use Rattle.pm_top.specs.Promises.{IsFoundByLine, SameConfig};
 ghost use Rattle.pm_top.specs.RunCauses.{HasRunCause, HasScriptCause};
 ghost use Rattle.pm_top.specs.Runs.{CanRun, SameConsole};
@@ -131,7 +132,9 @@ fn answer_drawn<Q: Wait, H: Host>(
         → CanRun wanted last number engine (H.history host.old).world →
         DrawnIsLeft wanted last number (drawn_lines seed 1 count) (H.history host.new).world
         engine.store.shape (map_in engine (H.history host.old).world) }
-    ensures damaged { H.tells → result.status ≡ Status.Damaged → IsFoundByLine (H.history host.new).world }
+    ensures damaged { H.tells → result.status ≡ Status.Damaged → IsFoundByLine engine.store.shape
+        (pages_in_frames engine.store (H.history host.old).world) (drawn_lines seed 1 count)
+        (H.history host.new).world }
     ensures short { result.status ≢ Status.Long }
     ensures cause { HasScriptCause result.status (H.state host.old) (H.state host.new) }
 {

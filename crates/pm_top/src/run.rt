@@ -4,6 +4,7 @@ ghost use Rattle.std.specs.Prelude.{◌≡◌, ◌≤◌, ◌+◌, ℕ, [], leng
 ghost use Rattle.std.specs.List.{All};
 ghost use Rattle.pm_types.specs.declared.limits.TheConstants.{LINES_MAX as most_lines};
 ghost use Rattle.pm_types.specs.declared.limits.TheConstants.{BATCH_LINES_MAX as most_batch};
+ghost use Rattle.pm_types.specs.declared.page_id.PageId.{PageId as Page};
 ghost use Rattle.pm_types.specs.declared.shape.Shape.{Shape};
 ghost use Rattle.pm_disk.specs.Moments.{AllMoments, Says};
 ghost use Rattle.pm_disk.specs.States.{HasCause, IsUsable};
@@ -15,10 +16,12 @@ ghost use Rattle.pm_engine.specs.Batches.{HasPlainFault};
 ghost use Rattle.pm_engine.specs.FrameBatches.{HasFrameFault};
 ghost use Rattle.pm_engine.specs.FrameEngines.{map_in};
 ghost use Rattle.pm_engine.specs.FrameOpenings.{IsReadyOver};
+ghost use Rattle.pm_engine.specs.FrameStores.{pages_in_frames};
 ghost use Rattle.pm_top.specs.FrameRests.{IsServing};
-ghost use Rattle.pm_top.specs.Promises.{SameConfig};
+ghost use Rattle.pm_top.specs.Promises.{IsMetByLine, SameConfig};
 ghost use Rattle.pm_top.specs.Runs.{AnswersLines, BatchIsAnswered, CanRun, CountsBatch};
 ghost use Rattle.pm_top.specs.Runs.{IsOpenAfter, IsServed, KeepsRun, SameConsole, StopsAtFault};
+ghost use Rattle.pm_top.specs.Runs.{MeetsOnScript};
 ghost use Rattle.pm_top.specs.Scripts.{batch_lines, IsBatch};
 ghost use Rattle.pm_top.specs.Served.{script_of};
 
@@ -69,7 +72,8 @@ impl Run {
     /// Answers the script of the input, batch after batch, up to its end or to a limit. At its end
     /// the log is forced.
     ///
-    /// `BadPage` names a page that can't be used, once a line needs it: then the store isn't sound.
+    /// `BadPage` names a page that a line met, which fails its check or names a wrong page or row: then the store isn't
+    /// sound.
     pub fn serve<Q: Wait, H: Host>(
         self,
         rt: &Q,
@@ -92,6 +96,11 @@ impl Run {
             IsServed wanted last number start self.engine.store.shape
             (map_in self.engine (H.history host.old).world) (H.history host.old) (H.history host.new)
             result.0 result.1 }
+
+        // Of any store: which page a line met that couldn't be used.
+        ensures meets { H.tells → (page : Page) → IsErrOf result.1 (StoreFault.BadPage page)
+            → IsMetByLine self.engine.store.shape (pages_in_frames self.engine.store
+            (H.history host.old).world) (script_of (H.history host.old).world.input) page }
         ensures cause { HasFrameFault (H.state host.old) (H.state host.new) result.1 }
     {
         let Ok(mut input) = Lines::new(alloc) else {
@@ -156,6 +165,9 @@ impl Run {
             (H.history host.old) (H.history host.new) self result.0) }
         ensures stops { H.tells → IfErr result.1 (StopsAtFault (H.history host.old) (H.history host.new)
             (script_of (rest_of input.old (H.history host.old).world)) self result.0) }
+        ensures meets { H.tells → MeetsOnScript (script_of (rest_of input.old (H.history host.old).world))
+            (script_of (rest_of input.new (H.history host.new).world)) (H.history host.old).world
+            (H.history host.new).world self result.0 result.1 }
         ensures cause { HasFrameFault (H.state host.old) (H.state host.new) result.1 }
     {
         match next_batch(alloc, host, input) {

@@ -1,9 +1,10 @@
 -- A command over a worker's page frames leaves what it leaves over any pages.
-use Rattle.std.proofs.Common.{◌≡◌, ◌<◌, ◌≤◌, Bool, Option, None, sym, subst, ap, ◌∙◌, arith}
+use Rattle.std.proofs.Common.{◌≡◌, ◌<◌, ◌≤◌, Bool, Option, None, inl, sym, subst, ap, ◌∙◌, arith}
 use Rattle.std.specs.Prelude.{◌^◌, if◌then◌else◌}
 use Rattle.std.specs.Option.{option_copied}
 use Rattle.pm_types.specs.declared.limits.TheConstants.{OP_PAGES, ROWS_MAX}
 use Rattle.pm_types.specs.declared.fault.PageFault.TheVariants.{BadPage}
+use Rattle.pm_types.specs.Ids.{page_id}
 use Rattle.pm_records.specs.Records.{Record}
 use Rattle.pm_model.specs.ReplyLists.{ReplyList}
 use Rattle.pm_pages.specs.Paged.{Paged, AllReadable}
@@ -159,3 +160,34 @@ returns-in-Ok-clause-runs g c = λ t well.
     runs_line tells history state shape part c.args.cmd.now b m e c.args.replies.now c.run.new.replies t c.requires.part.shape c.requires.part.own.there rows called ends well
     (subst (λ (p : Paged). IsPartitionOf shape p) later ran.0)
     (subst (λ (p : Paged × Paged). RunsCmd shape part c.args.cmd.now p.0.pages p.1.pages c.args.replies.now c.run.new.replies) (λ i. (before i, later i)) ran.1)
+
+pub returns-in-Err-clause-looks : goal.returns-in-Err-clause-looks
+returns-in-Err-clause-looks g c = λ t get index.
+    let tells = g.R.Device.tells in
+    let history = g.R.Device.history in
+    let state = g.R.Device.state in
+    let b = c.args.bound.now in
+    let n = c.at.new.self in
+    let m = c.run.new.pages in
+    let part = c.args.part.now.part in
+    let same = c.at.ensures.same in
+    let at : n.part ≡ part = c.at.ensures.part ∙ c.number.ensures in
+    let before = seen_same tells history state part b n same at in
+    let later = seen_then tells history state part b n m same at c.in-Err.ensures.kept in
+    subst (λ (p : Paged × Paged). p.1.pages index ≡ p.0.pages index) (λ i. (before i, later i)) ((c.in-Err.ensures.keeps.gets get).pages index (inl t))
+
+pub returns-in-Ok-clause-looks : goal.returns-in-Ok-clause-looks
+returns-in-Ok-clause-looks g c = λ t get index.
+    let tells = g.R.Device.tells in
+    let history = g.R.Device.history in
+    let state = g.R.Device.state in
+    let b = c.args.bound.now in
+    let n = c.at.new.self in
+    let m = c.run.new.pages in
+    let part = c.args.part.now.part in
+    let same = c.at.ensures.same in
+    let at : n.part ≡ part = c.at.ensures.part ∙ c.number.ensures in
+    let before = seen_same tells history state part b n same at in
+    let later = seen_then tells history state part b n m same at c.in-Ok.ensures.kept in
+    c.end_operation.ensures.ends.pages (page_id part index) (inl t)
+    ∙ subst (λ (p : Paged × Paged). p.1.pages index ≡ p.0.pages index) (λ i. (before i, later i)) ((c.in-Ok.ensures.keeps.gets get).pages index (inl t))

@@ -1,5 +1,5 @@
 -- A command of a key over a worker's page frames: its pages are made ready, and then it is run.
-use Rattle.std.proofs.Common.{◌≡◌, ℕ, List, Bool, Some, sym, refl, subst, ap, ◌∙◌}
+use Rattle.std.proofs.Common.{◌≡◌, ◌<◌, ℕ, List, Bool, Some, sym, refl, subst, ap, ◌∙◌}
 use Rattle.std.specs.Prelude.{Err, IsErrOf}
 use Rattle.pm_types.specs.declared.fault.PageFault.{PageFault}
 use Rattle.pm_types.specs.declared.fault.PageFault.TheVariants.{Failed, BadPage}
@@ -18,6 +18,7 @@ use Rattle.pm_engine.specs.FrameLines.{HasKey}
 use Rattle.pm_engine.specs.Records.{IsKeyOf}
 use Rattle.pm_engine.specs.PagedStores.{part_map}
 use Rattle.pm_engine.proofs.FrameAnswers.{ready_same, ready_between, ready_nothing, worker_same_then, nothing_then, hands_then, evaluates_line, accepted_record}
+use Rattle.pm_engine.proofs.MetCommands.{met_command}
 use Rattle.pm_engine.proofs.PartAnswers.{cmd_of_key, reply_accepts}
 use Rattle.pm_engine.proofs.frame_lines.key_in_frames.Goals as goal
 
@@ -40,6 +41,7 @@ returns-in-Err g c =
       cause = λ e. absurd cc;
       evaluates = λ t all. tt;
       sound = λ t all id e. absurd cc;
+      meets = λ t changed allows id e. absurd cc;
     }
 
 key_has : (key : List ℕ) (cmd : Cmd) → IsKeyOf key cmd → HasKey (Good cmd)
@@ -97,6 +99,7 @@ returns-in-Ok-run_in_frames g c =
           let pairs = part_map (frame_pages history b) part in
           evaluates_line shape part line (frame_pages history b) (frame_pages history e) was now accepted below refl of_part.free all runs (ran.does.said (reply_to shape line pairs) runs.replied ∙ reply_accepts shape cmd pairs);
       sound = λ t all id is. absurd cc;
+      meets = λ t changed allows id is. absurd cc;
     }
 
 same_fault : (fault other : PageFault) → IsErrOf {T = Bool} (Err (Faulted fault)) (Faulted other) → fault ≡ other
@@ -132,4 +135,8 @@ returns-in-Err-run_in_frames g c =
       sound = λ t all id is.
           let well = subst (λ (q : Shape × ℕ × Partitions). HasWellFormed q.0 q.2 q.1) (λ i. (sym shape_is i, sym part_is i, sym (first.told t) i)) (all part below) in
           ran.sound t well id (ap Err (same_fault fault (BadPage id) is));
+      meets = λ t changed allows id is.
+          let q = c.new-part.result.part in
+          let inside = subst (λ (n : ℕ). n < shape.partitions) (sym part_is) below in
+          met_command tells history state changed q b m t first inside cmd e id ran.leaves.same part_is (key_has c.args.key.now cmd c.requires.key) allows (ran.looks t) (ran.cause.bad id (ap Err (same_fault fault (BadPage id) is)));
     }

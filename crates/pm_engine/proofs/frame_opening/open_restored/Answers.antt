@@ -11,9 +11,9 @@ use Rattle.pm_locks.specs.Sight.{LockTable}
 use Rattle.pm_records.specs.FirstRecords.{restart_frame}
 use Rattle.pm_core.proofs.OnlyDisk.{logs_disk, then_disk}
 use Rattle.pm_engine.specs.AppendRuns.{append_all_steps}
-use Rattle.pm_engine.specs.Openings.{IsPlainOpen}
+use Rattle.pm_engine.specs.Openings.{IsPlainOpen, loaded_base}
 use Rattle.pm_engine.specs.Replays.{CrashHoldsMap}
-use Rattle.pm_engine.proofs.FrameOpened.{can_replay_in, fault_of, no_plain_page, no_plain_record, opens_running_in, started_bad, started_leads, started_whole}
+use Rattle.pm_engine.proofs.FrameOpened.{can_replay_in, fault_of, no_plain_page, no_plain_record, opens_over_none, opens_running_in, started_bad, started_leads, started_over_all, started_over_fault, started_whole}
 use Rattle.pm_engine.proofs.HeldReplays.{mark_early, mark_from}
 use Rattle.pm_engine.proofs.RestoredOpenings.{load_moments, plain_fault}
 use Rattle.pm_engine.proofs.Results.{ok_holds}
@@ -228,3 +228,50 @@ pub returns-in_err-started-clause-disk : goal.returns-in_err-started-clause-disk
 returns-in_err-started-clause-disk g c t =
     let base = c.args.base in
     logs_disk (g.H.Device.history c.args.host.now) (g.H.Device.history c.start_engine.new.host) (append_all_steps base.log (restart_frame c.args.config.now.shape ∷ [])) base.log.end (c.start_engine.ensures.steps t).moments
+
+pub returns-in_err-started-clause-over_any : goal.returns-in_err-started-clause-over_any
+returns-in_err-started-clause-over_any g c t leads =
+    let base = c.args.base in
+    let old = g.H.Device.history c.args.host.now in
+    let new = g.H.Device.history c.start_engine.new.host in
+    let plain = c.start_engine.ensures.cause.plain in
+    opens_over_none g.H.Device.tells c.args.config.now.shape base.replay base.log_end leads.frames (loaded_base base.mark old.world) old.world new.world c.from_residual.result c.from_residual.ensures.0
+    (λ id is.
+    let its : IsErrOf c.start_engine.result (BadPage id) = search rules in
+    no_plain_page c.start_engine.result id plain its)
+    (λ at is.
+    let its : IsErrOf c.start_engine.result (BadRecord at) = search rules in
+    no_plain_record c.start_engine.result at plain its)
+
+pub returns-in-Ok-clause-over_any : goal.returns-in-Ok-clause-over_any
+returns-in-Ok-clause-over_any g c t leads =
+    let config = c.args.config.now in
+    let base = c.args.base in
+    let old = g.H.Device.history c.args.host.now in
+    let mid = g.H.Device.history c.start_engine.new.host in
+    let new = g.H.Device.history c.replay_in_frames-engine.new.host in
+    let engine = c.in_ok-started.started in
+    let made = c.in_ok-started.ensures.started in
+    let now = c.replay_in_frames-engine.result.0 in
+    let answer = c.replay_in_frames-engine.result.1 in
+    let x = c.replay_in_frames-engine.ensures in
+    let steps = c.in_ok-started.ensures.steps t in
+    let then_leads = started_leads config base.mark base.log old.world mid.world engine made steps.all (c.requires.there t) base.replay base.log_end leads in
+    started_over_all config base.mark base.log old.world mid.world engine made steps.all (c.requires.there t) base.replay base.log_end leads g.H.Device.tells now new.world answer (x.over_any t then_leads)
+    (ok_holds answer tt _ c.in-Ok.is x.ready.is_open)
+
+pub returns-in-Err-clause-over_any : goal.returns-in-Err-clause-over_any
+returns-in-Err-clause-over_any g c t leads =
+    let config = c.args.config.now in
+    let base = c.args.base in
+    let old = g.H.Device.history c.args.host.now in
+    let mid = g.H.Device.history c.start_engine.new.host in
+    let new = g.H.Device.history c.replay_in_frames-engine.new.host in
+    let engine = c.in_ok-started.started in
+    let made = c.in_ok-started.ensures.started in
+    let now = c.replay_in_frames-engine.result.0 in
+    let answer = c.replay_in_frames-engine.result.1 in
+    let x = c.replay_in_frames-engine.ensures in
+    let steps = c.in_ok-started.ensures.steps t in
+    let then_leads = started_leads config base.mark base.log old.world mid.world engine made steps.all (c.requires.there t) base.replay base.log_end leads in
+    started_over_fault config base.mark base.log old.world mid.world engine made steps.all (c.requires.there t) base.replay base.log_end leads g.H.Device.tells now new.world answer (x.over_any t then_leads) c.in-Err.fault c.in-Err.is

@@ -1,5 +1,5 @@
 -- A command that is applied again over a worker's page frames: its pages are made ready, and then it is run.
-use Rattle.std.proofs.Common.{◌≡◌, ℕ, List, Bool, None, sym, refl, subst, ap, ◌∙◌}
+use Rattle.std.proofs.Common.{◌≡◌, ◌<◌, ℕ, List, Bool, None, sym, refl, subst, ap, ◌∙◌}
 use Rattle.std.specs.Prelude.{Err, IsErrOf}
 use Rattle.pm_types.specs.declared.fault.PageFault.{PageFault}
 use Rattle.pm_types.specs.declared.fault.PageFault.TheVariants.{Failed, BadPage}
@@ -16,7 +16,9 @@ use Rattle.pm_engine.specs.FrameCommands.{frame_pages, HasWellFormed, RunsLineOn
 use Rattle.pm_engine.specs.FrameLines.{HasKey}
 use Rattle.pm_engine.specs.Records.{IsKeyOf}
 use Rattle.pm_engine.specs.PagedStores.{part_map}
+use Rattle.pm_engine.proofs.AppliedCommands.{accepted_changes}
 use Rattle.pm_engine.proofs.FrameAnswers.{ready_same, ready_between, ready_nothing, worker_same_then, nothing_then, hands_then, evaluates_line}
+use Rattle.pm_engine.proofs.MetCommands.{met_command}
 use Rattle.pm_engine.proofs.PartAnswers.{cmd_of_key, reply_accepts}
 use Rattle.pm_engine.proofs.frame_replay.apply_in_frames.Goals as goal
 
@@ -39,6 +41,7 @@ returns-in-Err g c =
       cause = λ e. absurd cc;
       evaluates = λ t all. tt;
       sound = λ t all id e. absurd cc;
+      meets = λ t changed allows id e. absurd cc;
     }
 
 key_has : (key : List ℕ) (cmd : Cmd) → IsKeyOf key cmd → HasKey (Good cmd)
@@ -78,6 +81,7 @@ returns-in-Ok-run_in_frames g c =
         ran.leaves.between,
         record {
           refused = λ off. nothing_then tells history state b m e none first (ran.does.refused off);
+          changes = λ on. accepted_changes cmd ran.replied.appended.reply (sym (ran.does.said ran.replied.appended.reply ran.replied.appended.appended) ∙ on);
           hands = λ on. subst (λ p. HandsOverChange tells history 0 None p b e) part_is
               (hands_then tells history state b m e none first 0 None c.new-part.result.part (ran.does.hands on));
         },
@@ -90,6 +94,7 @@ returns-in-Ok-run_in_frames g c =
           let pairs = part_map (frame_pages history b) part in
           evaluates_line shape part line (frame_pages history b) (frame_pages history e) was now accepted below refl of_part.free all runs (ran.does.said (reply_to shape line pairs) runs.replied ∙ reply_accepts shape cmd pairs);
       sound = λ t all id is. absurd cc;
+      meets = λ t changed allows id is. absurd cc;
     }
 
 same_fault : (fault other : PageFault) → IsErrOf {T = Bool} (Err (Faulted fault)) (Faulted other) → fault ≡ other
@@ -125,4 +130,8 @@ returns-in-Err-run_in_frames g c =
       sound = λ t all id is.
           let well = subst (λ (q : Shape × ℕ × Partitions). HasWellFormed q.0 q.2 q.1) (λ i. (sym shape_is i, sym part_is i, sym (first.told t) i)) (all part below) in
           ran.sound t well id (ap Err (same_fault fault (BadPage id) is));
+      meets = λ t changed allows id is.
+          let q = c.new-part.result.part in
+          let inside = subst (λ (n : ℕ). n < shape.partitions) (sym part_is) below in
+          met_command tells history state changed q b m t first inside cmd e id ran.leaves.same part_is (key_has c.args.key.now cmd c.requires.key) allows (ran.looks t) (ran.cause.bad id (ap Err (same_fault fault (BadPage id) is)));
     }

@@ -1,12 +1,14 @@
 -- The scan begins at the replay place.
-use Rattle.std.proofs.Common.{[], false, None, sym, ap, subst}
+use Rattle.std.proofs.Common.{◌∙◌, [], false, None, sym, ap, subst}
 use Rattle.pm_types.specs.declared.fault.StoreFault.TheVariants.{Memory}
 use Rattle.pm_types.specs.declared.place.Place.{Place}
+use Rattle.pm_records.specs.LogFiles.{contents}
+use Rattle.pm_records.specs.Logs.{all_frames, after_frames, HasFrames}
 use Rattle.pm_segments.specs.Scans.{Scanned, IsAhead, bytes_after}
-use Rattle.pm_engine.specs.FrameReplayLogs.{CanReplayIn, ReplaysWellFormed}
+use Rattle.pm_engine.specs.FrameReplayLogs.{CanReplayIn, ReplaysOverAny, ReplaysWellFormed}
 use Rattle.pm_engine.specs.Replays.{LogLeadsTo}
 use Rattle.pm_engine.proofs.ReadyEngines.{ready_refused}
-use Rattle.pm_engine.proofs.ReplayedFrames.{none_replayed, none_applied}
+use Rattle.pm_engine.proofs.ReplayedFrames.{none_replayed, none_applied, none_refused}
 use Rattle.pm_engine.proofs.TakenLines.{take_none}
 use Rattle.pm_engine.proofs.frame_replay_log.replay_in_frames.Goals as goal
 
@@ -50,3 +52,23 @@ returns-clause-any g c t leads whole =
     let begins = ap (λ (v : Scanned). v.next) is in
     subst (λ (p : Place). ReplaysWellFormed {T = Unit {0}} p c.args.end c.args.engine c.replay_all.result.0 old new c.replay_all.result.1) begins
     (c.replay_all.ensures.replays.any t (ap (λ (v : Scanned). v.is_over) is) (subst (λ (p : Place). LogLeadsTo p c.args.end c.args.engine.log old) (sym begins) leads) whole)
+
+pub returns-in-Err-clause-over_any : goal.returns-in-Err-clause-over_any
+returns-in-Err-clause-over_any g c t leads = none_refused g.H.Device.tells c.args.from c.args.end leads.frames c.args.engine (g.H.Device.history c.args.host.now).world
+
+pub returns-in-Err-with_room-clause-over_any : goal.returns-in-Err-with_room-clause-over_any
+returns-in-Err-with_room-clause-over_any g c t leads = none_refused g.H.Device.tells c.args.from c.args.end leads.frames c.args.engine (g.H.Device.history c.args.host.now).world
+
+pub returns-clause-over_any : goal.returns-clause-over_any
+returns-clause-over_any g c t leads =
+    let old = (g.H.Device.history c.args.host.now).world in
+    let new = (g.H.Device.history c.replay_all.new.host).world in
+    let is = c.in-Ok.ensures in
+    let begins = ap (λ (v : Scanned). v.next) is in
+    subst (λ (p : Place). ReplaysOverAny {T = Unit {0}} g.H.Device.tells p c.args.end leads.frames c.args.engine c.replay_all.result.0 old new c.replay_all.result.1) begins
+    (c.replay_all.ensures.replays.over_any t (ap (λ (v : Scanned). v.is_over) is) (record {
+      frames = leads.frames;
+      run = subst (λ (p : Place). HasFrames all_frames (contents old.log) p leads.frames) (sym begins) leads.run;
+      to = ap (λ (p : Place). after_frames p leads.frames) begins ∙ leads.to;
+      behind = leads.behind;
+    }))

@@ -31,7 +31,7 @@ lines-preserved g c =
 pub returns-in-Err : goal.returns-in-Err
 returns-in-Err g c =
     so_far_stops g.R.Device.tells g.R.Device.history g.R.Device.state c.args.first c.args.from c.args.lines.now c.args.bound.now c.lines.bound c.line_in_frames.new.bound c.args.replies.now c.lines.replies c.line_in_frames.new.replies c.lines.at _
-    c.index-lines-at.result c.lines.invariant c.lines-test.true (omega (arith, c.requires.numbers, c.lines-test.true)) c.in-Err.stop c.in-Err.ensures
+    c.index-lines-at.result c.lines.invariant c.lines-test.true (omega (arith, c.requires.numbers, c.lines-test.true)) c.in-Err.stop c.index-lines-at.is c.in-Err.ensures
 
 pub returns : goal.returns
 returns g c =

@@ -1,11 +1,13 @@
 -- The pairs of the partitions are read, one partition after the other.
-use Rattle.std.proofs.Common.{◌≡◌, ℕ, map, sym, ap, ◌∙◌, arith}
+use Rattle.std.proofs.Common.{◌≡◌, ℕ, map, sym, ap, subst, ◌∙◌, arith}
 use Rattle.std.specs.List.{range_with_len}
 use Rattle.std.specs.Vec.{vec_capacity}
 use Rattle.pm_types.specs.declared.fault.PageFault.TheVariants.{Failed, BadPage}
 use Rattle.pm_model.specs.Eval.{pairs_of}
+use Rattle.pm_core.specs.BasePages.{Partitions}
 use Rattle.pm_engine.specs.declared.frame_scans.ScanStop.TheVariants.{Faulted}
 use Rattle.pm_engine.specs.FrameCommands.{frame_pages}
+use Rattle.pm_engine.specs.MetPages.{MeetsBadPage}
 use Rattle.pm_engine.specs.PagedStores.{part_map}
 use Rattle.pm_engine.proofs.FrameScans.{looks_refl, looks_then, owns_still, reading_begins, reading_goes_on, well_still, same_stop}
 use Rattle.pm_engine.proofs.frame_scans.pairs_by_partition.Goals as goal
@@ -112,3 +114,8 @@ returns-clause-pairs g c = λ t all.
     let pages = frame_pages g.R.Device.history c.args.bound.now in
     let every : c.each.part ≡ c.args.shape.partitions = omega (arith, c.each-test.false, c.each.auto.part-end) in
     c.each.invariant.pairs t all ∙ ap (λ (count : ℕ). map (λ part. pairs_of c.args.cache (part_map pages part)) (range_with_len 0 count)) every
+
+pub returns-in-Err-clause-meets : goal.returns-in-Err-clause-meets
+returns-in-Err-clause-meets g c = λ t changed id is.
+    let met = c.in-Err.ensures.meets t changed id (same_stop c.in-Err.stop (Faulted (BadPage id)) is) in
+    subst (λ (pages : Partitions). MeetsBadPage g.R.Device.tells changed c.args.shape pages id) (c.each.invariant.looks.nothing.told t) met

@@ -2,6 +2,7 @@
 use Rattle.std.proofs.Common.{◌≡◌, sym, subst, ap, ◌∙◌, ◌++◌}
 use Rattle.std.specs.Prelude.{Err, IsErrOf}
 use Rattle.pm_types.specs.declared.fault.PageFault.TheVariants.{Failed as PageFailed, BadPage as PageBad}
+use Rattle.pm_types.specs.declared.shape.Shape.{Shape}
 use Rattle.pm_types.specs.Counts.{HasRisen}
 use Rattle.pm_model.specs.Eval.{pairs_of}
 use Rattle.pm_core.specs.BasePages.{Partitions}
@@ -9,9 +10,11 @@ use Rattle.pm_stripe.specs.declared.halt.Halt.{Halt}
 use Rattle.pm_stripe.specs.Begins.{IsLacking}
 use Rattle.pm_engine.specs.declared.frame_scans.ScanStop.{ScanStop}
 use Rattle.pm_engine.specs.declared.frame_scans.ScanStop.TheVariants.{Halted, Faulted}
-use Rattle.pm_engine.specs.FrameCommands.{HasWellFormed}
+use Rattle.pm_engine.specs.FrameCommands.{frame_pages, HasWellFormed}
+use Rattle.pm_engine.specs.MetPages.{MeetsBadPage}
 use Rattle.pm_engine.specs.PagedStores.{part_map}
 use Rattle.pm_engine.proofs.FrameScans.{looks_ready, looks_then, part_still}
+use Rattle.pm_engine.proofs.MetCommands.{met_scan}
 use Rattle.pm_engine.proofs.frame_scans.pairs_in_frames.Goals as goal
 
 same_halt : (halt other : Halt) → IsErrOf {T = Unit {0}} (Err (Halted halt)) (Halted other) → halt ≡ other
@@ -105,3 +108,17 @@ returns-in-Err-clause-lacking g c =
     let b = c.args.bound.now in
     let m = c.ready.new.self in
     λ halt is. subst (λ h. IsLacking b m (Err h)) (same_halt c.in-Err.halt halt is) c.in-Err.ensures.lacking
+
+pub returns-in-Err-read_ready-clause-meets : goal.returns-in-Err-read_ready-clause-meets
+returns-in-Err-read_ready-clause-meets g c =
+    let tells = g.R.Device.tells in
+    let history = g.R.Device.history in
+    let state = g.R.Device.state in
+    let b = c.args.bound.now in
+    let m = c.ready.new.self in
+    let first = looks_ready tells history state b m c.requires.between c.in-Ok.ensures.makes in
+    λ t changed id is.
+    let part = c.args.part.now in
+    let met = c.in-Err-read_ready.ensures.met id (ap Err (c.stop_of.ensures.bad id (stop_is c.stop_of.result (Faulted (PageBad id)) is))) in
+    subst (λ (s : Shape). MeetsBadPage tells changed s (frame_pages history b) id) (sym c.requires.part.shape)
+    (met_scan tells history state changed part.part b m t first.nothing c.requires.part.own.there c.args.cache id met)

@@ -6,6 +6,7 @@ use Rattle.pm_types.specs.Shapes.{IsShape}
 use Rattle.pm_model.specs.Eval.{pairs_of}
 use Rattle.pm_engine.specs.declared.frame_scans.ScanStop.TheVariants.{Faulted}
 use Rattle.pm_engine.specs.FrameCommands.{frame_pages, HasWellFormed}
+use Rattle.pm_engine.specs.MetPages.{MeetsBadPage}
 use Rattle.pm_engine.specs.PagedStores.{part_map}
 use Rattle.pm_engine.proofs.FrameScans.{part_of_all, same_stop}
 use Rattle.pm_engine.proofs.frame_scans.pairs_of_partition.Goals as goal
@@ -36,3 +37,9 @@ returns-in-Err-clause-sound g c = λ t well id is.
     let b = c.args.bound.now in
     let there = subst (λ (p : Shape × ℕ). HasWellFormed p.0 (frame_pages history b) p.1) (λ i. (sym c.new-2.ensures.shape i, sym c.new-2.ensures.part i)) well in
     c.in-Err.ensures.sound t there id (same_stop c.in-Err.stop (Faulted (BadPage id)) is)
+
+pub returns-in-Err-clause-meets : goal.returns-in-Err-clause-meets
+returns-in-Err-clause-meets g c = λ t changed id is.
+    let pages = frame_pages g.R.Device.history c.args.bound.now in
+    subst (λ (s : Shape). MeetsBadPage g.R.Device.tells changed s pages id) c.new-2.ensures.shape
+    (c.in-Err.ensures.meets t changed id (same_stop c.in-Err.stop (Faulted (BadPage id)) is))

@@ -3,10 +3,12 @@ use Rattle.std.proofs.Common.{◌≡◌, ◌<◌, ◌≤◌, sym, subst, ap, ◌
 use Rattle.std.specs.Prelude.{◌^◌}
 use Rattle.std.proofs.lemmas.Result.{on_ok_weaker}
 use Rattle.pm_types.specs.declared.limits.TheConstants.{ROWS_MAX}
+use Rattle.pm_model.specs.declared.line.Cmd.TheVariants.{Scan}
 use Rattle.pm_pages.specs.Paged.{Paged, AllReadable}
 use Rattle.pm_part.specs.Runs.{IsPartitionOf}
 use Rattle.pm_stripe.specs.Shown.{shown}
 use Rattle.pm_stripe.specs.ShownLaws.{kept_then}
+use Rattle.pm_engine.specs.MetPages.{IsMetBy}
 use Rattle.pm_engine.proofs.FrameReads.{part_readable}
 use Rattle.pm_engine.proofs.FrameRuns.{partition_seen}
 use Rattle.pm_engine.proofs.FrameScans.{none_asked, given_readable, looked_up, pairs_seen}
@@ -81,3 +83,14 @@ returns-clause-sound g c = λ t well.
     let rows : b.stripe.shape.max_rows ≤ ROWS_MAX = c.requires.begins.bound.holds.shaped.max_rows_to in
     let partition = partition_seen tells history state shape part b c.requires.part.shape c.requires.part.own.there rows small well in
     c.pairs-read.ensures.sound t shape (subst (λ (p : Paged). IsPartitionOf shape p) (sym (seen_same tells history state part b n same at)) partition)
+
+pub returns-clause-met : goal.returns-clause-met
+returns-clause-met g c = λ id is.
+    let tells = g.R.Device.tells in
+    let history = g.R.Device.history in
+    let state = g.R.Device.state in
+    let b = c.args.bound.now in
+    let n = c.at.new.self in
+    let part = c.args.part.now.part in
+    let at : n.part ≡ part = c.at.ensures.part ∙ c.number.ensures in
+    subst (λ (p : Paged). IsMetBy tells (Scan c.args.cache) p p id) (seen_same tells history state part b n c.at.ensures.same at) (c.pairs-read.ensures.cause.bad id is)

@@ -31,3 +31,6 @@ returns-in-Err-clause-cause g c = λ is. c.in-Err.ensures.cause (same_stop c.in-
 
 pub returns-in-Err-clause-sound : goal.returns-in-Err-clause-sound
 returns-in-Err-clause-sound g c = λ t all id is. c.in-Err.ensures.sound t all id (same_stop c.in-Err.stop (Faulted (BadPage id)) is)
+
+pub returns-in-Err-clause-meets : goal.returns-in-Err-clause-meets
+returns-in-Err-clause-meets g c = λ t changed id is. c.in-Err.ensures.meets t changed id (same_stop c.in-Err.stop (Faulted (BadPage id)) is)

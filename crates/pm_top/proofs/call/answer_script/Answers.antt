@@ -4,11 +4,13 @@ use Rattle.pm_disk.specs.Moments.{AllMoments}
 use Rattle.pm_disk.specs.States.{IsLaterState}
 use Rattle.pm_disk.specs.Worlds.{World}
 use Rattle.pm_engine.specs.FrameEngines.{FrameRunning, map_in}
+use Rattle.pm_engine.specs.FrameStores.{pages_in_frames}
 use Rattle.pm_top.specs.declared.status.Status.{Status}
 use Rattle.pm_top.specs.FrameRests.{IsServing}
 use Rattle.pm_top.specs.Promises.{IsFoundByLine, SameConfig}
 use Rattle.pm_top.specs.RunCauses.{HasScriptCause}
 use Rattle.pm_top.specs.Runs.{CanRun, IsServed, ScriptIsAnswered}
+use Rattle.pm_top.specs.Served.{script_of}
 use Rattle.pm_top.specs.Statuses.{code_of}
 use Rattle.pm_top.proofs.AnsweredScripts.{script_done, script_limit, script_failed, script_memory}
 use Rattle.pm_top.proofs.FoundPages.{config_met}
@@ -57,8 +59,11 @@ returns-clause-answered g c t wanted last number start same can =
 
 pub returns-clause-damaged : goal.returns-clause-damaged
 returns-clause-damaged g c t is =
+    let engine = c.new-run.result.engine in
+    let old = g.H.Device.history c.args.host.now in
     let mid = g.H.Device.history c.serve-run.new.host in
-    elim c.match-served.branch [
+    let script = script_of old.world.input in
+    let found : IsFoundByLine engine.store.shape (pages_in_frames engine.store old.world) script (g.H.Device.history c.match-served.host).world = elim c.match-served.branch [
       | in-Ok-Done w ↦ absurd (let clash : 5 ≡ 0 = ap code_of (sym is ∙ w.status-is) in omega (arith, clash))
       | in-Ok-Limit w ↦ absurd (elim w.print_limit_fault-status.ensures.cases [
         | inl long ↦ (let clash : 5 ≡ 6 = ap code_of (sym is ∙ w.status-is ∙ long) in omega (arith, clash))
@@ -69,9 +74,12 @@ returns-clause-damaged g c t is =
       | in-Err-BadPage w ↦
           let told = w.print_found_page-status in
           let line = told.ensures.damaged t (sym w.status-is ∙ is) in
-          subst (λ h. IsFoundByLine (g.H.Device.history h).world) (sym w.host-is)
-          (record { left = mid.world; text = line.0; names = (w.in-Err-BadPage.page, line.1); says = line.2 })
-    ]
+          let page = w.in-Err-BadPage.page in
+          let it_meets = c.serve-run.ensures.meets t page (w.in-Err-BadPage.is ∙ ap Err (rw w.in-Err-BadPage.is at w.in-Err-BadPage.field-0-is)) in
+          subst (λ h. IsFoundByLine engine.store.shape (pages_in_frames engine.store old.world) script (g.H.Device.history h).world) (sym w.host-is)
+          (record { left = mid.world; text = line.0; met = page; meets = it_meets; names = line.1; says = line.2 })
+    ] in
+    subst (λ (e : FrameRunning). IsFoundByLine e.store.shape (pages_in_frames e.store old.world) script (g.H.Device.history c.match-served.host).world) c.new-run.ensures.engine found
 
 pub returns-clause-config : goal.returns-clause-config
 returns-clause-config g c t =

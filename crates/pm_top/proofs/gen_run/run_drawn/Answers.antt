@@ -1,5 +1,6 @@
-use Rattle.std.proofs.Common.{◌≡◌, ◌+◌, ◌-◌, ◌≤◌, ◌++◌, List, ℕ, [], length, take, Ok, Err, refl, sym, ap, ◌∙◌, subst, arith}
+use Rattle.std.proofs.Common.{◌≡◌, ◌+◌, ◌-◌, ◌≤◌, ◌++◌, List, ℕ, Bool, [], length, take, Ok, Err, refl, sym, ap, ◌∙◌, subst, arith}
 use Rattle.std.specs.Prelude.{Result, OnOk}
+use Rattle.std.specs.List.{All}
 use Rattle.std.proofs.lemmas.List.{length-take}
 use Rattle.pm_types.specs.declared.fault.StoreFault.{StoreFault}
 use Rattle.pm_types.specs.declared.fault.StoreFault.TheVariants.{BadPage}
@@ -7,8 +8,11 @@ use Rattle.pm_types.specs.declared.limits.TheConstants.{LINES_MAX}
 use Rattle.pm_model.specs.declared.line.Line.{Line}
 use Rattle.pm_model.specs.Eval.{replies_to}
 use Rattle.pm_engine.specs.FrameEngines.{FrameRunning, HasLastingLinesIn, map_in}
+use Rattle.pm_engine.specs.FrameStores.{pages_in_frames}
+use Rattle.pm_engine.specs.MetPages.{AllowsLine, KeepsPagesBut}
 use Rattle.pm_engine.specs.Batches.{StaysOpen}
 use Rattle.pm_engine.specs.RunningLines.{says_nothing}
+use Rattle.pm_engine.proofs.MetPages.{kept_same}
 use Rattle.pm_tools.specs.DrawnLines.{drawn_lines}
 use Rattle.pm_top.specs.declared.counting.ReplyCounts.{ReplyCounts}
 use Rattle.pm_top.specs.DrawnSteps.{HasRunDrawn}
@@ -19,6 +23,7 @@ use Rattle.pm_top.proofs.CountedReplies.{counted_at_most}
 use Rattle.pm_top.proofs.DrawnRunning.{drawn_begins, drawn_counts, drawn_sound, forced_ran, forced_tries, goes_on_drawn, room_drawn, stops_drawn, tries_drawn}
 use Rattle.pm_top.proofs.DrawnScripts.{DrawnFirst, drawn_are, drawn_more, drawn_none, length-drawn_lines}
 use Rattle.pm_top.proofs.LaterStates.{frame_later}
+use Rattle.pm_top.proofs.MetLines.{kept_more, met_more}
 use Rattle.pm_top.proofs.gen_run.run_drawn.Goals as goal
 
 pub returns-in_default-clause-tries : goal.returns-in_default-clause-tries
@@ -49,6 +54,7 @@ batches-init g c =
       few = omega (arith, ap counted_in c.none-counts.ensures);
       counts = λ t wanted last number can. c.none-counts.ensures;
       ran = drawn_begins tells old first (λ t. g.H.Device.sound c.args.host.now t) c.requires.order;
+      pages = λ t may_change allows. kept_same may_change (pages_in_frames first.store old.world);
     }
 
 pub returns-in_default-next_lines-clause-tries : goal.returns-in_default-next_lines-clause-tries
@@ -143,6 +149,37 @@ returns-in-Err-clause-sound g c page bad =
     let tries = ran.ensures.runs in
     drawn_sound so_far.ran tries counts sound some room page (c.in-Err.is ∙ ap Err (err_same c.in-Err.fault (BadPage page) _ refl bad))
 
+pub returns-in-Err-clause-meets : goal.returns-in-Err-clause-meets
+returns-in-Err-clause-meets g c t page bad =
+    let tells = g.H.Device.tells in
+    let old = g.H.Device.history c.args.host.now in
+    let first = c.args.engine in
+    let seed = c.args.seed in
+    let count = c.args.count in
+    let script = drawn_lines seed 1 count in
+    let so_far = c.batches.invariant in
+    let many = c.batches.many in
+    let engine = c.batches.engine in
+    let drawing = c.batches.drawing in
+    let mid = g.H.Device.history c.batches.host in
+    let done = drawn_lines seed 1 many in
+    let ran = c.batch-next in
+    let later = ran.result.0 in
+    let new = g.H.Device.history ran.new.host in
+    let more = c.deref.result.now in
+    let drawn = c.in-Ok-next_lines.ensures in
+    let same_lines : c.in-Ok-next_lines.lines.items ≡ more = sym c.deref.ensures.value in
+    let k = length more in
+    let k_is : length c.in-Ok-next_lines.lines.items ≡ k = ap (λ (l : List Line). length l) same_lines in
+    let next : DrawnFirst drawing (1 + many) k more c.next_lines.new.drawing =
+    subst (λ (x : ℕ × List Line). DrawnFirst drawing x.0 (length x.1) x.1 c.next_lines.new.drawing) (λ i. ((let e : many + 1 ≡ 1 + many = omega arith in e) i, same_lines i)) drawn.drawn in
+    let within : many + k ≤ count = omega (arith, so_far.within, k_is, drawn.inside) in
+    let rest = drawn_lines c.next_lines.new.drawing (1 + many + k) (count - many - k) in
+    let parts : count ≡ many + (k + (count - many - k)) = omega (arith, within) in
+    met_more tells t first.store.shape engine.store.shape so_far.ran.same.shape done more (pages_in_frames first.store old.world) (pages_in_frames engine.store mid.world) (pages_in_frames later.store new.world) ran.result.1
+    (so_far.pages t) (ran.ensures.runs.meets t) script rest (ap (drawn_lines seed 1) parts ∙ so_far.drawn (k + (count - many - k)) ∙ ap (λ ls. done ++ ls) (next (count - many - k)))
+    page (c.in-Err.is ∙ ap Err (err_same c.in-Err.fault (BadPage page) _ refl bad))
+
 pub add_first-requires : goal.add_first-requires
 add_first-requires g c =
     let tells = g.H.Device.tells in
@@ -234,6 +271,10 @@ batches-preserved g c =
           ∙ drawn_counts so_far.ran tries counts sound some room all stays drawn.none t wanted last number can
           ∙ ap (λ ls. counts_of (replies_to first.store.shape ls (map_in first old.world))) (lines_are ∙ ap (drawn_lines seed 1) sum);
       ran = subst (λ (n : ℕ). HasRunDrawn tells old new first later (drawn_lines seed 1 n)) sum ran_all;
+      pages = λ t.
+          subst (λ ls. (may_change : ℕ → Bool) → All (AllowsLine may_change first.store.shape) ls → KeepsPagesBut may_change (pages_in_frames first.store old.world) (pages_in_frames later.store new.world)) (lines_are ∙ ap (drawn_lines seed 1) sum)
+          (kept_more tells t first.store.shape engine.store.shape so_far.ran.same.shape done more (pages_in_frames first.store old.world) (pages_in_frames engine.store mid.world) (pages_in_frames later.store new.world) ran.result.1
+          (so_far.pages t) (tries.meets t) stays);
     }
 
 pub returns-in-Err-force-clause-tries : goal.returns-in-Err-force-clause-tries

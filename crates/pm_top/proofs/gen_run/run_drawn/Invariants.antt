@@ -1,8 +1,11 @@
-use Rattle.std.proofs.Common.{◌≡◌, ◌-◌, ◌≤◌}
+use Rattle.std.proofs.Common.{◌≡◌, ◌-◌, ◌≤◌, ℕ, Bool}
+use Rattle.std.specs.List.{All}
 use Rattle.pm_disk.specs.States.{IsLaterState}
 use Rattle.pm_model.specs.Eval.{replies_to}
 use Rattle.pm_engine.specs.FrameEngines.{map_in}
 use Rattle.pm_engine.specs.FrameOpenings.{IsReadyOver}
+use Rattle.pm_engine.specs.FrameStores.{pages_in_frames}
+use Rattle.pm_engine.specs.MetPages.{AllowsLine, KeepsPagesBut}
 use Rattle.pm_tools.specs.DrawnLines.{drawn_lines}
 use Rattle.pm_top.specs.DrawnSteps.{HasRunDrawn, IfCanRun}
 use Rattle.pm_top.specs.FrameRests.{IsServing}
@@ -29,6 +32,8 @@ invariant-batches g l =
       few : counted_in l.counts ≤ l.many;
       counts : IfCanRun tells first old.world (l.counts ≡ counts_of (replies_to first.store.shape lines (map_in first old.world)));
       ran : HasRunDrawn tells old now first l.engine lines;
+      pages : tells → (may_change : ℕ → Bool) → All (AllowsLine may_change first.store.shape) lines
+          → KeepsPagesBut may_change (pages_in_frames first.store old.world) (pages_in_frames l.engine.store now.world);
     }
 
 abbrev pub decreases-batches : goal.decreases-batches

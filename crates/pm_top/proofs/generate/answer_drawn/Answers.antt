@@ -7,6 +7,7 @@ use Rattle.pm_disk.proofs.Chain.{at_last}
 use Rattle.pm_model.specs.Eval.{replies_to}
 use Rattle.pm_core.specs.Calls.{ChangesDisk}
 use Rattle.pm_engine.specs.FrameEngines.{map_in}
+use Rattle.pm_engine.specs.FrameStores.{pages_in_frames}
 use Rattle.pm_tools.specs.DrawnLines.{drawn_lines}
 use Rattle.pm_top.specs.declared.counting.ReplyCounts.{ReplyCounts}
 use Rattle.pm_top.specs.declared.status.Status.{Status}
@@ -139,7 +140,10 @@ returns-clause-config g c t =
 
 pub returns-clause-damaged : goal.returns-clause-damaged
 returns-clause-damaged g c t is =
+    let engine = c.args.engine in
+    let old = g.H.Device.history c.args.host.now in
     let mid = g.H.Device.history c.run_drawn-engine.new.host in
+    let script = drawn_lines c.args.seed 1 c.args.count in
     elim c.match-ran.branch [
       | in-Ok w ↦
           absurd (three_arent c.match-ran.status Status.Done Status.Damaged 0 5 (subst (λ (s : Status). (s ≡ Status.Done) ⊎ (s ≡ Status.Failed) ⊎ (s ≡ Status.Memory)) (sym w.status-is) w.print_summary-status.ensures.cases)
@@ -149,11 +153,15 @@ returns-clause-damaged g c t is =
       | in-Err-BadPage w ↦
           let told = w.print_found_page-status in
           let line = told.ensures.damaged t (sym w.status-is ∙ is) in
-          subst (λ h. IsFoundByLine (g.H.Device.history h).world) (sym w.host-is)
+          let page = w.in-Err-BadPage.page in
+          let it_meets = c.run_drawn-engine.ensures.meets t page (w.in-Err-BadPage.is ∙ ap Err (rw w.in-Err-BadPage.is at w.in-Err-BadPage.field-0-is)) in
+          subst (λ h. IsFoundByLine engine.store.shape (pages_in_frames engine.store old.world) script (g.H.Device.history h).world) (sym w.host-is)
           (record {
             left = mid.world;
             text = line.0;
-            names = (w.in-Err-BadPage.page, line.1);
+            met = page;
+            meets = it_meets;
+            names = line.1;
             says = line.2;
           })
     ]

@@ -20,11 +20,12 @@ use Rattle.pm_top.specs.Configurations.{config_fault, fault_config, shape_fault,
 use Rattle.pm_tools.specs.DrawnLines.{drawn_lines}
 use Rattle.pm_top.specs.Crashes.{opened_number, opened_to}
 use Rattle.pm_top.specs.DrawnRuns.{CrashHoldsDrawn, DrawnIsLeft, DrawnOutcomeIs, GenIsSafe}
-use Rattle.pm_top.specs.Promises.{IsStart, NamesBadFor, NamesBadOpening, fault_record, last_after, number_after}
+use Rattle.pm_top.specs.Promises.{IsStart, NamesBadFor, NamesBadOpening, NamesFound, fault_record, last_after, number_after}
 use Rattle.pm_top.specs.StoreChecks.{SaysLine}
 use Rattle.pm_top.proofs.FoundPages.{config_met}
 use Rattle.pm_top.proofs.KeptConfigs.{config_disk, config_say, config_then}
 use Rattle.pm_top.proofs.DrawnRefusing.{damaged_gen, field_refused_gen, gen_from, gen_then, idle_gen, opening_gen, refused_gen}
+use Rattle.pm_top.proofs.MetOpenings.{found_over, opening_told}
 use Rattle.pm_top.proofs.Opened.{can_run, same_console}
 use Rattle.pm_top.proofs.Refusing.{AnswersNone, same_disk}
 use Rattle.pm_top.proofs.StartedStores.{can_begin, few_numbers}
@@ -72,6 +73,7 @@ returns-in-Ok-clause-holds g c t =
       misconfigured = λ is. absurd (c.answer_drawn.ensures.cause.configured is);
       damaged = λ is.
           let found = c.answer_drawn.ensures.damaged t is in
+          let names = found_over wanted old.world mid.world engine script c.in-Ok.ensures.fresh.0.shape_is (c.in-Ok.ensures.kept t) new.world found in
           record {
             configured = alike;
             unsound = λ shape pairs begins.
@@ -79,7 +81,7 @@ returns-in-Ok-clause-holds g c t =
                 subst (λ s. DrawnOutcomeIs script s old.world new.world engine.store.shape (map_in engine mid.world) outcome.lines outcome.order.items) is (answered shape pairs start);
             left = found.left;
             text = found.text;
-            bad = inr found.names;
+            bad = inr (subst (λ (s : Shape). NamesFound s old.world script found.left found.text) (sym asks.wanted_is) names);
             says = found.says;
           };
       within = c.answer_drawn.ensures.short;
@@ -138,7 +140,7 @@ returns-in-Err-Shape-clause-holds g c t =
     let outcome = c.without.result in
     let field = c.in-Err-Shape.field in
     let differs : shape_fault wanted old.world ≡ Some field = subst (ComparesShape (shape_fault wanted old.world)) c.in-Err-Shape.field-0-is (c.in-Err-Shape.ensures.compared t).fault in
-    let same : mid.world ≡ old.world = subst (HasOpenCauseIn wanted (in_force (image_of old.world)) old.world mid.world) c.in-Err-Shape.field-0-is (c.in-Err-Shape.ensures.bad t) in
+    let same : mid.world ≡ old.world = subst (HasOpenCauseIn g.H.Device.tells wanted (in_force (image_of old.world)) old.world mid.world) c.in-Err-Shape.field-0-is (c.in-Err-Shape.ensures.bad t) in
     let is : config_fault mid.world ≡ Some field = ap config_fault same ∙ asks.fault_is ∙ differs in
     gen_from (drawn_lines c.args.seed 1 c.args.count) old mid new outcome.status outcome.lines outcome.order.items ((c.in-Err-Shape.ensures.compared t).differing field differs) same
     (field_refused_gen (drawn_lines c.args.seed 1 c.args.count) mid new outcome.status outcome.lines outcome.order.items field is (subst AnswersNone (sym c.without.ensures.status) printed.ensures.cases) (λ e. printed.ensures.misconfigured t (sym c.without.ensures.status ∙ e)) (printed.ensures.moments t) c.without.ensures.lines c.without.ensures.order)
@@ -155,7 +157,7 @@ returns-in-Err-Shape-clause-crash g c t =
     let outcome = c.without.result in
     let field = c.in-Err-Shape.field in
     let differs : shape_fault wanted old.world ≡ Some field = subst (ComparesShape (shape_fault wanted old.world)) c.in-Err-Shape.field-0-is (c.in-Err-Shape.ensures.compared t).fault in
-    let same : mid.world ≡ old.world = subst (HasOpenCauseIn wanted (in_force (image_of old.world)) old.world mid.world) c.in-Err-Shape.field-0-is (c.in-Err-Shape.ensures.bad t) in
+    let same : mid.world ≡ old.world = subst (HasOpenCauseIn g.H.Device.tells wanted (in_force (image_of old.world)) old.world mid.world) c.in-Err-Shape.field-0-is (c.in-Err-Shape.ensures.bad t) in
     let order = outcome.order.items in
     let keeps : GenIsSafe (drawn_lines c.args.seed 1 c.args.count) old mid order =
     subst (λ (s : Shape). (shape : Shape) (pairs : Pairs) (start : IsStart s old.world shape pairs) → AllMoments old mid (CrashHoldsDrawn s (last_after start) (number_after start) (drawn_lines c.args.seed 1 c.args.count) old.world shape pairs order)) (sym asks.wanted_is)
@@ -174,7 +176,7 @@ returns-in-Err-Shape-clause-config g c t =
     let outcome = c.without.result in
     let field = c.in-Err-Shape.field in
     let differs : shape_fault wanted old.world ≡ Some field = subst (ComparesShape (shape_fault wanted old.world)) c.in-Err-Shape.field-0-is (c.in-Err-Shape.ensures.compared t).fault in
-    let same : mid.world ≡ old.world = subst (HasOpenCauseIn wanted (in_force (image_of old.world)) old.world mid.world) c.in-Err-Shape.field-0-is (c.in-Err-Shape.ensures.bad t) in
+    let same : mid.world ≡ old.world = subst (HasOpenCauseIn g.H.Device.tells wanted (in_force (image_of old.world)) old.world mid.world) c.in-Err-Shape.field-0-is (c.in-Err-Shape.ensures.bad t) in
     config_then old mid new (g.H.Device.sound c.open_store.new.host t) (config_disk old mid (c.open_store.ensures.disk t)) (config_say (fault_config field) mid new (printed.ensures.moments t))
 
 pub returns-in-Err-Store-Failed-clause-holds : goal.returns-in-Err-Store-Failed-clause-holds
@@ -259,7 +261,7 @@ returns-in-Err-Store-BadRecord-clause-holds g c t =
     let unsound : (shape : Shape) (pairs : Pairs) → IsStart (wanted_in old.world) old.world shape pairs → ⊥ = λ shape pairs start.
     let here = subst (λ (s : Shape). IsStart s old.world shape pairs) asks.wanted_is start in
     subst IsPlainOpen err (c.in-Err-Store-BadRecord.ensures.refused t says_nothing shape pairs (can_begin wanted old.world shape pairs here) (few_numbers wanted old.world shape pairs here) alike) in
-    let cause = subst (HasOpenCauseIn wanted (in_force (image_of old.world)) old.world mid.world) err (c.in-Err-Store-BadRecord.ensures.bad t) in
+    let cause = subst (HasOpenCauseIn g.H.Device.tells wanted (in_force (image_of old.world)) old.world mid.world) err (c.in-Err-Store-BadRecord.ensures.bad t) in
     let bad : NamesBadOpening old.world mid.world (fault_record at) =
     subst (λ (s : Shape). NamesBadFor s old.world mid.world (fault_record at)) (sym asks.wanted_is) (inl (at, cause, refl)) in
     damaged_gen (drawn_lines c.args.seed 1 c.args.count) old mid new outcome.status outcome.lines outcome.order.items (asks.fault_is ∙ alike) unsound only
@@ -310,10 +312,10 @@ returns-in-Err-Store-BadPage-clause-holds g c t =
     let unsound : (shape : Shape) (pairs : Pairs) → IsStart (wanted_in old.world) old.world shape pairs → ⊥ = λ shape pairs start.
     let here = subst (λ (s : Shape). IsStart s old.world shape pairs) asks.wanted_is start in
     subst IsPlainOpen err (c.in-Err-Store-BadPage.ensures.refused t says_nothing shape pairs (can_begin wanted old.world shape pairs here) (few_numbers wanted old.world shape pairs here) alike) in
-    let cause = subst (HasOpenCauseIn wanted (in_force (image_of old.world)) old.world mid.world) err (c.in-Err-Store-BadPage.ensures.bad t) in
+    let cause = subst (HasOpenCauseIn g.H.Device.tells wanted (in_force (image_of old.world)) old.world mid.world) err (c.in-Err-Store-BadPage.ensures.bad t) in
     let named : printed.result ≡ Damaged → SaysLine (NamesBadOpening old.world mid.world) mid.world new.world = λ e.
     let line = printed.ensures.damaged t e in
-    (line.0, subst (λ (s : Shape). NamesBadFor s old.world mid.world line.0) (sym asks.wanted_is) (inr (cause, (page, line.1))), line.2) in
+    (line.0, subst (λ (s : Shape). NamesBadFor s old.world mid.world line.0) (sym asks.wanted_is) (inr (page, opening_told g.H.Device.tells t wanted (in_force (image_of old.world)) old.world page cause, line.1)), line.2) in
     damaged_gen (drawn_lines c.args.seed 1 c.args.count) old mid new outcome.status outcome.lines outcome.order.items (asks.fault_is ∙ alike) unsound only
     (subst (λ s. (s ≡ Damaged) ⊎ (s ≡ Failed) ⊎ (s ≡ Memory)) (sym c.without-in-Err-Store-BadPage.ensures.status) printed.ensures.cases) (λ e. named (sym c.without-in-Err-Store-BadPage.ensures.status ∙ e)) c.without-in-Err-Store-BadPage.ensures.lines c.without-in-Err-Store-BadPage.ensures.order
 

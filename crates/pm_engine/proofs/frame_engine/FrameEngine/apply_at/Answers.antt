@@ -48,4 +48,4 @@ returns-in-Halted-clause-replays g c =
     let h2 = g.H.Device.history c.apply_after_checkpoint.new.host in
     let x = subst (λ (r : Result Applied StoreFault). AppliesRecord tells found c.args.self ran.result.0 h0 h1 r) (c.in-Ok.is ∙ ap (λ (a : Applied). Ok a) c.in-Halted.is) ran.ensures.applies in
     record_halted tells c.args.at found c.args.self ran.result.0 c.apply_after_checkpoint.result.0 h0 h1 h2 (λ t. g.H.Device.sound ran.new.host t) x.goes_on x.is_open (x.unlogged refl) (λ t. x.refused t refl) (λ t well. (x.over_well_formed t well).applies)
-    c.apply_after_checkpoint.result.1 c.apply_after_checkpoint.ensures.replays
+    c.apply_after_checkpoint.result.1 c.apply_after_checkpoint.ensures.replays (λ t may_change allows. (x.meets t may_change allows).keeps x.is_open)

@@ -4,6 +4,7 @@ use Rattle.pm_records.specs.Records.{Restart, Seal, Snapshot, Delta, CpBegin, Re
 use Rattle.pm_core.specs.Replays.{replayed}
 use Rattle.pm_engine.specs.declared.frame_engine_replay.Applied.TheVariants as applied
 use Rattle.pm_engine.specs.FrameEngines.{map_in}
+use Rattle.pm_engine.specs.Replays.{CanBeRefused}
 use Rattle.pm_engine.proofs.AppliedRecords.{applied_nothing, applied_quiet}
 use Rattle.pm_engine.proofs.ReappliedRecords.{goes_on_same}
 use Rattle.pm_engine.proofs.frame_engine.FrameEngine.apply_record.Goals as goal
@@ -50,3 +51,4 @@ returns-in-Err-clause-applies g c =
     applied_nothing tells c.args.self old (record_of c.args.kind c.args.payload.now) applied.Bad
     (goes_on_same tells c.args.self old (λ t. g.H.Device.sound c.args.host.now t) c.requires.end c.requires.clean) c.requires.open
     (subst (λ (o : Option Record). replayed c.args.self.store.shape o (map_in c.args.self old.world) ≡ None) c.in-Err.ensures.exact refl)
+    (λ is. subst CanBeRefused c.in-Err.ensures.exact tt)

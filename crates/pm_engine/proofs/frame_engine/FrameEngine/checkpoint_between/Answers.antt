@@ -24,5 +24,5 @@ returns-clause-checks g c =
           let lists : ListsDirty now.store (dirty_names now.store) (dirty_bytes now.store) =
           subst (λ (r : FrameRunning). ListsDirty r.store (dirty_names r.store) (dirty_bytes r.store)) c.self.view_is (w.names_dirty.ensures inside (c.self.invariant.sent inside)) in
           subst (λ r. ChecksBetween tells old new before now r) (sym w.result-is)
-          (checks_made tells old new before now e.engine.same e.engine.order e.disk e.crash it.engine.done opens (λ t. (it.pages.ready t).ends) (λ t. (it.pages.ready t).clean) it.lines lists it.pages.pages.none_dirty)
+          (checks_made tells old new before now e.engine.same e.engine.order e.disk e.crash it.engine.done opens (λ t. (it.pages.ready t).ends) (λ t. (it.pages.ready t).clean) it.lines it.pages.pages.pages lists it.pages.pages.none_dirty)
     ]

@@ -13,12 +13,14 @@ use Rattle.pm_core.specs.Held.{AllWellFormed, in_force}
 use Rattle.pm_core.specs.LogAlone.{image_of}
 use Rattle.pm_redo.specs.LogEnds.{LogEndsAt}
 use Rattle.pm_engine.specs.FrameEngines.{FrameRunning}
-use Rattle.pm_engine.specs.FrameOpenings.{HasGoodBase, HasNoStrayPages, OpensRunningIn}
+use Rattle.pm_engine.specs.FrameOpenings.{HasGoodBase, HasNoStrayPages, KeepsBasePagesBut, OpensRunningIn}
+use Rattle.pm_engine.specs.MetPages.{MeetsBadPage}
+use Rattle.pm_engine.specs.FrameStores.{pages_in_frames}
 use Rattle.pm_engine.specs.Openings.{loaded_base, IsPlainOpen, opened_last, opened_number}
 use Rattle.pm_engine.specs.Replays.{CrashHoldsMap}
 use Rattle.pm_engine.specs.RunningStores.{ended_with}
 use Rattle.pm_engine.proofs.FrameOpened.{open_cause_in, restore_cause_in, stray_marked}
-use Rattle.pm_engine.proofs.RestoredOpenings.{bad_uncut, leaves_passed, compares_failed, none_differs, compared_store, plain_open, field_named, restored_is, never_bad_record, cut_leads, holding, shape_is, restore_moments}
+use Rattle.pm_engine.proofs.RestoredOpenings.{bad_uncut, leaves_passed, opened_records, refused_uncut, compares_failed, none_differs, compared_store, plain_open, field_named, restored_is, never_bad_record, cut_leads, holding, shape_is, restore_moments}
 use Rattle.pm_engine.proofs.frame_engine.FrameEngine.open_store.Goals as goal
 
 pub open_restored-requires-clause-leads : goal.open_restored-requires-clause-leads
@@ -32,7 +34,7 @@ pub returns-in_err-base-clause-bad : goal.returns-in_err-base-clause-bad
 returns-in_err-base-clause-bad g c t =
     let old = g.H.Device.history c.args.host.now in
     let mid = g.H.Device.history c.restore.new.host in
-    restore_cause_in c.args.config.now.shape (in_force (image_of old.world)) old.world mid.world c.from_residual.result
+    restore_cause_in g.H.Device.tells c.args.config.now.shape (in_force (image_of old.world)) old.world mid.world c.from_residual.result
     (λ at is.
     let its : IsErrOf c.restore.result (opening.Store (BadRecord at)) = search rules in
     c.restore.ensures.bad t at its)
@@ -105,20 +107,48 @@ returns-in-Err-clause-bad g c t =
     let same = restored_is checkpoint base.mark mid.world is_base.mark in
     let loaded : HasGoodBase wanted checkpoint mid.world → AllWellFormed wanted (loaded_base base.mark mid.world) = λ good. subst (λ (p : Partitions). AllWellFormed wanted p) (sym same) good.well_formed in
     let stray : HasGoodBase wanted checkpoint mid.world → HasNoStrayPages wanted (ended_with base.mark) mid.world = λ good. stray_marked wanted checkpoint base.mark mid.world is_base.mark good.none_stray in
-    open_cause_in wanted checkpoint old.world new.world c.in-Err.fault
+    let base_fits = c.in_ok-base.ensures.base.0 in
+    let leads = cut_leads wanted checkpoint old.world mid.world base base_fits is_base (c.in_ok-base.ensures.only t).log in
+    let any = c.open_restored.ensures.over_any t leads in
+    open_cause_in g.H.Device.tells wanted checkpoint old.world new.world c.in-Err.fault
     (λ id is. record {
       mid = mid.world;
       keeps = keeps;
       bad = λ good. c.open_restored.ensures.bad_page t id (c.in-Err.is ∙ ap Err is) (loaded good) (stray good);
+      frames = is_base.ends.frames;
+      records = opened_records wanted checkpoint old.world mid.world base is_base;
+      meets = λ may_change all. subst (λ (p : Partitions). MeetsBadPage g.H.Device.tells may_change wanted p id) same (any.meets may_change all id (c.in-Err.is ∙ ap Err is));
     })
     (λ at is.
     inr (
       base.log_end,
       subst (λ (p : Place). LogEndsAt (contents old.world.log) p base.log_end) is_base.replay is_base.ends,
+      refused_uncut wanted checkpoint old.world mid.world new.world base at is_base (c.in_ok-base.ensures.only t).log (any.refuses at (c.in-Err.is ∙ ap Err is)),
       mid.world,
       keeps,
       λ good. bad_uncut wanted checkpoint old.world mid.world new.world base at is_base (c.in_ok-base.ensures.only t).log (c.open_restored.ensures.bad_record t at (c.in-Err.is ∙ ap Err is) (loaded good) (stray good)),
     ))
+
+pub returns-in-Ok-clause-kept : goal.returns-in-Ok-clause-kept
+returns-in-Ok-clause-kept g c t =
+    let old = g.H.Device.history c.args.host.now in
+    let mid = g.H.Device.history c.restore.new.host in
+    let new = g.H.Device.history c.open_restored.new.host in
+    let wanted = c.args.config.now.shape in
+    let base = c.in_ok-base.base in
+    let checkpoint = in_force (image_of old.world) in
+    let is_base = c.in_ok-base.ensures.base.1 t in
+    let leads = cut_leads wanted checkpoint old.world mid.world base c.in_ok-base.ensures.base.0 is_base (c.in_ok-base.ensures.only t).log in
+    let any = c.open_restored.ensures.over_any t leads in
+    record {
+      mid = mid.world;
+      keeps = (c.in_ok-base.ensures.only t).base;
+      frames = is_base.ends.frames;
+      records = opened_records wanted checkpoint old.world mid.world base is_base;
+      pages = λ may_change all.
+          subst (λ (p : Partitions). KeepsBasePagesBut wanted may_change p (pages_in_frames c.in-Ok.engine.store new.world)) (restored_is checkpoint base.mark mid.world is_base.mark)
+          (subst (λ r. IfOk r (λ (engine : FrameRunning). KeepsBasePagesBut wanted may_change (loaded_base base.mark mid.world) (pages_in_frames engine.store new.world))) c.in-Ok.is (any.pages may_change all));
+    }
 
 pub returns-in-Err-clause-refused : goal.returns-in-Err-clause-refused
 returns-in-Err-clause-refused g c t told shape pairs can few same =

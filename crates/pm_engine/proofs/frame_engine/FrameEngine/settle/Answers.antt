@@ -12,7 +12,8 @@ returns-then-not-is_due-clause-runs g c first list =
     let host = c.force.new.host in
     let e = c.in-Ok.ensures in
     looked_runs g.H.Device.tells (g.H.Device.history c.args.host.now) (g.H.Device.history host) c.args.self.now c.force.new.self c.is_due.new.self e.engine.same c.requires.is_open (g.H.Device.sound host)
-    (λ t. (e.reads t).ends) (λ t. (e.reads t).clean (c.requires.clean t)) e.lasts e.crash e.disk c.is_due.ensures.looks first 1 1 list
+    (λ t. (e.reads t).ends) (λ t. (e.reads t).clean (c.requires.clean t)) e.lasts e.crash e.disk c.is_due.ensures.looks
+    (λ t. (e.reads t).pages) first 1 1 list
 
 pub returns-then-not-is_due-clause-lasts : goal.returns-then-not-is_due-clause-lasts
 returns-then-not-is_due-clause-lasts g c =
@@ -37,12 +38,12 @@ returns-then-not-is_due-clause-not_due g c =
     ∙ sym c.is_due.ensures.due ∙ c.if-not-is_due.true
 
 pub returns-else-not-is_due-clause-runs : goal.returns-else-not-is_due-clause-runs
-returns-else-not-is_due-clause-runs g c =
+returns-else-not-is_due-clause-runs g c first list =
     let host = c.force.new.host in
     let e = c.in-Ok.ensures in
     then_runs g.H.Device.tells (g.H.Device.history c.args.host.now) (g.H.Device.history host) c.args.self.now c.force.new.self c.is_due.new.self e.engine.same c.requires.is_open (g.H.Device.sound host)
     (λ t. (e.reads t).ends) (λ t. (e.reads t).clean (c.requires.clean t)) e.lasts e.crash e.disk c.is_due.ensures.looks (g.H.Device.history c.checkpoint_between.new.host) c.checkpoint_between.new.self
-    c.checkpoint_between.result c.checkpoint_between.ensures.checks
+    c.checkpoint_between.result c.checkpoint_between.ensures.checks (λ t. (e.reads t).pages) first list
 
 pub returns-else-not-is_due-clause-lasts : goal.returns-else-not-is_due-clause-lasts
 returns-else-not-is_due-clause-lasts g c =

@@ -66,11 +66,11 @@ invariant_of-store g c =
     let r = c.end-stripe.result in
     let e = c.end-stripe.ensures in
     let new : FrameStoreView = record ins { seat = r.1; stripe = r.0; dirty = c.count_after-dirty.result; is_open = c.goes_on_after-is_open.result } in
-    let counted = scan_counted tells history state ins on c.new-bound.result x.locks x.seat x.stripe c.scan_in_frames-answer.new.bound c.args.replies.now c.scan_in_frames-answer.new.replies y.looks c.args.cache answer y.cause y.sound
+    let counted = scan_counted tells history state ins on c.new-bound.result x.locks x.seat x.stripe c.scan_in_frames-answer.new.bound c.args.replies.now c.scan_in_frames-answer.new.replies y.looks c.args.cache answer y.cause y.sound y.meets
     r.0 r.1 r.2 c.count_after-dirty.result c.goes_on_after-is_open.result e.ends e.rest c.goes_on_after-is_open.ensures c.self.invariant in
     let counted_is : c.count_after-dirty.result ≡ count_after ins.dirty c.goes_on_after-is_open.result (length ins.stripe.outbox) (length r.0.outbox) =
     c.count_after-dirty.ensures ∙ (λ i. count_after ins.dirty c.goes_on_after-is_open.result (length (c.outbox-was.ensures i)) (length (c.outbox.ensures i))) in
-    after_scan tells history state ins on c.new-bound.result x.locks x.seat x.stripe c.scan_in_frames-answer.new.bound c.args.replies.now c.scan_in_frames-answer.new.replies y.looks c.args.cache answer y.cause y.sound
+    after_scan tells history state ins on c.new-bound.result x.locks x.seat x.stripe c.scan_in_frames-answer.new.bound c.args.replies.now c.scan_in_frames-answer.new.replies y.looks c.args.cache answer y.cause y.sound y.meets
     r.0 r.1 r.2 c.count_after-dirty.result c.goes_on_after-is_open.result e.ends e.rest c.goes_on_after-is_open.ensures c.self.invariant
     (subst (λ (d : Option ℕ). IfSome d (λ count. count ≡ dirty_count new)) (sym counted_is) counted)
 
@@ -89,7 +89,7 @@ returns-clause-scans g c =
     let world : World = (history c.args.reader).world in
     let new : FrameStoreView = record ins { seat = r.1; stripe = r.0; dirty = c.count_after-dirty.result; is_open = c.goes_on_after-is_open.result } in
     subst (λ (v : FrameStoreView). ScansStore tells c.args.cache v new world c.args.replies.now c.scan_in_frames-answer.new.replies answer) c.self.view_is
-    (scans_store tells history state ins on c.new-bound.result x.locks x.seat x.stripe c.scan_in_frames-answer.new.bound c.args.replies.now c.scan_in_frames-answer.new.replies y.looks c.args.cache answer y.cause y.sound
+    (scans_store tells history state ins on c.new-bound.result x.locks x.seat x.stripe c.scan_in_frames-answer.new.bound c.args.replies.now c.scan_in_frames-answer.new.replies y.looks c.args.cache answer y.cause y.sound y.meets
     r.0 r.1 r.2 c.count_after-dirty.result c.goes_on_after-is_open.result e.ends e.rest c.goes_on_after-is_open.ensures
     world (ap (λ q. (history q).world) x.reader) e.reader e.clean y.replied y.no_reply y.evaluates)
 

@@ -12,6 +12,7 @@ use Rattle.pm_top.proofs.AnsweredBatch.{answered_lines, idle_stops, idle_taken, 
 use Rattle.pm_top.proofs.FrameRests.{ready_beside, same_engine, same_taken}
 use Rattle.pm_top.proofs.KeptConfigs.{config_answers, config_take, config_then}
 use Rattle.pm_top.proofs.LaterStates.{plain_frame}
+use Rattle.pm_top.proofs.MetLines.{left_script, pages_beside, script_goes, script_stops, script_unmet}
 use Rattle.pm_top.proofs.run.Run.answer_batch.Goals as goal
 
 -- ---- no line was taken
@@ -37,6 +38,13 @@ pub returns-in-Err-clause-cause : goal.returns-in-Err-clause-cause
 returns-in-Err-clause-cause g c =
     let at = g.H.Device.state in
     plain_frame (at c.args.host.now) (at c.next_batch.new.host) (Err c.in-Err.fault) (let it = c.next_batch.ensures.cause in record { later = it.later; failed = λ is. it.failed (c.in-Err.is ∙ ap Err (let same = is in cc)); access = it.access; usable = it.usable; plain = subst (λ r. IfErr r IsPlainFault) c.in-Err.is it.plain })
+
+pub returns-in-Err-clause-meets : goal.returns-in-Err-clause-meets
+returns-in-Err-clause-meets g c t =
+    let old = g.H.Device.history c.args.host.now in
+    let mid = g.H.Device.history c.next_batch.new.host in
+    script_unmet (script_of (rest_of c.args.input.now old.world)) (script_of (rest_of c.next_batch.new.input mid.world)) old.world mid.world c.args.self c.args.self c.in-Err.fault
+    (subst (λ r. IfErr r IsPlainFault) c.in-Err.is c.next_batch.ensures.cause.plain)
 
 -- ---- lines were taken
 
@@ -138,3 +146,37 @@ returns-clause-answered g c t =
           taken_goes g.H.Device.tells wanted last number old mid new c.args.self taken.result.0 (script_of (rest_of c.args.input.now old.world)) (batch_lines batch) (script_of its.left) its.taken.script few
           (g.H.Device.sound c.next_batch.new.host t) (c.next_batch.ensures.takes t) (Ok tt) answers t can;
     }
+
+-- ---- pages that the lines met
+
+pub returns-in-Err-answered-clause-meets : goal.returns-in-Err-answered-clause-meets
+returns-in-Err-answered-clause-meets g c t =
+    let old = g.H.Device.history c.args.host.now in
+    let mid = g.H.Device.history c.next_batch.new.host in
+    let taken = c.answer_taken-run in
+    let new = g.H.Device.history taken.new.host in
+    let its = c.in-Ok.ensures.taken t in
+    let takes = at_last old mid (OnlyTakes old.world) (g.H.Device.sound c.next_batch.new.host t) (c.next_batch.ensures.takes t) in
+    let lines = batch_lines c.in-Ok.batch in
+    let answers : AnswersLines g.H.Device.tells mid new lines c.args.self taken.result.0 (Err c.in-Err-answered.fault) =
+    subst (λ r. AnswersLines g.H.Device.tells mid new lines c.args.self taken.result.0 r) c.in-Err-answered.is taken.ensures.answers in
+    script_stops (script_of (rest_of c.args.input.now old.world)) (script_of (rest_of c.next_batch.new.input new.world)) old.world new.world c.args.self taken.result.0
+    mid.world (pages_beside c.args.self.engine old.world mid.world (same_taken old.world mid.world takes)) lines (script_of its.left) its.taken.script c.in-Err-answered.fault (answers.meets t)
+
+pub returns-clause-meets : goal.returns-clause-meets
+returns-clause-meets g c t =
+    let old = g.H.Device.history c.args.host.now in
+    let mid = g.H.Device.history c.next_batch.new.host in
+    let taken = c.answer_taken-run in
+    let new = g.H.Device.history taken.new.host in
+    let batch = c.in-Ok.batch in
+    let its = c.in-Ok.ensures.taken t in
+    let takes = at_last old mid (OnlyTakes old.world) (g.H.Device.sound c.next_batch.new.host t) (c.next_batch.ensures.takes t) in
+    let lines = batch_lines batch in
+    let answers = answered_lines taken.result.1 c.in-Ok-answered.is taken.ensures.answers in
+    let only = at_last mid new (OnlyAnswers mid.world) (g.H.Device.sound taken.new.host t) (answers.only_answers t) in
+    let continues : ContinuationIs batch.continuation its.at c.next_batch.new.input its.left (rest_of c.next_batch.new.input new.world) =
+    subst (λ (i : List ℕ). ContinuationIs batch.continuation its.at c.next_batch.new.input its.left (c.next_batch.new.input.pending ++ i)) (sym only.input) its.continues in
+    script_goes (script_of (rest_of c.args.input.now old.world)) (script_of (rest_of c.next_batch.new.input new.world)) old.world new.world c.args.self taken.result.0
+    mid.world (pages_beside c.args.self.engine old.world mid.world (same_taken old.world mid.world takes)) lines (script_of its.left) its.taken.script batch.continuation
+    (left_script batch.continuation its.at c.next_batch.new.input its.left (rest_of c.next_batch.new.input new.world) continues) (answers.meets t)

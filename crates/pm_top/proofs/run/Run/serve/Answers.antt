@@ -1,24 +1,28 @@
-use Rattle.std.proofs.Common.{◌≡◌, ◌+◌, List, ℕ, [], Ok, Err, length, refl, sym, ap, ◌∙◌, subst, arith}
+use Rattle.std.proofs.Common.{◌≡◌, ◌+◌, ◌++◌, List, ℕ, [], Ok, Err, length, refl, sym, ap, ◌∙◌, subst, arith}
 use Rattle.std.specs.Prelude.{IfErr, IfOk}
-use Rattle.pm_types.specs.declared.fault.StoreFault.TheVariants.{Failed}
+use Rattle.pm_types.specs.declared.fault.StoreFault.TheVariants.{BadPage, Failed}
 use Rattle.pm_types.specs.declared.limits.TheConstants.{LINES_MAX}
 use Rattle.pm_disk.proofs.Chain.{at_last}
 use Rattle.pm_script.specs.Reading.{rest_of, Unread}
 use Rattle.pm_core.specs.Calls.{ChangesDisk}
+use Rattle.pm_model.specs.declared.line.Line.{Line}
 use Rattle.pm_engine.specs.FrameEngines.{map_in}
+use Rattle.pm_engine.specs.FrameStores.{pages_in_frames}
+use Rattle.pm_engine.proofs.MetPages.{kept_same}
 use Rattle.pm_engine.specs.RunningLines.{says_nothing}
 use Rattle.pm_script.proofs.LaterStates.{same_state}
 use Rattle.pm_top.specs.declared.batch.Continuation.TheVariants as then_comes
 use Rattle.pm_top.specs.declared.run.Run.{Run}
-use Rattle.pm_top.specs.Runs.{BatchIsAnswered, CountsBatch, GoesOn, IsOpenAfter, StopsAtFault, TakesFor}
+use Rattle.pm_top.specs.Runs.{BatchIsAnswered, CountsBatch, GoesOn, IsOpenAfter, MeetsOnScript, StopsAtFault, TakesFor}
 use Rattle.pm_top.specs.Limits.{after_lines}
 use Rattle.pm_top.specs.Served.{script_of}
 use Rattle.pm_top.proofs.AnsweredBatch.{goes_then, idle_goes, idle_none}
-use Rattle.pm_top.proofs.AnsweredLines.{no_numbers, takes_both}
+use Rattle.pm_top.proofs.AnsweredLines.{err_same, no_numbers, takes_both}
 use Rattle.pm_top.proofs.FrameRests.{same_both, same_engine, serving_still}
 use Rattle.pm_top.proofs.KeptConfigs.{config_disk, config_none, config_then}
 use Rattle.pm_top.proofs.LaterStates.{frame_later}
 use Rattle.pm_top.proofs.Serving.{more_place, more_bytes, more_limit, more_goes, end_none, end_goes, end_limit, over_stopped, force_map, force_stops, force_goes, force_leaves, served_fault, served_limit, served_done, served_unbegun, begins_here, may_next, append_right}
+use Rattle.pm_top.proofs.MetLines.{done_later, kept_later, met_later}
 use Rattle.pm_top.proofs.run.Run.serve.Goals as goal
 
 -- ---- memory ran out before the first batch
@@ -63,6 +67,8 @@ batches-init g c =
       goes = λ t wanted last number can.
           subst (λ (u : Unread). GoesOn {T = Unit {0}} wanted last number old old (script_of old.world.input) (script_of (rest_of u old.world)) first first (Ok tt)) (sym c.in-Ok.ensures)
           (idle_goes wanted last number (LINES_MAX + 2048) old old first (script_of old.world.input) can (g.H.Device.sound c.args.host.now t) (idle_none old (g.H.Device.sound c.args.host.now t)));
+      first_done = λ t. subst (λ (u : Unread). (done : List Line) × (script_of old.world.input ≡ done ++ script_of (rest_of u old.world))) (sym c.in-Ok.ensures) ([], refl);
+      pages = λ t may_change allows. kept_same may_change (pages_in_frames first.engine.store old.world);
     }
 
 pub answer_batch-next-requires-clause-serving : goal.answer_batch-next-requires-clause-serving
@@ -83,6 +89,8 @@ batches-preserved g c =
     let open_after : (t : g.H.Device.tells) → IsOpenAfter before new now.engine batch.new.input (Ok then_comes.More) = λ t. subst (λ r. IsOpenAfter before new now.engine batch.new.input r) result (batch.ensures.open t) in
     let answered : (t : g.H.Device.tells) → BatchIsAnswered then_comes.More c.batches.input batch.new.input (rest_of c.batches.input before.world) (rest_of batch.new.input new.world) before new c.batches.run now = λ t.
     subst (λ r. IfOk r (λ continuation. BatchIsAnswered continuation c.batches.input batch.new.input (rest_of c.batches.input before.world) (rest_of batch.new.input new.world) before new c.batches.run now)) result (batch.ensures.answered t) in
+    let met : (t : g.H.Device.tells) → MeetsOnScript (script_of (rest_of c.batches.input before.world)) (script_of (rest_of batch.new.input new.world)) before.world new.world c.batches.run now (Ok then_comes.More) = λ t.
+    subst (λ r. MeetsOnScript (script_of (rest_of c.batches.input before.world)) (script_of (rest_of batch.new.input new.world)) before.world new.world c.batches.run now r) result (batch.ensures.meets t) in
     record {
       counted = counts.same refl;
       few = omega (arith, counts.same refl, counts.few);
@@ -102,6 +110,19 @@ batches-preserved g c =
           let may = may_next wanted last number old before (script_of old.world.input) (script_of (rest_of c.batches.input before.world)) first c.batches.run can goes (omega (arith, so_far.counted, so_far.few)) so_far.numbers in
           goes_then wanted last number old before new (script_of old.world.input) (script_of (rest_of c.batches.input before.world)) (script_of (rest_of batch.new.input new.world)) first c.batches.run now (Ok tt) goes
           (more_goes then_comes.More (answered t) old.world.input refl wanted last number may);
+      first_done = λ t.
+          let done = so_far.first_done t in
+          let its = met t in
+          let rest = script_of (rest_of c.batches.input before.world) in
+          let left = script_of (rest_of batch.new.input new.world) in
+          done_later first.engine.store.shape c.batches.run.engine.store.shape so_far.keeps.shape (script_of old.world.input) done.0 rest done.1 its.lines left
+          (its.taken ∙ ap (λ (ls : List Line). its.lines ++ ls) (its.left_are (λ is. absurd (let both : then_comes.More ≡ then_comes.Over = is in cc))));
+      pages = λ t.
+          let done = so_far.first_done t in
+          let its = met t in
+          let rest = script_of (rest_of c.batches.input before.world) in
+          kept_later first.engine.store.shape c.batches.run.engine.store.shape so_far.keeps.shape (script_of old.world.input) done.0 rest done.1
+          (pages_in_frames first.engine.store old.world) (pages_in_frames c.batches.run.engine.store before.world) (pages_in_frames now.engine.store new.world) its.lines its.others its.taken (so_far.pages t) its.keeps;
     }
 
 -- ---- a fault came in a batch
@@ -122,6 +143,19 @@ returns-in-Err-clause-served g c t wanted last number start same can =
     let stops : StopsAtFault before new rest c.batches.run now c.in-Err.fault = subst (λ r. IfErr r (StopsAtFault before new rest c.batches.run now)) c.in-Err.is (batch.ensures.stops t) in
     served_fault wanted last number start first.engine.store.shape (map_in first.engine old.world) old new script first now (begins_here start old.world first same c.requires.lines c.requires.order) [] c.in-Err.fault
     (goes_then wanted last number old before new script rest [] first c.batches.run now (Err c.in-Err.fault) goes (stops wanted last number may))
+
+pub returns-in-Err-clause-meets : goal.returns-in-Err-clause-meets
+returns-in-Err-clause-meets g c t page bad =
+    let old = g.H.Device.history c.args.host.now in
+    let before = g.H.Device.history c.batches.host in
+    let batch = c.answer_batch-next in
+    let first = c.args.self in
+    let so_far = c.batches.invariant in
+    let done = so_far.first_done t in
+    let rest = script_of (rest_of c.batches.input before.world) in
+    let named : batch.result.1 ≡ Err (BadPage page) = c.in-Err.is ∙ ap Err (err_same c.in-Err.fault (BadPage page) _ refl bad) in
+    met_later first.engine.store.shape c.batches.run.engine.store.shape so_far.keeps.shape (script_of old.world.input) done.0 rest done.1
+    (pages_in_frames first.engine.store old.world) (pages_in_frames c.batches.run.engine.store before.world) (so_far.pages t) page ((batch.ensures.meets t).meets page named)
 
 pub returns-in-Err-clause-config : goal.returns-in-Err-clause-config
 returns-in-Err-clause-config g c t =
