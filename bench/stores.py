@@ -2,6 +2,7 @@
 
 import dataclasses
 import json
+import os
 import pathlib
 import shutil
 import subprocess
@@ -13,6 +14,8 @@ PROGRAM = ROOT / "crates" / "pagemem" / "out" / "pagemem"
 
 # The drivers, each with its source, its package and its library. A plain map is what the others are measured by.
 PLAIN, OURS = "plain map", "pagemem"
+# What the launcher sets for the program.
+LAUNCHED = {"GLIBC_TUNABLES": "glibc.malloc.hugetlb=1"}
 # The larger settings of the program: frames for a quarter of a GiB of pages, and a GiB of log between two checkpoints.
 LARGER = {"frames": 65_536, "checkpoint_bytes": 2**30}
 STORES = [
@@ -26,12 +29,17 @@ STORES = [
 
 @dataclasses.dataclass
 class Store:
-    """A store, its version, and the program that runs a script over a folder, with this configuration there."""
+    """A store, its version, and the program that runs a script over a folder, with this configuration there and these variables."""
 
     name: str
     version: str
     command: list
     config: dict | None = None
+    variables: dict = dataclasses.field(default_factory=dict)
+
+    def start(self, folder, before=(), **how):
+        """A process that runs the script on its standard input over a folder."""
+        return subprocess.Popen([*before, *self.command, folder], env={**os.environ, **self.variables}, **how)
 
     def make(self, folder):
         """An empty folder for the store in the place of what was there, with its configuration."""
@@ -92,7 +100,7 @@ def build_program(folder):
     built = subprocess.run(first, stdin=subprocess.DEVNULL)
     if built.returncode != 0:
         sys.exit(f"the program ended with {built.returncode} at an empty script")
-    return Store(OURS, printed("git", "describe", "--always", "--dirty"), [PROGRAM, "run"])
+    return Store(OURS, printed("git", "describe", "--always", "--dirty"), [PROGRAM, "run"], variables=LAUNCHED)
 
 
 def gather(folder, with_program, names=None):

@@ -9,6 +9,7 @@ mod failing;
 mod few_frames;
 mod handed_over;
 mod host_files;
+mod kept_pages;
 mod operations;
 mod outboxes;
 mod page_steps;

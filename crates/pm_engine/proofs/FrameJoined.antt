@@ -302,47 +302,47 @@ parts_end tells old new first lines i start now was replies so_far past =
 
 module _ (tells : Type 0) (old mid new : History) (first : ℕ) (lines : List Line) (start engine now : FrameRunning) (was replies : ReplyList) (r : Result (Unit {0}) StoreFault)
     (sound : tells → IsHistory mid) (parts : RunsAllParts tells old mid first lines start engine was replies (Ok tt)) where
-  pub settled_runs : ((number : ℕ) (list : ReplyList) → RunsFrameBatch tells mid new number [] 1 1 engine now list list r)
+  pub ended_runs : ((number : ℕ) (list : ReplyList) → RunsFrameBatch tells mid new number [] 1 1 engine now list list r)
       → RunsFrameBatch tells old new first lines (34 * length lines + 1) (length lines + 1) start now was replies r
-  settled_runs settles =
+  ended_runs ends =
       subst (λ ls. RunsFrameBatch tells old new first ls (34 * length lines + 1) (length lines + 1) start now was replies r) (append-nil lines)
-      (batch_more tells old mid first lines (34 * length lines) (length lines) start engine was replies parts.runs new (first + length lines) [] 1 1 now replies r (settles (first + length lines) replies)
+      (batch_more tells old mid first lines (34 * length lines) (length lines) start engine was replies parts.runs new (first + length lines) [] 1 1 now replies r (ends (first + length lines) replies)
       refl (34 * length lines) (length lines) (parts.numbers tt) (34 * length lines + 1) (length lines + 1) (omega arith) (omega arith) (omega arith) (omega arith) sound)
 
-  pub settled_lasts : LeavesAllLastingIn tells mid new [] 1 1 engine now r → LeavesAllLastingIn tells old new lines (34 * length lines + 1) (length lines + 1) start now r
-  settled_lasts lasts t wanted told from begin done has some =
+  pub ended_lasts : LeavesAllLastingIn tells mid new [] 1 1 engine now r → LeavesAllLastingIn tells old new lines (34 * length lines + 1) (length lines + 1) start now r
+  ended_lasts lasts t wanted told from begin done has some =
       let mine = all_run tells old mid first lines (34 * length lines) (length lines) start engine was replies parts.runs t wanted told from begin done has
       (numbers_fewer start (34 * length lines + 1) (length lines + 1) (34 * length lines) (length lines) some (omega arith) (omega arith)) in
       on_ok_weaker r (λ its. subst (λ ls. HasLastingLinesIn wanted told from begin ls now new.world) (append-nil (done ++ lines)) its)
       (lasts t wanted told from begin (done ++ lines) mine
       (numbers_left start engine (34 * length lines + 1) (length lines + 1) (34 * length lines) (length lines) 1 1 some (parts.numbers tt) (omega arith) (omega arith)))
 
-  pub settled_rests : LeavesAllAtRest tells mid new 1 1 engine now r → LeavesAllAtRest tells old new (34 * length lines + 1) (length lines + 1) start now r
-  settled_rests rests t wanted told from begin done has some =
+  pub ended_rests : LeavesAllAtRest tells mid new 1 1 engine now r → LeavesAllAtRest tells old new (34 * length lines + 1) (length lines + 1) start now r
+  ended_rests rests t wanted told from begin done has some =
       let mine = all_run tells old mid first lines (34 * length lines) (length lines) start engine was replies parts.runs t wanted told from begin done has
       (numbers_fewer start (34 * length lines + 1) (length lines + 1) (34 * length lines) (length lines) some (omega arith) (omega arith)) in
       rests t wanted told from begin (done ++ lines) mine
       (numbers_left start engine (34 * length lines + 1) (length lines + 1) (34 * length lines) (length lines) 1 1 some (parts.numbers tt) (omega arith) (omega arith))
 
-  pub settled_numbers : (StaysOpen r → TakesNumbersIn engine now 1 1) → StaysOpen r → TakesNumbersIn start now (34 * length lines + 1) (length lines + 1)
-  settled_numbers takes stays = numbers_more start engine now (34 * length lines) (length lines) 1 1 (parts.numbers tt) (takes stays) (34 * length lines + 1) (length lines + 1) (omega arith) (omega arith)
+  pub ended_numbers : (StaysOpen r → TakesNumbersIn engine now 1 1) → StaysOpen r → TakesNumbersIn start now (34 * length lines + 1) (length lines + 1)
+  ended_numbers takes stays = numbers_more start engine now (34 * length lines) (length lines) 1 1 (parts.numbers tt) (takes stays) (34 * length lines + 1) (length lines + 1) (omega arith) (omega arith)
 
-pub settled_asked : (tells : Type 0) (old mid : History) (first : ℕ) (lines : List Line) (start engine now : FrameRunning) (was replies : ReplyList) (r : Result (Unit {0}) StoreFault)
+pub ended_asked : (tells : Type 0) (old mid : History) (first : ℕ) (lines : List Line) (start engine now : FrameRunning) (was replies : ReplyList) (r : Result (Unit {0}) StoreFault)
     → RunsAllParts tells old mid first lines start engine was replies (Ok tt) → (StaysOpen r → TakesNumbersIn engine now 1 1) → OnOk r (EndsAtReplayIn engine → EndsAtReplayIn now)
     → OnOk r (MakesAskedIn start now lines (length lines + 1))
-settled_asked tells old mid first lines start engine now was replies (Ok done) parts takes still =
+ended_asked tells old mid first lines start engine now was replies (Ok done) parts takes still =
     subst (λ ls. MakesAskedIn start now ls (length lines + 1)) (append-nil lines)
     (asked_more start engine now (34 * length lines) (length lines) 1 (parts.numbers tt) lines [] parts.asked
     (record { made = λ some. omega (arith, (takes tt).risen some); last = λ asked ends is. still (ends is) }) (length lines + 1) (omega arith))
-settled_asked tells old mid first lines start engine now was replies (Err fault) parts takes still = tt
+ended_asked tells old mid first lines start engine now was replies (Err fault) parts takes still = tt
 
 -- a fault came before
-pub unsettled_runs : (tells : Type 0) (old new : History) (first : ℕ) (lines : List Line) (start now : FrameRunning) (was replies : ReplyList) (fault : StoreFault)
+pub unended_runs : (tells : Type 0) (old new : History) (first : ℕ) (lines : List Line) (start now : FrameRunning) (was replies : ReplyList) (fault : StoreFault)
     → RunsAllParts tells old new first lines start now was replies (Err fault) → RunsFrameBatch tells old new first lines (34 * length lines + 1) (length lines + 1) start now was replies (Err fault)
-unsettled_runs tells old new first lines start now was replies fault parts =
+unended_runs tells old new first lines start now was replies fault parts =
     batch_wider tells old new first lines (34 * length lines) (length lines) (34 * length lines + 1) (length lines + 1) start now was replies (Err fault) parts.runs (omega arith) (omega arith)
 
-pub unsettled_numbers : (tells : Type 0) (old new : History) (first : ℕ) (lines : List Line) (start now : FrameRunning) (was replies : ReplyList) (fault : StoreFault)
+pub unended_numbers : (tells : Type 0) (old new : History) (first : ℕ) (lines : List Line) (start now : FrameRunning) (was replies : ReplyList) (fault : StoreFault)
     → RunsAllParts tells old new first lines start now was replies (Err fault) → StaysOpen (Err fault) → TakesNumbersIn start now (34 * length lines + 1) (length lines + 1)
-unsettled_numbers tells old new first lines start now was replies fault parts stays =
+unended_numbers tells old new first lines start now was replies fault parts stays =
     numbers_wider start now (34 * length lines) (length lines) (parts.numbers stays) (34 * length lines + 1) (length lines + 1) (omega arith) (omega arith)

@@ -1,7 +1,7 @@
 -- How a store over page frames is opened: it is restored, a RESTART is appended, and the records that its log had
 -- before it are applied again. No page is read but those that these records need.
 use Rattle.std.specs.Prelude.{◌≡◌, ◌⊎◌, ◌≤◌, ◌<◌, ◌^◌, ℕ, [], List, Bool, IsTrue, true, length, All, Option, Some, None}
-use Rattle.std.specs.Prelude.{Result, IfOk, IsErrOf}
+use Rattle.std.specs.Prelude.{Result, IfErr, IfOk, IsErrOf}
 use Rattle.pm_types.specs.declared.fault.OpenFault.{OpenFault}
 use Rattle.pm_types.specs.declared.fault.OpenFault.TheVariants as opening
 use Rattle.pm_types.specs.declared.fault.StoreFault.{StoreFault}
@@ -29,10 +29,10 @@ use Rattle.pm_redo.specs.Restoring.{IsBadRestore, KeepsBase}
 use Rattle.pm_engine.specs.FrameEngines.{FrameRunning, HasDoneLines, map_in}
 use Rattle.pm_engine.specs.FrameStores.{FrameStoreView, pages_in_frames, IsDirtyPage, HasCleanPages}
 use Rattle.pm_engine.specs.MetPages.{AllowsRecord, MeetsBadPage}
-use Rattle.pm_engine.specs.Replays.{IsRefusedReplay}
+use Rattle.pm_engine.specs.Replays.{IsRefusedReplay, LogLeadsTo}
 use Rattle.pm_engine.specs.RunningStores.{number_of}
 use Rattle.pm_engine.specs.Openings.{IsBadOver, loaded_base, restored_base}
-use Rattle.pm_engine.specs.RunningStores.{HasSegmentsFor}
+use Rattle.pm_engine.specs.RunningStores.{HasSegmentsFor, ended_with}
 
 -- An engine of this configuration's shape, with as many frames, that is open and has run no line.
 pub record IsFreshIn (config : Config) (engine : FrameRunning) : Type 0 where
@@ -170,3 +170,22 @@ pub record OpensOverBase (shape : Shape) (checkpoint : Checkpoint) (old new : Wo
   pub records : HasRecords checkpoint old frames
   pub pages : (may_change : ℕ → Bool) → AllowsRecords may_change shape frames
       → KeepsBasePagesBut shape may_change (restored_base checkpoint mid) (pages_in_frames engine.store new)
+
+-- An opening says why it failed, or of which base pages it is known that they are as they were.
+pub record LeavesBase (tells : Type 0) (shape : Shape) (checkpoint : Checkpoint) (old new : World)
+    (result : Result FrameRunning OpenFault) : Type 0 where
+  pub bad : IfErr result (HasOpenCauseIn tells shape checkpoint old new)
+  pub kept : IfOk result (OpensOverBase shape checkpoint old new)
+
+-- What is said of any store that is opened once it was restored, with this start marker and this log, sound or not. Where
+-- its base pages are well formed, and its files have no others that may be read, no page is bad, and a record only where it
+-- can't be applied to the map of the ones before it.
+pub record OpensRestored (tells : Type 0) (shape : Shape) (mark : Option Mark) (from end : Place) (log : LogEnd)
+    (old new : World) (result : Result FrameRunning StoreFault) : Type 0 where
+  pub bad_page : (id : PageId) → IsErrOf result (BadPage id) → AllWellFormed shape (loaded_base mark old)
+      → HasNoStrayPages shape (ended_with mark) old → ⊥
+  pub bad_record : (at : Place) → IsErrOf result (BadRecord at) → AllWellFormed shape (loaded_base mark old)
+      → HasNoStrayPages shape (ended_with mark) old
+      → IsBadOver shape (loaded_base mark old) (contents old.log) from end new at
+  pub over_any : (leads : LogLeadsTo from end log old)
+      → OpensOverAny tells shape from end leads.frames (loaded_base mark old) old new result

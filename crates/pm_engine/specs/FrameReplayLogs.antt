@@ -196,3 +196,17 @@ pub record ReplaysScan {T : Type 0} (tells : Type 0) (scan : Scanned) (end : Pla
       → HasWholePages before.store old.world → ReplaysWellFormed scan.next end before now old.world new.world result
   pub over_any : tells → scan.is_over ≡ false → (leads : LogLeadsTo scan.next end before.log old.world)
       → ReplaysOverAny tells scan.next end leads.frames before now old.world new.world result
+
+-- The records from one place on up to the log's old end were applied, or a fault ended it. What is said of a sound store
+-- holds where it could be replayed from there; what is said of any store holds where frames lead from there to that end,
+-- and more of one whose pages are well formed, and have none that a checkpoint would bring to light.
+pub record ReplaysLog {T : Type 0} (tells : Type 0) (from end : Place) (before now : FrameRunning) (old new : History)
+    (result : Result T StoreFault) : Type 0 where
+  pub ready : KeepsEngineReady tells before now old new result
+  pub sound : tells → (last highest : ℕ) (wanted : Shape) (told : List ℕ → ℕ) (pairs : Pairs) (s : State)
+      → CanReplayIn last highest wanted told pairs from end before s old.world
+      → ReplaysAllIn last highest wanted told pairs before now old new result
+  pub any : tells → LogLeadsTo from end before.log old.world → HasWholePages before.store old.world
+      → ReplaysWellFormed from end before now old.world new.world result
+  pub over_any : tells → (leads : LogLeadsTo from end before.log old.world)
+      → ReplaysOverAny tells from end leads.frames before now old.world new.world result

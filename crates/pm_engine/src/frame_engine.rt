@@ -12,7 +12,8 @@ use std::marker::Model;
 /// A store that is open: its pages in page frames, its log, to which the record of each accepted line is appended and
 /// after it those of the pages that it changed, and what its next checkpoint needs.
 ///
-/// After a fault no call but `close` is to be made: the store on the disk is as a crash would leave it.
+/// After `Failed` and `BadPage` no call but `close` is to be made: the store on the disk is as a crash would leave it.
+/// Out of memory leaves it open.
 #[derive(Drop)]
 pub struct FrameEngine {
     pub(crate) pages: FrameStore,

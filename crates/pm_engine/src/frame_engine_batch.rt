@@ -28,8 +28,9 @@ impl FrameEngine {
     /// Out of memory leaves a prefix of the lines done and answered, and the engine open; it comes too where frames are
     /// lacking though a checkpoint was made. `Failed` and `BadPage` close it: after a crash the disk holds a prefix of
     /// the lines that were tried, and the order has the numbers of all accepted ones among these, also where their
-    /// records couldn't be appended whole. `BadPage` names a page that a line met, which fails its check, isn't there,
-    /// or names a wrong page or row; it never comes over a sound store.
+    /// records couldn't be appended whole. `Failed` comes only where a call on the host failed. `BadPage` names a page
+    /// that a line met, which fails its check, isn't there, or names a wrong page or row; it never comes over a sound
+    /// store.
     ///
     /// What is done by the lines, and what the disk holds after it, and after a crash meanwhile, is said of a store that
     /// is sound, as long as there are numbers for the segments and checkpoints that the batch may take.
@@ -70,8 +71,8 @@ impl FrameEngine {
         match ran {
             Err(fault) => (engine, Err(fault)),
             Ok(()) => {
-                let settled = engine.settle(host, config);
-                (engine, settled)
+                let ended = engine.end_batch(host, config);
+                (engine, ended)
             }
         }
     }

@@ -29,8 +29,8 @@ impl FrameEngine {
     /// Makes the next checkpoint, of the pages that stay in their frames: `Ckpt::whole` says which steps it makes. No
     /// page stays in its frame then, and its start marker is in force. It takes no memory.
     ///
-    /// After `Failed` the engine is closed, and a prefix of the steps was made: the store on the disk holds what it
-    /// held.
+    /// `Failed` comes only where a call on the disk failed. The engine is closed then, and a prefix of the steps was
+    /// made: the store on the disk holds what it held.
     ///
     /// Checkpoints are numbered from 1, and after 2^64 - 1 from 1 again: it promises nothing of the store then.
     pub fn checkpoint<H: Host>(&mut self, host: &mut H) -> Result<(), StoreFault>

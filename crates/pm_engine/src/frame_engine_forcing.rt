@@ -19,7 +19,8 @@ use pm_disk::{Failed, Host};
 impl FrameEngine {
     /// Forces the log up to its end, so that all its lines last. It takes no memory.
     ///
-    /// After `Failed` the engine is open no more, and what was appended since the last force may last or not.
+    /// `Failed` comes only where a call on the disk failed. The engine is open no more then, and what was appended since
+    /// the last force may last or not.
     pub fn force<H: Host>(&mut self, host: &mut H) -> Result<(), Failed>
         requires usable { IsUsable (H.Device.state host.old) }
         requires open { self.old.store.is_open ≡ true }

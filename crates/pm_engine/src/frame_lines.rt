@@ -38,7 +38,8 @@ pub enum Stop {
 /// a `checkpoint` is answered as one that was made.
 ///
 /// Pages are made ready for each operation, so that a line may halt before it begins. A fault ends it in
-/// its middle.
+/// its middle: `Failed` comes only where a call on the disk failed, and `BadPage` names a page that the line met,
+/// which fails its check, isn't there, or names a wrong page or row.
 pub fn line_in_frames<'a, Q: Wait, R: PageReader>(
     bound: &mut Bound<'a, Q, R>,
     shape: Shape,

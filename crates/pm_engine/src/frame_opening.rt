@@ -1,9 +1,7 @@
 //! How a store over page frames is opened.
 
-ghost use Rattle.std.specs.Prelude.{ℕ, ◌≡◌, ◌≤◌, ◌+◌, List, [], ◌∷◌, None, IfOk, IfErr, IfSome, IsErrOf};
+ghost use Rattle.std.specs.Prelude.{ℕ, ◌≡◌, ◌≤◌, ◌+◌, List, [], ◌∷◌, None, IfOk, IfErr, IfSome};
 ghost use Rattle.pm_types.specs.declared.fault.OpenFault.TheVariants as opening;
-ghost use Rattle.pm_types.specs.declared.page_id.PageId.{PageId as ThisId};
-ghost use Rattle.pm_types.specs.declared.place.Place.{Place as ThisPlace};
 ghost use Rattle.pm_types.specs.declared.shape.Shape.{Shape as ThisShape};
 ghost use Rattle.pm_types.specs.Shapes.{IsShape};
 ghost use Rattle.pm_config.specs.Limits.{IsConfig};
@@ -17,7 +15,7 @@ ghost use Rattle.pm_records.specs.LogSteps.{DoesSteps};
 ghost use Rattle.pm_segments.specs.Ends.{EndsThere};
 ghost use Rattle.pm_marks.specs.Slots.{IsMark};
 ghost use Rattle.pm_core.specs.Calls.{ChangesDisk};
-ghost use Rattle.pm_core.specs.Held.{AllWellFormed, in_force};
+ghost use Rattle.pm_core.specs.Held.{in_force};
 ghost use Rattle.pm_core.specs.LogAlone.{image_of};
 ghost use Rattle.pm_core.specs.Starts.{CanBegin};
 ghost use Rattle.pm_core.specs.States.{State};
@@ -25,14 +23,13 @@ ghost use Rattle.pm_redo.specs.Differences.{difference_from};
 ghost use Rattle.pm_redo.specs.Restoring.{found_shape, IsCutLog, IsFit};
 ghost use Rattle.pm_engine.specs.AppendRuns.{append_all_steps};
 ghost use Rattle.pm_engine.specs.Batches.{HasPlainFault};
-ghost use Rattle.pm_engine.specs.FrameOpenings.{IsFreshIn, IsReadyOver, OpensRunningIn, HasOpenCauseIn};
-ghost use Rattle.pm_engine.specs.FrameOpenings.{AreEmptyFrames, IsStartedEngine, HasNoStrayPages};
-ghost use Rattle.pm_engine.specs.FrameOpenings.{OpensOverBase, OpensOverAny};
+ghost use Rattle.pm_engine.specs.FrameOpenings.{IsFreshIn, IsReadyOver, OpensRunningIn};
+ghost use Rattle.pm_engine.specs.FrameOpenings.{AreEmptyFrames, IsStartedEngine};
+ghost use Rattle.pm_engine.specs.FrameOpenings.{LeavesBase, OpensRestored};
 ghost use Rattle.pm_engine.specs.Replays.{CrashHoldsMap, LogLeadsTo};
 ghost use Rattle.pm_engine.specs.Openings.{HasFewNumbers, opened_last, opened_number};
 ghost use Rattle.pm_engine.specs.Openings.{IsPlainOpen, ComparesOpening, CountsFaults, CountsOpenFaults};
-ghost use Rattle.pm_engine.specs.Openings.{loaded_base, IsBadOver, IsRestoredHolding};
-ghost use Rattle.pm_engine.specs.RunningStores.{ended_with};
+ghost use Rattle.pm_engine.specs.Openings.{IsRestoredHolding};
 
 use crate::frame_engine::FrameEngine;
 use crate::frame_replay_log::replay_in_frames;
@@ -65,6 +62,9 @@ impl FrameEngine {
     /// come to light with a checkpoint. A page that isn't read isn't checked. What a crash leaves of a sound store,
     /// meanwhile or after any fault, holds what it held, and may be opened again.
     ///
+    /// `Failed` comes only where a call on the disk failed. `Memory` comes where memory runs out, where the log runs out
+    /// of numbers for its segments, and where frames lack for a record even after a checkpoint.
+    ///
     /// What it makes of a sound store is said where there are numbers for the segments that it may begin: one
     /// for the RESTART, and `OP_PAGES + 1` for each record from the replay place on; and for a checkpoint for
     /// each of these records.
@@ -81,17 +81,14 @@ impl FrameEngine {
         ensures fresh { IfOk result (λ engine. IsFreshIn config.now engine
             × (H.Device.tells → IsReadyOver engine (H.Device.history host.new).world)) }
 
-        // Which field differs, which record is bad, and whether a page is.
+        // Which field differs, which record or page is bad, and which base pages are as they were.
         ensures compared { H.Device.tells → ComparesOpening (difference_from (found_shape
             (in_force (image_of (H.Device.history host.old).world))
             (contents (H.Device.history host.old).world.log)) config.now.shape)
             (H.Device.history host.old) (H.Device.history host.new) result }
-        ensures bad { H.Device.tells → IfErr result (HasOpenCauseIn H.Device.tells config.now.shape
+        ensures base { H.Device.tells → LeavesBase H.Device.tells config.now.shape
             (in_force (image_of (H.Device.history host.old).world))
-            (H.Device.history host.old).world (H.Device.history host.new).world) }
-        ensures kept { H.Device.tells → IfOk result (OpensOverBase config.now.shape
-            (in_force (image_of (H.Device.history host.old).world))
-            (H.Device.history host.old).world (H.Device.history host.new).world) }
+            (H.Device.history host.old).world (H.Device.history host.new).world result }
 
         // What it makes of a sound store with nothing pending, and what a crash leaves meanwhile.
         ensures opened { H.Device.tells → (told : List ℕ → ℕ) (shape : ThisShape) (pairs : Pairs)
@@ -137,19 +134,8 @@ fn open_restored<Q: Wait, H: Host>(
     requires there { H.Device.tells → EndsThere base.log (H.Device.history host.old).world }
     ensures fresh { IfOk result (λ engine. IsFreshIn config.now engine
         × (H.Device.tells → IsReadyOver engine (H.Device.history host.new).world)) }
-    ensures bad_page { H.Device.tells → (id : ThisId) → IsErrOf result (StoreFault.BadPage id)
-        → AllWellFormed config.now.shape (loaded_base base.mark (H.Device.history host.old).world)
-        → HasNoStrayPages config.now.shape (ended_with base.mark) (H.Device.history host.old).world → ⊥ }
-    ensures bad_record { H.Device.tells → (at : ThisPlace) → IsErrOf result (StoreFault.BadRecord at)
-        → AllWellFormed config.now.shape (loaded_base base.mark (H.Device.history host.old).world)
-        → HasNoStrayPages config.now.shape (ended_with base.mark) (H.Device.history host.old).world
-        → IsBadOver config.now.shape (loaded_base base.mark (H.Device.history host.old).world)
-        (contents (H.Device.history host.old).world.log) base.replay base.log_end
-        (H.Device.history host.new).world at }
-    ensures over_any { H.Device.tells → (leads : LogLeadsTo base.replay base.log_end base.log
-        (H.Device.history host.old).world) → OpensOverAny H.Device.tells config.now.shape base.replay base.log_end
-        leads.frames (loaded_base base.mark (H.Device.history host.old).world) (H.Device.history host.old).world
-        (H.Device.history host.new).world result }
+    ensures any { H.Device.tells → OpensRestored H.Device.tells config.now.shape base.mark base.replay base.log_end
+        base.log (H.Device.history host.old).world (H.Device.history host.new).world result }
     ensures opened { H.Device.tells → (last highest : ℕ) (wanted : ThisShape) (told : List ℕ → ℕ) (pairs : Pairs)
         (s : State) → IsRestoredHolding last highest wanted told config.now.shape pairs base.log base.mark s
         (H.Device.history host.old).world

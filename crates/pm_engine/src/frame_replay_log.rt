@@ -1,20 +1,15 @@
 //! The records of the log from the replay place on, applied again one after the other over page frames.
 
-ghost use Rattle.std.specs.Prelude.{◌≡◌, ◌≤◌, ℕ, List, true, OnOk, IsErrOf};
+ghost use Rattle.std.specs.Prelude.{◌≡◌, ◌≤◌, true, OnOk, IsErrOf};
 ghost use Rattle.pm_types.specs.declared.place.Place.{Place as ThisPlace};
-ghost use Rattle.pm_types.specs.declared.shape.Shape.{Shape};
 ghost use Rattle.pm_frame.specs.declared.limits.TheConstants.{SEGMENT_END_MAX as last_end};
 ghost use Rattle.pm_disk.specs.States.{IsUsable};
-ghost use Rattle.pm_model.specs.Eval.{Pairs};
 ghost use Rattle.pm_marks.specs.Slots.{IsMarkPlace};
 ghost use Rattle.pm_segments.specs.Ends.{EndsThere};
 ghost use Rattle.pm_segments.specs.Scans.{IsAhead};
-ghost use Rattle.pm_core.specs.States.{State};
-ghost use Rattle.pm_engine.specs.FrameEngineReplays.{HasWholePages, KeepsEngineReady};
-ghost use Rattle.pm_engine.specs.FrameReplayLogs.{AppliesNextIn, CanReplayIn, ReplaysAllIn, ReplaysScan};
-ghost use Rattle.pm_engine.specs.FrameReplayLogs.{StepsReplay, ReplaysWellFormed, ReplaysOverAny};
+ghost use Rattle.pm_engine.specs.FrameReplayLogs.{AppliesNextIn, ReplaysScan};
+ghost use Rattle.pm_engine.specs.FrameReplayLogs.{StepsReplay, ReplaysLog};
 ghost use Rattle.pm_engine.specs.FrameStores.{HasCleanPages};
-ghost use Rattle.pm_engine.specs.Replays.{LogLeadsTo};
 ghost use Rattle.pm_engine.specs.Openings.{CountsFaults};
 
 use crate::frame_engine::FrameEngine;
@@ -125,26 +120,8 @@ pub(crate) fn replay_in_frames<Q: Wait, H: Host>(
     requires within { from.off ≤ last_end }
     requires there { H.Device.tells → EndsThere engine.log (H.Device.history host.old).world }
     requires clean { H.Device.tells → HasCleanPages engine.store (H.Device.history host.old).world }
-    ensures ready { KeepsEngineReady H.Device.tells engine result.0 (H.Device.history host.old)
+    ensures replays { ReplaysLog H.Device.tells from end engine result.0 (H.Device.history host.old)
         (H.Device.history host.new) result.1 }
-
-    // What it makes of a sound store, and what a crash leaves of it meanwhile.
-    ensures sound { H.Device.tells → (last highest : ℕ) (wanted : Shape) (told : List ℕ → ℕ) (pairs : Pairs)
-        (s : State)
-        → CanReplayIn last highest wanted told pairs from end engine s (H.Device.history host.old).world
-        → ReplaysAllIn last highest wanted told pairs engine result.0
-        (H.Device.history host.old) (H.Device.history host.new) result.1 }
-
-    // What it makes of any store whose pages are well formed, and have none that a checkpoint would bring to light.
-    ensures any { H.Device.tells → LogLeadsTo from end engine.log (H.Device.history host.old).world
-        → HasWholePages engine.store (H.Device.history host.old).world
-        → ReplaysWellFormed from end engine result.0 (H.Device.history host.old).world
-        (H.Device.history host.new).world result.1 }
-
-    // What it makes of any store.
-    ensures over_any { H.Device.tells → (leads : LogLeadsTo from end engine.log (H.Device.history host.old).world)
-        → ReplaysOverAny H.Device.tells from end leads.frames engine result.0 (H.Device.history host.old).world
-        (H.Device.history host.new).world result.1 }
     ensures cause { CountsFaults (H.Device.state host.old) (H.Device.state host.new) result.1 }
 {
     match Scan::new(alloc, from) {

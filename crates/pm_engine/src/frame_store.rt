@@ -18,7 +18,7 @@ use std::marker::Model;
 /// The pages of an open store, while no thread has a page frame: the frames under their locks, and what the one
 /// worker keeps in them. A page that is in no frame is as its partition's file has it.
 ///
-/// Dropping it gives the frames' memory not back: `close` does.
+/// Dropping it doesn't give the frames' memory back: `close` does.
 #[derive(Drop)]
 pub struct FrameStore {
     pub(crate) shape: Shape,
@@ -67,7 +67,7 @@ impl Model for FrameStore {
 
 impl FrameStore {
     /// So many frames without a page, each as long as a page of the shape. `has_files` where the partitions' files
-    /// have pages: else a page that is in no frame isn't there.
+    /// have pages: else a page that is in no frame isn't there. It fails where memory runs out.
     pub fn new(
         alloc: Global,
         shape: &Shape,

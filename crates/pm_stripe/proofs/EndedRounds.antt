@@ -14,7 +14,7 @@ use Rattle.pm_stripe.specs.declared.held.Free.{Free}
 use Rattle.pm_stripe.specs.declared.places.Places.{Places}
 use Rattle.pm_stripe.specs.declared.stripe.Stripe.{Stripe}
 use Rattle.pm_stripe.specs.Bounds.{IsBound}
-use Rattle.pm_stripe.specs.Ends.{EndsRound}
+use Rattle.pm_stripe.specs.Ends.{EndsRound, first_or, next_sweep}
 use Rattle.pm_stripe.specs.Frees.{FreesFrames}
 use Rattle.pm_stripe.specs.Kept.{Kept, held_at, place_of, out_of, bytes_by, IsInHand, IsStaying, AreClean}
 use Rattle.pm_stripe.specs.Puts.{unended_flag, IsPutAs, PutsHeld}
@@ -22,20 +22,25 @@ use Rattle.pm_stripe.specs.Reads.{stored}
 use Rattle.pm_stripe.specs.Shown.{kept_by, file_by}
 use Rattle.pm_stripe.specs.SightLaws.{sight_then}
 use Rattle.pm_stripe.specs.ShownLaws.{any_file, clean_file, may_read}
-use Rattle.pm_stripe.specs.Stripes.{kept, file_of, IsAtRest, MayReadOthers, SameButPages}
+use Rattle.pm_stripe.specs.Stripes.{kept, file_of, IsAtRest, MayReadOthers, SameButPages, SameButFrames}
 use Rattle.pm_stripe.proofs.BoundCalls.{same_state}
 use Rattle.pm_stripe.proofs.HeldPages.{unended_some}
-use Rattle.pm_stripe.proofs.MadePages.{same_then}
 
 -- the pages in hand were put back, and then the empty frames
 module _ {Q R : Type 0} (tells : Type 0) (history : R → History) (state : R → DeviceState) (b : Bound Q R) (s₂ s₃ : Stripe) (seat₂ seat₃ : Sight) (bound : IsBound tells history state b)
     (puts : PutsHeld b.locks.now (kept_by b) (kept s₂ seat₂)) (same₂ : SameButPages b.stripe s₂)
-    (frees : FreesFrames b.locks.now (kept s₂ seat₂) (kept s₃ seat₃)) (no_frame : s₃.free.items ≡ []) (same₃ : SameButPages s₂ s₃) where
+    (next : ℕ) (next_is : next ≡ next_sweep s₂) (frees : FreesFrames b.locks.now (kept s₂ seat₂) (kept s₃ seat₃)) (no_frame : s₃.free.items ≡ []) (same₃ : SameButPages (record s₂ { next = next }) s₃) where
   abbrev k₃ : Kept
   k₃ = kept s₃ seat₃
 
-  same : SameButPages b.stripe s₃
-  same = same_then b.stripe s₂ s₃ same₂ same₃
+  same : SameButFrames b.stripe s₃
+  same = record {
+    number = same₃.number ∙ same₂.number;
+    shape = same₃.shape ∙ same₂.shape;
+    files = same₃.files ∙ same₂.files;
+    is_running = same₃.is_running ∙ same₂.is_running;
+    outbox = same₃.outbox ∙ same₂.outbox;
+  }
 
   same_files : (j : PageId) → file_of s₃ (history b.reader) j ≡ file_by history b j
   same_files j = λ i. if same.files i then stored (history b.reader).world (same.shape i).page_size j else None
@@ -83,6 +88,7 @@ module _ {Q R : Type 0} (tells : Type 0) (history : R → History) (state : R �
   pub ends : EndsRound tells history b s₃ seat₃
   ends = record {
     same = same;
+    next = same₃.next ∙ next_is ∙ (λ i. first_or (same₂.next i) (puts.free i));
     still = still;
     sight = sight_then b.locks.now b.seat.view seat₂.view seat₃.view puts.left.sight frees.sight;
     put = put;

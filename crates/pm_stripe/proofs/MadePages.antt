@@ -13,7 +13,7 @@ use Rattle.pm_region.specs.Lease.{Leased}
 use Rattle.pm_pages.specs.Paged.{IsWhole, CoversByte}
 use Rattle.pm_locks.specs.Answers.{IsSameLease}
 use Rattle.pm_locks.specs.Sight.{Sight, LockTable}
-use Rattle.pm_locks.proofs.Pushing.{slice_get-pushed, slice_get-push}
+use Rattle.pm_locks.proofs.Pushing.{slice_get-pushed}
 use Rattle.pm_stripe.specs.declared.held.Held.{Held}
 use Rattle.pm_stripe.specs.declared.held.Free.{Free}
 use Rattle.pm_stripe.specs.declared.stripe.Stripe.{Stripe}
@@ -34,7 +34,7 @@ use Rattle.std.proofs.lemmas.Bool.{cases_eq}
 use Rattle.pm_stripe.proofs.BasePages.{base_hand, bases_sought}
 use Rattle.pm_stripe.proofs.Fetched.{no_some, added_some}
 use Rattle.pm_stripe.proofs.Hands.{held_push_else, held_push_here, found_at}
-use Rattle.pm_stripe.proofs.ReadPages.{bare_frame, new_out, new_frame, added_holds, added_frames, added_bare, added_only}
+use Rattle.pm_stripe.proofs.ReadPages.{first_long, bare_frame, new_out, new_frame, added_holds, added_frames, added_bare, added_only}
 
 -- what a stripe keeps after a page in hand was replaced
 pub kept_replaced : (s t : Stripe) (seat : Sight) (id : PageId) (h h' : Held) → Replaces s t id h h'
@@ -233,11 +233,11 @@ lost_made locks k k₁ k₂ id home m =
     }
 
 -- a page was made in an empty frame
-module _ (locks : LockTable) (k : Kept) (holds : Holds locks k) (frames : HasFrames k) (rest : List Free) (s : Free) (list : k.free ≡ rest ++ s ∷ []) (new : Held) (room' : ℕ) (room : OP_PAGES ≤ room') (free_room' : ℕ) (free_room : OP_PAGES ≤ free_room') (away : IsAway k new.page) (unkept : IsUnkept locks k new.page)
+module _ (locks : LockTable) (k : Kept) (holds : Holds locks k) (frames : HasFrames k) (rest : List Free) (s : Free) (list : k.free ≡ s ∷ rest) (new : Held) (room' : ℕ) (room : OP_PAGES ≤ room') (free_room' : ℕ) (free_room : OP_PAGES ≤ free_room') (away : IsAway k new.page) (unkept : IsUnkept locks k new.page)
     (frame_is : new.frame ≡ s.frame) (tag_is : new.tag ≡ s.tag) (lease_is : new.lease ≡ zeroed s.lease) (was_is : new.was.value.bytes ≡ new.lease.bytes) (empty : new.flag ≡ flag.Empty) (is_read : new.is_read ≡ true) (lent : new.is_lent ≡ true)
     (patch : Coverage) (patched : new.patch ≡ Some patch) (whole : IsWhole k.shape.page_size patch) where
   s_long : length s.lease.bytes ≡ k.shape.page_size
-  s_long = (holds.free (length rest) s (ap (λ fs. slice_get fs (length rest)) list ∙ slice_get-push rest s)).out.long
+  s_long = first_long locks k holds rest s list
 
   z_long : length (zeroed s.lease).bytes ≡ k.shape.page_size
   z_long = ap length (zero_bytes s.lease) ∙ length-replicate (length s.lease.bytes) 0 ∙ s_long

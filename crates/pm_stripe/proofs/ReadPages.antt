@@ -1,6 +1,6 @@
 -- A page that is read into an empty frame.
 use Rattle.std.proofs.Common.{◌≡◌, ◌≢◌, ℕ, ◌<◌, ◌≤◌, Bool, true, false, List, [], ◌∷◌, ◌++◌, ◌⊎◌, ⊎_elim, inl, inr, length, Option, Some, None, Result, Ok, sym, refl, ap, subst, ◌∙◌, arith}
-use Rattle.std.specs.Prelude.{IfSome, slice_get}
+use Rattle.std.specs.Prelude.{IfSome, slice_get, zero, suc}
 use Rattle.std.proofs.lemmas.Bool.{cases_eq}
 use Rattle.std.proofs.lemmas.Option.{slice_get_within}
 use Rattle.std.proofs.lemmas.List.{length-append}
@@ -27,7 +27,7 @@ use Rattle.pm_stripe.specs.FilePages.{FilePagesPass}
 use Rattle.pm_stripe.specs.declared.held.Free.{Free}
 use Rattle.pm_stripe.specs.Reads.{Passes, Reads, ReadsPage}
 use Rattle.pm_stripe.specs.Fetches.{IsUnkept, ReadsFrame}
-use Rattle.pm_stripe.specs.Kept.{Kept, held_at, place_of, page_at, out_of, bytes_by, page_bytes, known_by, is_known, IsOutWith, IsFreeFrame, IsHeldIn, IsFreeIn, IsInHand, Holds, HasFrames, IsAway, read_one, bare_count}
+use Rattle.pm_stripe.specs.Kept.{Kept, held_at, place_of, page_at, out_of, bytes_by, page_bytes, known_by, is_known, IsOutWith, IsFreeFrame, IsHeldIn, IsFreeIn, IsInHand, Holds, HasFrames, IsAway, read_one, bare_count, AreOnce}
 use Rattle.pm_stripe.proofs.Hands.{once_push, or_else, held_push, held_push_else, one_here, one_else, none_named, read_push}
 
 -- a page that passes its check reads as what it says
@@ -42,41 +42,48 @@ refilled_free locks size n page held s lease same long x = record {
   bare = x.bare;
 }
 
-module _ (locks : LockTable) (k : Kept) (holds : Holds locks k) (ready : HasFrames k) (rest : List Free) (s : Free) (list : k.free ≡ rest ++ s ∷ []) (lease : Leased) (same : IsSameLease s.lease lease) (long : length lease.bytes ≡ k.shape.page_size) where
+module _ (locks : LockTable) (k : Kept) (holds : Holds locks k) (ready : HasFrames k) (rest : List Free) (s : Free) (list : k.free ≡ s ∷ rest) (lease : Leased) (same : IsSameLease s.lease lease) (long : length lease.bytes ≡ k.shape.page_size) where
   abbrev last : Free
   last = record s { lease = lease }
 
-  last_at : slice_get k.free (length rest) ≡ Some s
-  last_at = ap (λ fs. slice_get fs (length rest)) list ∙ slice_get-push rest s
+  first_at : slice_get k.free 0 ≡ Some s
+  first_at = ap (λ fs. slice_get fs 0) list
 
-  rest_at : (i : ℕ) (x : Free) → slice_get rest i ≡ Some x → slice_get k.free i ≡ Some x
-  rest_at i x is = ap (λ fs. slice_get fs i) list ∙ slice_get-front rest (s ∷ []) i (slice_get_within rest i x is) ∙ is
+  rest_at : (i : ℕ) (x : Free) → slice_get rest i ≡ Some x → slice_get k.free (suc i) ≡ Some x
+  rest_at i x is = ap (λ fs. slice_get fs (suc i)) list ∙ is
 
-  -- the frame of the last is none of the others
+  -- the frame of the first is none of the others
   rest_other : (i : ℕ) (x : Free) → slice_get rest i ≡ Some x → x.frame ≢ s.frame
-  rest_other i x is e = let at : i ≡ length rest = holds.apart.free_once.once i (length rest) x s (rest_at i x is) last_at e in omega (arith, at, slice_get_within rest i x is)
+  rest_other i x is e = let at : suc i ≡ 0 = holds.apart.free_once.once (suc i) 0 x s (rest_at i x is) first_at e in omega (arith, at)
 
-  free_cases : (i : ℕ) (x : Free) → slice_get k.free i ≡ Some x → (slice_get rest i ≡ Some x) ⊎ ((i ≡ length rest) × (s ≡ x))
-  free_cases i x is = slice_get-pushed rest s x i (ap (λ fs. slice_get fs i) (sym list) ∙ is)
+  rest_once : AreOnce (λ (x : Free). x.frame) rest
+  rest_once = record { once = λ i j x y p q e. let at : suc i ≡ suc j = holds.apart.free_once.once (suc i) (suc j) x y (rest_at i x p) (rest_at j y q) e in omega (arith, at) }
+
+  first_or_later : (i : ℕ) (x : Free) → slice_get (s ∷ rest) i ≡ Some x → ((j : ℕ) × (slice_get rest j ≡ Some x)) ⊎ (s ≡ x)
+  first_or_later zero x is = inr (cc is)
+  first_or_later (suc i) x is = inl (i, is)
+
+  free_cases : (i : ℕ) (x : Free) → slice_get k.free i ≡ Some x → ((j : ℕ) × (slice_get rest j ≡ Some x)) ⊎ (s ≡ x)
+  free_cases i x is = first_or_later i x (ap (λ fs. slice_get fs i) (sym list) ∙ is)
 
   last_free : IsFreeIn locks k last
-  last_free = refilled_free locks k.shape.page_size k.number (page_at k s.frame) (out_of k s.frame) s lease same long (holds.free (length rest) s last_at)
+  last_free = refilled_free locks k.shape.page_size k.number (page_at k s.frame) (out_of k s.frame) s lease same long (holds.free 0 s first_at)
 
   -- back among the empty ones
   module _ (room' : ℕ) (room : OP_PAGES ≤ room') where
     abbrev k₁ : Kept
     k₁ = record k { free = rest ++ last ∷ []; free_room = room' }
 
-    back_cases : (i : ℕ) (x : Free) → slice_get (rest ++ last ∷ []) i ≡ Some x → (y : Free) × (slice_get k.free i ≡ Some y) × (y.frame ≡ x.frame) × IsFreeIn locks k x
+    back_cases : (i : ℕ) (x : Free) → slice_get (rest ++ last ∷ []) i ≡ Some x → (j : ℕ) × (y : Free) × (slice_get k.free j ≡ Some y) × (y.frame ≡ x.frame) × IsFreeIn locks k x
     back_cases i x is = ⊎_elim
-        (λ old. (x, rest_at i x old, refl, holds.free i x (rest_at i x old)))
-        (λ new. (s, ap (slice_get k.free) new.0 ∙ last_at, ap (λ (z : Free). z.frame) new.1, subst (IsFreeIn locks k) new.1 last_free))
+        (λ old. (suc i, x, rest_at i x old, refl, holds.free (suc i) x (rest_at i x old)))
+        (λ new. (0, s, first_at, ap (λ (z : Free). z.frame) new.1, subst (IsFreeIn locks k) new.1 last_free))
         (slice_get-pushed rest last x i is)
 
     back_all : (f : ℕ) (i : ℕ) (x : Free) → slice_get k.free i ≡ Some x → x.frame ≡ f → (j : ℕ) × (y : Free) × (slice_get (rest ++ last ∷ []) j ≡ Some y) × (y.frame ≡ f)
     back_all f i x is e = ⊎_elim
-        (λ old. (i, x, slice_get-front rest (last ∷ []) i (slice_get_within rest i x old) ∙ old, e))
-        (λ new. (length rest, last, slice_get-push rest last, ap (λ (z : Free). z.frame) new.1 ∙ e))
+        (λ old. (old.0, x, slice_get-front rest (last ∷ []) old.0 (slice_get_within rest old.0 x old.1) ∙ old.1, e))
+        (λ was. (length rest, last, slice_get-push rest last, ap (λ (z : Free). z.frame) was ∙ e))
         (free_cases i x is)
 
     back_holds : Holds locks k₁
@@ -88,12 +95,12 @@ module _ (locks : LockTable) (k : Kept) (holds : Holds locks k) (ready : HasFram
       kept = holds.kept;
       stay = holds.stay;
       held = holds.held;
-      free = λ i x is. (back_cases i x is).3;
+      free = λ i x is. (back_cases i x is).4;
       apart = record {
         names = holds.apart.names;
         held_once = holds.apart.held_once;
-        free_once = record { once = λ i j x y p q e. let a = back_cases i x p in let b = back_cases j y q in holds.apart.free_once.once i j a.0 b.0 a.1 b.1 (a.2 ∙ e ∙ sym b.2) };
-        both = λ i j h x p q e. let b = back_cases j x q in holds.apart.both i j h b.0 p b.1 (e ∙ sym b.2);
+        free_once = once_push (λ (x : Free). x.frame) rest last rest_once rest_other;
+        both = λ i j h x p q e. let b = back_cases j x q in holds.apart.both i b.0 h b.1 p b.2 (e ∙ sym b.3);
         all = λ f o is. ⊎_elim (λ p. inl p) (λ p. inr (back_all f p.0 p.1 p.2 p.3)) (holds.apart.all f o is);
       };
       held_room = holds.held_room;
@@ -104,14 +111,14 @@ module _ (locks : LockTable) (k : Kept) (holds : Holds locks k) (ready : HasFram
     pub not_read : (id : PageId) (tells : Type 0) (stored : Option (List ℕ)) (result : Result Bool PageFault) → (result ≡ Ok true → ⊥) → ReadsPage k.shape id tells stored result lease.bytes → ReadsFrame locks k k₁ id tells stored result
     not_read id tells stored result not reads = record {
       holds = back_holds;
-      frames = record { few = ready.few; enough = omega (arith, ready.enough, ap length list, length-append rest (s ∷ []), length-append rest (last ∷ [])) };
+      frames = record { few = ready.few; enough = omega (arith, ready.enough, ap length list, length-append rest (last ∷ [])) };
       keeps = record { known = λ j is. is; at_hand = λ file j is. refl; clean = λ t file e is. record { kept = is.kept; read = is.read }; told = λ t file j e is. refl };
       shape = refl;
       number = refl;
       places = refl;
       seat = refl;
       only = λ j ne. refl;
-      bare = omega (arith, ap length list, length-append rest (s ∷ []), length-append rest (last ∷ []));
+      bare = omega (arith, ap length list, length-append rest (last ∷ []));
       added = λ e. absurd (not e);
       not_added = λ _. refl;
       absent = reads.absent;
@@ -143,14 +150,14 @@ module _ (locks : LockTable) (k : Kept) (holds : Holds locks k) (ready : HasFram
     new_frame = subst (λ f. f < length locks.ranges) (sym frame_is) last_free.frame
 
     held_other : (i : ℕ) (h : Held) → slice_get k.held i ≡ Some h → h.frame ≢ new.frame
-    held_other i h is e = holds.apart.both i (length rest) h s is last_at (e ∙ frame_is)
+    held_other i h is e = holds.apart.both i 0 h s is first_at (e ∙ frame_is)
 
     read_all : (f : ℕ) (o : Out) → out_of k f ≡ Some o → IsInHand (k.held ++ new ∷ []) rest f
     read_all f o is = ⊎_elim
         (λ p. inl (p.0, p.1, slice_get-front k.held (new ∷ []) p.0 (slice_get_within k.held p.0 p.1 p.2) ∙ p.2, p.3))
         (λ p. ⊎_elim
-        (λ old. inr (p.0, p.1, old, p.3))
-        (λ was. inl (length k.held, new, slice_get-push k.held new, frame_is ∙ ap (λ (z : Free). z.frame) was.1 ∙ p.3))
+        (λ old. inr (old.0, p.1, old.1, p.3))
+        (λ was. inl (length k.held, new, slice_get-push k.held new, frame_is ∙ ap (λ (z : Free). z.frame) was ∙ p.3))
         (free_cases p.0 p.1 p.2))
         (holds.apart.all f o is)
 
@@ -163,13 +170,13 @@ module _ (locks : LockTable) (k : Kept) (holds : Holds locks k) (ready : HasFram
       kept = holds.kept;
       stay = holds.stay;
       held = λ i h is. ⊎_elim (holds.held i h) (λ last. subst (IsHeldIn locks k₂) last.1 new_held) (slice_get-pushed k.held new h i is);
-      free = λ i x is. holds.free i x (rest_at i x is);
+      free = λ i x is. holds.free (suc i) x (rest_at i x is);
       apart = record {
         names = once_push (λ (h : Held). h.page.0) k.held new holds.apart.names (λ i h is. none_named k.held new.page.0 i h away.away is);
         held_once = once_push (λ (h : Held). h.frame) k.held new holds.apart.held_once held_other;
-        free_once = record { once = λ i j x y p q e. holds.apart.free_once.once i j x y (rest_at i x p) (rest_at j y q) e };
+        free_once = rest_once;
         both = λ i j h x p q. ⊎_elim
-            (λ old. holds.apart.both i j h x old (rest_at j x q))
+            (λ old. holds.apart.both i (suc j) h x old (rest_at j x q))
             (λ last. λ e. rest_other j x q (sym e ∙ ap (λ (z : Held). z.frame) (sym last.1) ∙ frame_is))
             (slice_get-pushed k.held new h i p);
         all = read_all;
@@ -186,11 +193,11 @@ module _ (locks : LockTable) (k : Kept) (holds : Holds locks k) (ready : HasFram
     pub added_frames : HasFrames k₂
     added_frames = record {
       few = omega (arith, length-append k.held (new ∷ []), away.room);
-      enough = omega (arith, ready.enough, ap length list, length-append rest (s ∷ []), length-append k.held (new ∷ []));
+      enough = omega (arith, ready.enough, ap length list, length-append k.held (new ∷ []));
     }
 
     pub added_bare : bare_count k₂ ≡ bare_count k
-    added_bare = omega (arith, ap length list, length-append rest (s ∷ []), read_push k.held new, ap read_one is_read)
+    added_bare = omega (arith, ap length list, read_push k.held new, ap read_one is_read)
 
     pub added_only : (j : PageId) → j.0 ≢ new.page.0 → is_known k₂ j ≡ is_known k j
     added_only j ne = ap (λ o. known_by o (place_of k j) k.seat.view.entries k.number) (held_push_else k.held new j.0 (λ e. ne (sym e)))
@@ -261,9 +268,13 @@ module _ (locks : LockTable) (k : Kept) (holds : Holds locks k) (ready : HasFram
       bad = λ named e. absurd (cc e);
     }
 
--- the last empty frame is as long as a page
-pub last_long : (locks : LockTable) (k : Kept) → Holds locks k → (rest : List Free) (s : Free) → k.free ≡ rest ++ s ∷ [] → length s.lease.bytes ≡ k.shape.page_size
-last_long locks k holds rest s list = (holds.free (length rest) s (ap (λ fs. slice_get fs (length rest)) list ∙ slice_get-push rest s)).out.long
+-- the first empty frame is as long as a page
+pub first_long : (locks : LockTable) (k : Kept) → Holds locks k → (rest : List Free) (s : Free) → k.free ≡ s ∷ rest → length s.lease.bytes ≡ k.shape.page_size
+first_long locks k holds rest s list = (holds.free 0 s (ap (λ fs. slice_get fs 0) list)).out.long
+
+-- there is one where fewer pages are in hand than one operation may ask for
+pub some_free : (locks : LockTable) (k : Kept) → HasFrames k → length k.held < OP_PAGES → 0 < length k.free
+some_free locks k ready few = omega (arith, ready.enough, few)
 
 -- what was read from its file passes its check, until it is lent
 module _ {Q R : Type 0} (tells : Type 0) (history : R → History) (state : R → DeviceState) where

@@ -1,5 +1,5 @@
 -- The end of a round.
-use Rattle.std.specs.Prelude.{◌≡◌, ℕ, ◌⊎◌, Some, None, IsTrue, slice_get}
+use Rattle.std.specs.Prelude.{◌≡◌, ℕ, ◌⊎◌, List, [], ◌∷◌, Some, None, IsTrue, slice_get}
 use Rattle.pm_types.specs.declared.page_id.PageId.{PageId}
 use Rattle.pm_disk.specs.Moments.{History}
 use Rattle.pm_locks.specs.Sight.{Sight}
@@ -13,17 +13,28 @@ use Rattle.pm_stripe.specs.Kept.{held_at, page_bytes, is_known, IsStaying}
 use Rattle.pm_stripe.specs.Puts.{unended_flag, IsPutAs}
 use Rattle.pm_stripe.specs.Shown.{kept_by, file_by}
 use Rattle.pm_stripe.specs.Sights.{KeepsSight}
-use Rattle.pm_stripe.specs.Stripes.{kept, file_of, SameButPages}
+use Rattle.pm_stripe.specs.Stripes.{kept, file_of, SameButFrames}
+
+-- the first of these empty frames, or else this one
+abbrev pub first_or : ℕ → List Free → ℕ
+first_or next [] = next
+first_or next (e ∷ es) = e.frame
+
+-- where the next sweep begins once the empty frames in hand are put back: with the first of them, so that they are
+-- taken again before frames that have pages
+abbrev pub next_sweep : Stripe → ℕ
+next_sweep s = first_or s.next s.free.items
 
 module _ {Q R : Type 0} where
   -- A round ended: no frame is out, and each page that was in hand is in its frame, with the bytes that it had
   -- in hand: Dirty where it was lent to be written, Clean where it was only read from its file, and else with
-  -- the flag that it had. The empty frames that were in hand are Empty. Pages that stay do so still, and of
-  -- those that were not in hand nothing changed. Each page is as it was where the files' content is told, and
-  -- each that is at hand in any case. The seat knows what it knew.
+  -- the flag that it had. The empty frames that were in hand are Empty, and the next sweep begins with them. Pages
+  -- that stay do so still, and of those that were not in hand nothing changed. Each page is as it was where the
+  -- files' content is told, and each that is at hand in any case. The seat knows what it knew.
   pub record EndsRound (tells : Type 0) (history : R → History) (b : Bound Q R) (s : Stripe) (seat : Sight)
       : Type 0 where
-    pub same : SameButPages b.stripe s
+    pub same : SameButFrames b.stripe s
+    pub next : s.next ≡ next_sweep b.stripe
     pub still : IsStill seat.view
     pub sight : KeepsSight b.locks.now b.seat.view seat.view
     pub put : (i : ℕ) (h : Held) → slice_get b.stripe.held.items i ≡ Some h

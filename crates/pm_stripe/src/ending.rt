@@ -3,6 +3,7 @@
 ghost use Rattle.std.specs.Prelude.{◌≡◌, ◌<◌, length};
 ghost use Rattle.pm_types.specs.PageSizes.{IsPageSize};
 ghost use Rattle.pm_locks.specs.Sight.{LockTable, Sight};
+ghost use Rattle.pm_stripe.specs.Ends.{next_sweep};
 ghost use Rattle.pm_stripe.specs.Kept.{Holds, AreClean};
 ghost use Rattle.pm_stripe.specs.Marks.{MarksPage, MarksPages};
 ghost use Rattle.pm_stripe.specs.Puts.{PutsHeld};
@@ -13,13 +14,15 @@ use crate::lending::whole_patch;
 use crate::stripe::Stripe;
 use pm_disk::PageReader;
 use pm_locks::{Locks, PageSeat};
+use pm_types::FrameNo;
 
 impl<'a, Q, R: PageReader> Bound<'a, Q, R> {
     ghost use Rattle.pm_stripe.specs.Bounds.{IsBound};
     ghost use Rattle.pm_stripe.specs.Ends.{EndsRound};
 
     /// Puts all that is in hand back, empty frames as Empty, and gives the stripe, the seat and the reader.
-    /// They may be bound again, and no frame is out.
+    /// They may be bound again, and no frame is out. The next round's sweep begins with the first of these empty
+    /// frames, so that a round of one operation doesn't empty frames of more pages than it asks for.
     ///
     /// It may be called in the middle of an operation, as after a fault: each page that was lent to be written
     /// is then Dirty, with the bytes that it has in hand, whatever was noted of it; one that was only read is
@@ -43,8 +46,19 @@ impl<'a, Q, R: PageReader> Bound<'a, Q, R> {
             is_ready: _,
         } = self;
         stripe.put_back(locks, &mut seat);
+        stripe.next = next_sweep(&stripe);
         stripe.put_free(locks, &mut seat);
         (stripe, seat, reader)
+    }
+}
+
+// Where the next sweep begins: with the first empty frame in hand, if there is one.
+fn next_sweep(stripe: &Stripe) -> FrameNo
+    ensures { result ≡ next_sweep stripe.now }
+{
+    match stripe.free.first() {
+        Some(free) => free.frame,
+        None => stripe.next,
     }
 }
 

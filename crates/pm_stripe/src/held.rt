@@ -1,7 +1,8 @@
 //! The frames that a worker has in hand.
 
 ghost use Rattle.pm_stripe.specs.ChangedPages.{is_changed};
-ghost use Rattle.std.specs.Prelude.{◌≡◌};
+ghost use Rattle.std.specs.Prelude.{◌≡◌, ◌<◌, ◌∷◌, length};
+ghost use Rattle.std.specs.Vec.{vec_capacity};
 
 use pm_region::Lease;
 use pm_types::{Flag, FrameNo, PageId, Patch, Tag};
@@ -44,4 +45,13 @@ impl Held {
             None => false,
         }
     }
+}
+
+/// Takes out the empty frame that is in hand for longest.
+pub(crate) fn first_out(free: &mut Vec<Free>) -> Free
+    requires { 0 < length free.old.items }
+    ensures list { free.old.items ≡ result ∷ free.new.items }
+    ensures room { vec_capacity free.new ≡ vec_capacity free.old }
+{
+    free.remove(0)
 }

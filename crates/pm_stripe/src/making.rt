@@ -8,7 +8,7 @@ ghost use Rattle.pm_stripe.specs.Makes.{MakesAnew};
 ghost use Rattle.pm_stripe.specs.Stripes.{kept, SameButPages};
 
 use crate::fetching::place;
-use crate::held::{Free, Held};
+use crate::held::{Free, Held, first_out};
 use crate::lending::{clear, whole_patch};
 use crate::stripe::Stripe;
 use pm_locks::{Locks, PageSeat};
@@ -47,16 +47,11 @@ impl Stripe {
         ensures makes { MakesAnew _locks.now (kept self.old _seat.now) (kept self.new _seat.now) page }
         ensures same { SameButPages self.old self.new }
     {
-        let Some(
-            Free {
-                frame,
-                tag,
-                mut lease,
-            },
-        ) = self.free.pop()
-        else {
-            unreachable!();
-        };
+        let Free {
+            frame,
+            tag,
+            mut lease,
+        } = first_out(&mut self.free);
         clear(&mut lease);
         let was = Snapshot::of(&lease);
         let patch = whole_patch(self.shape.page_size);

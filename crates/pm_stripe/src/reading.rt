@@ -8,7 +8,7 @@ ghost use Rattle.pm_stripe.specs.Reads.{stored};
 ghost use Rattle.pm_stripe.specs.Kept.{Holds, HasFrames, IsAway};
 ghost use Rattle.pm_stripe.specs.Stripes.{kept, SameButPages};
 
-use crate::held::{Free, Held};
+use crate::held::{Free, Held, first_out};
 use crate::read::read_into;
 use crate::stripe::Stripe;
 use pm_disk::PageReader;
@@ -40,16 +40,11 @@ impl Stripe {
         ensures failed { IsErrOf result Failed → Rose (R.state reader.old) (R.state reader.new) }
         ensures same { SameButPages self.old self.new }
     {
-        let Some(
-            Free {
-                frame,
-                tag,
-                mut lease,
-            },
-        ) = self.free.pop()
-        else {
-            unreachable!();
-        };
+        let Free {
+            frame,
+            tag,
+            mut lease,
+        } = first_out(&mut self.free);
         match read_into(reader, &mut lease, page, &self.shape) {
             Ok(true) => {
                 let was = Snapshot::of(&lease);

@@ -27,8 +27,8 @@ impl<'a, Q, R: PageReader> Bound<'a, Q, R> {
     /// what changed.
     ///
     /// Frames that are at home, Empty or Clean are taken for it. It begins with the frame after the last one
-    /// that was tried before, tries each at most once, and none once enough are in hand. No page is lost or
-    /// changed, whatever is answered.
+    /// that was tried in this round, or with the first one that the last round put back Empty, tries each at most
+    /// once, and none once enough are in hand. No page is lost or changed, whatever is answered.
     ///
     /// - `NoLog`: the outbox has too little room. So many bytes of it are left. No frame was tried.
     /// - `NoCopy`: a checkpoint runs. No page for a copy of a page that it still has to write is in hand: there

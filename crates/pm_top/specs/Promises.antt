@@ -196,7 +196,7 @@ NamesBadFor wanted old left text =
 abbrev pub NamesBadOpening : World → World → List ℕ → Type 0
 NamesBadOpening old left text = NamesBadFor (wanted_in old) old left text
 
--- The opening of the store found what is bad: nothing else was done but that the store's files were restored.
+-- The opening of the store found what is bad: nothing but the store's files was changed, and no line was answered.
 pub record IsFoundOpening (old left : World) (text : List ℕ) (lines : ℕ) (order : List ℕ) : Type 0 where
   pub restored : ChangesDisk old left
   pub names : NamesBadOpening old left text

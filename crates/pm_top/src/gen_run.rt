@@ -30,8 +30,8 @@ use std::sync::Wait;
 /// Runs so many lines, which are drawn from a number, batch after batch. Then the log is forced. Gives the engine
 /// back, and how many replies of each kind there were.
 ///
-/// `BadPage` comes only over a store that isn't sound, at a line that met the page, which fails its check or names a wrong
-/// page or row. What was run is said of a store over which a run may begin.
+/// `BadPage` comes only over a store that isn't sound, at a line that met the page, which fails its check, isn't there, or
+/// names a wrong page or row. What was run is said of a store over which a run may begin.
 pub fn run_drawn<Q: Wait, H: Host>(
     engine: FrameEngine,
     rt: &Q,

@@ -72,8 +72,8 @@ impl Run {
     /// Answers the script of the input, batch after batch, up to its end or to a limit. At its end
     /// the log is forced.
     ///
-    /// `BadPage` names a page that a line met, which fails its check or names a wrong page or row: then the store isn't
-    /// sound.
+    /// `BadPage` names a page that a line met, which fails its check, isn't there, or names a wrong page or row: then
+    /// the store isn't sound.
     pub fn serve<Q: Wait, H: Host>(
         self,
         rt: &Q,

@@ -49,6 +49,7 @@ pub fn look<'a, Q: Wait, R: PageReader>(
     ensures bound { IsBound R.tells R.history R.state pages.new }
     ensures locks { pages.new.locks ≡ pages.old.locks }
     ensures part { IsOwnPart pages.new pages.new.part }
+    ensures stays { pages.new.part ≡ pages.old.part }
 {
     pages.ready()?;
     let first = first_byte(pages, index);

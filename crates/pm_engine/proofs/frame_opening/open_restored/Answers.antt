@@ -45,7 +45,7 @@ returns-in-Ok-clause-fresh g c =
     let made = c.in_ok-started.ensures.started in
     let now = c.replay_in_frames-engine.result.0 in
     let answer = c.replay_in_frames-engine.result.1 in
-    let x = c.replay_in_frames-engine.ensures in
+    let x = c.replay_in_frames-engine.ensures.replays in
     let is = c.in-Ok.is in (
       record {
         shape_is = x.ready.same.shape ∙ made.fresh.shape_is;
@@ -55,52 +55,6 @@ returns-in-Ok-clause-fresh g c =
       },
       λ t. record { ends = ok_holds answer tt _ is (x.ready.ends t); clean = ok_holds answer tt _ is (x.ready.clean t) },
     )
-
-pub returns-in_err-started-clause-bad_page : goal.returns-in_err-started-clause-bad_page
-returns-in_err-started-clause-bad_page g c t id is well stray =
-    let its : IsErrOf c.start_engine.result (BadPage id) = search rules in
-    absurd (no_plain_page c.start_engine.result id c.start_engine.ensures.cause.plain its)
-
-pub returns-in_err-started-clause-bad_record : goal.returns-in_err-started-clause-bad_record
-returns-in_err-started-clause-bad_record g c t at is well stray =
-    let its : IsErrOf c.start_engine.result (BadRecord at) = search rules in
-    absurd (no_plain_record c.start_engine.result at c.start_engine.ensures.cause.plain its)
-
-pub returns-in-Err-clause-bad_page : goal.returns-in-Err-clause-bad_page
-returns-in-Err-clause-bad_page g c t id is well stray =
-    let config = c.args.config.now in
-    let base = c.args.base in
-    let fit = c.requires.fit in
-    let old = g.H.Device.history c.args.host.now in
-    let mid = g.H.Device.history c.start_engine.new.host in
-    let new = g.H.Device.history c.replay_in_frames-engine.new.host in
-    let engine = c.in_ok-started.started in
-    let made = c.in_ok-started.ensures.started in
-    let now = c.replay_in_frames-engine.result.0 in
-    let answer = c.replay_in_frames-engine.result.1 in
-    let x = c.replay_in_frames-engine.ensures in
-    let steps = c.in_ok-started.ensures.steps t in
-    let leads = started_leads config base.mark base.log old.world mid.world engine made steps.all (c.requires.there t) base.replay base.log_end (c.requires.leads t) in
-    let any = x.any t leads (started_whole config base.mark base.log old.world mid.world engine made steps.all c.requires.wanted.shape well fit.marked stray) in
-    any.no_page id (fault_of answer c.in-Err.fault (BadPage id) c.in-Err.is is)
-
-pub returns-in-Err-clause-bad_record : goal.returns-in-Err-clause-bad_record
-returns-in-Err-clause-bad_record g c t at is well stray =
-    let config = c.args.config.now in
-    let base = c.args.base in
-    let fit = c.requires.fit in
-    let old = g.H.Device.history c.args.host.now in
-    let mid = g.H.Device.history c.start_engine.new.host in
-    let new = g.H.Device.history c.replay_in_frames-engine.new.host in
-    let engine = c.in_ok-started.started in
-    let made = c.in_ok-started.ensures.started in
-    let now = c.replay_in_frames-engine.result.0 in
-    let answer = c.replay_in_frames-engine.result.1 in
-    let x = c.replay_in_frames-engine.ensures in
-    let steps = c.in_ok-started.ensures.steps t in
-    let leads = started_leads config base.mark base.log old.world mid.world engine made steps.all (c.requires.there t) base.replay base.log_end (c.requires.leads t) in
-    let any = x.any t leads (started_whole config base.mark base.log old.world mid.world engine made steps.all c.requires.wanted.shape well fit.marked stray) in
-    started_bad config base.mark base.log old.world mid.world engine made steps.all (c.requires.there t) base.replay base.log_end (c.requires.leads t) c.requires.wanted.shape well new.world at (any.bad at (fault_of answer c.in-Err.fault (BadRecord at) c.in-Err.is is))
 
 pub returns-in-Ok-clause-opened : goal.returns-in-Ok-clause-opened
 returns-in-Ok-clause-opened g c t last highest wanted told pairs s holding =
@@ -114,7 +68,7 @@ returns-in-Ok-clause-opened g c t last highest wanted told pairs s holding =
     let made = c.in_ok-started.ensures.started in
     let now = c.replay_in_frames-engine.result.0 in
     let answer = c.replay_in_frames-engine.result.1 in
-    let x = c.replay_in_frames-engine.ensures in
+    let x = c.replay_in_frames-engine.ensures.replays in
     let steps = c.in_ok-started.ensures.steps t in
     let can = can_replay_in config base.mark base.log old.world mid.world engine made steps.all last highest wanted told pairs s holding fit.marked (c.requires.there t) base.replay base.log_end fit.replay fit.ends in
     let all = x.sound t last highest wanted told pairs can.0 can.1 in
@@ -144,7 +98,7 @@ returns-in-Err-clause-plain g c t last highest wanted told pairs s holding =
     let made = c.in_ok-started.ensures.started in
     let now = c.replay_in_frames-engine.result.0 in
     let answer = c.replay_in_frames-engine.result.1 in
-    let x = c.replay_in_frames-engine.ensures in
+    let x = c.replay_in_frames-engine.ensures.replays in
     let steps = c.in_ok-started.ensures.steps t in
     let can = can_replay_in config base.mark base.log old.world mid.world engine made steps.all last highest wanted told pairs s holding fit.marked (c.requires.there t) base.replay base.log_end fit.replay fit.ends in
     let all = x.sound t last highest wanted told pairs can.0 can.1 in
@@ -168,7 +122,7 @@ returns-in-Ok-clause-within g c t last highest wanted told pairs s holding =
     let made = c.in_ok-started.ensures.started in
     let now = c.replay_in_frames-engine.result.0 in
     let answer = c.replay_in_frames-engine.result.1 in
-    let x = c.replay_in_frames-engine.ensures in
+    let x = c.replay_in_frames-engine.ensures.replays in
     let steps = c.in_ok-started.ensures.steps t in
     let can = can_replay_in config base.mark base.log old.world mid.world engine made steps.all last highest wanted told pairs s holding fit.marked (c.requires.there t) base.replay base.log_end fit.replay fit.ends in
     let all = x.sound t last highest wanted told pairs can.0 can.1 in
@@ -187,7 +141,7 @@ returns-in-Ok-clause-disk g c t =
     let made = c.in_ok-started.ensures.started in
     let now = c.replay_in_frames-engine.result.0 in
     let answer = c.replay_in_frames-engine.result.1 in
-    let x = c.replay_in_frames-engine.ensures in
+    let x = c.replay_in_frames-engine.ensures.replays in
     then_disk old mid new (g.H.Device.sound c.start_engine.new.host t) (logs_disk old mid (append_all_steps base.log (restart_frame config.shape ∷ [])) base.log.end (c.in_ok-started.ensures.steps t).moments) (x.ready.disk t)
 
 pub returns-in-Err-clause-within : goal.returns-in-Err-clause-within
@@ -202,7 +156,7 @@ returns-in-Err-clause-within g c t last highest wanted told pairs s holding =
     let made = c.in_ok-started.ensures.started in
     let now = c.replay_in_frames-engine.result.0 in
     let answer = c.replay_in_frames-engine.result.1 in
-    let x = c.replay_in_frames-engine.ensures in
+    let x = c.replay_in_frames-engine.ensures.replays in
     let steps = c.in_ok-started.ensures.steps t in
     let can = can_replay_in config base.mark base.log old.world mid.world engine made steps.all last highest wanted told pairs s holding fit.marked (c.requires.there t) base.replay base.log_end fit.replay fit.ends in
     let all = x.sound t last highest wanted told pairs can.0 can.1 in
@@ -221,7 +175,7 @@ returns-in-Err-clause-disk g c t =
     let made = c.in_ok-started.ensures.started in
     let now = c.replay_in_frames-engine.result.0 in
     let answer = c.replay_in_frames-engine.result.1 in
-    let x = c.replay_in_frames-engine.ensures in
+    let x = c.replay_in_frames-engine.ensures.replays in
     then_disk old mid new (g.H.Device.sound c.start_engine.new.host t) (logs_disk old mid (append_all_steps base.log (restart_frame config.shape ∷ [])) base.log.end (c.in_ok-started.ensures.steps t).moments) (x.ready.disk t)
 
 pub returns-in_err-started-clause-disk : goal.returns-in_err-started-clause-disk
@@ -229,49 +183,95 @@ returns-in_err-started-clause-disk g c t =
     let base = c.args.base in
     logs_disk (g.H.Device.history c.args.host.now) (g.H.Device.history c.start_engine.new.host) (append_all_steps base.log (restart_frame c.args.config.now.shape ∷ [])) base.log.end (c.start_engine.ensures.steps t).moments
 
-pub returns-in_err-started-clause-over_any : goal.returns-in_err-started-clause-over_any
-returns-in_err-started-clause-over_any g c t leads =
-    let base = c.args.base in
-    let old = g.H.Device.history c.args.host.now in
-    let new = g.H.Device.history c.start_engine.new.host in
-    let plain = c.start_engine.ensures.cause.plain in
-    opens_over_none g.H.Device.tells c.args.config.now.shape base.replay base.log_end leads.frames (loaded_base base.mark old.world) old.world new.world c.from_residual.result c.from_residual.ensures.0
-    (λ id is.
-    let its : IsErrOf c.start_engine.result (BadPage id) = search rules in
-    no_plain_page c.start_engine.result id plain its)
-    (λ at is.
-    let its : IsErrOf c.start_engine.result (BadRecord at) = search rules in
-    no_plain_record c.start_engine.result at plain its)
+pub returns-in_err-started-clause-any : goal.returns-in_err-started-clause-any
+returns-in_err-started-clause-any g c t = record {
+  bad_page = λ id is well stray.
+      let its : IsErrOf c.start_engine.result (BadPage id) = search rules in
+      absurd (no_plain_page c.start_engine.result id c.start_engine.ensures.cause.plain its);
+  bad_record = λ at is well stray.
+      let its : IsErrOf c.start_engine.result (BadRecord at) = search rules in
+      absurd (no_plain_record c.start_engine.result at c.start_engine.ensures.cause.plain its);
+  over_any = λ leads.
+      let base = c.args.base in
+      let old = g.H.Device.history c.args.host.now in
+      let new = g.H.Device.history c.start_engine.new.host in
+      let plain = c.start_engine.ensures.cause.plain in
+      opens_over_none g.H.Device.tells c.args.config.now.shape base.replay base.log_end leads.frames (loaded_base base.mark old.world) old.world new.world c.from_residual.result c.from_residual.ensures.0
+      (λ id is.
+      let its : IsErrOf c.start_engine.result (BadPage id) = search rules in
+      no_plain_page c.start_engine.result id plain its)
+      (λ at is.
+      let its : IsErrOf c.start_engine.result (BadRecord at) = search rules in
+      no_plain_record c.start_engine.result at plain its);
+}
 
-pub returns-in-Ok-clause-over_any : goal.returns-in-Ok-clause-over_any
-returns-in-Ok-clause-over_any g c t leads =
-    let config = c.args.config.now in
-    let base = c.args.base in
-    let old = g.H.Device.history c.args.host.now in
-    let mid = g.H.Device.history c.start_engine.new.host in
-    let new = g.H.Device.history c.replay_in_frames-engine.new.host in
-    let engine = c.in_ok-started.started in
-    let made = c.in_ok-started.ensures.started in
-    let now = c.replay_in_frames-engine.result.0 in
-    let answer = c.replay_in_frames-engine.result.1 in
-    let x = c.replay_in_frames-engine.ensures in
-    let steps = c.in_ok-started.ensures.steps t in
-    let then_leads = started_leads config base.mark base.log old.world mid.world engine made steps.all (c.requires.there t) base.replay base.log_end leads in
-    started_over_all config base.mark base.log old.world mid.world engine made steps.all (c.requires.there t) base.replay base.log_end leads g.H.Device.tells now new.world answer (x.over_any t then_leads)
-    (ok_holds answer tt _ c.in-Ok.is x.ready.is_open)
+pub returns-in-Err-clause-any : goal.returns-in-Err-clause-any
+returns-in-Err-clause-any g c t = record {
+  bad_page = λ id is well stray.
+      let config = c.args.config.now in
+      let base = c.args.base in
+      let fit = c.requires.fit in
+      let old = g.H.Device.history c.args.host.now in
+      let mid = g.H.Device.history c.start_engine.new.host in
+      let new = g.H.Device.history c.replay_in_frames-engine.new.host in
+      let engine = c.in_ok-started.started in
+      let made = c.in_ok-started.ensures.started in
+      let now = c.replay_in_frames-engine.result.0 in
+      let answer = c.replay_in_frames-engine.result.1 in
+      let x = c.replay_in_frames-engine.ensures.replays in
+      let steps = c.in_ok-started.ensures.steps t in
+      let leads = started_leads config base.mark base.log old.world mid.world engine made steps.all (c.requires.there t) base.replay base.log_end (c.requires.leads t) in
+      let any = x.any t leads (started_whole config base.mark base.log old.world mid.world engine made steps.all c.requires.wanted.shape well fit.marked stray) in
+      any.no_page id (fault_of answer c.in-Err.fault (BadPage id) c.in-Err.is is);
+  bad_record = λ at is well stray.
+      let config = c.args.config.now in
+      let base = c.args.base in
+      let fit = c.requires.fit in
+      let old = g.H.Device.history c.args.host.now in
+      let mid = g.H.Device.history c.start_engine.new.host in
+      let new = g.H.Device.history c.replay_in_frames-engine.new.host in
+      let engine = c.in_ok-started.started in
+      let made = c.in_ok-started.ensures.started in
+      let now = c.replay_in_frames-engine.result.0 in
+      let answer = c.replay_in_frames-engine.result.1 in
+      let x = c.replay_in_frames-engine.ensures.replays in
+      let steps = c.in_ok-started.ensures.steps t in
+      let leads = started_leads config base.mark base.log old.world mid.world engine made steps.all (c.requires.there t) base.replay base.log_end (c.requires.leads t) in
+      let any = x.any t leads (started_whole config base.mark base.log old.world mid.world engine made steps.all c.requires.wanted.shape well fit.marked stray) in
+      started_bad config base.mark base.log old.world mid.world engine made steps.all (c.requires.there t) base.replay base.log_end (c.requires.leads t) c.requires.wanted.shape well new.world at (any.bad at (fault_of answer c.in-Err.fault (BadRecord at) c.in-Err.is is));
+  over_any = λ leads.
+      let config = c.args.config.now in
+      let base = c.args.base in
+      let old = g.H.Device.history c.args.host.now in
+      let mid = g.H.Device.history c.start_engine.new.host in
+      let new = g.H.Device.history c.replay_in_frames-engine.new.host in
+      let engine = c.in_ok-started.started in
+      let made = c.in_ok-started.ensures.started in
+      let now = c.replay_in_frames-engine.result.0 in
+      let answer = c.replay_in_frames-engine.result.1 in
+      let x = c.replay_in_frames-engine.ensures.replays in
+      let steps = c.in_ok-started.ensures.steps t in
+      let then_leads = started_leads config base.mark base.log old.world mid.world engine made steps.all (c.requires.there t) base.replay base.log_end leads in
+      started_over_fault config base.mark base.log old.world mid.world engine made steps.all (c.requires.there t) base.replay base.log_end leads g.H.Device.tells now new.world answer (x.over_any t then_leads) c.in-Err.fault c.in-Err.is;
+}
 
-pub returns-in-Err-clause-over_any : goal.returns-in-Err-clause-over_any
-returns-in-Err-clause-over_any g c t leads =
-    let config = c.args.config.now in
-    let base = c.args.base in
-    let old = g.H.Device.history c.args.host.now in
-    let mid = g.H.Device.history c.start_engine.new.host in
-    let new = g.H.Device.history c.replay_in_frames-engine.new.host in
-    let engine = c.in_ok-started.started in
-    let made = c.in_ok-started.ensures.started in
-    let now = c.replay_in_frames-engine.result.0 in
-    let answer = c.replay_in_frames-engine.result.1 in
-    let x = c.replay_in_frames-engine.ensures in
-    let steps = c.in_ok-started.ensures.steps t in
-    let then_leads = started_leads config base.mark base.log old.world mid.world engine made steps.all (c.requires.there t) base.replay base.log_end leads in
-    started_over_fault config base.mark base.log old.world mid.world engine made steps.all (c.requires.there t) base.replay base.log_end leads g.H.Device.tells now new.world answer (x.over_any t then_leads) c.in-Err.fault c.in-Err.is
+pub returns-in-Ok-clause-any : goal.returns-in-Ok-clause-any
+returns-in-Ok-clause-any g c t = record {
+  bad_page = λ id is well stray. absurd cc;
+  bad_record = λ id is well stray. absurd cc;
+  over_any = λ leads.
+      let config = c.args.config.now in
+      let base = c.args.base in
+      let old = g.H.Device.history c.args.host.now in
+      let mid = g.H.Device.history c.start_engine.new.host in
+      let new = g.H.Device.history c.replay_in_frames-engine.new.host in
+      let engine = c.in_ok-started.started in
+      let made = c.in_ok-started.ensures.started in
+      let now = c.replay_in_frames-engine.result.0 in
+      let answer = c.replay_in_frames-engine.result.1 in
+      let x = c.replay_in_frames-engine.ensures.replays in
+      let steps = c.in_ok-started.ensures.steps t in
+      let then_leads = started_leads config base.mark base.log old.world mid.world engine made steps.all (c.requires.there t) base.replay base.log_end leads in
+      started_over_all config base.mark base.log old.world mid.world engine made steps.all (c.requires.there t) base.replay base.log_end leads g.H.Device.tells now new.world answer (x.over_any t then_leads)
+      (ok_holds answer tt _ c.in-Ok.is x.ready.is_open);
+}

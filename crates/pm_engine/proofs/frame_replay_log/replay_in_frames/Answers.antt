@@ -17,58 +17,49 @@ replay_all-requires-clause-ahead g c _ _ t =
     let old = g.H.Device.history c.args.host.now in
     subst (λ (s : Scanned). IsAhead s old.world) {x = record { place = c.args.from; next = c.args.from; ahead = []; is_whole = false; is_over = false; found = None }} (sym c.in-Ok.ensures) (record { front = sym (take_none (bytes_after c.args.from old.world)); whole = λ whole. absurd cc })
 
-pub returns-in-Err-clause-ready : goal.returns-in-Err-clause-ready
-returns-in-Err-clause-ready g c = ready_refused g.H.Device.tells c.args.engine (g.H.Device.history c.args.host.now) Memory (λ t. g.H.Device.sound c.args.host.now t)
+pub returns-in-Err-clause-replays : goal.returns-in-Err-clause-replays
+returns-in-Err-clause-replays g c = record {
+  ready = ready_refused g.H.Device.tells c.args.engine (g.H.Device.history c.args.host.now) Memory (λ t. g.H.Device.sound c.args.host.now t);
+  sound = λ t last highest wanted told pairs s can. none_replayed last highest wanted told pairs c.args.from c.args.end c.args.engine s (g.H.Device.history c.args.host.now) (g.H.Device.sound c.args.host.now t) can;
+  any = λ t leads whole. none_applied c.args.from c.args.end c.args.engine (g.H.Device.history c.args.host.now).world;
+  over_any = λ t leads. none_refused g.H.Device.tells c.args.from c.args.end leads.frames c.args.engine (g.H.Device.history c.args.host.now).world;
+}
 
-pub returns-in-Err-with_room-clause-ready : goal.returns-in-Err-with_room-clause-ready
-returns-in-Err-with_room-clause-ready g c = ready_refused g.H.Device.tells c.args.engine (g.H.Device.history c.args.host.now) Memory (λ t. g.H.Device.sound c.args.host.now t)
+pub returns-in-Err-with_room-clause-replays : goal.returns-in-Err-with_room-clause-replays
+returns-in-Err-with_room-clause-replays g c = record {
+  ready = ready_refused g.H.Device.tells c.args.engine (g.H.Device.history c.args.host.now) Memory (λ t. g.H.Device.sound c.args.host.now t);
+  sound = λ t last highest wanted told pairs s can. none_replayed last highest wanted told pairs c.args.from c.args.end c.args.engine s (g.H.Device.history c.args.host.now) (g.H.Device.sound c.args.host.now t) can;
+  any = λ t leads whole. none_applied c.args.from c.args.end c.args.engine (g.H.Device.history c.args.host.now).world;
+  over_any = λ t leads. none_refused g.H.Device.tells c.args.from c.args.end leads.frames c.args.engine (g.H.Device.history c.args.host.now).world;
+}
 
-pub returns-in-Err-clause-sound : goal.returns-in-Err-clause-sound
-returns-in-Err-clause-sound g c t last highest wanted told pairs s can = none_replayed last highest wanted told pairs c.args.from c.args.end c.args.engine s (g.H.Device.history c.args.host.now) (g.H.Device.sound c.args.host.now t) can
-
-pub returns-in-Err-with_room-clause-sound : goal.returns-in-Err-with_room-clause-sound
-returns-in-Err-with_room-clause-sound g c t last highest wanted told pairs s can = none_replayed last highest wanted told pairs c.args.from c.args.end c.args.engine s (g.H.Device.history c.args.host.now) (g.H.Device.sound c.args.host.now t) can
-
-pub returns-clause-sound : goal.returns-clause-sound
-returns-clause-sound g c t last highest wanted told pairs s can =
-    let is = c.in-Ok.ensures in
-    c.replay_all.ensures.replays.sound t last highest wanted told pairs (record {
-      state = s;
-      can = subst (λ (p : Place). CanReplayIn last highest wanted told pairs p c.args.end c.args.engine s (g.H.Device.history c.args.host.now).world) (sym (ap (λ (v : Scanned). v.next) is)) can;
-      over = ap (λ (v : Scanned). v.is_over) is;
-    })
-
-pub returns-in-Err-clause-any : goal.returns-in-Err-clause-any
-returns-in-Err-clause-any g c t leads whole = none_applied c.args.from c.args.end c.args.engine (g.H.Device.history c.args.host.now).world
-
-pub returns-in-Err-with_room-clause-any : goal.returns-in-Err-with_room-clause-any
-returns-in-Err-with_room-clause-any g c t leads whole = none_applied c.args.from c.args.end c.args.engine (g.H.Device.history c.args.host.now).world
-
-pub returns-clause-any : goal.returns-clause-any
-returns-clause-any g c t leads whole =
-    let old = (g.H.Device.history c.args.host.now).world in
-    let new = (g.H.Device.history c.replay_all.new.host).world in
-    let is = c.in-Ok.ensures in
-    let begins = ap (λ (v : Scanned). v.next) is in
-    subst (λ (p : Place). ReplaysWellFormed {T = Unit {0}} p c.args.end c.args.engine c.replay_all.result.0 old new c.replay_all.result.1) begins
-    (c.replay_all.ensures.replays.any t (ap (λ (v : Scanned). v.is_over) is) (subst (λ (p : Place). LogLeadsTo p c.args.end c.args.engine.log old) (sym begins) leads) whole)
-
-pub returns-in-Err-clause-over_any : goal.returns-in-Err-clause-over_any
-returns-in-Err-clause-over_any g c t leads = none_refused g.H.Device.tells c.args.from c.args.end leads.frames c.args.engine (g.H.Device.history c.args.host.now).world
-
-pub returns-in-Err-with_room-clause-over_any : goal.returns-in-Err-with_room-clause-over_any
-returns-in-Err-with_room-clause-over_any g c t leads = none_refused g.H.Device.tells c.args.from c.args.end leads.frames c.args.engine (g.H.Device.history c.args.host.now).world
-
-pub returns-clause-over_any : goal.returns-clause-over_any
-returns-clause-over_any g c t leads =
-    let old = (g.H.Device.history c.args.host.now).world in
-    let new = (g.H.Device.history c.replay_all.new.host).world in
-    let is = c.in-Ok.ensures in
-    let begins = ap (λ (v : Scanned). v.next) is in
-    subst (λ (p : Place). ReplaysOverAny {T = Unit {0}} g.H.Device.tells p c.args.end leads.frames c.args.engine c.replay_all.result.0 old new c.replay_all.result.1) begins
-    (c.replay_all.ensures.replays.over_any t (ap (λ (v : Scanned). v.is_over) is) (record {
-      frames = leads.frames;
-      run = subst (λ (p : Place). HasFrames all_frames (contents old.log) p leads.frames) (sym begins) leads.run;
-      to = ap (λ (p : Place). after_frames p leads.frames) begins ∙ leads.to;
-      behind = leads.behind;
-    }))
+pub returns-clause-replays : goal.returns-clause-replays
+returns-clause-replays g c = record {
+  ready = c.replay_all.ensures.replays.ready;
+  sound = λ t last highest wanted told pairs s can.
+      let is = c.in-Ok.ensures in
+      c.replay_all.ensures.replays.sound t last highest wanted told pairs (record {
+        state = s;
+        can = subst (λ (p : Place). CanReplayIn last highest wanted told pairs p c.args.end c.args.engine s (g.H.Device.history c.args.host.now).world) (sym (ap (λ (v : Scanned). v.next) is)) can;
+        over = ap (λ (v : Scanned). v.is_over) is;
+      });
+  any = λ t leads whole.
+      let old = (g.H.Device.history c.args.host.now).world in
+      let new = (g.H.Device.history c.replay_all.new.host).world in
+      let is = c.in-Ok.ensures in
+      let begins = ap (λ (v : Scanned). v.next) is in
+      subst (λ (p : Place). ReplaysWellFormed {T = Unit {0}} p c.args.end c.args.engine c.replay_all.result.0 old new c.replay_all.result.1) begins
+      (c.replay_all.ensures.replays.any t (ap (λ (v : Scanned). v.is_over) is) (subst (λ (p : Place). LogLeadsTo p c.args.end c.args.engine.log old) (sym begins) leads) whole);
+  over_any = λ t leads.
+      let old = (g.H.Device.history c.args.host.now).world in
+      let new = (g.H.Device.history c.replay_all.new.host).world in
+      let is = c.in-Ok.ensures in
+      let begins = ap (λ (v : Scanned). v.next) is in
+      subst (λ (p : Place). ReplaysOverAny {T = Unit {0}} g.H.Device.tells p c.args.end leads.frames c.args.engine c.replay_all.result.0 old new c.replay_all.result.1) begins
+      (c.replay_all.ensures.replays.over_any t (ap (λ (v : Scanned). v.is_over) is) (record {
+        frames = leads.frames;
+        run = subst (λ (p : Place). HasFrames all_frames (contents old.log) p leads.frames) (sym begins) leads.run;
+        to = ap (λ (p : Place). after_frames p leads.frames) begins ∙ leads.to;
+        behind = leads.behind;
+      }));
+}

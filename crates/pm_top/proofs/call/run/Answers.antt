@@ -77,7 +77,7 @@ returns-in-Ok-clause-run g c t =
           let script = script_of old.world.input in
           let found : IsFoundByLine engine.store.shape (pages_in_frames engine.store mid.world) script new.world =
           subst (λ (i : List ℕ). IsFoundByLine engine.store.shape (pages_in_frames engine.store mid.world) (script_of i) new.world) only.input (c.answer_script.ensures.damaged t is) in
-          let names = found_over wanted old.world mid.world engine script c.in-Ok.ensures.fresh.0.shape_is (c.in-Ok.ensures.kept t) new.world found in
+          let names = found_over wanted old.world mid.world engine script c.in-Ok.ensures.fresh.0.shape_is (c.in-Ok.ensures.base t).kept new.world found in
           record {
             configured = alike;
             unsound = λ shape pairs start. subst (λ s. one.OutcomeIs s old.world new.world shape pairs outcome.lines outcome.order.items) is (answered shape pairs (here shape pairs start)).outcome;
@@ -142,7 +142,7 @@ returns-in-Err-Shape-clause-run g c t =
     let outcome = c.without.result in
     let field = c.in-Err-Shape.field in
     let differs : shape_fault wanted old.world ≡ Some field = subst (ComparesShape (shape_fault wanted old.world)) c.in-Err-Shape.field-0-is (c.in-Err-Shape.ensures.compared t).fault in
-    let same : mid.world ≡ old.world = subst (HasOpenCauseIn g.H.Device.tells wanted (in_force (image_of old.world)) old.world mid.world) c.in-Err-Shape.field-0-is (c.in-Err-Shape.ensures.bad t) in
+    let same : mid.world ≡ old.world = subst (HasOpenCauseIn g.H.Device.tells wanted (in_force (image_of old.world)) old.world mid.world) c.in-Err-Shape.field-0-is (c.in-Err-Shape.ensures.base t).bad in
     let is : config_fault mid.world ≡ Some field = ap config_fault same ∙ asks.fault_is ∙ differs in
     run_from old mid new outcome.status outcome.lines outcome.order.items ((c.in-Err-Shape.ensures.compared t).differing field differs) same
     (field_refused_run mid new outcome.status outcome.lines outcome.order.items field is (subst AnswersNone (sym c.without.ensures.status) printed.ensures.cases) (λ e. printed.ensures.misconfigured t (sym c.without.ensures.status ∙ e)) (printed.ensures.moments t) c.without.ensures.lines c.without.ensures.order)
@@ -159,7 +159,7 @@ returns-in-Err-Shape-clause-crash g c t =
     let outcome = c.without.result in
     let field = c.in-Err-Shape.field in
     let differs : shape_fault wanted old.world ≡ Some field = subst (ComparesShape (shape_fault wanted old.world)) c.in-Err-Shape.field-0-is (c.in-Err-Shape.ensures.compared t).fault in
-    let same : mid.world ≡ old.world = subst (HasOpenCauseIn g.H.Device.tells wanted (in_force (image_of old.world)) old.world mid.world) c.in-Err-Shape.field-0-is (c.in-Err-Shape.ensures.bad t) in
+    let same : mid.world ≡ old.world = subst (HasOpenCauseIn g.H.Device.tells wanted (in_force (image_of old.world)) old.world mid.world) c.in-Err-Shape.field-0-is (c.in-Err-Shape.ensures.base t).bad in
     let order = outcome.order.items in
     let keeps : HoldsAtEachMoment old mid order =
     subst (λ (s : Shape). (shape : Shape) (pairs : Pairs) (start : IsStart s old.world shape pairs) → AllMoments old mid (CrashHoldsAcknowledged s (last_after start) (number_after start) old.world shape pairs order)) (sym asks.wanted_is)
@@ -178,7 +178,7 @@ returns-in-Err-Shape-clause-config g c t =
     let outcome = c.without.result in
     let field = c.in-Err-Shape.field in
     let differs : shape_fault wanted old.world ≡ Some field = subst (ComparesShape (shape_fault wanted old.world)) c.in-Err-Shape.field-0-is (c.in-Err-Shape.ensures.compared t).fault in
-    let same : mid.world ≡ old.world = subst (HasOpenCauseIn g.H.Device.tells wanted (in_force (image_of old.world)) old.world mid.world) c.in-Err-Shape.field-0-is (c.in-Err-Shape.ensures.bad t) in
+    let same : mid.world ≡ old.world = subst (HasOpenCauseIn g.H.Device.tells wanted (in_force (image_of old.world)) old.world mid.world) c.in-Err-Shape.field-0-is (c.in-Err-Shape.ensures.base t).bad in
     config_then old mid new (g.H.Device.sound c.open_store.new.host t) (config_disk old mid (c.open_store.ensures.disk t)) (config_say (fault_config field) mid new (printed.ensures.moments t))
 
 pub returns-in-Err-Store-Failed-clause-run : goal.returns-in-Err-Store-Failed-clause-run
@@ -263,7 +263,7 @@ returns-in-Err-Store-BadRecord-clause-run g c t =
     let unsound : (shape : Shape) (pairs : Pairs) → IsStart (wanted_in old.world) old.world shape pairs → ⊥ = λ shape pairs start.
     let here = subst (λ (s : Shape). IsStart s old.world shape pairs) asks.wanted_is start in
     subst IsPlainOpen err (c.in-Err-Store-BadRecord.ensures.refused t says_nothing shape pairs (can_begin wanted old.world shape pairs here) (few_numbers wanted old.world shape pairs here) alike) in
-    let cause = subst (HasOpenCauseIn g.H.Device.tells wanted (in_force (image_of old.world)) old.world mid.world) err (c.in-Err-Store-BadRecord.ensures.bad t) in
+    let cause = subst (HasOpenCauseIn g.H.Device.tells wanted (in_force (image_of old.world)) old.world mid.world) err (c.in-Err-Store-BadRecord.ensures.base t).bad in
     let bad : NamesBadOpening old.world mid.world (fault_record at) =
     subst (λ (s : Shape). NamesBadFor s old.world mid.world (fault_record at)) (sym asks.wanted_is) (inl (at, cause, refl)) in
     damaged_run old mid new outcome.status outcome.lines outcome.order.items (asks.fault_is ∙ alike) unsound only
@@ -314,7 +314,7 @@ returns-in-Err-Store-BadPage-clause-run g c t =
     let unsound : (shape : Shape) (pairs : Pairs) → IsStart (wanted_in old.world) old.world shape pairs → ⊥ = λ shape pairs start.
     let here = subst (λ (s : Shape). IsStart s old.world shape pairs) asks.wanted_is start in
     subst IsPlainOpen err (c.in-Err-Store-BadPage.ensures.refused t says_nothing shape pairs (can_begin wanted old.world shape pairs here) (few_numbers wanted old.world shape pairs here) alike) in
-    let cause = subst (HasOpenCauseIn g.H.Device.tells wanted (in_force (image_of old.world)) old.world mid.world) err (c.in-Err-Store-BadPage.ensures.bad t) in
+    let cause = subst (HasOpenCauseIn g.H.Device.tells wanted (in_force (image_of old.world)) old.world mid.world) err (c.in-Err-Store-BadPage.ensures.base t).bad in
     let named : printed.result ≡ Damaged → SaysLine (NamesBadOpening old.world mid.world) mid.world new.world = λ e.
     let line = printed.ensures.damaged t e in
     (line.0, subst (λ (s : Shape). NamesBadFor s old.world mid.world line.0) (sym asks.wanted_is) (inr (page, opening_told g.H.Device.tells t wanted (in_force (image_of old.world)) old.world page cause, line.1)), line.2) in

@@ -73,7 +73,7 @@ returns-in-Ok-clause-holds g c t =
       misconfigured = λ is. absurd (c.answer_drawn.ensures.cause.configured is);
       damaged = λ is.
           let found = c.answer_drawn.ensures.damaged t is in
-          let names = found_over wanted old.world mid.world engine script c.in-Ok.ensures.fresh.0.shape_is (c.in-Ok.ensures.kept t) new.world found in
+          let names = found_over wanted old.world mid.world engine script c.in-Ok.ensures.fresh.0.shape_is (c.in-Ok.ensures.base t).kept new.world found in
           record {
             configured = alike;
             unsound = λ shape pairs begins.
@@ -140,7 +140,7 @@ returns-in-Err-Shape-clause-holds g c t =
     let outcome = c.without.result in
     let field = c.in-Err-Shape.field in
     let differs : shape_fault wanted old.world ≡ Some field = subst (ComparesShape (shape_fault wanted old.world)) c.in-Err-Shape.field-0-is (c.in-Err-Shape.ensures.compared t).fault in
-    let same : mid.world ≡ old.world = subst (HasOpenCauseIn g.H.Device.tells wanted (in_force (image_of old.world)) old.world mid.world) c.in-Err-Shape.field-0-is (c.in-Err-Shape.ensures.bad t) in
+    let same : mid.world ≡ old.world = subst (HasOpenCauseIn g.H.Device.tells wanted (in_force (image_of old.world)) old.world mid.world) c.in-Err-Shape.field-0-is (c.in-Err-Shape.ensures.base t).bad in
     let is : config_fault mid.world ≡ Some field = ap config_fault same ∙ asks.fault_is ∙ differs in
     gen_from (drawn_lines c.args.seed 1 c.args.count) old mid new outcome.status outcome.lines outcome.order.items ((c.in-Err-Shape.ensures.compared t).differing field differs) same
     (field_refused_gen (drawn_lines c.args.seed 1 c.args.count) mid new outcome.status outcome.lines outcome.order.items field is (subst AnswersNone (sym c.without.ensures.status) printed.ensures.cases) (λ e. printed.ensures.misconfigured t (sym c.without.ensures.status ∙ e)) (printed.ensures.moments t) c.without.ensures.lines c.without.ensures.order)
@@ -157,7 +157,7 @@ returns-in-Err-Shape-clause-crash g c t =
     let outcome = c.without.result in
     let field = c.in-Err-Shape.field in
     let differs : shape_fault wanted old.world ≡ Some field = subst (ComparesShape (shape_fault wanted old.world)) c.in-Err-Shape.field-0-is (c.in-Err-Shape.ensures.compared t).fault in
-    let same : mid.world ≡ old.world = subst (HasOpenCauseIn g.H.Device.tells wanted (in_force (image_of old.world)) old.world mid.world) c.in-Err-Shape.field-0-is (c.in-Err-Shape.ensures.bad t) in
+    let same : mid.world ≡ old.world = subst (HasOpenCauseIn g.H.Device.tells wanted (in_force (image_of old.world)) old.world mid.world) c.in-Err-Shape.field-0-is (c.in-Err-Shape.ensures.base t).bad in
     let order = outcome.order.items in
     let keeps : GenIsSafe (drawn_lines c.args.seed 1 c.args.count) old mid order =
     subst (λ (s : Shape). (shape : Shape) (pairs : Pairs) (start : IsStart s old.world shape pairs) → AllMoments old mid (CrashHoldsDrawn s (last_after start) (number_after start) (drawn_lines c.args.seed 1 c.args.count) old.world shape pairs order)) (sym asks.wanted_is)
@@ -176,7 +176,7 @@ returns-in-Err-Shape-clause-config g c t =
     let outcome = c.without.result in
     let field = c.in-Err-Shape.field in
     let differs : shape_fault wanted old.world ≡ Some field = subst (ComparesShape (shape_fault wanted old.world)) c.in-Err-Shape.field-0-is (c.in-Err-Shape.ensures.compared t).fault in
-    let same : mid.world ≡ old.world = subst (HasOpenCauseIn g.H.Device.tells wanted (in_force (image_of old.world)) old.world mid.world) c.in-Err-Shape.field-0-is (c.in-Err-Shape.ensures.bad t) in
+    let same : mid.world ≡ old.world = subst (HasOpenCauseIn g.H.Device.tells wanted (in_force (image_of old.world)) old.world mid.world) c.in-Err-Shape.field-0-is (c.in-Err-Shape.ensures.base t).bad in
     config_then old mid new (g.H.Device.sound c.open_store.new.host t) (config_disk old mid (c.open_store.ensures.disk t)) (config_say (fault_config field) mid new (printed.ensures.moments t))
 
 pub returns-in-Err-Store-Failed-clause-holds : goal.returns-in-Err-Store-Failed-clause-holds
@@ -261,7 +261,7 @@ returns-in-Err-Store-BadRecord-clause-holds g c t =
     let unsound : (shape : Shape) (pairs : Pairs) → IsStart (wanted_in old.world) old.world shape pairs → ⊥ = λ shape pairs start.
     let here = subst (λ (s : Shape). IsStart s old.world shape pairs) asks.wanted_is start in
     subst IsPlainOpen err (c.in-Err-Store-BadRecord.ensures.refused t says_nothing shape pairs (can_begin wanted old.world shape pairs here) (few_numbers wanted old.world shape pairs here) alike) in
-    let cause = subst (HasOpenCauseIn g.H.Device.tells wanted (in_force (image_of old.world)) old.world mid.world) err (c.in-Err-Store-BadRecord.ensures.bad t) in
+    let cause = subst (HasOpenCauseIn g.H.Device.tells wanted (in_force (image_of old.world)) old.world mid.world) err (c.in-Err-Store-BadRecord.ensures.base t).bad in
     let bad : NamesBadOpening old.world mid.world (fault_record at) =
     subst (λ (s : Shape). NamesBadFor s old.world mid.world (fault_record at)) (sym asks.wanted_is) (inl (at, cause, refl)) in
     damaged_gen (drawn_lines c.args.seed 1 c.args.count) old mid new outcome.status outcome.lines outcome.order.items (asks.fault_is ∙ alike) unsound only
@@ -312,7 +312,7 @@ returns-in-Err-Store-BadPage-clause-holds g c t =
     let unsound : (shape : Shape) (pairs : Pairs) → IsStart (wanted_in old.world) old.world shape pairs → ⊥ = λ shape pairs start.
     let here = subst (λ (s : Shape). IsStart s old.world shape pairs) asks.wanted_is start in
     subst IsPlainOpen err (c.in-Err-Store-BadPage.ensures.refused t says_nothing shape pairs (can_begin wanted old.world shape pairs here) (few_numbers wanted old.world shape pairs here) alike) in
-    let cause = subst (HasOpenCauseIn g.H.Device.tells wanted (in_force (image_of old.world)) old.world mid.world) err (c.in-Err-Store-BadPage.ensures.bad t) in
+    let cause = subst (HasOpenCauseIn g.H.Device.tells wanted (in_force (image_of old.world)) old.world mid.world) err (c.in-Err-Store-BadPage.ensures.base t).bad in
     let named : printed.result ≡ Damaged → SaysLine (NamesBadOpening old.world mid.world) mid.world new.world = λ e.
     let line = printed.ensures.damaged t e in
     (line.0, subst (λ (s : Shape). NamesBadFor s old.world mid.world line.0) (sym asks.wanted_is) (inr (page, opening_told g.H.Device.tells t wanted (in_force (image_of old.world)) old.world page cause, line.1)), line.2) in

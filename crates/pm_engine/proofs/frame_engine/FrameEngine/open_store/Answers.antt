@@ -30,19 +30,6 @@ open_restored-requires-clause-leads g c κs within t =
     let base = c.in_ok-base.ensures.base in
     cut_leads c.args.config.now.shape (in_force (image_of old.world)) old.world mid.world c.in_ok-base.base base.0 (base.1 t) (c.in_ok-base.ensures.only t).log
 
-pub returns-in_err-base-clause-bad : goal.returns-in_err-base-clause-bad
-returns-in_err-base-clause-bad g c t =
-    let old = g.H.Device.history c.args.host.now in
-    let mid = g.H.Device.history c.restore.new.host in
-    restore_cause_in g.H.Device.tells c.args.config.now.shape (in_force (image_of old.world)) old.world mid.world c.from_residual.result
-    (λ at is.
-    let its : IsErrOf c.restore.result (opening.Store (BadRecord at)) = search rules in
-    c.restore.ensures.bad t at its)
-    (λ id is.
-    let its : IsErrOf c.restore.result (opening.Store (BadPage id)) = search rules in
-    c.restore.ensures.cause.no_page id its)
-    (leaves_passed old.world mid.world c.restore.result c.from_residual.result _ c.in_err-base.was c.from_residual.ensures.0 (search rules) (c.restore.ensures.only t).untouched)
-
 pub returns-in_err-base-clause-refused : goal.returns-in_err-base-clause-refused
 returns-in_err-base-clause-refused g c t told shape pairs can few same =
     let old = g.H.Device.history c.args.host.now in
@@ -94,62 +81,6 @@ pub returns-in-Ok-clause-disk : goal.returns-in-Ok-clause-disk
 returns-in-Ok-clause-disk g c t =
     then_disk (g.H.Device.history c.args.host.now) (g.H.Device.history c.restore.new.host) (g.H.Device.history c.open_restored.new.host) (g.H.Device.sound c.restore.new.host t) (c.restore.ensures.only t).disk (c.open_restored.ensures.disk t)
 
-pub returns-in-Err-clause-bad : goal.returns-in-Err-clause-bad
-returns-in-Err-clause-bad g c t =
-    let old = g.H.Device.history c.args.host.now in
-    let mid = g.H.Device.history c.restore.new.host in
-    let new = g.H.Device.history c.open_restored.new.host in
-    let wanted = c.args.config.now.shape in
-    let base = c.in_ok-base.base in
-    let checkpoint = in_force (image_of old.world) in
-    let is_base = c.in_ok-base.ensures.base.1 t in
-    let keeps = (c.in_ok-base.ensures.only t).base in
-    let same = restored_is checkpoint base.mark mid.world is_base.mark in
-    let loaded : HasGoodBase wanted checkpoint mid.world → AllWellFormed wanted (loaded_base base.mark mid.world) = λ good. subst (λ (p : Partitions). AllWellFormed wanted p) (sym same) good.well_formed in
-    let stray : HasGoodBase wanted checkpoint mid.world → HasNoStrayPages wanted (ended_with base.mark) mid.world = λ good. stray_marked wanted checkpoint base.mark mid.world is_base.mark good.none_stray in
-    let base_fits = c.in_ok-base.ensures.base.0 in
-    let leads = cut_leads wanted checkpoint old.world mid.world base base_fits is_base (c.in_ok-base.ensures.only t).log in
-    let any = c.open_restored.ensures.over_any t leads in
-    open_cause_in g.H.Device.tells wanted checkpoint old.world new.world c.in-Err.fault
-    (λ id is. record {
-      mid = mid.world;
-      keeps = keeps;
-      bad = λ good. c.open_restored.ensures.bad_page t id (c.in-Err.is ∙ ap Err is) (loaded good) (stray good);
-      frames = is_base.ends.frames;
-      records = opened_records wanted checkpoint old.world mid.world base is_base;
-      meets = λ may_change all. subst (λ (p : Partitions). MeetsBadPage g.H.Device.tells may_change wanted p id) same (any.meets may_change all id (c.in-Err.is ∙ ap Err is));
-    })
-    (λ at is.
-    inr (
-      base.log_end,
-      subst (λ (p : Place). LogEndsAt (contents old.world.log) p base.log_end) is_base.replay is_base.ends,
-      refused_uncut wanted checkpoint old.world mid.world new.world base at is_base (c.in_ok-base.ensures.only t).log (any.refuses at (c.in-Err.is ∙ ap Err is)),
-      mid.world,
-      keeps,
-      λ good. bad_uncut wanted checkpoint old.world mid.world new.world base at is_base (c.in_ok-base.ensures.only t).log (c.open_restored.ensures.bad_record t at (c.in-Err.is ∙ ap Err is) (loaded good) (stray good)),
-    ))
-
-pub returns-in-Ok-clause-kept : goal.returns-in-Ok-clause-kept
-returns-in-Ok-clause-kept g c t =
-    let old = g.H.Device.history c.args.host.now in
-    let mid = g.H.Device.history c.restore.new.host in
-    let new = g.H.Device.history c.open_restored.new.host in
-    let wanted = c.args.config.now.shape in
-    let base = c.in_ok-base.base in
-    let checkpoint = in_force (image_of old.world) in
-    let is_base = c.in_ok-base.ensures.base.1 t in
-    let leads = cut_leads wanted checkpoint old.world mid.world base c.in_ok-base.ensures.base.0 is_base (c.in_ok-base.ensures.only t).log in
-    let any = c.open_restored.ensures.over_any t leads in
-    record {
-      mid = mid.world;
-      keeps = (c.in_ok-base.ensures.only t).base;
-      frames = is_base.ends.frames;
-      records = opened_records wanted checkpoint old.world mid.world base is_base;
-      pages = λ may_change all.
-          subst (λ (p : Partitions). KeepsBasePagesBut wanted may_change p (pages_in_frames c.in-Ok.engine.store new.world)) (restored_is checkpoint base.mark mid.world is_base.mark)
-          (subst (λ r. IfOk r (λ (engine : FrameRunning). KeepsBasePagesBut wanted may_change (loaded_base base.mark mid.world) (pages_in_frames engine.store new.world))) c.in-Ok.is (any.pages may_change all));
-    }
-
 pub returns-in-Err-clause-refused : goal.returns-in-Err-clause-refused
 returns-in-Err-clause-refused g c t told shape pairs can few same =
     let old = g.H.Device.history c.args.host.now in
@@ -200,3 +131,83 @@ returns-in-Ok-clause-opened g c t told shape pairs can few =
     subst (λ (k : Shape). OpensRunningIn (opened_last can) (opened_number can) wanted told k pairs c.in-Ok.engine new.world) (sym its)
     (subst (λ r. IfOk r (λ (engine : FrameRunning). OpensRunningIn (opened_last can) (opened_number can) wanted told wanted pairs engine new.world)) c.in-Ok.is
     (c.open_restored.ensures.opened t (opened_last can) (opened_number can) wanted told pairs held.0 held.1))
+
+pub returns-in_err-base-clause-base : goal.returns-in_err-base-clause-base
+returns-in_err-base-clause-base g c t = record {
+  bad =
+      let old = g.H.Device.history c.args.host.now in
+      let mid = g.H.Device.history c.restore.new.host in
+      restore_cause_in g.H.Device.tells c.args.config.now.shape (in_force (image_of old.world)) old.world mid.world c.from_residual.result
+      (λ at is.
+      let its : IsErrOf c.restore.result (opening.Store (BadRecord at)) = search rules in
+      c.restore.ensures.bad t at its)
+      (λ id is.
+      let its : IsErrOf c.restore.result (opening.Store (BadPage id)) = search rules in
+      c.restore.ensures.cause.no_page id its)
+      (leaves_passed old.world mid.world c.restore.result c.from_residual.result _ c.in_err-base.was c.from_residual.ensures.0 (search rules) (c.restore.ensures.only t).untouched);
+  kept = search rules;
+}
+
+pub returns-in-Err-clause-base : goal.returns-in-Err-clause-base
+returns-in-Err-clause-base g c t = record {
+  bad =
+      let old = g.H.Device.history c.args.host.now in
+      let mid = g.H.Device.history c.restore.new.host in
+      let new = g.H.Device.history c.open_restored.new.host in
+      let wanted = c.args.config.now.shape in
+      let base = c.in_ok-base.base in
+      let checkpoint = in_force (image_of old.world) in
+      let is_base = c.in_ok-base.ensures.base.1 t in
+      let keeps = (c.in_ok-base.ensures.only t).base in
+      let same = restored_is checkpoint base.mark mid.world is_base.mark in
+      let loaded : HasGoodBase wanted checkpoint mid.world → AllWellFormed wanted (loaded_base base.mark mid.world) = λ good. subst (λ (p : Partitions). AllWellFormed wanted p) (sym same) good.well_formed in
+      let stray : HasGoodBase wanted checkpoint mid.world → HasNoStrayPages wanted (ended_with base.mark) mid.world = λ good. stray_marked wanted checkpoint base.mark mid.world is_base.mark good.none_stray in
+      let base_fits = c.in_ok-base.ensures.base.0 in
+      let leads = cut_leads wanted checkpoint old.world mid.world base base_fits is_base (c.in_ok-base.ensures.only t).log in
+      let restored = c.open_restored.ensures.any t in
+      let any = restored.over_any leads in
+      open_cause_in g.H.Device.tells wanted checkpoint old.world new.world c.in-Err.fault
+      (λ id is. record {
+        mid = mid.world;
+        keeps = keeps;
+        bad = λ good. restored.bad_page id (c.in-Err.is ∙ ap Err is) (loaded good) (stray good);
+        frames = is_base.ends.frames;
+        records = opened_records wanted checkpoint old.world mid.world base is_base;
+        meets = λ may_change all. subst (λ (p : Partitions). MeetsBadPage g.H.Device.tells may_change wanted p id) same (any.meets may_change all id (c.in-Err.is ∙ ap Err is));
+      })
+      (λ at is.
+      inr (
+        base.log_end,
+        subst (λ (p : Place). LogEndsAt (contents old.world.log) p base.log_end) is_base.replay is_base.ends,
+        refused_uncut wanted checkpoint old.world mid.world new.world base at is_base (c.in_ok-base.ensures.only t).log (any.refuses at (c.in-Err.is ∙ ap Err is)),
+        mid.world,
+        keeps,
+        λ good. bad_uncut wanted checkpoint old.world mid.world new.world base at is_base (c.in_ok-base.ensures.only t).log (restored.bad_record at (c.in-Err.is ∙ ap Err is) (loaded good) (stray good)),
+      ));
+  kept = tt;
+}
+
+pub returns-in-Ok-clause-base : goal.returns-in-Ok-clause-base
+returns-in-Ok-clause-base g c t = record {
+  bad = tt;
+  kept =
+      let old = g.H.Device.history c.args.host.now in
+      let mid = g.H.Device.history c.restore.new.host in
+      let new = g.H.Device.history c.open_restored.new.host in
+      let wanted = c.args.config.now.shape in
+      let base = c.in_ok-base.base in
+      let checkpoint = in_force (image_of old.world) in
+      let is_base = c.in_ok-base.ensures.base.1 t in
+      let leads = cut_leads wanted checkpoint old.world mid.world base c.in_ok-base.ensures.base.0 is_base (c.in_ok-base.ensures.only t).log in
+      let restored = c.open_restored.ensures.any t in
+      let any = restored.over_any leads in
+      record {
+        mid = mid.world;
+        keeps = (c.in_ok-base.ensures.only t).base;
+        frames = is_base.ends.frames;
+        records = opened_records wanted checkpoint old.world mid.world base is_base;
+        pages = λ may_change all.
+            subst (λ (p : Partitions). KeepsBasePagesBut wanted may_change p (pages_in_frames c.in-Ok.engine.store new.world)) (restored_is checkpoint base.mark mid.world is_base.mark)
+            (subst (λ r. IfOk r (λ (engine : FrameRunning). KeepsBasePagesBut wanted may_change (loaded_base base.mark mid.world) (pages_in_frames engine.store new.world))) c.in-Ok.is (any.pages may_change all));
+      };
+}

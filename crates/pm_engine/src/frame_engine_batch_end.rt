@@ -1,4 +1,4 @@
-//! When the engine over page frames makes a checkpoint after a batch.
+//! How the engine over page frames ends a batch: with a force, and with a checkpoint where one is due.
 
 ghost use Rattle.std.specs.Prelude.{◌≡◌, ℕ, [], true, false, length, OnOk};
 ghost use Rattle.pm_disk.specs.States.{IsUsable};
@@ -19,7 +19,7 @@ impl FrameEngine {
     /// Forces the log, and makes a checkpoint where one is due. It takes no memory.
     ///
     /// After `Failed` the engine is closed, and the store on the disk holds what it held.
-    pub(crate) fn settle<H: Host>(
+    pub(crate) fn end_batch<H: Host>(
         &mut self,
         host: &mut H,
         config: &Config,

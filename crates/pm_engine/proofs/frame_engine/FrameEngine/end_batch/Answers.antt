@@ -1,6 +1,6 @@
 use Rattle.std.proofs.Common.{sym, ◌∙◌}
 use Rattle.pm_engine.proofs.FrameSettled.{force_failed, looked_runs, looked_lasts, looked_at_rest, looked_due, then_runs, then_lasts, then_at_rest}
-use Rattle.pm_engine.proofs.frame_engine.FrameEngine.settle.Goals as goal
+use Rattle.pm_engine.proofs.frame_engine.FrameEngine.end_batch.Goals as goal
 
 pub returns-in-Err-clause-runs : goal.returns-in-Err-clause-runs
 returns-in-Err-clause-runs g c first list =
