@@ -3,5 +3,6 @@ pub mod Cuts
 pub mod Joins
 pub mod Lodging
 pub mod Shells
+pub mod Shown
 pub mod Spans
 pub mod Written

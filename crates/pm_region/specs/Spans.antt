@@ -1,9 +1,9 @@
 -- What a span is.
-use Rattle.std.specs.Prelude.{◌≡◌, ℕ, List}
+use Rattle.std.specs.Prelude.{◌≡◌, ℕ}
 use denote.RawPtr.{Ptr}
 use Rattle.pm_region.specs.declared.memory.Span.{Span}
 
--- the span's bytes are these, and lie from this origin on
-pub record IsSpan (span : Span) (at : Ptr) (items : List ℕ) : Type 0 where
+-- the span is room for so many bytes, from this origin on
+pub record IsSpan (span : Span) (at : Ptr) (size : ℕ) : Type 0 where
   pub lies : span.origin ≡ at
-  pub holds : span.bytes ≡ items
+  pub long : span.len ≡ size

@@ -1,45 +1,46 @@
-//! The block's bytes in parts, and vectors that lie in them: all of this crate's raw pointers.
+//! The block's room in parts, and vectors that lie in them: all of this crate's raw pointers.
 //!
 //! Six functions are proved by hand: `Span::cut`, `Span::join`, `open`, `close`, `over`, `under`.
 
-ghost use Rattle.std.specs.Prelude.{◌≡◌, ℕ, ◌+◌, ◌^◌, ◌<◌, ◌≤◌, List, ◌++◌, length, take, drop, vec_len};
-ghost use Rattle.std.specs.Vec.{vec_ptr, with_items};
-ghost use base.Fml.{ftrue, fex, fall, fwand, fsep, feq};
+ghost use Rattle.std.specs.Prelude.{◌≡◌, ℕ, ◌+◌, ◌-◌, ◌^◌, ◌<◌, ◌≤◌, replicate, vec_len, vec_capacity};
+ghost use Rattle.std.specs.Vec.{vec_ptr};
+ghost use base.Fml.{ftrue, fex, fwand, fsep, feq};
 ghost use denote.RawPtr.{Ptr, InBlock, ◌+ₚ◌};
-ghost use Rattle.pm_region.specs.Memory.{bytes_lie, Hollow, hollow, hollow_code};
+ghost use Rattle.pm_region.specs.Memory.{room_lies, Hollow, hollow, hollow_code};
 
 use std::marker::{Model, Move, Owns};
 use std::mem::ManuallyDrop;
 use std_alloc::vec::{Lodged, lodge};
 
-/// The bytes from an origin on, which nothing else can reach. It takes no memory.
+/// Room for `len` bytes from an origin on, which nothing else can reach, whether or not any were
+/// written there. It takes no memory itself.
 #[derive(Drop)]
 pub(crate) struct Span {
     ghost origin: { Ptr },
-    ghost bytes: { List ℕ },
+    ghost len: { ℕ },
 }
 
 impl Model for Span {
-    ghost also_owns = { λ s. bytes_lie s.origin s.bytes };
+    ghost also_owns = { λ s. room_lies s.origin s.len };
 }
 
 impl Span {
     ghost use Rattle.pm_region.specs.Spans.{IsSpan};
 
-    /// The first `at` bytes, and the others.
+    /// The room of the first `at` bytes, and that of the others.
     fn cut(self, at: usize) -> (Span, Span)
-        requires { at ≤ length self.bytes }
-        ensures { IsSpan result.0 self.origin (take at self.bytes)
-            × IsSpan result.1 (self.origin +ₚ at) (drop at self.bytes) }
+        requires { at ≤ self.len }
+        ensures { IsSpan result.0 self.origin at
+            × IsSpan result.1 (self.origin +ₚ at) (self.len - at) }
     {
         let Span {} = self;
         (Span {}, Span {})
     }
 
-    /// These bytes, and the ones that follow right after them.
+    /// This room, and the one that follows right after it.
     pub(crate) fn join(self, following: Span) -> Span
-        requires { following.origin ≡ self.origin +ₚ length self.bytes }
-        ensures { IsSpan result self.origin (self.bytes ++ following.bytes) }
+        requires { following.origin ≡ self.origin +ₚ self.len }
+        ensures { IsSpan result self.origin (self.len + following.len) }
     {
         let Span {} = self;
         let Span {} = following;
@@ -47,7 +48,7 @@ impl Span {
     }
 }
 
-/// A vector whose bytes are out. It can't be freed until they are back.
+/// A vector whose room is out. It can't be freed until that is back.
 pub(crate) struct Shell {
     vec: Vec<u8>,
 }
@@ -61,11 +62,9 @@ impl Owns for Shell {
 }
 
 impl Move for Shell {
-    // Some vector of this length, which any bytes that lie from the origin on make whole again.
-    ghost own_val = { λ h us. fex Inside (λ i. fsep (feq ℕ i.vec.len h.len)
-        (fall (List ℕ) (λ xs. fwand
-        (fsep (feq ℕ (length xs) h.len) (bytes_lie h.origin xs))
-        (Fields.own_val (record { vec = with_items i.vec xs }) us)))) };
+    // Some vector of this capacity, which the room from the origin on makes whole again.
+    ghost own_val = { λ h us. fex Inside (λ i. fsep (feq ℕ i.vec.cap h.len)
+        (fwand (room_lies h.origin h.len) (Fields.own_val i us))) };
 }
 
 // The heap's blocks may be given back by any thread, and a `&` shows nothing.
@@ -74,50 +73,67 @@ unsafe impl Send for Shell {}
 unsafe impl Sync for Shell {}
 
 impl Shell {
-    /// Lets the vector go without its bytes: its memory is not given back.
+    /// Lets the vector go without its room: its memory is not given back.
     pub(crate) fn forget(self) {
         let _kept = unsafe { ManuallyDrop::new_unchecked(self) };
     }
 }
 
-/// The vector's bytes, and the vector without them.
+/// The room of a vector that has no bytes, and the vector without it.
 fn open(vec: Vec<u8>) -> (Span, Shell)
-    requires { 0 < vec_len vec }
-    ensures { (result.0.origin ≡ vec_ptr vec) × (result.0.bytes ≡ vec.items)
-        × (result.1 ≡ hollow (vec_ptr vec) (vec_len vec)) × InBlock (vec_ptr vec) }
+    requires { (vec_len vec ≡ 0) × (0 < vec_capacity vec) }
+    ensures { (result.0.origin ≡ vec_ptr vec) × (result.0.len ≡ vec_capacity vec)
+        × (result.1 ≡ hollow (vec_ptr vec) (vec_capacity vec)) × InBlock (vec_ptr vec) }
 {
     (Span {}, Shell { vec })
 }
 
-/// The vector with its bytes back, whatever they are now.
+/// The vector with its room back, whatever was written there.
 pub(crate) fn close(span: Span, shell: Shell) -> Vec<u8>
-    requires { (span.origin ≡ shell.origin) × (length span.bytes ≡ shell.len) }
-    ensures { result.items ≡ span.bytes }
+    requires { (span.origin ≡ shell.origin) × (span.len ≡ shell.len) }
+    ensures { vec_capacity result ≡ span.len }
 {
     let Span {} = span;
     let Shell { vec } = shell;
     vec
 }
 
-/// A vector over these bytes, which neither grows nor frees them.
+/// A vector without bytes over this room, which it neither leaves nor frees.
 fn over(origin: *mut u8, len: usize, span: Span) -> Vec<u8, Lodged>
-    requires { (span.origin ≡ origin) × (length span.bytes ≡ len) × (0 < len) × (len < 2 ^ 63) }
-    ensures { (vec_ptr result ≡ origin) × (vec_len result ≡ len) × (result.items ≡ span.bytes) }
+    requires { (span.origin ≡ origin) × (span.len ≡ len) × (0 < len) × (len < 2 ^ 63) }
+    ensures { (vec_ptr result ≡ origin) × (vec_capacity result ≡ len) × (vec_len result ≡ 0) }
 {
     let Span {} = span;
-    unsafe { lodge(origin, len, len) }
+    unsafe { lodge(origin, 0, len) }
 }
 
-/// The bytes that a vector lies over.
+/// The room that a vector lies over, whatever it has written there.
 pub(crate) fn under(vec: Vec<u8, Lodged>) -> Span
-    requires { 0 < vec_len vec }
-    ensures { (result.origin ≡ vec_ptr vec) × (result.bytes ≡ vec.items) }
+    requires { 0 < vec_capacity vec }
+    ensures { (result.origin ≡ vec_ptr vec) × (result.len ≡ vec_capacity vec) }
 {
     let _len = vec.dislodge();
     Span {}
 }
 
-/// The bytes of a block that are in no vector yet.
+/// A vector that had no bytes, with zeros in all of its room.
+///
+/// It is passed by value, so that its fields stay in registers and the compiler makes one `memset`
+/// of the loop. Behind a `&mut` each byte is a write of its own, which takes over ten times as long.
+pub(crate) fn cleared(room: Vec<u8, Lodged>) -> Vec<u8, Lodged>
+    requires { vec_len room ≡ 0 }
+    ensures bytes { result.items ≡ replicate (vec_capacity room) 0 }
+    ensures len { vec_len result ≡ vec_capacity room }
+    ensures in_place { (vec_ptr result ≡ vec_ptr room) × (vec_capacity result ≡ vec_capacity room) }
+{
+    let mut memory = room;
+    'zeros: while memory.len() < memory.capacity() {
+        memory.push_reserved(0);
+    }
+    memory
+}
+
+/// The room of a block that is in no vector yet.
 #[derive(Drop)]
 pub(crate) struct Rest {
     origin: *mut u8,
@@ -139,11 +155,11 @@ impl Model for Rest {
 impl Rest {
     ghost use Rattle.pm_region.specs.Spans.{IsSpan};
 
-    /// The bytes of a vector, none of which are in another one, and the vector without them.
+    /// The room of a vector that has no bytes, and the vector without it.
     pub(crate) fn of(mut vec: Vec<u8>) -> (Rest, Shell)
-        requires { 0 < vec_len vec }
-        ensures bytes { IsSpan result.0 (vec_ptr vec) vec.items }
-        ensures shell { result.1 ≡ hollow (vec_ptr vec) (vec_len vec) }
+        requires { (vec_len vec ≡ 0) × (0 < vec_capacity vec) }
+        ensures room { IsSpan result.0 (vec_ptr vec) (vec_capacity vec) }
+        ensures shell { result.1 ≡ hollow (vec_ptr vec) (vec_capacity vec) }
         ensures placed { InBlock (vec_ptr vec) }
     {
         let origin = vec.as_mut_ptr();
@@ -151,14 +167,14 @@ impl Rest {
         (Rest { origin, span }, shell)
     }
 
-    /// A vector over the first `len` bytes, and the other bytes.
+    /// A vector without bytes over the first `len` bytes' room, and the other room.
     pub(crate) fn take(self, len: usize) -> (Vec<u8, Lodged>, Rest)
         requires some { 0 < len }
-        requires within { len ≤ length self.bytes }
+        requires within { len ≤ self.len }
         requires small { len < 2 ^ 63 }
         ensures origin { (vec_ptr result.0 ≡ self.origin) × InBlock self.origin }
-        ensures bytes { (result.0.items ≡ take len self.bytes) × (vec_len result.0 ≡ len) }
-        ensures rest { IsSpan result.1 (self.origin +ₚ len) (drop len self.bytes) }
+        ensures room { (vec_capacity result.0 ≡ len) × (vec_len result.0 ≡ 0) }
+        ensures rest { IsSpan result.1 (self.origin +ₚ len) (self.len - len) }
     {
         let Rest { origin, span } = self;
         let (front, others) = span.cut(len);

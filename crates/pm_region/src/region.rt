@@ -40,8 +40,9 @@ impl Region {
     ghost use Rattle.pm_region.specs.Lease.{ShareNoByte};
     ghost use Rattle.pm_region.specs.Region.{AreLeasesOf};
 
-    /// A block of zeros, cut into `frames` leases of `size` bytes each. Fails where memory runs
-    /// out, and then keeps none.
+    /// A block of memory, cut into `frames` leases of `size` zeros each. Fails where memory runs
+    /// out, and then keeps none. Of the block this touches only leases that are larger than the
+    /// largest page.
     pub fn new(alloc: Global, frames: u32, size: u32) -> Result<(Region, Vec<Lease>), AllocError>
         requires frames { 1 ≤ frames }
         requires size { 1 ≤ size }
@@ -53,8 +54,7 @@ impl Region {
     {
         let total = frames as usize * size as usize;
         let leases = Vec::with_capacity(alloc, frames as usize)?;
-        let mut block = Vec::with_capacity(alloc, total)?;
-        block.resize(total, 0)?;
+        let block = Vec::with_capacity(alloc, total)?;
         let (rest, shell) = Rest::of(block);
         let leases = leases_of(rest, frames, size as usize, leases);
         Ok((
@@ -71,31 +71,31 @@ impl Region {
     pub fn close(self, leases: Vec<Lease>)
         requires { AreLeasesOf self leases.items }
     {
-        let bytes = self.joined(leases);
+        let room = self.joined(leases);
         let Region {
             shell,
             frames: _,
             size: _,
         } = self;
-        drop(close(bytes, shell));
+        drop(close(room, shell));
     }
 
-    // The bytes of all leases.
+    // The room of all leases.
     fn joined(&self, mut leases: Vec<Lease>) -> Span
         requires { AreLeasesOf self.now leases.items }
         ensures { (extent_at result.origin self.now.frames self.now.size ≡ self.now)
             × InBlock result.origin
-            × (length result.bytes ≡ self.now.frames * self.now.size) }
+            × (result.len ≡ self.now.frames * self.now.size) }
     {
         prove!(self.frames > 0);
         let Some(last) = leases.pop() else {
             unreachable!();
         };
-        let mut bytes = last.into_span();
+        let mut room = last.into_span();
         'joins: while let Some(lease) = leases.pop() {
-            bytes = lease.into_span().join(bytes);
+            room = lease.into_span().join(room);
         }
-        bytes
+        room
     }
 }
 
@@ -111,17 +111,17 @@ impl Drop for Region {
     }
 }
 
-// The leases of a block of zeros, in order.
+// The leases of a block in order, each of them zeros.
 fn leases_of(rest: Rest, frames: u32, size: usize, mut leases: Vec<Lease>) -> Vec<Lease>
     requires leases { (leases.items ≡ []) × (frames ≤ vec_capacity leases) }
     requires size { (0 < size) × (size < 2 ^ 32) }
-    requires bytes { rest.bytes ≡ replicate (frames * size) 0 }
+    requires room { rest.len ≡ frames * size }
     ensures { AreFresh (extent_at rest.origin frames size) result.items }
 {
     let mut rest = rest;
     'cuts: for number in 0..frames {
-        let (memory, others) = rest.take(size);
-        leases.push_reserved(Lease::new(number, memory));
+        let (room, others) = rest.take(size);
+        leases.push_reserved(Lease::new(number, room));
         rest = others;
     }
     leases
@@ -153,9 +153,10 @@ mod tests {
         Ok(())
     }
 
-    // A region of 1 MiB, made and closed.
+    // A region of 1 MiB, made and closed. Leases of this size are written when they are made, so
+    // that the system has to find memory for the block.
     fn make_and_close(alloc: Global) -> Result<(), AllocError> {
-        let (region, leases) = Region::new(alloc, 256, 4096)?;
+        let (region, leases) = Region::new(alloc, 16, 65_536)?;
         region.close(leases);
         Ok(())
     }
@@ -166,6 +167,49 @@ mod tests {
         for _ in 0..25_600 {
             make_and_close(rt.alloc())?;
         }
+        Ok(())
+    }
+
+    // How many bytes of a lease are not zero.
+    fn nonzero(lease: &Lease) -> usize {
+        lease.bytes().iter().filter(|byte| **byte != 0).count()
+    }
+
+    #[test]
+    fn a_lease_that_was_never_written_is_zeros(rt: HostRuntime) -> Result<(), Fail> {
+        let (region, leases) = Region::new(rt.alloc(), 2, 4096)?;
+        assert_eq!(rt; leases.len(), 2);
+        assert_eq!(rt; (leases[0].bytes().len(), nonzero(&leases[0])), (4096, 0));
+        assert_eq!(rt; (leases[1].bytes().len(), nonzero(&leases[1])), (4096, 0));
+        region.close(leases);
+        Ok(())
+    }
+
+    #[test]
+    fn writing_a_lease_leaves_the_others_zeros(rt: HostRuntime) -> Result<(), Fail> {
+        let (_region, mut leases) = Region::new(rt.alloc(), 3, 4096)?;
+        assert_eq!(rt; leases.len(), 3);
+        leases[0].bytes_mut()[7] = 9;
+        assert_eq!(rt;
+            (
+                nonzero(&leases[0]),
+                nonzero(&leases[1]),
+                nonzero(&leases[2])
+            ),
+            (1, 0, 0)
+        );
+        assert_eq!(rt; leases[1].bytes_mut().len(), 4096);
+        assert_eq!(rt; (nonzero(&leases[0]), nonzero(&leases[1])), (1, 0));
+        Ok(())
+    }
+
+    #[test]
+    fn leases_larger_than_a_page_are_zeros(rt: HostRuntime) -> Result<(), Fail> {
+        let (region, leases) = Region::new(rt.alloc(), 2, 20_000)?;
+        assert_eq!(rt; leases.len(), 2);
+        assert_eq!(rt; (leases[0].bytes().len(), nonzero(&leases[0])), (20_000, 0));
+        assert_eq!(rt; (leases[1].bytes().len(), nonzero(&leases[1])), (20_000, 0));
+        region.close(leases);
         Ok(())
     }
 

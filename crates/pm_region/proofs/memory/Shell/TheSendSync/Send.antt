@@ -1,23 +1,21 @@
 -- A shell may cross threads: what it waits for, and what it then is, names no thread.
-use Rattle.std.proofs.Common.{ℕ, List, length}
+use Rattle.std.proofs.Common.{ℕ}
 use Rattle.std.proofs.Crossing.{Vec-send}
-use Rattle.std.specs.Vec.{with_items}
-use Rattle.std_alloc.proofs.SendSync.{lies}
 use base.Shift.{Keyless}
-use denote.Array.{Array}
 use denote.Builtin.{u8}
-use denote.Param.Send.{IsSend, array_send, sendable, struct_send}
-use denote.RawPtr.{Ptr}
+use denote.Param.Send.{IsSend, sendable, struct_send}
+use denote.RawPtr.{Ptr, block_ptr, null_ptr}
 use denote.Struct.Declared.{shape}
-use Rattle.pm_region.specs.Memory.{bytes_lie}
+use Rattle.pm_region.specs.Memory.{room_lies}
 use Rattle.pm_region.specs.contracts.memory.Shell as Shell
 use Rattle.pm_region.specs.contracts.memory.Shell.TheInside as fields
 
 byte : IsSend u8
 byte = search sendable
 
-bytes : (origin : Ptr) (xs : List ℕ) → Keyless (bytes_lie origin xs)
-bytes origin xs = lies (Array u8 (length xs)) (array_send u8 (length xs) byte) origin xs
+room : (origin : Ptr) (n : ℕ) → Keyless (room_lies origin n)
+room (block_ptr b o) n = tt
+room null_ptr n = tt
 
 pub send : IsSend Shell.the_row
 send = record {
@@ -25,7 +23,7 @@ send = record {
     λ typed. tt,
     λ i. (
       tt,
-      λ xs. ((tt, bytes h.origin xs), (struct_send (shape fields.the_type) (Vec-send u8 byte, tt)).owned (with_items i.vec xs, tt) us),
+      (room h.origin h.len, (struct_send (shape fields.the_type) (Vec-send u8 byte, tt)).owned (i.vec, tt) us),
     ),
   );
   leaving = λ k x w. tt;
