@@ -62,6 +62,8 @@ impl Model for Ckpt {
 impl Ckpt {
     /// What is kept for checkpoints of a store with this shape, which has memory for as many pages as there
     /// are `frames`. The store's start marker in force has the mark `mark`; None where it has no start marker.
+    ///
+    /// It answers `AllocError` where memory for the lists of so many pages runs out.
     pub fn new(
         alloc: Global,
         shape: Shape,

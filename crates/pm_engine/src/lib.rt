@@ -8,6 +8,7 @@ mod frame_dirty;
 mod frame_engine;
 mod frame_engine_batch;
 mod frame_engine_batch_end;
+mod frame_engine_between_lines;
 mod frame_engine_checkpoint;
 mod frame_engine_forcing;
 mod frame_engine_lines;

@@ -1,19 +1,14 @@
 //! A lease: one frame's own piece of page memory.
 
-ghost use Rattle.std.specs.Prelude.{◌≡◌, length, replicate, vec_len, vec_capacity};
+ghost use Rattle.std.specs.Prelude.{◌≡◌, length, vec_len, vec_capacity};
 ghost use Rattle.std.specs.Borrow.{sem};
 ghost use Rattle.std.specs.Vec.{vec_ptr};
-ghost use Rattle.pm_region.specs.Memory.{shown, IsAllOrNone};
 
-use crate::memory::{Span, cleared, under};
-use pm_types::{FrameNo, PAGE_SIZE_MAX};
+use crate::memory::{Span, under};
+use crate::zeros::{bytes_of, clear_once, with_zeros};
+use pm_types::FrameNo;
 use std::marker::Model;
-use std::mem;
 use std_alloc::vec::Lodged;
-
-// What a lease shows until it is written. No page frame is larger than the largest page; the
-// program has as many bytes more of constants.
-static ZEROS: [u8; PAGE_SIZE_MAX] = [0; PAGE_SIZE_MAX];
 
 /// A piece of a region, which nothing else can reach. Contracts see it as its number, its bytes and
 /// their range in the region's block. Dropping it gives no memory back.
@@ -94,44 +89,5 @@ impl Lease {
     {
         clear_once(&mut self.memory);
         self.memory.as_mut_slice()
-    }
-}
-
-// Room as the memory of a lease of zeros. It is cleared at once if `ZEROS` is too short for it.
-fn with_zeros(room: Vec<u8, Lodged>) -> Vec<u8, Lodged>
-    requires { vec_len room ≡ 0 }
-    ensures zeros { shown (vec_capacity room) result.items ≡ replicate (vec_capacity room) 0 }
-    ensures all_or_none { IsAllOrNone (vec_capacity room) (vec_len result) }
-    ensures in_place { (vec_ptr result ≡ vec_ptr room) × (vec_capacity result ≡ vec_capacity room) }
-{
-    if room.capacity() > PAGE_SIZE_MAX {
-        return cleared(room);
-    }
-    room
-}
-
-// The bytes of a lease that has this memory.
-fn bytes_of(memory: &Vec<u8, Lodged>) -> &[u8]
-    requires { IsAllOrNone (vec_capacity memory.now) (vec_len memory.now) }
-    ensures bytes { result.now ≡ shown (vec_capacity memory.now) memory.now.items }
-    ensures len { length result.now ≡ vec_capacity memory.now }
-{
-    if memory.is_empty() {
-        return &ZEROS[..memory.capacity()];
-    }
-    memory
-}
-
-// Clears memory that wasn't cleared yet, so that it has the bytes that the lease shows.
-fn clear_once(memory: &mut Vec<u8, Lodged>)
-    requires { IsAllOrNone (vec_capacity memory.old) (vec_len memory.old) }
-    ensures bytes { memory.new.items ≡ shown (vec_capacity memory.old) memory.old.items }
-    ensures len { vec_len memory.new ≡ vec_capacity memory.old }
-    ensures in_place { (vec_ptr memory.new ≡ vec_ptr memory.old)
-        × (vec_capacity memory.new ≡ vec_capacity memory.old) }
-{
-    if memory.is_empty() {
-        let room = mem::replace(memory, Vec::new(Lodged));
-        *memory = cleared(room);
     }
 }

@@ -4,6 +4,7 @@
 mod lease;
 mod memory;
 mod region;
+mod zeros;
 
 pub use lease::Lease;
 pub use region::{REGION_BYTES_MAX, Region};

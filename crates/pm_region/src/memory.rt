@@ -2,7 +2,7 @@
 //!
 //! Six functions are proved by hand: `Span::cut`, `Span::join`, `open`, `close`, `over`, `under`.
 
-ghost use Rattle.std.specs.Prelude.{◌≡◌, ℕ, ◌+◌, ◌-◌, ◌^◌, ◌<◌, ◌≤◌, replicate, vec_len, vec_capacity};
+ghost use Rattle.std.specs.Prelude.{◌≡◌, ℕ, ◌+◌, ◌-◌, ◌^◌, ◌<◌, ◌≤◌, vec_len, vec_capacity};
 ghost use Rattle.std.specs.Vec.{vec_ptr};
 ghost use base.Fml.{ftrue, fex, fwand, fsep, feq};
 ghost use denote.RawPtr.{Ptr, InBlock, ◌+ₚ◌};
@@ -114,23 +114,6 @@ pub(crate) fn under(vec: Vec<u8, Lodged>) -> Span
 {
     let _len = vec.dislodge();
     Span {}
-}
-
-/// A vector that had no bytes, with zeros in all of its room.
-///
-/// It is passed by value, so that its fields stay in registers and the compiler makes one `memset`
-/// of the loop. Behind a `&mut` each byte is a write of its own, which takes over ten times as long.
-pub(crate) fn cleared(room: Vec<u8, Lodged>) -> Vec<u8, Lodged>
-    requires { vec_len room ≡ 0 }
-    ensures bytes { result.items ≡ replicate (vec_capacity room) 0 }
-    ensures len { vec_len result ≡ vec_capacity room }
-    ensures in_place { (vec_ptr result ≡ vec_ptr room) × (vec_capacity result ≡ vec_capacity room) }
-{
-    let mut memory = room;
-    'zeros: while memory.len() < memory.capacity() {
-        memory.push_reserved(0);
-    }
-    memory
 }
 
 /// The room of a block that is in no vector yet.

@@ -36,10 +36,10 @@ pub enum StoreFault {
     /// Memory ran out.
     #[error("out of memory")]
     Memory,
-    /// A page that was read fails its check, or holds a pointer that does.
+    /// A page that was read fails its check or isn't in its file, or it names a page or a row that isn't there.
     #[error("bad page {0}")]
     BadPage(PageId),
-    /// A record of the log fails its check.
+    /// A record of the log fails its check, or isn't one that may stand at its place.
     #[error("bad record {0}")]
     BadRecord(Place),
 }
@@ -61,7 +61,7 @@ pub enum PageFault {
     /// A call on the disk failed.
     #[error("a disk call failed")]
     Failed,
-    /// The page that was read fails its check, or holds a pointer that does.
+    /// The page that was read fails its check or isn't in its file, or it names a page or a row that isn't there.
     #[error("bad page {0}")]
     BadPage(PageId),
 }

@@ -2,7 +2,7 @@ use Rattle.std.proofs.Common.{◌≡◌, vec_len, sym, ap, ◌∙◌, take, repl
 use Rattle.std.proofs.lemmas.Bool.{eqb-true}
 use Rattle.pm_types.specs.declared.limits.TheConstants.{PAGE_SIZE_MAX}
 use Rattle.pm_region.proofs.Shown.{shown_of_a_page}
-use Rattle.pm_region.proofs.lease.bytes_of.Goals as goal
+use Rattle.pm_region.proofs.zeros.bytes_of.Goals as goal
 
 pub returns-then-is_empty-clause-bytes : goal.returns-then-is_empty-clause-bytes
 returns-then-is_empty-clause-bytes c =

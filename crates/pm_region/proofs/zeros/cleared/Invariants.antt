@@ -1,6 +1,6 @@
 use Rattle.std.proofs.Common.{◌≡◌, ◌-◌, replicate, vec_len, vec_capacity}
 use Rattle.std.specs.Vec.{vec_ptr}
-use Rattle.pm_region.proofs.memory.cleared.Given as goal
+use Rattle.pm_region.proofs.zeros.cleared.Given as goal
 
 abbrev pub invariant-zeros : goal.invariant-zeros
 invariant-zeros l = record {
