@@ -220,8 +220,8 @@ is_alone Long = false
 abbrev pub AreRoundLines : List Line → Type 0
 AreRoundLines lines = (i : ℕ) (line : Line) → slice_get lines i ≡ Some line → is_alone line ≡ false
 
--- How many lines a round did, if it may be followed by another one. Memory lacks where none was done, but not for lack
--- of frames.
+-- How many lines a round did, if it may be followed by another one. Memory lacks only where none was done, no page failed,
+-- and the next round may go on.
 abbrev pub CountsRound : RoundEnd → Result ℕ StoreFault → Type 0
 CountsRound end (Ok count) = (count ≡ end.done) × (may_go_on end.stop ≡ true)
 CountsRound end (Err fault) =
@@ -245,8 +245,8 @@ CountsScan (Err (scan.Halted halt)) result = (result ≡ Ok 0) ⊎ (result ≡ E
 CountsScan (Err scan.Memory) result = result ≡ Err Memory
 CountsScan (Err (scan.Faulted fault)) result = result ≡ Err (store_fault_of fault)
 
--- A round of some of these lines was run, or the first one is a scan and was tried: it is said how many were done.
--- Where none was, frames are lacking for the first one.
+-- A round of some of these lines was run, or the first one is a scan and was tried: it is said how many were done, perhaps
+-- none.
 pub record TriesLines (tells : Type 0) (old new : History) (first : ℕ) (lines : List Line) (before now : FrameRunning)
     (was replies : ReplyList) (result : Result ℕ StoreFault) : Type 0 where
   pub inside : IfOk result (λ count. count ≤ length lines)

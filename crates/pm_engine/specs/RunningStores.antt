@@ -106,8 +106,8 @@ pub record HoldsPages (store : StoreState) : Type 0 where
 
 -- The store's log runs, with this map as the newest one, and its frames rebuild exactly the logged pages.
 --
--- `files` are the pages of the partitions' files that the store loaded or wrote. A file may have others, which
--- a page count doesn't reach.
+-- `files` are the pages of the partitions' files that the store knows. A file may have others, which a page count doesn't
+-- reach.
 pub record RunsOver (wanted : Shape) (told : List ℕ → ℕ) (store : StoreState) (pairs : Pairs) (s : State)
     (world : World) : Type 0 where
   pub is_shape : IsShape store.shape

@@ -21,8 +21,8 @@ use std::sync::Wait;
 
 impl FrameEngine {
     /// Runs a batch of lines, of which the first has the number `first`, appends their replies, and forces the log. The
-    /// lines are done in rounds, each up to the next scan or `checkpoint` line. A `checkpoint` line makes a checkpoint
-    /// before it is answered. So does a line for which frames are lacking, and the end of the batch where one is due
+    /// lines are done in rounds, each up to the next scan or `checkpoint` line, or to one for which the outbox has too
+    /// little room or frames are lacking. A `checkpoint` line makes a checkpoint before it is answered. So does a line for which frames are lacking, and the end of the batch where one is due
     /// then. The configuration has as many frames as the engine.
     ///
     /// Out of memory leaves a prefix of the lines done and answered, and the engine open; it comes too where frames are

@@ -28,8 +28,8 @@ use std::sync::Wait;
 
 impl FrameEngine {
     /// Tries the first of these lines once: a scan alone, and else a round of lines up to the next scan or `checkpoint`
-    /// line. It says how many lines were done. None is where frames are lacking for the first one, and no page changed
-    /// then. The first line asks for no checkpoint.
+    /// line, or to one for which the outbox has too little room or frames are lacking. It says how many lines were done.
+    /// Where none was, no page changed. The first line asks for no checkpoint.
     ///
     /// Out of memory leaves a prefix of the lines done and answered, and the engine open. Any other fault closes it.
     pub(crate) fn try_lines<Q: Wait, H: Host>(

@@ -3,7 +3,7 @@
 
 ghost use Rattle.std.specs.Prelude.{◌≡◌, ◌≢◌, ℕ, ◌≤◌, ◌<◌, ◌⊎◌, true, false};
 ghost use Rattle.std.specs.Prelude.{IsTrue, IfOk, OnOk, length};
-ghost use Rattle.pm_types.specs.declared.limits.TheConstants.{CACHES};
+ghost use Rattle.pm_types.specs.declared.limits.TheConstants.{CACHES, OP_PAGES};
 ghost use Rattle.pm_types.specs.PageSizes.{IsPageSize};
 ghost use Rattle.pm_types.specs.Keys.{HasKeyLength};
 ghost use Rattle.pm_meta.specs.declared.slots.MetaSlot.TheVariants.{Root};
@@ -13,7 +13,7 @@ ghost use Rattle.pm_btpage.specs.IndexPages.{IsIndexPage, index_of, items_of};
 ghost use Rattle.pm_pages.specs.Rows.{kind_of};
 ghost use Rattle.pm_pages.specs.PageLists.{IsReadable};
 ghost use Rattle.pm_pages.specs.Paged.{AllReadable, NoneLent};
-ghost use Rattle.pm_part.specs.Reads.{ReadsPages};
+ghost use Rattle.pm_part.specs.Reads.{ReadsPages, HasBudget};
 ghost use Rattle.pm_part.specs.PairReads.{SinceReads, AppendsPairs, IsDownOn, IsDown, HadPair};
 ghost use Rattle.pm_part.specs.PairReads.{HadPairs, WasLeaf, HadLeaf, HadAllLeaves, WasFirstLeaf};
 ghost use Rattle.pm_part.specs.PairReads.{HadTree, HadTreePairs};
@@ -27,7 +27,7 @@ use pm_meta::MetaSlot;
 use pm_pages::{LEVELS_MAX, Pages, find_number, number};
 use pm_tree::child;
 use pm_types::head::KIND_AT;
-use pm_types::{Key, Link, PAGE_SIZE_MAX, PageFault, PageId, StoreFault, Value};
+use pm_types::{Key, Link, OP_PAGES, PAGE_SIZE_MAX, PageFault, PageId, StoreFault, Value};
 use std::alloc::Global;
 
 /// What a page on the way to the first leaf is.
@@ -41,8 +41,8 @@ enum Down {
     Other,
 }
 
-/// Appends the pairs of a cache, by rising key. Before each page those that were asked for are
-/// given up.
+/// Appends the pairs of a cache, by rising key. Before each page of the tree, and where as many as may be were asked
+/// for, those that were asked for are given up.
 ///
 /// `Failed` comes only where a call on the disk failed, and `Memory` where memory ran out.
 /// `BadPage` names a page that is bad, or one that names a wrong page or row. After an error some
@@ -317,19 +317,23 @@ fn append_items<P: Pages>(
         WasBad P.tells start count id
         ⊎ IsItemFault P.tells start count cache leaf page.now id) result }
 {
+    let mut asked = OP_PAGES;
     'items: for i in 0..pm_btpage::count(page) {
         let link = Link(word_at(page, i));
-        let pair = read_pair(alloc, cache, pages, count, leaf, key_at(page, i), link)?;
+        let key = key_at(page, i);
+        let pair = read_pair(alloc, cache, pages, &mut asked, count, leaf, key, link)?;
         pairs.push(pair)?;
     }
     Ok(())
 }
 
-// The key of an item of a leaf, with the value of the row that it names.
+// The key of an item of a leaf, with the value of the row that it names. So many pages at most were asked for since
+// pages were given up, so that rows of one page, side by side, read it once.
 fn read_pair<P: Pages>(
     alloc: Global,
     cache: u8,
     pages: &mut P,
+    asked: &mut u32,
     count: u32,
     leaf: u32,
     key: &[u8],
@@ -339,9 +343,11 @@ fn read_pair<P: Pages>(
     requires none_lent { NoneLent (P.seen pages.old) }
     requires readable { AllReadable (P.seen pages.old) }
     requires key { HasKeyLength key.now }
+    requires budget { HasBudget (P.seen pages.old) asked.old }
     ensures kept { P.kept pages.old pages.new }
     ensures reads { ReadsPages P.tells (P.seen pages.old) (P.seen pages.new) }
     ensures readable { AllReadable (P.seen pages.new) }
+    ensures budget { HasBudget (P.seen pages.new) asked.new }
     ensures pair { SinceReads P.tells (P.seen pages.old)
         (λ start. IfOk result (HadPair P.tells start count cache link key.now)) }
     ensures cause { HasReadCause P.tells (P.seen pages.old) (P.seen pages.new) (λ start id.
@@ -351,11 +357,31 @@ fn read_pair<P: Pages>(
     match spot_of(link, pages.part(), count) {
         None => Err(StoreFault::BadPage(PageId::new(pages.part(), leaf))),
         Some(spot) => {
-            pages.let_go();
+            make_room(pages, asked);
+            *asked += 1;
             match find_pair(alloc, pages, spot, cache, key)? {
                 None => Err(StoreFault::BadPage(PageId::new(pages.part(), leaf))),
                 Some(pair) => Ok(pair),
             }
         }
     }
+}
+
+// Gives up the pages that were asked for, where as many were as may be.
+fn make_room<P: Pages>(pages: &mut P, asked: &mut u32)
+    requires ready { P.ready pages.old }
+    requires none_lent { NoneLent (P.seen pages.old) }
+    requires readable { AllReadable (P.seen pages.old) }
+    requires budget { HasBudget (P.seen pages.old) asked.old }
+    ensures kept { P.kept pages.old pages.new }
+    ensures reads { ReadsPages P.tells (P.seen pages.old) (P.seen pages.new) }
+    ensures readable { AllReadable (P.seen pages.new) }
+    ensures budget { HasBudget (P.seen pages.new) asked.new }
+    ensures room { asked.new < OP_PAGES }
+{
+    if *asked < OP_PAGES {
+        return;
+    }
+    pages.let_go();
+    *asked = 0;
 }

@@ -109,13 +109,14 @@ impl Part {
             }
             Cmd::Get { cache, key } => run_get(pages, *cache, key.bytes(), replies),
             Cmd::Remove { cache, key } => run_remove(pages, *cache, key.bytes(), replies),
+            // Neither of the two is a command of a partition, so they don't come.
             Cmd::Scan { .. } => Ok(()),
             Cmd::Checkpoint => Ok(()),
         }
     }
 
-    /// Appends the pairs of a cache in this partition, by rising key. The pages are asked for one
-    /// after the other, and each is given up before the next.
+    /// Appends the pairs of a cache in this partition, by rising key. Pages are asked for one after the other, and given up
+    /// before more than `OP_PAGES` are in hand.
     ///
     /// `Failed` comes only where a call on the disk failed, and `Memory` where memory ran out.
     /// `BadPage` names a page that is bad, or one that names a wrong page or row; in a well-formed

@@ -275,6 +275,7 @@ pub fn find_pair<P: Pages>(
     requires key { HasKeyLength key.now }
     ensures kept { P.kept pages.old pages.new }
     ensures reads { ReadsPages P.tells (P.seen pages.old) (P.seen pages.new) }
+    ensures room { (P.seen pages.old).spare ≤ (P.seen pages.new).spare + 1 }
     ensures readable { AllReadable (P.seen pages.new) }
     ensures pair { SinceReads P.tells (P.seen pages.old) (λ start. IfOk result (λ pair.
         IfSome pair (ReadPair P.tells start spot cache key.now))) }
