@@ -6,9 +6,11 @@
 --        9     1  zero
 --       10     2  count: how many items there are
 --       12     4  zero
--- 16     8  the link: of a leaf the index of the next leaf, below 2^32; of an inner page its first
--- child's name 24     8  zero 32    73  the first item: key length 1, key padded with zeros to 64,
--- word 8 105    73  the second item, and so on; after the last all is zero
+--       16     8  the link: of a leaf the index of the next leaf, below 2^32;
+--                 of an inner page its first child's name
+--       24     8  zero
+--       32    73  the first item: key length 1, key padded with zeros to 64, word 8
+--      105    73  the second item, and so on; after the last all is zero
 --
 -- An item's word is in a leaf the link of the key's row, in an inner page the name of the child
 -- with the keys from the item's key on and below the next item's.

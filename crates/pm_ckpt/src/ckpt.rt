@@ -1,4 +1,4 @@
-//! What is kept for checkpoints, and a checkpoint as one call.
+//! What is kept for checkpoints, and a checkpoint of pages in lists as one call, for tests.
 
 ghost use Rattle.std.specs.Prelude.{◌≡◌, ◌+◌, ℕ, List, Some, IfOk, OnOk, OnErr, All, length};
 ghost use Rattle.pm_types.specs.declared.shape.Shape.{Shape};
@@ -35,7 +35,7 @@ pub struct Ckpt {
     pub(crate) mark: Option<Mark>,
     // None while a checkpoint runs, and once a call failed.
     pub(crate) idle: Option<Idle>,
-    // How many page frames there are, or of how many pages a checkpoint may be.
+    // How many page frames there are, and so how many pages a checkpoint has at most.
     pub(crate) frames: u32,
     // The pages of the last checkpoint that stood in frames, in the order in which they were written.
     pub(crate) pages: Vec<FramePage>,
@@ -85,8 +85,11 @@ impl Ckpt {
         })
     }
 
-    /// Makes the next checkpoint. Its pages are those that `dirty` names, with the bytes that they have in
-    /// `pages`, where a partition stands at its number. These are its steps, and it takes no memory:
+    /// Makes the next checkpoint, of pages in lists. Tests alone call it: the program calls `Ckpt::whole`, which
+    /// makes these steps with pages that stand in page frames.
+    ///
+    /// Its pages are those that `dirty` names, with the bytes that they have in `pages`, where a partition stands
+    /// at its number. These are its steps, and it takes no memory:
     ///
     /// 1. its CP_BEGIN is appended, and the log forced past it;
     /// 2. its start marker is written and forced;

@@ -24,6 +24,7 @@ use pm_types::PageId;
 
 /// Writes the pages of the checkpoint, of which none is written yet, each once and in this order, forces
 /// their files, and then writes the end marker and forces it. After `Failed` a prefix of this was done.
+/// For `Ckpt::whole_plain` alone, which the program doesn't call.
 pub(crate) fn finish_written<H: Host>(
     host: &mut H,
     begun: Begun,

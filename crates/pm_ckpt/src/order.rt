@@ -12,7 +12,8 @@ use pm_core::PageSet;
 use pm_types::PageId;
 
 /// Puts these pages into a list that has room for them, by rising partition and index, so that what is
-/// written to the disk is as consecutive as can be.
+/// written to the disk is as consecutive as can be. For `Ckpt::whole_plain` alone, which the program doesn't
+/// call.
 pub(crate) fn arrange(order: &mut Vec<PageId>, pages: &[PageId])
     requires { length pages.now ≤ vec_capacity order.old }
     ensures order { IsOrderOf pages.now order.new.items }
@@ -22,7 +23,7 @@ pub(crate) fn arrange(order: &mut Vec<PageId>, pages: &[PageId])
     order.sort_unstable_by_key(|page| page.0);
 }
 
-// The same pages in the same order.
+// The same pages in the same order: for `arrange` alone.
 fn copy(order: &mut Vec<PageId>, pages: &[PageId])
     requires { length pages.now ≤ vec_capacity order.old }
     ensures items { order.new.items ≡ pages.now }

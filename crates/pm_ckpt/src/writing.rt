@@ -1,4 +1,5 @@
-//! The pages of a checkpoint, written to their files.
+//! The pages of a checkpoint that stand in lists, written to their files: for `Ckpt::whole_plain` alone, which the
+//! program doesn't call.
 
 ghost use Rattle.std.specs.Prelude.{◌≡◌, ◌≤◌, All};
 ghost use Rattle.pm_types.specs.declared.limits.TheConstants.{PAGE_SIZE_MAX};

@@ -22,17 +22,17 @@ pub enum Kind {
 pub struct Config {
     /// The shape of a store that is made anew, and the one that an existing store has to have.
     pub shape: Shape,
-    /// The number of workers, 1 to 8.
+    /// The number of workers, 1 to 8. It is checked, and not used by the program yet.
     pub workers: u32,
     /// The number of page frames, 64 for each worker to 65536.
     pub frames: u32,
-    /// The number of buffer pages, 32 for each worker to 65536.
+    /// The number of buffer pages, 32 for each worker to 65536. It is checked, and not used by the program yet.
     pub buffer_pages: u32,
     /// The bytes of log after which a checkpoint begins, 65536 to 1099511627776.
     pub checkpoint_bytes: u64,
     /// The percent of dirty frames above which a checkpoint begins, 1 to 100.
     pub dirty_percent: u32,
-    /// How page frames are replaced.
+    /// How page frames are replaced. It is checked, and not used by the program yet.
     pub policy: Kind,
 }
 

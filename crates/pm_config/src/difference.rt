@@ -7,6 +7,8 @@ use pm_types::{Field, Shape};
 
 /// The first field, in the order of the configuration's, by which a store's shape differs from the one
 /// that is asked for. `None` exactly when the four fields are equal. Versions are not compared.
+///
+/// Tests alone call it: the program compares shapes by a function of `pm_redo` with the same body.
 pub fn first_difference(store: &Shape, wanted: &Shape) -> Option<Field>
     ensures first { result ≡ first_difference_of store.now wanted.now }
     ensures none { (result ≡ None) ↔ SameNumbers store.now wanted.now }

@@ -26,8 +26,9 @@ pub const WORKERS_MAX: u32 = 8;
 /// The workers where the configuration has none.
 pub const WORKERS_DEFAULT: u32 = 2;
 
-/// The least page frames for each worker: one operation touches 32 pages, and a checkpoint that runs
-/// beside it may hold as many again.
+/// The least page frames for each worker: 32 empty ones are taken before each operation (`OP_PAGES` in
+/// `pm_types`), and a checkpoint that runs beside it may hold as many again. The program makes no
+/// checkpoint beside lines yet.
 pub const FRAMES_PER_WORKER: u32 = 64;
 
 /// The most page frames: 1 GiB with the largest page.
@@ -36,7 +37,8 @@ pub const FRAMES_MAX: u32 = 65_536;
 /// The page frames where the configuration has none: 16 MiB with the default page.
 pub const FRAMES_DEFAULT: u32 = 4_096;
 
-/// The least buffer pages for each worker: one operation may change 32 pages of a running checkpoint.
+/// The least buffer pages for each worker: one operation may change 32 pages of a running checkpoint,
+/// and each of them is copied first. The program makes no copies yet, so it uses no buffer page.
 pub const BUFFER_PAGES_PER_WORKER: u32 = 32;
 
 /// The most buffer pages: 1 GiB with the largest page.

@@ -18,9 +18,9 @@ use std::mem;
 /// segments. A process may have 1,024 files open on most systems.
 pub const OPEN_MAX: usize = 128;
 
-/// The files that were changed, in the order of their last changes. Each stays open until it is forced, so
-/// that its force is told of each failed write: a system may report that only to those who had the file
-/// open then.
+/// The files that were changed, in the order of their last changes. Each stays open at least until it is
+/// forced, so that its force is told of each failed write: a system may report that only to those who had
+/// the file open then.
 #[derive(Drop)]
 pub struct OpenFiles<F: Drop> {
     pub files: Vec<Opened<F>>,

@@ -7,7 +7,8 @@ ghost use Rattle.pm_disk_fs.specs.Reads.{IsRead};
 use crate::calls::ReadCalls;
 use std::io::{self, ErrorKind, Read};
 
-/// How often a read that a signal interrupts is tried.
+/// How often a read that a signal interrupts is tried before it fails. The bound is there so that each call
+/// ends: signals seldom interrupt a read more than once.
 const TRIES: u32 = 1000;
 
 /// Reads a file from the offset on until the buffer is full or the file ends, and answers how many bytes

@@ -10,8 +10,8 @@ use std::alloc::Global;
 use std::io::{Seek, Write};
 use std::marker::Model;
 
-/// The most bytes that are buffered, so that a batch of 1,024 puts is one write: a put's frame has less
-/// than 1,024 bytes. The memory is taken by the first write, and no page of it is touched before bytes
+/// The most bytes that are buffered: a batch's frames are handed to the system as one write for each MiB,
+/// and one for the rest. The memory is taken by the first write, and no page of it is touched before bytes
 /// come to it.
 pub const BUFFER_MAX: usize = 1_048_576;
 

@@ -1,4 +1,5 @@
-//! The flusher's job in a round: pages that a checkpoint has to write, written from their frames.
+//! The flusher's job in a round: pages that a checkpoint has to write, written from their frames. Not used by the
+//! program yet.
 #![tactic(auto)]
 
 mod copies;

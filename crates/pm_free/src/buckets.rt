@@ -70,6 +70,7 @@ pub fn find_head<P: Pages>(pages: &mut P, len: usize) -> Result<Option<Head>, Pa
 {
     let least = least_bucket(pages.page_size(), len);
     match pages.view(0)? {
+        // Not reached: the meta page is at hand.
         None => Ok(None),
         Some(page) => Ok(first_on(page, least)),
     }

@@ -132,6 +132,7 @@ fn put_empty<P: Pages>(pages: &mut P, index: u32, id: PageId)
     ensures writes { (now : List ℕ) × WritesPage (P.seen pages.old) (P.seen pages.new) index now
         × IsDataPage now × (length now ≡ (P.seen pages.old).page_size) × (data_of now ≡ empty_page id) }
 {
+    // For the proof alone: a page has one of the sizes that pages may have.
     let _size = pages.page_size();
     let page = pages.page_mut(index);
     fresh(page, id);

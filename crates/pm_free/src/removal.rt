@@ -108,6 +108,7 @@ fn is_empty<P: Pages>(pages: &mut P, at: u32) -> Result<bool, PageFault>
     ensures cause { HasDiskCause (P.seen pages.old) (P.seen pages.new).faults result }
 {
     match pages.view(at)? {
+        // Not reached: page `at` is a data page that is at hand.
         None => Ok(false),
         Some(page) => Ok(pm_data::is_empty(page)),
     }

@@ -81,6 +81,7 @@ pub fn find_seat<P: Pages>(pages: &mut P, count: u32, at: u32) -> Result<Option<
         return Ok(None);
     }
     match pages.view(at)? {
+        // Not reached: page `at` isn't the first one.
         None => Ok(None),
         Some(page) => Ok(seat_on(page)),
     }
@@ -98,6 +99,7 @@ pub fn seat_at<P: Pages>(pages: &mut P, at: u32) -> Result<Seat, PageFault>
     ensures cause { HasDiskCause (P.seen pages.old) (P.seen pages.new).faults result }
 {
     match pages.view(at)? {
+        // Not reached: page `at` is a data page that is at hand.
         None => Ok(Seat {
             prev: 0,
             next: 0,

@@ -1,5 +1,5 @@
 //! The log writer beside the workers: each worker hands its operations to it over a ring, and it appends them
-//! to the log.
+//! to the log. Not used by the program yet.
 #![tactic(auto)]
 
 mod append;

@@ -13,9 +13,10 @@ use crate::replies::Replies;
 use pm_types::StoreFault;
 use std::alloc::Global;
 
-/// A store that runs lines, a batch at a time.
+/// A store that runs lines, a batch at a time. Tests alone use it, with `PlainBatcher`: the program's
+/// batches are those of `pm_engine::FrameEngine`.
 ///
-/// A new one has run no lines, is open and tells no fault. After an error it isn't open any more:
+/// A new one has run no lines, is open and has no fault. After an error it isn't open any more:
 /// no further call is made on it.
 pub trait Batcher {
     /// The shape of its store.

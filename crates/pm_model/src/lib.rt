@@ -1,5 +1,5 @@
 //! Lines of a script as values, what each answers and changes, a plain map that answers them, and
-//! who runs them in batches.
+//! who runs them in batches. Tests and `pm_bench` alone use the last two.
 #![tactic(auto)]
 
 mod batcher;

@@ -10,18 +10,18 @@ use std::alloc::{AllocError, Global};
 pub enum Cmd {
     /// Set the key's value, whether it has one or not.
     Put { cache: u8, key: Key, value: Value },
-    /// Tell the key's value.
+    /// Answer the key's value.
     Get { cache: u8, key: Key },
     /// Take the key out, with its value.
     Remove { cache: u8, key: Key },
-    /// Tell all pairs of the cache.
+    /// Answer all pairs of the cache.
     Scan { cache: u8 },
-    /// Bring all changes home.
+    /// Make a checkpoint.
     Checkpoint,
 }
 
 impl Cmd {
-    /// A copy of the command.
+    /// A copy of the command. `Line::copy` alone calls it.
     pub fn copy(&self, alloc: Global) -> Result<Cmd, AllocError>
         ensures { IfOk result (λ cmd. cmd ≡ self.now) }
     {
@@ -57,7 +57,7 @@ pub enum Line {
 }
 
 impl Line {
-    /// A copy of the line.
+    /// A copy of the line. `PlainBatcher` alone calls it, for tests.
     pub fn copy(&self, alloc: Global) -> Result<Line, AllocError>
         ensures { IfOk result (λ line. line ≡ self.now) }
     {

@@ -14,7 +14,7 @@ use pm_types::{Shape, StoreFault};
 use std::alloc::{AllocError, Global};
 use std::marker::Model;
 
-/// A batcher over a plain map. It answers no fault but out of memory.
+/// A batcher over a plain map. It answers no fault but out of memory. Tests alone use it.
 #[derive(Drop)]
 pub struct PlainBatcher {
     shape: Shape,

@@ -18,6 +18,8 @@ use std::collections::BTreeMap;
 use std::marker::Model;
 
 /// A map from cache and key to value, held in memory.
+///
+/// Tests and `pm_bench` alone use it: the program answers lines from its pages (`pm_part`).
 #[derive(Drop)]
 pub struct PlainMap {
     pairs: BTreeMap<CacheKey, Value>,

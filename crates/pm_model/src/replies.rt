@@ -97,7 +97,8 @@ impl Replies {
     /// Takes all replies out, and has room again for as many as in the beginning. The memory of the
     /// values that were found serves those to come, so that none is taken.
     ///
-    /// Where memory ran out there is room for no reply.
+    /// Where memory ran out there is room for no reply, and some of the old ones may be left. No clause says
+    /// this.
     pub fn clear(&mut self, alloc: Global) -> Result<(), AllocError>
         ensures { OnOk result
             (self.new ≡ no_replies (length self.old.replies + self.old.spare)) }

@@ -17,7 +17,8 @@ use std::collections::BTreeMap;
 // One count for each partition that a store may have.
 const COUNTS: usize = PARTITIONS_MAX as usize;
 
-/// The number of rows of each partition over all caches, of so many partitions.
+/// The number of rows of each partition over all caches, of so many partitions. For `PlainMap` alone, which the
+/// program doesn't use.
 #[derive(Drop)]
 pub(crate) struct RowCounts {
     partitions: u16,

@@ -1,4 +1,4 @@
-//! The pages that were asked for since `ready`, with their patches.
+//! The pages that were asked for since `ready`, with their patches: for `PlainPages`, which the program doesn't use.
 
 ghost use Rattle.std.specs.Prelude.{◌≡◌, ℕ, ◌+◌, ◌<◌, ◌≤◌, ◌⊎◌, ◌++◌, [], ◌∷◌, true, Option, Some};
 ghost use Rattle.std.specs.Prelude.{IsSome, IsSomeAnd, IfSome, IsTrue, length};
@@ -99,7 +99,7 @@ pub fn make(asked: &mut Vec<Asked>, index: u32, page_size: u32)
     let position = ask(asked, index);
     let mut whole = Patch::none(page_size);
     whole.add(0, page_size as u16);
-    // What every patch keeps.
+    // For the proof alone: what every patch keeps (`IsPatch`).
     let _ranges = whole.len();
     let entry = &mut asked[position];
     entry.is_lent = true;
@@ -127,7 +127,7 @@ fn joined(old: &Option<Patch>, patch: &Patch) -> Patch
     ensures fits { IsPatch result }
     ensures whole { IfSome old.now (λ old. IsTrue old.whole → IsTrue result.whole) }
 {
-    // What every patch keeps.
+    // For the proof alone: what every patch keeps (`IsPatch`).
     let _ranges = patch.len();
     match old {
         None => patch.copy(),
@@ -143,6 +143,7 @@ fn join(old: &Patch, patch: &Patch) -> Patch
     ensures fits { IsPatch result }
     ensures whole { IsTrue old.now.whole → IsTrue result.whole }
 {
+    // For the proof alone, as the call on `both` below: what every patch keeps (`IsPatch`).
     let _ranges_before = old.len();
     let mut both = old.copy();
     both.join(patch);

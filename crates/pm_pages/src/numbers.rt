@@ -55,6 +55,7 @@ pub fn number<P: Pages>(pages: &mut P, slot: MetaSlot) -> Result<u32, PageFault>
     ensures cause { HasDiskCause (P.seen pages.old) (P.seen pages.new).faults result }
 {
     match pages.view(0)? {
+        // Not reached: the meta page is at hand.
         None => Ok(0),
         Some(page) => Ok(number_on(page, slot)),
     }

@@ -13,9 +13,10 @@ use pm_types::{PageFault, Patch};
 
 /// The pages of a partition, lent one at a time, over a store of whose content maybe nothing is known.
 ///
-/// Each call has the condition that the last `ready`, which isn't of the trait, answered Ok. A call
-/// that asks for a page has another: fewer than `OP_PAGES` different pages were asked for since
-/// then, or this page was among them. A call that fails, or whose page isn't there, doesn't count.
+/// Each call has the condition that the last `ready` answered Ok, which the ghost `ready` says. That call
+/// isn't of the trait: it is `pm_stripe::Bound::ready`, or `PlainPages::ready`. A call that asks for a page
+/// has another condition: fewer than `OP_PAGES` different pages were asked for since then, or this page was
+/// among them. A call that fails, or whose page isn't there, doesn't count.
 pub trait Pages {
     /// Whether contracts know the content of pages that weren't read.
     ghost tells: { Type 0 };

@@ -21,6 +21,8 @@ use std::alloc::{AllocError, Global};
 /// Pages of a partition as a list of vectors, with a patch for each that was changed since `ready`.
 ///
 /// Every page counts as read: `view` and `change` look at no check, and no call on a disk can fail.
+///
+/// Tests and `pm_bench` alone use it: the program's pages stand in page frames (`pm_stripe::Bound`).
 #[derive(Drop)]
 pub struct PlainPages {
     // The store's shape.

@@ -134,6 +134,7 @@ fn next_after<P: Pages>(pages: &mut P, index: u32) -> Result<Option<u32>, PageFa
     ensures cause { HasPageCause P.tells (P.seen pages.old) (P.seen pages.new).faults index result }
 {
     match pages.view(index)? {
+        // Not reached: page `index` isn't the first one.
         None => Ok(None),
         Some(page) => Ok(next_on(page)),
     }
@@ -163,6 +164,7 @@ fn make_zeros<P: Pages>(pages: &mut P, index: u32) -> Result<(), PageFault>
     ensures unchanged { OnErr result (LooksAtPages P.tells (P.seen pages.old) (P.seen pages.new) 0) }
     ensures cause { HasGapCause P.tells (P.seen pages.old) (P.seen pages.new).faults index result }
 {
+    // For the proof alone: a page has one of the sizes that pages may have.
     let _size = pages.page_size();
     pages.fresh(index)
 }
@@ -202,6 +204,7 @@ fn write_reuse<P: Pages>(pages: &mut P, index: u32, next: u32)
         × (length page ≡ (P.seen pages.old).page_size)
         × IsStoredReuse (page_id (P.seen pages.old).part index) page × (next_of page ≡ next) }
 {
+    // For the proof alone: a page has one of the sizes that pages may have.
     let _size = pages.page_size();
     let id = PageId::new(pages.part(), index);
     let page = pages.page_mut(index);

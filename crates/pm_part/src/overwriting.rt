@@ -70,6 +70,7 @@ fn find_way<P: Pages>(pages: &mut P, spot: Spot, len: usize) -> Result<Way, Page
     ensures cause { HasDiskCause (P.seen pages.old) (P.seen pages.new).faults result }
 {
     match pages.view(spot.at)? {
+        // Not reached: page `spot.at` is at hand.
         None => Ok(Way::Moved),
         Some(page) => Ok(way_on(page, spot.item, len)),
     }

@@ -148,6 +148,7 @@ fn look_down<P: Pages>(pages: &mut P, count: u32, at: u32) -> Result<Down, PageF
     }
     pages.let_go();
     match pages.view(at)? {
+        // Not reached: page `at` isn't the first one.
         None => Ok(Down::Other),
         Some(page) => Ok(down_on(page)),
     }
@@ -273,6 +274,7 @@ fn read_leaf<P: Pages>(
     }
     pages.let_go();
     match pages.view(at)? {
+        // Not reached: page `at` isn't the first one.
         None => Ok(false),
         Some(page) => Ok(copy_leaf(page, into)),
     }

@@ -109,7 +109,7 @@ impl Part {
             }
             Cmd::Get { cache, key } => run_get(pages, *cache, key.bytes(), replies),
             Cmd::Remove { cache, key } => run_remove(pages, *cache, key.bytes(), replies),
-            // Neither of the two is a command of a partition, so they don't come.
+            // Not reached: neither of the two is a command of a partition (`IsPartCmd`).
             Cmd::Scan { .. } => Ok(()),
             Cmd::Checkpoint => Ok(()),
         }

@@ -367,6 +367,7 @@ fn put_meta<P: Pages>(pages: &mut P, id: PageId)
     ensures writes { (page : List ℕ) × WritesPage (P.seen pages.old) (P.seen pages.new) 0 page
         × IsNewMeta id page × (length page ≡ (P.seen pages.old).page_size) }
 {
+    // For the proof alone: a page has one of the sizes that pages may have.
     let _size = pages.page_size();
     let page = pages.page_mut(0);
     fresh(page, id);

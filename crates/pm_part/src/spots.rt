@@ -131,6 +131,7 @@ fn has_row<P: Pages>(pages: &mut P, spot: Spot, cache: u8, key: &[u8]) -> Result
     ensures cause { HasPageCause P.tells (P.seen pages.old) (P.seen pages.new).faults spot.at result }
 {
     match pages.view(spot.at)? {
+        // Not reached: page `spot.at` isn't the first one.
         None => Ok(false),
         Some(page) => Ok(row_on(page, spot.item, cache, key).is_some()),
     }
@@ -217,6 +218,7 @@ fn push_at<P: Pages>(
     ensures cause { HasPageCause P.tells (P.seen pages.old) (P.seen pages.new).faults spot.at result }
 {
     match pages.view(spot.at)? {
+        // Not reached: page `spot.at` isn't the first one.
         None => Ok(false),
         Some(page) => Ok(push_on(page, spot.item, cache, key, replies)),
     }
@@ -285,6 +287,7 @@ pub fn find_pair<P: Pages>(
         (λ start. WasBadAt P.tells start spot.at) result }
 {
     match pages.view(spot.at)? {
+        // Not reached: page `spot.at` isn't the first one.
         None => Ok(None),
         Some(page) => Ok(pair_on(alloc, page, spot.item, cache, key)?),
     }

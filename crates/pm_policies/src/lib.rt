@@ -1,4 +1,4 @@
-//! The three kinds of page replacement: each has its rule as its contract.
+//! The three kinds of page replacement: each has its rule as its contract. Not used by the program yet.
 #![tactic(auto)]
 
 mod clock;

@@ -1,4 +1,5 @@
-//! Page replacement as the store asks for it: objects that the caller hands in, in boxes.
+//! Page replacement as the store asks for it: objects that the caller hands in, in boxes. Not used by the
+//! program yet.
 #![tactic(auto)]
 
 mod policy;

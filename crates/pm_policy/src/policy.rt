@@ -37,7 +37,8 @@ pub trait Policy: Drop {
         ensures same_frames { frame_count self.new ≡ frame_count self.old };
 }
 
-/// Policies that a caller hands in, some of each kind. Those that aren't needed are dropped.
+/// Policies that a caller hands in, some of each kind. Those that aren't needed are dropped. Nobody takes them
+/// yet.
 #[derive(Drop)]
 pub struct Racks {
     /// Of the kind that draws some frames and picks the one used longest ago.

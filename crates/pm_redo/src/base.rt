@@ -55,7 +55,7 @@ impl Pictures {
     }
 
     /// The pages of the partitions' files alone, for a store whose checkpoint has its end marker; none where it has
-    /// no start marker. It takes no memory.
+    /// no start marker. It takes no memory. Not used by the program yet.
     pub fn of_files(alloc: Global, mark: &Option<Mark>) -> Pictures
         requires fits { IfSome mark.now IsMark }
         ensures shaped { shape_in result ≡ option_map (λ mark. mark.shape) mark.now }

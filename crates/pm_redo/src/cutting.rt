@@ -141,7 +141,7 @@ fn cut_at<H: Host>(host: &mut H, first: u64, end: Place, segment_bytes: u32) -> 
     Log::cut_tail(host, lowest, end, segment_bytes)
 }
 
-// The lowest segment that is there, without a gap up to `first`. Crashes behind the start markers of two
+// The lowest segment that is there, without a gap up to `first`. Crashes after the start markers of two
 // checkpoints in a row leave segments that the marker in force doesn't name; else one call is made.
 fn lowest_kept<H: Host>(host: &mut H, first: u64) -> Result<u64, Failed>
     requires usable { IsUsable (H.Device.state host.old) }

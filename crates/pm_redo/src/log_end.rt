@@ -31,6 +31,7 @@ pub fn log_end<H: Host>(alloc: Global, host: &mut H, from: Place) -> Result<Plac
     'frames: loop {
         let passed = pass_next(host, &mut scan)?;
         let at = scan.place();
+        // For the proof alone: the segment's number is below 2^64, so that the loop ends.
         let _segment = segment_of(at);
         if !passed {
             return Ok(at);

@@ -101,6 +101,7 @@ fn read_range<H: Host>(
     'frames: loop {
         let step = take_next(alloc, host, &mut scan, rebuilt)?;
         let at = scan.place();
+        // For the proof alone: the segment's number is below 2^64, so that the loop ends.
         let _segment = segment_of(at);
         if at == mark.begin {
             let holds = holds_begin(alloc, host, mark, step)?;

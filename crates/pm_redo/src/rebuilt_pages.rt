@@ -133,6 +133,7 @@ impl RebuiltPages {
             (H.Device.history host.old).world }
         ensures cause { HasCause (H.Device.state host.old) (H.Device.state host.new) result }
     {
+        // For the proof alone: each page that was rebuilt has the size of a page (`AreSized`).
         let _ = &self.shape;
         match self.page(page) {
             Some(bytes) => {

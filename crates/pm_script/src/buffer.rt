@@ -11,21 +11,21 @@ use memchr::memchr;
 use pm_disk::{Failed, Host};
 use pm_types::LINE_MAX;
 
-// Where the first newline stands.
+/// Where the first newline stands.
 pub fn newline_position(bytes: &[u8]) -> Option<usize>
     ensures { FindsNewline bytes.now result }
 {
     memchr(b'\n', bytes)
 }
 
-// Whether a newline stands in the bytes.
+/// Whether a newline stands in the bytes.
 pub fn has_newline(bytes: &[u8]) -> bool
     ensures { result ≡ not (is_unbroken bytes.now) }
 {
     newline_position(bytes).is_some()
 }
 
-// Moves a part of the buffer to its front, at most one byte more than a line may have, and says how much.
+/// Moves a part of the buffer to its front, at most one byte more than a line may have, and says how much.
 pub fn keep_front(buffer: &mut Vec<u8>, from: usize, to: usize) -> usize
     requires ordered { from ≤ to }
     requires within { to ≤ length buffer.old.items }
@@ -40,7 +40,7 @@ pub fn keep_front(buffer: &mut Vec<u8>, from: usize, to: usize) -> usize
     len
 }
 
-// Reads the next piece of the input into the buffer after its first `kept` bytes.
+/// Reads the next piece of the input into the buffer after its first `kept` bytes.
 pub fn read_after<H: Host>(host: &mut H, buffer: &mut Vec<u8>, kept: usize) -> Result<usize, Failed>
     requires usable { IsUsable (H.state host.old) }
     requires room { kept < length buffer.old.items }

@@ -46,7 +46,7 @@ fn append_reply(reply: &Reply, into: &mut Vec<u8>) -> Result<(), AllocError>
     }
 }
 
-// Appends the text that tells a value.
+// Appends the text of a value.
 fn append_value(value: &Value, into: &mut Vec<u8>) -> Result<(), AllocError>
     ensures appended { OnOk result
         (into.new.items ≡ into.old.items ++ text_of (Reply.Found value.now)) }
@@ -57,7 +57,7 @@ fn append_value(value: &Value, into: &mut Vec<u8>) -> Result<(), AllocError>
     into.extend_from_slice(b"\n")
 }
 
-// Appends the text that tells pairs.
+// Appends the text of pairs.
 fn append_pairs(list: &PairList, into: &mut Vec<u8>) -> Result<(), AllocError>
     ensures appended { OnOk result
         (into.new.items ≡ into.old.items ++ text_of (Reply.Pairs list.now)) }
@@ -67,7 +67,7 @@ fn append_pairs(list: &PairList, into: &mut Vec<u8>) -> Result<(), AllocError>
     append_end(list.pairs.len(), into)
 }
 
-// Appends the lines that tell pairs.
+// Appends the line of each pair.
 fn append_each(pairs: &[(Key, Value)], into: &mut Vec<u8>) -> Result<(), AllocError>
     ensures appended { OnOk result
         (into.new.items ≡ into.old.items ++ flat_map pair_text pairs.now) }
@@ -79,7 +79,7 @@ fn append_each(pairs: &[(Key, Value)], into: &mut Vec<u8>) -> Result<(), AllocEr
     Ok(())
 }
 
-// Appends the line that tells a pair.
+// Appends the line of a pair.
 fn append_pair(key: &Key, value: &Value, into: &mut Vec<u8>) -> Result<(), AllocError>
     ensures appended { OnOk result
         (into.new.items ≡ into.old.items ++ pair_text (key.now, value.now)) }

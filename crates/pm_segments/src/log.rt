@@ -61,7 +61,9 @@ impl Model for Log {
 
 impl Log {
     /// Cuts the last segment at `end` and forces it, and gives the log that ends there. Its segments
-    /// from `first` on are kept, the last one among them, and one may have `segment_bytes` bytes.
+    /// from `first` on are kept, the last one among them. A record is put into a segment only if the segment
+    /// has at most `segment_bytes` bytes then, with a SEAL after the record.
+    ///
     /// After `Failed` the segment may be cut or not, and what is before `end` is as it was.
     pub fn cut_tail<L: LogFile>(
         dev: &mut L,
@@ -141,7 +143,8 @@ impl Log {
         }
     }
 
-    /// Appends a record with this payload, as `append_parts` does, and gives its place.
+    /// Appends a record with this payload, as `append_parts` does, and gives its place. What `Failed` leaves,
+    /// and what comes after segment 2^64 - 1, is said there.
     pub fn append<L: LogFile>(
         &mut self,
         dev: &mut L,
@@ -172,10 +175,13 @@ impl Log {
         self.append_parts(dev, kind, payload, &[])
     }
 
-    /// Appends a record whose payload is `front` and after it `rest`, and gives its place. Where it doesn't fit into the segment with a SEAL after
-    /// it, the log rolls first: a SEAL is written at its end, the segment is forced, the next one is
-    /// cut to nothing and forced, and the record goes to its begin. It isn't lasting until the log is
-    /// forced.
+    /// Appends a record whose payload is `front` and after it `rest`, and gives its place. Where it doesn't
+    /// fit into the segment with a SEAL after it, the log rolls first: a SEAL is written at its end, if it
+    /// fits there, the segment is forced, the next one is cut to nothing and forced, and the record goes to
+    /// its begin. It isn't lasting until the log is forced.
+    ///
+    /// Segments are numbered from 1, and after 2^64 - 1 from 1 again: it promises nothing of the store then,
+    /// and a `Scan` ends after the SEAL of segment 2^64 - 1.
     ///
     /// After `Failed` a prefix of these steps were done. The record may be in the log or not where
     /// `tried` is true, and else it isn't. Nothing is to be appended any more.
@@ -263,6 +269,7 @@ impl Log {
             (room_steps self.old payload_len) self.old.end }
         ensures cause { HasCause (L.state dev.old) (L.state dev.new) result }
     {
+        // For the proof alone: what holds of every log (`IsLogEnd`).
         let _ = &self.first;
         if self.has_room(payload_len) {
             return Ok(());

@@ -116,6 +116,7 @@ impl Scan {
     pub fn look_again(&mut self)
         ensures { self.new ≡ looking_again self.old }
     {
+        // For the proof alone: what holds of every scan (`IsScan`).
         let _ = &self.next;
         self.is_whole = false;
     }
@@ -124,6 +125,7 @@ impl Scan {
     pub fn forget(&mut self)
         ensures { self.new ≡ forgotten self.old }
     {
+        // For the proof alone: what holds of every scan (`IsScan`).
         let _ = &self.next;
         self.end = self.at;
         self.is_whole = false;

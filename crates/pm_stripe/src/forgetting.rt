@@ -13,6 +13,8 @@ impl Stripe {
     ///
     /// Nothing that isn't in the files may be lost by it: what the worker last put into each of these frames is
     /// Empty or Clean, and no checkpoint runs.
+    ///
+    /// Not used by the program yet. The seat isn't used in the body: the contract speaks of it.
     pub fn forget(&mut self, _seat: &PageSeat)
         requires rests { self.old.is_running ≡ false }
         requires spare { AreSpare (kept self.old _seat.now) }
@@ -24,9 +26,11 @@ impl Stripe {
         self.places.clear();
     }
 
-    /// Hands out the copy of a page that the running checkpoint still has to write, which was made before the
-    /// page was changed. `None` comes exactly where there is none: no operation begins while a checkpoint runs,
-    /// so none is made yet.
+    /// Answers `None`. It stands for what a checkpoint that runs beside operations will ask for: the copy of a
+    /// page that it still has to write, made before an operation changed the page. No operation begins while a
+    /// checkpoint runs, so no copy is made.
+    ///
+    /// Not used by the program yet.
     pub fn take_copy(&mut self) -> Option<(PageId, Vec<u8>)>
         ensures none { result ≡ None }
         ensures same { self.new ≡ self.old }

@@ -76,6 +76,7 @@ fn joined(old: &Option<Patch>, patch: &Patch) -> Patch
     match old {
         None => patch.copy(),
         Some(old) => {
+            // For the proof alone: what every patch keeps (`IsPatch`).
             let _len = old.len();
             let mut both = old.copy();
             both.join(patch);

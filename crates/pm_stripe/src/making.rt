@@ -38,7 +38,8 @@ impl Stripe {
         self.make_new(page, locks, seat);
     }
 
-    // Makes a page, which no frame keeps, in an empty frame in hand.
+    // Makes a page, which no frame keeps, in an empty frame in hand. Locks and seat aren't used in the body: the
+    // contract speaks of them.
     fn make_new(&mut self, page: PageId, _locks: &Locks, _seat: &PageSeat)
         requires holds { Holds _locks.now (kept self.old _seat.now) }
         requires frames { HasFrames (kept self.old _seat.now) }

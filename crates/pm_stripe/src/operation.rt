@@ -134,6 +134,7 @@ fn write_held(held: &Held, into: &mut [u8]) -> usize
             held.flag == Flag::Dirty,
             into,
         ),
+        // Not reached: a page that was changed has a patch.
         None => 0,
     }
 }

@@ -19,7 +19,8 @@ use std::snapshot::Snapshot;
 impl Stripe {
     // Reads a page, which no frame keeps, into an empty frame in hand. `false`: its file doesn't have it.
     //
-    // Where it isn't had the frame is among the empty ones with other bytes.
+    // Where it isn't had the frame is among the empty ones with other bytes. Locks and seat aren't used in the
+    // body: the contract speaks of them.
     #[inline(never)]
     pub(crate) fn read_page<R: PageReader>(
         &mut self,

@@ -32,9 +32,9 @@ impl<'a, Q, R: PageReader> Bound<'a, Q, R> {
     ///
     /// - `NoLog`: the outbox has too little room. So many bytes of it are left. No frame was tried.
     /// - `NoCopy`: a checkpoint runs. No page for a copy of a page that it still has to write is in hand: there
-    ///   are none yet. No frame was tried.
-    /// - `NoFrame`: of so many frames too few could be taken. This is exact by a seat that stands for all
-    ///   numbers.
+    ///   are none yet. No frame was tried. Not used by the program yet, in which no checkpoint runs meanwhile.
+    /// - `NoFrame`: of so many frames too few could be taken. Where the seat stands for every worker and the
+    ///   flusher, and knows each frame's word, it comes exactly if fewer than 32 can be had.
     ///
     /// They are tested in this order. After one of them no page may be asked for.
     pub fn ready(&mut self) -> Result<(), Halt>

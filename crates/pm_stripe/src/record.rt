@@ -77,7 +77,7 @@ pub(crate) fn write_page(
     }))) }
     ensures fits { IsPatch patch.now }
 {
-    // What every patch keeps.
+    // For the proof alone: what every patch keeps (`IsPatch`).
     let _ranges = patch.len();
     if is_logged && !patch.is_whole() {
         write_delta(page, bytes, patch, into)
@@ -100,7 +100,7 @@ fn write_delta(page: PageId, bytes: &[u8], patch: &Patch, into: &mut [u8]) -> us
     ensures written { take result into.new
         ≡ record_bytes (frame_for (Delta page (delta_of bytes.now patch.now.spans))) }
 {
-    // A patch has few ranges, of at most half the page.
+    // For the proof alone: a patch has few ranges, of at most half the page.
     let _count = patch.len();
     let len = PAGE_NAME_LEN + ranges_len(patch);
     let end = RECORD_HEAD_LEN + len;

@@ -31,6 +31,7 @@ impl Stripe {
         match locks.steal(seat, self.number, frame) {
             Steal::Not(_) => false,
             Steal::Got(lease, tag) => {
+                // For the proof alone: the lease has as many bytes as its range.
                 let _len = lease.bytes().len();
                 self.free.push_reserved(Free { frame, tag, lease });
                 self.places.forget(frame);

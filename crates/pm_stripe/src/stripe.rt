@@ -27,7 +27,7 @@ pub struct Stripe {
     pub(crate) free: Vec<Free>,
     /// Where the next sweep for frames begins.
     pub(crate) next: FrameNo,
-    /// Whether a checkpoint runs.
+    /// Whether a checkpoint runs. It is false in the program, which makes a checkpoint between two rounds.
     pub(crate) is_running: bool,
     pub(crate) outbox: Outbox,
 }
@@ -97,7 +97,9 @@ impl Stripe {
         self.files = true;
     }
 
-    /// A checkpoint's begin was appended: from now on it runs.
+    /// A checkpoint's begin was appended: from now on it runs, and no operation begins.
+    ///
+    /// Not used by the program yet: it makes a checkpoint as one call, between two rounds.
     pub fn begun(&mut self)
         ensures running { self.new.is_running ≡ true }
         ensures same { SameButRunning self.old self.new }
@@ -106,6 +108,8 @@ impl Stripe {
     }
 
     /// The checkpoint's end is in force: from now on none runs.
+    ///
+    /// Not used by the program yet.
     pub fn ended(&mut self)
         ensures running { self.new.is_running ≡ false }
         ensures same { SameButRunning self.old self.new }

@@ -12,7 +12,8 @@ use std::thread;
 
 /// Takes the frame in which a worker's number last put a page under this tag. While it is out, waits.
 ///
-/// `None`: the frame was given to another page. What was last put there was Empty or Clean.
+/// `None`: the frame was given to another page. What was last put there was Empty or Clean. The number isn't used
+/// in the body: the contract speaks of it.
 #[inline(always)]
 pub(crate) fn take_frame<Q: Wait>(
     rt: &Q,

@@ -44,7 +44,8 @@ impl Gen {
         line_with(alloc, kind, cache as u8, number, i)
     }
 
-    // Draws a number.
+    // Draws a number below 32,768. Factor, summand and divisor are those of the example of `rand` in the C
+    // standard. Do not change: `docs/FORMATS.md` has them, and a script is made again from its number.
     fn draw(&mut self) -> u32
         ensures draws { self.new ≡ drawn self.old }
         ensures number { result ≡ draw_of self.old }

@@ -105,6 +105,7 @@ fn list_from<H: Host>(alloc: Global, host: &mut H, from: Place) -> Result<(), St
     'frames: loop {
         let next = read_next(host, &mut scan, &mut text)?;
         let at = scan.place();
+        // For the proof alone: the segment's number is below 2^64, so that the loop ends.
         let _segment = segment_of(at);
         match next {
             Next::Record => add_line(host, at, &text, &mut lines)?,

@@ -219,6 +219,7 @@ fn count_from<H: Host>(alloc: Global, host: &mut H, from: Place) -> Result<u64, 
     'frames: loop {
         let next = read_next(host, &mut scan, &mut count)?;
         let at = scan.place();
+        // For the proof alone: the segment's number is below 2^64, so that the loop ends.
         let _segment = segment_of(at);
         match next {
             Next::Record => {}
@@ -272,6 +273,7 @@ fn one_more(count: u64) -> Result<u64, AllocError>
 {
     match count.checked_add(1) {
         Some(more) => Ok(more),
+        // Not reached, though no clause says so: no log has 2^64 records.
         None => Err(AllocError),
     }
 }

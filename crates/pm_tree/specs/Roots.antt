@@ -80,7 +80,7 @@ pub record PutsRootPages (T : Type 0) (old new : Paged) (cache most : ℕ) (give
   pub takes : T → (limit left : ℕ) → CanTake limit old (most + left) → CanTake limit new left
   pub passes : T → given → KeepsStored old new most
 
--- the tree has as many levels as it may have, and all pages on the way are full; the root has this name
+-- the tree has as many levels as it may have; the root has this name
 pub record IsTooTall (T : Type 0) (p : Paged) (cache : ℕ) (id : PageId) : Type 0 where
   pub root : ℕ
   pub name : id ≡ page_id p.part root

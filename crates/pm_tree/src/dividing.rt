@@ -79,6 +79,7 @@ fn copy_page<P: Pages>(pages: &mut P, at: u32, into: &mut [u8]) -> Result<(), Pa
     ensures cause { HasDiskCause (P.seen pages.old) (P.seen pages.new).faults result }
 {
     match pages.view(at)? {
+        // Not reached: page `at` is at hand.
         None => Ok(()),
         Some(page) => {
             into.copy_from_slice(page);

@@ -122,6 +122,7 @@ fn put_blank<P: Pages>(pages: &mut P, index: u32, id: PageId, first: Option<Page
     ensures writes { (now : List ℕ) × WritesPage (P.seen pages.old) (P.seen pages.new) index now
         × IsIndexPage now × (length now ≡ (P.seen pages.old).page_size) × (index_of now ≡ blank id first) }
 {
+    // For the proof alone: a page has one of the sizes that pages may have.
     let _size = pages.page_size();
     let page = pages.page_mut(index);
     blank_on(page, id, first);

@@ -77,6 +77,7 @@ pub fn find_fit<P: Pages>(pages: &mut P, at: u32, i: u16, key: &[u8]) -> Result<
     ensures cause { HasPageCause P.tells (P.seen pages.old) (P.seen pages.new).faults at result }
 {
     match pages.view(at)? {
+        // Not reached: page `at` isn't the first one.
         None => Ok(Fit::Wrong),
         Some(page) => Ok(fit_on(page, i, key)),
     }

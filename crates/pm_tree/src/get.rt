@@ -25,6 +25,9 @@ use pm_types::{Link, PageFault, PageId};
 /// page on the way from the root that names a wrong one: none, one that isn't of the partition or
 /// of no tree, or one more level than a tree may have. Of a tree whose pages pass their checks none
 /// is bad. No page is changed.
+///
+/// Tests and `pm_bench` alone call it: the program looks keys up by `find_entry` of `pm_part`, which goes
+/// the same way and gives the leaf too.
 pub fn tree_get<P: Pages>(pages: &mut P, cache: u8, key: &[u8]) -> Result<Option<Link>, PageFault>
     requires ready { P.ready pages.old }
     requires room { 9 ≤ (P.seen pages.old).spare }
@@ -90,6 +93,7 @@ fn descend<P: Pages>(
     Err(PageFault::BadPage(PageId::new(pages.part(), from)))
 }
 
+/// The link that a word of a leaf is; none where there is no word.
 pub fn link_of(word: Option<u64>) -> Option<Link>
     ensures { result ≡ option_map as_link word }
 {
@@ -111,6 +115,7 @@ fn look<P: Pages>(pages: &mut P, count: u32, at: u32, key: &[u8]) -> Result<Step
         return Ok(Step::Other);
     }
     match pages.view(at)? {
+        // Not reached: page `at` isn't the first one.
         None => Ok(Step::Other),
         Some(page) => Ok(step_on(page, key)),
     }

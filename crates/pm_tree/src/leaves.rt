@@ -41,6 +41,7 @@ pub fn item_at<P: Pages>(pages: &mut P, at: u32, i: u16) -> Result<(Separator, u
     ensures cause { HasDiskCause (P.seen pages.old) (P.seen pages.new).faults result }
 {
     match pages.view(at)? {
+        // Not reached: page `at` is at hand.
         None => Ok((Separator::of(b"-"), 0)),
         Some(page) => Ok(item_on(page, i)),
     }
@@ -68,6 +69,7 @@ fn next_of<P: Pages>(pages: &mut P, at: u32) -> Result<u32, PageFault>
     ensures cause { HasDiskCause (P.seen pages.old) (P.seen pages.new).faults result }
 {
     match pages.view(at)? {
+        // Not reached: page `at` is at hand.
         None => Ok(0),
         Some(page) => Ok(next(page)),
     }

@@ -86,6 +86,7 @@ pub fn find_place<P: Pages>(
         return Ok(Place::Other);
     }
     match pages.view(at)? {
+        // Not reached: page `at` isn't the first one.
         None => Ok(Place::Other),
         Some(page) => Ok(place_on(page, key)),
     }

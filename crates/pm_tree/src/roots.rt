@@ -69,6 +69,7 @@ pub fn tree_put<P: Pages>(
     ensures passes { OnOk result (P.tells → IsLink (P.seen pages.old).part link.0
         → MayPutKey (P.seen pages.old) cache key.now → PassesAll (P.seen pages.new)) }
 {
+    // For the proof alone: the partition's number is below 2^16.
     let _part = pages.part();
     let root = number(pages, MetaSlot::Root(cache))?;
     if root == 0 {

@@ -13,7 +13,7 @@ use pm_btpage::{Found, INNER_KIND, LEAF_KIND, find, first, word_at};
 use pm_types::PageId;
 use pm_types::head::KIND_AT;
 
-/// What a page says of a key.
+/// What a page says of a key. For `tree_get` alone, which the program doesn't call.
 #[derive(Clone, Copy, Debug, PartialEq, Eq, Drop)]
 pub enum Step {
     /// The page is a leaf: the key's word, if it is there.
@@ -24,7 +24,7 @@ pub enum Step {
     Other,
 }
 
-/// What a page says of a key.
+/// What a page says of a key. For `tree_get` alone.
 pub fn step_on(page: &[u8], key: &[u8]) -> Step
     requires { IsReadable page.now }
     ensures { IsStepOn page.now key.now result }
@@ -39,7 +39,7 @@ pub fn step_on(page: &[u8], key: &[u8]) -> Step
     Step::Other
 }
 
-/// The word of a key in a page.
+/// The word of a key in a page, if it is there. For `step_on` alone.
 pub fn word_of(page: &[u8], key: &[u8]) -> Option<u64>
     requires { IsIndexPage page.now }
     ensures { result ≡ get_in (items_of page.now) key.now }

@@ -28,6 +28,7 @@ pub fn copy_page<P: Pages>(pages: &mut P, index: u32, into: &mut [u8]) -> Result
     ensures cause { HasPageCause P.tells (P.seen pages.old) (P.seen pages.new).faults index result }
 {
     match pages.view(index)? {
+        // Not reached: page `index` isn't the first one.
         None => Ok(()),
         Some(page) => {
             into.copy_from_slice(page);

@@ -75,6 +75,7 @@ pub fn find_pair<P: Pages>(pages: &mut P, at: u32, i: u16) -> Result<Option<Pair
     ensures cause { HasPageCause P.tells (P.seen pages.old) (P.seen pages.new).faults at result }
 {
     match pages.view(at)? {
+        // Not reached: page `at` isn't the first one.
         None => Ok(None),
         Some(page) => Ok(pair_on(page, i)),
     }

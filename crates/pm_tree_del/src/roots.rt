@@ -55,6 +55,7 @@ pub fn tree_remove<P: Pages>(
         → IsIndex (P.seen pages.old).pages (root_of (P.seen pages.old).pages cache) height nodes items
         → PassesAll (P.seen pages.new)) }
 {
+    // For the proof alone: the partition's number is below 2^16.
     let _part = pages.part();
     match find_number(pages, MetaSlot::Root(cache))? {
         None => Ok(None),
@@ -91,6 +92,7 @@ fn remove_below<P: Pages>(
     ensures sound { P.tells → IsSound (P.seen pages.old) → (height : ℕ) (nodes : List ℕ) (items : List Item)
         → IsIndex (P.seen pages.old).pages root height nodes items → NoBadPage result }
 {
+    // For the proof alone: a page has one of the sizes that pages may have.
     let _size = pages.page_size();
     let count = number(pages, MetaSlot::Pages)?;
     match remove_at(pages, cache, count, 0, root, key, LEVELS_MAX)? {

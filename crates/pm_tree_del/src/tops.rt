@@ -28,6 +28,7 @@ pub enum Top {
     Other,
 }
 
+/// What a page is as a root.
 pub fn top_on(page: &[u8]) -> Top
     requires { IsReadable page.now }
     ensures { IsTopOn page.now result }
@@ -79,6 +80,7 @@ pub fn find_top<P: Pages>(pages: &mut P, root: u32) -> Result<Top, PageFault>
     ensures cause { HasPageCause P.tells (P.seen pages.old) (P.seen pages.new).faults root result }
 {
     match pages.view(root)? {
+        // Not reached: page `root` isn't the first one.
         None => Ok(Top::Other),
         Some(page) => Ok(top_on(page)),
     }

@@ -33,7 +33,9 @@ pub enum StoreFault {
     /// A call on the disk or the console failed.
     #[error("a disk or console call failed")]
     Failed,
-    /// Memory ran out.
+    /// An allocation failed. It is also the answer where an operation can't have the page frames that it needs, even
+    /// after a checkpoint, or room in its outbox, and where a store is opened whose log may have no numbers left for
+    /// its segments.
     #[error("out of memory")]
     Memory,
     /// A page that was read fails its check or isn't in its file, or it names a page or a row that isn't there.

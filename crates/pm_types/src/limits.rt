@@ -16,13 +16,20 @@ pub const BATCH_LINES_MAX: usize = 1_024;
 pub const CACHES: u8 = 16;
 /// The most partitions of a store. Each has a file of its own.
 pub const PARTITIONS_MAX: u16 = 64;
-/// The most pages that one operation touches.
+/// How many different pages one operation may ask for. A put asks for 23 at most (`docs/ARCHITECTURE.md`, "What a put
+/// touches"): the clauses of `pm_part` count the meta page and the way to the leaf twice. A scan gives up the pages
+/// that it has before it asks for more. Before an operation as many empty page frames are taken, and there has to be
+/// room for as many pages in the outbox: see `FRAMES_PER_WORKER` in `pm_config`, and `OUTBOX`.
 pub const OP_PAGES: u32 = 32;
-/// The bytes of outbox that one operation needs beside its pages: its own record fits.
+/// The bytes of outbox that one operation needs beside its pages. Its head has 8 bytes, and the longest record of its
+/// own has 5 and then 7 + `KEY_MAX` + `VALUE_MAX`: 984 in all, rounded up.
 pub const OP_EXTRA: usize = 1_000;
-/// The bytes of a worker's outbox.
+/// The bytes of a worker's outbox, 1 MiB, which it takes once. An empty one has room for an operation that changes
+/// `OP_PAGES` of the largest pages, which needs 526,216 bytes. A smaller one would end rounds earlier. The log writer
+/// takes no operation that is longer.
 pub const OUTBOX: usize = 1_048_576;
-/// The slots of a worker's ring to the log writer.
+/// The slots of a worker's ring to the log writer, each of which holds a block of at most 256 bytes: as many as a full
+/// outbox fills. A ring takes about 1 MiB for each worker. Not used by the program yet.
 pub const RING_SLOTS: usize = 4_096;
 /// The newest version of the store's files. On the disk: do not change without a reader for the old one.
 pub const LAST_VERSION: u16 = 1;

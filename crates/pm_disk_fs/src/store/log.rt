@@ -83,6 +83,7 @@ impl<R: PathCalls<File: FileCalls> + AllocGlobal + Drop> Store<R> {
             (folder.now.dir ≡ None) (IsTrue self.old.writes.is_poisoned)) }
     {
         self.writes.begin()?;
+        // Fails where no folder is bound, also where the bytes would only be buffered.
         let _bound = folder.name()?;
         self.buffer_or_write(folder, seg, at, bytes)?;
         self.writes.is_poisoned = false;
