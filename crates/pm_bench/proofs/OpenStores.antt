@@ -2,7 +2,7 @@
 use Rattle.std.proofs.Common.{◌≡◌, ◌∙◌, length, sym, true}
 use Rattle.pm_config.specs.declared.config.Config.{Config}
 use Rattle.pm_disk.specs.Worlds.{World}
-use Rattle.pm_engine.specs.FrameEngines.{FrameRunning, IsSameEngine}
+use Rattle.pm_engine.specs.Engines.{FrameRunning, IsSameEngine}
 use Rattle.pm_engine.specs.FrameOpenings.{IsReadyOver}
 use Rattle.pm_bench.specs.OpenEngines.{IsOpenOver}
 

@@ -2,7 +2,7 @@
 use Rattle.std.specs.Prelude.{◌≡◌, length, true}
 use Rattle.pm_config.specs.declared.config.Config.{Config}
 use Rattle.pm_disk.specs.Worlds.{World}
-use Rattle.pm_engine.specs.FrameEngines.{FrameRunning}
+use Rattle.pm_engine.specs.Engines.{FrameRunning}
 use Rattle.pm_engine.specs.FrameOpenings.{IsReadyOver}
 
 -- An engine that is open, with as many page frames as this configuration says. Where the host tells its content, a

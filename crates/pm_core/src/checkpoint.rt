@@ -4,20 +4,20 @@
 //!     Idle --begin--> Begun --finish--> Ended --idle--> Idle
 //!                     wrote: these pages are in their files
 
-ghost use Rattle.std.specs.Prelude.{◌≡◌, ◌+◌, length, reverse, [], IfOk, Some, None};
+ghost use Rattle.std.specs.Prelude.{◌≡◌, length, reverse, [], IfOk, Some, None};
 ghost use Rattle.std.specs.Vec.{vec_capacity};
-ghost use Rattle.pm_types.specs.declared.limits.TheConstants.{PARTITIONS_MAX};
 ghost use Rattle.pm_disk.specs.States.{HasCause, IsUsable};
 ghost use Rattle.pm_marks.specs.Slots.{IsMark};
 ghost use Rattle.pm_core.specs.BasePages.{Partitions};
 ghost use Rattle.pm_core.specs.States.{State};
-ghost use Rattle.pm_core.specs.Calls.{MakesSteps, begin_steps, force_steps, finish_steps};
-ghost use Rattle.pm_core.specs.PageSets.{no_page, has_part, without_page, left_after, AreAmong, AreOnce};
+ghost use Rattle.pm_core.specs.Calls.{MakesSteps, begin_steps, finish_steps};
+ghost use Rattle.pm_core.specs.PageSets.{no_page, without_page, left_after, AreAmong, AreOnce};
 
+use crate::forcing::force_parts;
 use crate::page_set::PageSet;
-use pm_disk::{Failed, Host, PageWriter};
+use pm_disk::{Failed, Host};
 use pm_marks::{write_end, write_start};
-use pm_types::{Mark, PARTITIONS_MAX, PageId};
+use pm_types::{Mark, PageId};
 use std::marker::Model;
 
 /// No checkpoint runs.
@@ -202,44 +202,4 @@ fn forget(left: &mut Vec<PageId>, page: PageId)
     }
     left.retain(|other| other.0 != page.0);
     left.push_reserved(next);
-}
-
-// Forces the files of the partitions of these pages.
-fn force_parts<H: Host>(host: &mut H, pages: &Vec<PageId>) -> Result<(), Failed>
-    requires usable { IsUsable (H.Device.state host.old) }
-    ensures steps { H.Device.tells → (s : State)
-        → MakesSteps (H.Device.history host.old) (H.Device.history host.new) result
-        (force_steps 0 PARTITIONS_MAX pages.now.items) s }
-    ensures cause { HasCause (H.Device.state host.old) (H.Device.state host.new) result }
-{
-    'each: for part in 0..PARTITIONS_MAX {
-        force_part(host, part, pages)?;
-    }
-    Ok(())
-}
-
-// Forces a partition's file, where one of the pages is of it.
-fn force_part<H: Host>(host: &mut H, part: u16, pages: &Vec<PageId>) -> Result<(), Failed>
-    requires usable { IsUsable (H.Device.state host.old) }
-    ensures steps { H.Device.tells → (s : State)
-        → MakesSteps (H.Device.history host.old) (H.Device.history host.new) result
-        (force_steps part 1 pages.now.items) s }
-    ensures cause { HasCause (H.Device.state host.old) (H.Device.state host.new) result }
-{
-    if has_part(part, pages) {
-        host.force_pages(part)?;
-    }
-    Ok(())
-}
-
-// Whether one of the pages is of this partition.
-fn has_part(part: u16, pages: &Vec<PageId>) -> bool
-    ensures { result ≡ has_part part pages.now.items }
-{
-    'each: for page in pages {
-        if page.part() == part {
-            return true;
-        }
-    }
-    false
 }

@@ -2,8 +2,10 @@
 #![tactic(auto)]
 
 mod checkpoint;
+mod forcing;
 pub mod laws;
 mod page_set;
 
 pub use checkpoint::{Begun, Ended, Idle};
+pub use forcing::force_parts;
 pub use page_set::PageSet;

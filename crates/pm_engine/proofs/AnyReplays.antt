@@ -14,7 +14,7 @@ use Rattle.pm_segments.specs.Scans.{Scanned, bytes_after, frame_ahead, Advances}
 use Rattle.pm_segments.proofs.GrownLog.{frame_stays}
 use Rattle.pm_segments.proofs.Reading.{going_on}
 use Rattle.pm_ckpt.specs.Checkpoints.{KeepsLogFrom}
-use Rattle.pm_engine.specs.FrameEngines.{FrameRunning}
+use Rattle.pm_engine.specs.Engines.{FrameRunning}
 use Rattle.pm_engine.specs.FrameReplayLogs.{record_found}
 use Rattle.pm_engine.specs.FrameStores.{pages_in_frames}
 use Rattle.pm_engine.specs.MetPages.{AllowsRecord, KeepsPagesBut}

@@ -20,12 +20,12 @@ use Rattle.pm_stripe.specs.declared.halt.Halt.{Halt}
 use Rattle.pm_core.specs.BasePages.{Partitions}
 use Rattle.pm_core.specs.Held.{AllWellFormed, pairs_in}
 use Rattle.pm_core.specs.Replays.{replayed}
-use Rattle.pm_engine.specs.declared.frame_engine_replay.Applied.{Applied}
-use Rattle.pm_engine.specs.declared.frame_engine_replay.Applied.TheVariants as applied
+use Rattle.pm_engine.specs.declared.engine_replay.Applied.{Applied}
+use Rattle.pm_engine.specs.declared.engine_replay.Applied.TheVariants as applied
 use Rattle.pm_engine.specs.declared.frame_lines.Stop.{Stop}
 use Rattle.pm_engine.specs.declared.frame_lines.Stop.TheVariants.{Halted, Faulted}
-use Rattle.pm_engine.specs.FrameEngineReplays.{AppliesRecord, EvaluatesAgain, AppliesAs, GoesOnInFrames, NamesNoPage, applied_as, is_done}
-use Rattle.pm_engine.specs.FrameEngines.{FrameRunning, map_in}
+use Rattle.pm_engine.specs.EngineReplays.{AppliesRecord, EvaluatesAgain, AppliesAs, GoesOnInFrames, NamesNoPage, applied_as, is_done}
+use Rattle.pm_engine.specs.Engines.{FrameRunning, map_in}
 use Rattle.pm_engine.specs.Batches.{IsPlainFault}
 use Rattle.pm_engine.specs.FrameLines.{EvaluatesLine}
 use Rattle.pm_engine.specs.FrameReplays.{may_apply_more}

@@ -14,14 +14,14 @@ use Rattle.pm_ckpt.specs.Dirty.{IsNext}
 use Rattle.pm_ckpt.specs.Marked.{mark_for}
 use Rattle.pm_engine.specs.FrameCheckpoints.{IsCheckpointed}
 use Rattle.pm_engine.specs.FrameDirty.{ListsDirty}
-use Rattle.pm_engine.specs.FrameEngines.{FrameRunning, IsFrameEngine, HasDoneLines, HasLastingLinesIn, running_in}
+use Rattle.pm_engine.specs.Engines.{FrameRunning, IsEngine, HasDoneLines, HasLastingLinesIn, running_in}
 use Rattle.pm_engine.specs.FrameStores.{HasCleanPages}
 use Rattle.pm_engine.specs.RunningStores.{number_of}
 use Rattle.pm_engine.specs.RunningLines.{HasRun, CrashHoldsLines}
 use Rattle.pm_engine.specs.RunningStores.{HasSegmentsFor}
 use Rattle.pm_engine.proofs.CheckpointedFrames.{names_run, may_make, leads, holds}
 
-module _ (before : FrameRunning) (is : IsFrameEngine before) (names : List PageId) (bytes : Partitions) (dirty : ListsDirty before.store names bytes) (old new : History) {T E : Type 0} (result : Result T E)
+module _ (before : FrameRunning) (is : IsEngine before) (names : List PageId) (bytes : Partitions) (dirty : ListsDirty before.store names bytes) (old new : History) {T E : Type 0} (result : Result T E)
     (steps : (wanted : Shape) (told : List ℕ → ℕ) (s : State) → (can : CanCheckpoint wanted told s before.log (mark_for before.ckpt before.log None) bytes names old.world)
     → MakesWhole {T = T} {E = E} told old new result before.log (mark_for before.ckpt before.log None) can.rebuilt bytes names s)
     (wanted : Shape) (told : List ℕ → ℕ) (from : ℕ) (start : Pairs) (lines : List Line) (has : HasDoneLines wanted told from start lines before old.world) (segments : HasSegmentsFor before.log 1) (numbered : number_of before.ckpt.mark + 1 < 2 ^ 64) where
@@ -41,7 +41,7 @@ module _ (before : FrameRunning) (is : IsFrameEngine before) (names : List PageI
       (λ w some. holds before names bytes dirty is.shape numbered segments wanted told from start lines has.state old.world named can makes.writings makes.order makes.guards makes.leaves w some)
       makes.makes.moments
 
-pub engine_lasts : (tells : Type 0) → tells → (before after : FrameRunning) → IsFrameEngine before → (names : List PageId) (bytes : Partitions) → ListsDirty before.store names bytes → (old new : History) {T E : Type 0} (u : T)
+pub engine_lasts : (tells : Type 0) → tells → (before after : FrameRunning) → IsEngine before → (names : List PageId) (bytes : Partitions) → ListsDirty before.store names bytes → (old new : History) {T E : Type 0} (u : T)
     → ((wanted : Shape) (told : List ℕ → ℕ) (s : State) → (can : CanCheckpoint wanted told s before.log (mark_for before.ckpt before.log None) bytes names old.world)
     → MakesWhole {T = T} {E = E} told old new (Ok u) before.log (mark_for before.ckpt before.log None) can.rebuilt bytes names s)
     → IsNext (mark_for before.ckpt before.log None) before.ckpt after.ckpt before.log after.log → IsCheckpointed tells old.world new.world before.store after.store → HasCleanPages before.store old.world

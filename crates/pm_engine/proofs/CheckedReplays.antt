@@ -22,8 +22,8 @@ use Rattle.pm_ckpt.specs.Marked.{mark_for, kept_segment, begin_frame}
 use Rattle.pm_ckpt.specs.Marked as marked
 use Rattle.pm_engine.specs.FrameCheckpoints.{IsCheckpointed, ClosesStore}
 use Rattle.pm_engine.specs.FrameDirty.{ListsDirty}
-use Rattle.pm_engine.specs.FrameEngineReplays.{IsReplayingIn}
-use Rattle.pm_engine.specs.FrameEngines.{FrameRunning, IsFrameEngine, map_in}
+use Rattle.pm_engine.specs.EngineReplays.{IsReplayingIn}
+use Rattle.pm_engine.specs.Engines.{FrameRunning, IsEngine, map_in}
 use Rattle.pm_engine.specs.FrameReplayCheckpoints.{ReplaysFromIn, KeepsWholePages, ChecksInFrames}
 use Rattle.pm_engine.specs.FrameStores.{HasCleanPages, IsDirtyPage, pages_in_frames}
 use Rattle.pm_engine.specs.MetPages.{KeepsPagesBut}
@@ -37,7 +37,7 @@ use Rattle.pm_engine.proofs.Results.{on_err, err_anyway}
 use Rattle.pm_engine.proofs.RisenLogs.{grown_rises, grown_goes_on}
 use Rattle.pm_engine.proofs.WholePages.{whole_checked, map_checked}
 
-module _ (before : FrameRunning) (is : IsFrameEngine before) (from : Place) (fits : IsMarkPlace from) (names : List PageId) (bytes : Partitions) (dirty : ListsDirty before.store names bytes) (old new : History) where
+module _ (before : FrameRunning) (is : IsEngine before) (from : Place) (fits : IsMarkPlace from) (names : List PageId) (bytes : Partitions) (dirty : ListsDirty before.store names bytes) (old new : History) where
   abbrev mark : Mark
   mark = mark_for before.ckpt before.log (Some from)
 
@@ -66,7 +66,7 @@ module _ (before : FrameRunning) (is : IsFrameEngine before) (from : Place) (fit
         after new.world made.makes.all next done.shape done.none_dirty (done.as_files t clean)
 
   -- the engine after it
-  pub engine_checked : (tells : Type 0) (after : FrameRunning) → before.store.is_open ≡ true → IsMark mark → IsNext mark before.ckpt after.ckpt before.log after.log → IsCheckpointed tells old.world new.world before.store after.store → IsFrameEngine after
+  pub engine_checked : (tells : Type 0) (after : FrameRunning) → before.store.is_open ≡ true → IsMark mark → IsNext mark before.ckpt after.ckpt before.log after.log → IsCheckpointed tells old.world new.world before.store after.store → IsEngine after
   engine_checked tells after opened is_mark next done = record {
     shape = ap (λ (k : marked.Kept). k.shape) next.kept ∙ is.shape ∙ sym done.shape;
     mark = subst IsMarkIn (sym (ap (λ (k : marked.Kept). k.mark) next.kept)) is_mark;

@@ -34,7 +34,7 @@ use Rattle.pm_ckpt.specs.Marked as marked
 use Rattle.pm_ckpt.specs.Writes.{Writing, IsOrderOf, written_page, write_steps, named_of}
 use Rattle.pm_ckpt.proofs.Home.{index_of_own}
 use Rattle.pm_engine.specs.FrameDirty.{ListsDirty}
-use Rattle.pm_engine.specs.FrameEngines.{FrameRunning, NamesDirty, HasLastingLinesIn, running_in}
+use Rattle.pm_engine.specs.Engines.{FrameRunning, NamesDirty, HasLastingLinesIn, running_in}
 use Rattle.pm_engine.specs.FrameStores.{IsDirtyPage, pages_in_frames}
 use Rattle.pm_engine.specs.LineChains.{NameTheSame}
 use Rattle.pm_engine.specs.RunningStores.{number_of}

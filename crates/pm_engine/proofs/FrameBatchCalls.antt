@@ -29,8 +29,8 @@ use Rattle.pm_core.proofs.OnlyDisk.{disk_same}
 use Rattle.pm_engine.specs.declared.frame_lines.Stop.{Stop}
 use Rattle.pm_engine.specs.declared.frame_lines.Stop.TheVariants.{Faulted}
 use Rattle.pm_engine.specs.declared.frame_rounds.RoundEnd.{RoundEnd}
-use Rattle.pm_engine.specs.FrameBatches.{HasNumbersIn, TakesNumbersIn, MayGoOn, KeepsFrameEngine, RunsFrameBatch}
-use Rattle.pm_engine.specs.FrameEngines.{FrameRunning, HasDoneLines, IsSameEngine, NamesDirty, running_in, map_in, DoesRoundLines, LosesRoundLines}
+use Rattle.pm_engine.specs.FrameBatches.{HasNumbersIn, TakesNumbersIn, MayGoOn, KeepsEngine, RunsFrameBatch}
+use Rattle.pm_engine.specs.Engines.{FrameRunning, HasDoneLines, IsSameEngine, NamesDirty, running_in, map_in, DoesRoundLines, LosesRoundLines}
 use Rattle.pm_engine.specs.FrameHosts.{ChangesNoWorld, may_go_on}
 use Rattle.pm_engine.specs.FrameRounds.{EvaluatesLines, lines_from}
 use Rattle.pm_engine.specs.FrameStores.{pages_in_frames, HasCleanPages}
@@ -77,7 +77,7 @@ done_unchanged wanted told from start done line engine w same has = record {
 
 -- ---- an engine that is as it was
 
-module _ (tells : Type 0) (old new : History) (before now : FrameRunning) (keeps : KeepsFrameEngine tells old new before now) where
+module _ (tells : Type 0) (old new : History) (before now : FrameRunning) (keeps : KeepsEngine tells old new before now) where
   keeps_names : (names : List PageId) → NamesDirty before.store names → NamesDirty now.store names
   keeps_names names named = record {
     once = named.once;
@@ -404,9 +404,9 @@ module _ (tells : Type 0) (old new : History) (first : ℕ) (lines : List Line) 
 
 -- an engine that is the same
 pub keeps_itself : (tells : Type 0) (old new : History) (before now : FrameRunning) → now ≡ before → (tells → ChangesNoWorld old new)
-    → (tells → HasCleanPages before.store old.world) → KeepsFrameEngine tells old new before now
+    → (tells → HasCleanPages before.store old.world) → KeepsEngine tells old new before now
 keeps_itself tells old new before now is world clean =
-    subst (λ (e : FrameRunning). KeepsFrameEngine tells old new before e) (sym is) (record {
+    subst (λ (e : FrameRunning). KeepsEngine tells old new before e) (sym is) (record {
       same = record { shape = refl; region = refl; locks = refl };
       log = refl;
       ckpt = refl;
@@ -419,7 +419,7 @@ keeps_itself tells old new before now is world clean =
     })
 
 -- out of memory: none of these lines was done
-pub none_done : (tells : Type 0) (old new : History) (before now : FrameRunning) → KeepsFrameEngine tells old new before now
+pub none_done : (tells : Type 0) (old new : History) (before now : FrameRunning) → KeepsEngine tells old new before now
     → (first segments checkpoints : ℕ) (lines : List Line) (list : ReplyList) → now.store.is_open ≡ true → (tells → EndsThere before.log old.world)
     → RunsFrameBatch tells old new first lines segments checkpoints before now list list (Err Memory)
 none_done tells old new before now keeps first segments checkpoints lines list opens ends_there =

@@ -21,7 +21,7 @@ use Rattle.pm_core.specs.BasePages.{Partitions}
 use Rattle.pm_core.specs.Held.{AllWellFormed, pairs_in}
 use Rattle.pm_core.proofs.OnlyDisk.{then_disk}
 use Rattle.pm_engine.specs.FrameBatches.{HasNumbersIn, TakesNumbersIn, MayGoOn, RunsFrameBatch}
-use Rattle.pm_engine.specs.FrameEngines.{FrameRunning, HasDoneLines, map_in}
+use Rattle.pm_engine.specs.Engines.{FrameRunning, HasDoneLines, map_in}
 use Rattle.pm_engine.specs.FrameRounds.{EvaluatesLines}
 use Rattle.pm_engine.specs.FrameStores.{pages_in_frames}
 use Rattle.pm_engine.specs.MetPages.{AllowsLine, KeepsOrMeets}

@@ -19,7 +19,7 @@ use Rattle.pm_core.specs.Machine.{DiskStep, states, worlds}
 use Rattle.pm_core.specs.Rounds.{on_log}
 use Rattle.pm_core.specs.States.{State}
 use Rattle.pm_core.proofs.OnlyDisk.{disk_same, none_disk}
-use Rattle.pm_engine.specs.FrameEngines.{FrameRunning, IsFrameEngine, running_in, HasDoneLines, HasLastingLinesIn, AllLastIn, closed_engine}
+use Rattle.pm_engine.specs.Engines.{FrameRunning, IsEngine, running_in, HasDoneLines, HasLastingLinesIn, AllLastIn, closed_engine}
 use Rattle.pm_engine.specs.FrameStores.{pages_in_frames, HasCleanPages}
 use Rattle.pm_engine.specs.RunningStores.{number_of}
 use Rattle.pm_engine.specs.RunningLines.{HasRun, CrashHoldsLines}
@@ -101,7 +101,7 @@ module _ (engine : FrameRunning) (old new : History) (sound : IsHistory old) {T 
         (force_makes s has.has.runs.log.ends).moments
 
 -- an engine that is closed
-pub engine_closed : (engine : FrameRunning) → IsFrameEngine engine → IsFrameEngine (closed_engine engine)
+pub engine_closed : (engine : FrameRunning) → IsEngine engine → IsEngine (closed_engine engine)
 engine_closed engine is = record {
   shape = is.shape;
   mark = is.mark;

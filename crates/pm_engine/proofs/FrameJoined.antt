@@ -19,7 +19,7 @@ use Rattle.pm_model.specs.declared.reply.Reply.TheVariants.{Done}
 use Rattle.pm_model.specs.ReplyLists.{ReplyList, with_replies}
 use Rattle.pm_engine.specs.FrameBatches.{TakesNumbersIn, MakesAskedIn, EndsAtReplayIn, RunsFrameBatch, ChecksBetween, RunsPart, TriesLines, RunsAllParts}
 use Rattle.pm_engine.specs.FrameBatches.{LeavesAllLastingIn, LeavesAllAtRest, LacksIfNone}
-use Rattle.pm_engine.specs.FrameEngines.{FrameRunning, HasLastingLinesIn}
+use Rattle.pm_engine.specs.Engines.{FrameRunning, HasLastingLinesIn}
 use Rattle.pm_engine.specs.FrameHosts.{ChangesNoWorld}
 use Rattle.pm_engine.specs.FrameStores.{HasCleanPages}
 use Rattle.pm_engine.specs.Batches.{StaysOpen, is_checkpoint, checkpoints_in, asked_last}

@@ -13,9 +13,9 @@ use Rattle.pm_locks.specs.declared.view.View.{View}
 use Rattle.pm_stripe.specs.declared.stripe.Stripe.{Stripe}
 use Rattle.pm_ckpt.specs.Dirty.{dirty_below, dirty_page}
 use Rattle.pm_ckpt.specs.Frames.{names_of}
-use Rattle.pm_engine.specs.FrameBatches.{KeepsFrameEngine, LooksAtFrames, LooksAtEngine}
+use Rattle.pm_engine.specs.FrameBatches.{KeepsEngine, LooksAtFrames, LooksAtEngine}
 use Rattle.pm_engine.specs.FrameDirty.{ListsDirty, dirty_names, dirty_bytes}
-use Rattle.pm_engine.specs.FrameEngines.{FrameRunning}
+use Rattle.pm_engine.specs.Engines.{FrameRunning}
 use Rattle.pm_engine.specs.FrameStores.{FrameStoreView, IsDirtyPage, HasCleanPages}
 
 -- the same pages are Dirty by the same words
@@ -39,7 +39,7 @@ looks_names old new looks =
     (λ f. ap (λ (s : FrameStoreView). known_at s.seat.view f) (sym (looked_is old new looks)) ∙ looks.looks.words f) (length old.locks.ranges))
 
 looked_keeps : (tells : Type 0) (h : History) (engine : FrameRunning) (view : View) (dirty : Option ℕ) → (tells → IsHistory h) → (tells → HasCleanPages engine.store h.world)
-    → KeepsFrameEngine tells h h engine (record engine { store = looked_store engine.store view dirty })
+    → KeepsEngine tells h h engine (record engine { store = looked_store engine.store view dirty })
 looked_keeps tells h engine view dirty sound clean = record {
   same = record { shape = refl; region = refl; locks = refl };
   log = refl;
@@ -56,9 +56,9 @@ looked_keeps tells h engine view dirty sound clean = record {
 }
 
 pub looks_keep : (tells : Type 0) (h : History) (before now : FrameRunning) → LooksAtEngine before now → (tells → IsHistory h) → (tells → HasCleanPages before.store h.world)
-    → KeepsFrameEngine tells h h before now
+    → KeepsEngine tells h h before now
 looks_keep tells h before now looks sound clean =
-    subst (λ (e : FrameRunning). KeepsFrameEngine tells h h before e)
+    subst (λ (e : FrameRunning). KeepsEngine tells h h before e)
     (sym (looks.engine ∙ ap (λ s. let it : FrameRunning = record before { store = s } in it) (looked_is before.store now.store looks.frames)))
     (looked_keeps tells h before now.store.seat.view now.store.dirty sound clean)
 

@@ -54,8 +54,8 @@ use Rattle.pm_stripe.specs.Kept.{page_bytes}
 use Rattle.pm_stripe.specs.Reads.{stored, stored_at}
 use Rattle.pm_stripe.specs.Stripes.{kept, file_in}
 use Rattle.pm_engine.specs.AppendRuns.{append_all_steps, grown_all}
-use Rattle.pm_engine.specs.FrameEngineReplays.{HasWholePages, IsReplayingIn}
-use Rattle.pm_engine.specs.FrameEngines.{FrameRunning, running_in, map_in}
+use Rattle.pm_engine.specs.EngineReplays.{HasWholePages, IsReplayingIn}
+use Rattle.pm_engine.specs.Engines.{FrameRunning, running_in, map_in}
 use Rattle.pm_engine.specs.FrameOpenings.{AllowsRecords, HasBasePages, HasNoStrayPages, HasOpenCauseIn, IsBadOpeningIn, IsBadOpeningPage, IsStartedEngine, KeepsBasePagesBut, OpensOverAny, OpensRunningIn}
 use Rattle.pm_engine.specs.FrameReplayLogs.{CanReplayIn, HasRecordsIn, HasNumbersIn, ReplaysOverAny}
 use Rattle.pm_engine.specs.FrameStores.{FrameStoreView, IsFrameStore, pages_in_frames, pages_in_files}

@@ -25,9 +25,9 @@ use Rattle.pm_engine.specs.declared.frame_lines.Stop.TheVariants.{Faulted}
 use Rattle.pm_engine.specs.declared.frame_rounds.RoundEnd.{RoundEnd}
 use Rattle.pm_engine.specs.declared.frame_scans.ScanStop.{ScanStop}
 use Rattle.pm_engine.specs.declared.frame_scans.ScanStop.TheVariants as scan
-use Rattle.pm_engine.specs.FrameBatches.{TakesNumbersIn, MayGoOn, KeepsFrameEngine, RunsFrameBatch, TriesLines}
+use Rattle.pm_engine.specs.FrameBatches.{TakesNumbersIn, MayGoOn, KeepsEngine, RunsFrameBatch, TriesLines}
 use Rattle.pm_engine.specs.FrameBatches.{AreRoundLines, is_alone, CountsRound, CountsScan}
-use Rattle.pm_engine.specs.FrameEngines.{FrameRunning, DoesRoundLines, LosesRoundLines, LeavesEngine}
+use Rattle.pm_engine.specs.Engines.{FrameRunning, DoesRoundLines, LosesRoundLines, LeavesEngine}
 use Rattle.pm_engine.specs.FrameHosts.{IsStoreLine, ChangesNoWorld, ScansStore}
 use Rattle.pm_engine.specs.FrameLines.{is_scan}
 use Rattle.pm_engine.specs.FrameStores.{FrameStoreView, pages_in_frames, HasCleanPages}
@@ -214,7 +214,7 @@ module _ (tells : Type 0) (old new : History) (first cache : ℕ) (before : Fram
   line = Good (Scan cache)
 
   module _ (answer : Result (Unit {0}) ScanStop) (scans : ScansStore tells cache before.store after old.world was replies answer) where
-    scan_keeps : KeepsFrameEngine tells old new before scanned
+    scan_keeps : KeepsEngine tells old new before scanned
     scan_keeps = record {
       same = record { shape = scans.same.shape; region = scans.same.region; locks = scans.same.locks };
       log = refl;

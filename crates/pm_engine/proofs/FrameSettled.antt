@@ -24,9 +24,9 @@ use Rattle.pm_ckpt.proofs.GoingOn.{payload_len}
 use Rattle.pm_core.specs.BasePages.{Partitions}
 use Rattle.pm_core.specs.Calls.{ChangesDisk}
 use Rattle.pm_engine.specs.CheckedEngines.{IsAfterCheckpoint}
-use Rattle.pm_engine.specs.FrameBatches.{is_due_in, HasNumbersIn, TakesNumbersIn, EndsAtReplayIn, KeepsFrameEngine, RunsFrameBatch, ChecksBetween, LeavesAllLastingIn, LeavesAllAtRest, LooksAtEngine}
+use Rattle.pm_engine.specs.FrameBatches.{is_due_in, HasNumbersIn, TakesNumbersIn, EndsAtReplayIn, KeepsEngine, RunsFrameBatch, ChecksBetween, LeavesAllLastingIn, LeavesAllAtRest, LooksAtEngine}
 use Rattle.pm_engine.specs.FrameDirty.{ListsDirty, dirty_names, dirty_bytes}
-use Rattle.pm_engine.specs.FrameEngines.{FrameRunning, HasDoneLines, HasLastingLinesIn, AllLastIn, IsSameEngine, closed_engine, map_in}
+use Rattle.pm_engine.specs.Engines.{FrameRunning, HasDoneLines, HasLastingLinesIn, AllLastIn, IsSameEngine, closed_engine, map_in}
 use Rattle.pm_engine.specs.FrameStores.{FrameStoreView, pages_in_frames, HasCleanPages, IsDirtyPage}
 use Rattle.pm_engine.specs.Batches.{StaysOpen}
 use Rattle.pm_engine.specs.RunningStores.{number_of}
@@ -155,14 +155,14 @@ module _ (tells : Type 0) (old mid : History) (before forced looked : FrameRunni
     → HasDoneLines wanted told from start lines before old.world
     → AllMoments old mid (CrashHoldsLines (before.log.end.seg + 1) (number_of before.ckpt.mark) wanted before.store.shape start lines))
     (disk : tells → AllMoments old mid (ChangesDisk old.world)) (looks : LooksAtEngine forced looked) where
-  keeps : KeepsFrameEngine tells mid mid forced looked
+  keeps : KeepsEngine tells mid mid forced looked
   keeps = looks_keep tells mid forced looked looks sound clean_mid
 
   abbrev AsBefore : FrameRunning → Type 0
-  AsBefore e = KeepsFrameEngine tells mid mid e looked
+  AsBefore e = KeepsEngine tells mid mid e looked
 
   -- the same of the engine before the force
-  kept : KeepsFrameEngine tells mid mid before looked
+  kept : KeepsEngine tells mid mid before looked
   kept = subst AsBefore is keeps
 
   pub looked_opens : looked.store.is_open ≡ true

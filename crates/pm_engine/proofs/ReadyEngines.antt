@@ -5,8 +5,8 @@ use Rattle.std.proofs.lemmas.Result.{on_ok_weaker}
 use Rattle.pm_disk.specs.Moments.{History, IsHistory}
 use Rattle.pm_segments.specs.Ends.{EndsThere}
 use Rattle.pm_core.proofs.OnlyDisk.{none_disk, then_disk}
-use Rattle.pm_engine.specs.FrameEngineReplays.{GoesOnInFrames, KeepsEngineReady}
-use Rattle.pm_engine.specs.FrameEngines.{FrameRunning}
+use Rattle.pm_engine.specs.EngineReplays.{GoesOnInFrames, KeepsEngineReady}
+use Rattle.pm_engine.specs.Engines.{FrameRunning}
 use Rattle.pm_engine.specs.FrameStores.{HasCleanPages}
 use Rattle.pm_engine.proofs.Results.{on_err}
 

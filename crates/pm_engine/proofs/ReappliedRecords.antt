@@ -44,8 +44,8 @@ use Rattle.pm_engine.specs.declared.frame_lines.Stop.{Stop}
 use Rattle.pm_engine.specs.declared.frame_lines.Stop.TheVariants.{Halted, Faulted}
 use Rattle.pm_engine.specs.AppendRuns.{AppendsAll, append_all_steps, grown_all}
 use Rattle.pm_engine.specs.FrameCommands.{frame_pages, noted_in, ChangesAsNoted, ChangesNothing, HandsOverChange}
-use Rattle.pm_engine.specs.FrameEngineReplays.{HasWholePages, IsReplayingIn, ReplaysOnIn, GoesOnInFrames, EvaluatesAgain}
-use Rattle.pm_engine.specs.FrameEngines.{FrameRunning, IsFrameEngine, running_in}
+use Rattle.pm_engine.specs.EngineReplays.{HasWholePages, IsReplayingIn, ReplaysOnIn, GoesOnInFrames, EvaluatesAgain}
+use Rattle.pm_engine.specs.Engines.{FrameRunning, IsEngine, running_in}
 use Rattle.pm_engine.specs.FramedStores.{HasStore}
 use Rattle.pm_engine.specs.FrameHosts.{SendsOutbox, ChangesNoWorld}
 use Rattle.pm_engine.specs.FrameLines.{EvaluatesLine}
@@ -237,7 +237,7 @@ module _ {Q R : Type 0} (tells rtells : Type 0) (history : R → History) (state
       crash = λ t wanted says pairs s is segments. crash_then h2 (Err failed) log appends t wanted says pairs s is segments;
     }
 
-  pub shut_again : (log : LogEnd) → IsFrameEngine before → IsFrameEngine (record { store = shut mid; log = log; ckpt = before.ckpt; began = before.began; order = before.order })
+  pub shut_again : (log : LogEnd) → IsEngine before → IsEngine (record { store = shut mid; log = log; ckpt = before.ckpt; began = before.began; order = before.order })
   shut_again log is = record {
     shape = is.shape ∙ sym applied.same.shape;
     mark = is.mark;
@@ -256,7 +256,7 @@ module _ {Q R : Type 0} (tells rtells : Type 0) (history : R → History) (state
     handed_all : AppendsAll {T = Unit {0}} {E = Failed} tells h1 h2 (Ok tt) before.log log (records_of operations)
     handed_all = appends (records_of operations) frames_handed
 
-    pub engine_again : IsFrameEngine before → before.store.is_open ≡ true → IsFrameEngine engine
+    pub engine_again : IsEngine before → before.store.is_open ≡ true → IsEngine engine
     engine_again is opened = record {
       shape = is.shape ∙ sym (sends.same.shape ∙ applied.same.shape);
       mark = is.mark;

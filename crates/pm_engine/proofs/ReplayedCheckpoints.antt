@@ -38,8 +38,8 @@ use Rattle.pm_ckpt.specs.Marked as marked
 use Rattle.pm_ckpt.specs.Writes.{Writing, IsOrderOf, written_page, write_steps, named_of}
 use Rattle.pm_ckpt.proofs.Home.{index_of_own}
 use Rattle.pm_engine.specs.FrameDirty.{ListsDirty}
-use Rattle.pm_engine.specs.FrameEngineReplays.{IsReplayingIn}
-use Rattle.pm_engine.specs.FrameEngines.{FrameRunning, map_in, running_in}
+use Rattle.pm_engine.specs.EngineReplays.{IsReplayingIn}
+use Rattle.pm_engine.specs.Engines.{FrameRunning, map_in, running_in}
 use Rattle.pm_engine.specs.FrameReplayCheckpoints.{ReplaysFromIn}
 use Rattle.pm_engine.specs.FrameStores.{IsDirtyPage, pages_in_frames}
 use Rattle.pm_engine.specs.LineChains.{NameTheSame}

@@ -24,8 +24,8 @@ use Rattle.pm_segments.proofs.Reading.{going_on}
 use Rattle.pm_core.specs.Replays.{replayed, all_replayed}
 use Rattle.pm_core.specs.States.{State}
 use Rattle.pm_core.proofs.Replaying.{replayed-append, replayed-none}
-use Rattle.pm_engine.specs.FrameEngineReplays.{HasWholePages, GoesOnInFrames, KeepsEngineReady, NamesNoPage}
-use Rattle.pm_engine.specs.FrameEngines.{FrameRunning, map_in, running_in}
+use Rattle.pm_engine.specs.EngineReplays.{HasWholePages, GoesOnInFrames, KeepsEngineReady, NamesNoPage}
+use Rattle.pm_engine.specs.Engines.{FrameRunning, map_in, running_in}
 use Rattle.pm_engine.specs.FrameHosts.{ChangesNoWorld}
 use Rattle.pm_engine.specs.FrameReplayCheckpoints.{ReplaysRecordFrom, ReplaysRecord}
 use Rattle.pm_engine.specs.FrameReplayLogs.{AppliesNextIn, AppliesFrameIn, IsBadNextIn, HasRecordsIn, CanReplayIn, CanReplayOn, StepsReplay, ReplaysAllIn, ReplaysOverAny, ReplaysWellFormed, ReplaysScan, record_found}

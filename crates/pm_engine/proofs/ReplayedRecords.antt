@@ -23,10 +23,10 @@ use Rattle.pm_core.specs.Replays.{all_replayed}
 use Rattle.pm_core.specs.States.{State}
 use Rattle.pm_ckpt.specs.Checkpoints.{KeepsLogFrom}
 use Rattle.pm_ckpt.specs.Marked as marked
-use Rattle.pm_engine.specs.declared.frame_engine_replay.Applied.{Applied}
-use Rattle.pm_engine.specs.declared.frame_engine_replay.Applied.TheVariants as applied
-use Rattle.pm_engine.specs.FrameEngineReplays.{HasWholePages, IsReplayingIn, GoesOnInFrames, AppliesAs, AppliesRecord, NamesNoPage}
-use Rattle.pm_engine.specs.FrameEngines.{FrameRunning, map_in}
+use Rattle.pm_engine.specs.declared.engine_replay.Applied.{Applied}
+use Rattle.pm_engine.specs.declared.engine_replay.Applied.TheVariants as applied
+use Rattle.pm_engine.specs.EngineReplays.{HasWholePages, IsReplayingIn, GoesOnInFrames, AppliesAs, AppliesRecord, NamesNoPage}
+use Rattle.pm_engine.specs.Engines.{FrameRunning, map_in}
 use Rattle.pm_engine.specs.FrameReplayCheckpoints.{ChecksInFrames, AppliesToWhole, ReplaysRecordFrom, ReplaysRecord, applied_once}
 use Rattle.pm_engine.specs.FrameStores.{pages_in_frames}
 use Rattle.pm_engine.specs.MetPages.{AllowsRecord, KeepsPagesBut, KeepsOrMeets}

@@ -39,7 +39,7 @@ use Rattle.pm_engine.specs.declared.frame_lines.Stop.TheVariants.{Halted, Faulte
 use Rattle.pm_engine.specs.declared.frame_rounds.RoundEnd.{RoundEnd}
 use Rattle.pm_engine.specs.AppendRuns.{AppendsAll, append_all_steps, grown_all}
 use Rattle.pm_engine.specs.FrameCommands.{frame_pages}
-use Rattle.pm_engine.specs.FrameEngines.{FrameRunning, IsFrameEngine, running_in, map_in, HasDoneLines, DoesRoundLines, LosesRoundLines}
+use Rattle.pm_engine.specs.Engines.{FrameRunning, IsEngine, running_in, map_in, HasDoneLines, DoesRoundLines, LosesRoundLines}
 use Rattle.pm_engine.specs.FramedStores.{HasStore, StepsStore}
 use Rattle.pm_engine.specs.FrameHosts.{RunsRound, SendsOutbox, ChangesNoWorld, may_go_on}
 use Rattle.pm_engine.specs.FrameRounds.{HasDone, LeavesRound, EvaluatesLines, lines_from}
@@ -256,7 +256,7 @@ module _ {Q R : Type 0} (tells rtells : Type 0) (history : R → History) (state
     disk = round_disk h2 (Err failed) log appends;
   }
 
-  pub shut_engine : (log : LogEnd) (order : List ℕ) → IsFrameEngine before → IsFrameEngine (record { store = shut mid; log = log; ckpt = before.ckpt; began = before.began; order = order })
+  pub shut_engine : (log : LogEnd) (order : List ℕ) → IsEngine before → IsEngine (record { store = shut mid; log = log; ckpt = before.ckpt; began = before.began; order = order })
   shut_engine log order is = record {
     shape = is.shape ∙ sym round.same.shape;
     mark = is.mark;
@@ -276,7 +276,7 @@ module _ {Q R : Type 0} (tells rtells : Type 0) (history : R → History) (state
     handed_all : AppendsAll {T = Unit {0}} {E = Failed} tells h1 h2 (Ok tt) before.log log (records_of operations)
     handed_all = appends (records_of operations) frames_handed
 
-    pub done_engine : IsFrameEngine before → before.store.is_open ≡ true → IsFrameEngine engine
+    pub done_engine : IsEngine before → before.store.is_open ≡ true → IsEngine engine
     done_engine is opened = record {
       shape = is.shape ∙ sym (sends.same.shape ∙ round.same.shape);
       mark = is.mark;

@@ -28,8 +28,8 @@ use Rattle.pm_stripe.specs.Reads.{stored}
 use Rattle.pm_stripe.specs.Stripes.{kept, file_in}
 use Rattle.pm_ckpt.proofs.RestingStripes.{stored_is}
 use Rattle.pm_engine.specs.FrameCheckpoints.{IsCheckpointed}
-use Rattle.pm_engine.specs.FrameEngineReplays.{HasWholePages, IsReplayingIn}
-use Rattle.pm_engine.specs.FrameEngines.{FrameRunning, running_in}
+use Rattle.pm_engine.specs.EngineReplays.{HasWholePages, IsReplayingIn}
+use Rattle.pm_engine.specs.Engines.{FrameRunning, running_in}
 use Rattle.pm_engine.specs.FrameStores.{FrameStoreView, pages_in_frames, pages_in_files, IsDirtyPage, HasCleanPages}
 use Rattle.pm_engine.specs.RunningStores.{StoreState}
 use Rattle.pm_engine.specs.TrackedPages.{HaveFirstPages}

@@ -4,7 +4,7 @@ use Rattle.pm_disk.specs.Worlds.{World}
 use Rattle.pm_ckpt.specs.Dirty.{IsNext}
 use Rattle.pm_ckpt.specs.Marked.{mark_for}
 use Rattle.pm_engine.specs.FrameCheckpoints.{IsCheckpointed}
-use Rattle.pm_engine.specs.FrameEngines.{FrameRunning, IsSameEngine}
+use Rattle.pm_engine.specs.Engines.{FrameRunning, IsSameEngine}
 use Rattle.pm_engine.specs.FrameOpenings.{IsReadyOver}
 
 -- Its log, its mark and the bytes that its log had appended are those after the next checkpoint.

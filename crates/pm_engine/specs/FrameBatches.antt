@@ -28,7 +28,7 @@ use Rattle.pm_engine.specs.declared.frame_rounds.RoundEnd.{RoundEnd}
 use Rattle.pm_engine.specs.declared.frame_scans.ScanStop.{ScanStop}
 use Rattle.pm_engine.specs.declared.frame_scans.ScanStop.TheVariants as scan
 use Rattle.pm_engine.specs.FrameDirty.{dirty_names}
-use Rattle.pm_engine.specs.FrameEngines.{FrameRunning, HasDoneLines, HasLastingLinesIn, AllLastIn, IsSameEngine, map_in}
+use Rattle.pm_engine.specs.Engines.{FrameRunning, HasDoneLines, HasLastingLinesIn, AllLastIn, IsSameEngine, map_in}
 use Rattle.pm_engine.specs.FrameHosts.{ChangesNoWorld, may_go_on}
 use Rattle.pm_engine.specs.FrameRounds.{EvaluatesLines}
 use Rattle.pm_engine.specs.FrameStores.{FrameStoreView, pages_in_frames, IsDirtyPage, HasCleanPages}
@@ -99,7 +99,7 @@ pub record MayGoOn (engine : FrameRunning) (world : World) (segments checkpoints
 
 -- An engine that is as it was but for what it knows of its frames: no page of it changed, and at each moment the world
 -- was the one then.
-pub record KeepsFrameEngine (tells : Type 0) (old new : History) (before now : FrameRunning) : Type 0 where
+pub record KeepsEngine (tells : Type 0) (old new : History) (before now : FrameRunning) : Type 0 where
   pub same : IsSameEngine before now
   pub log : now.log ≡ before.log
   pub ckpt : now.ckpt ≡ before.ckpt

@@ -5,7 +5,7 @@ use Rattle.pm_disk.specs.Worlds.{World}
 use Rattle.pm_core.specs.BasePages.{Partitions}
 use Rattle.pm_core.specs.PageSets.{has_index}
 use Rattle.pm_ckpt.specs.Dirty.{dirty_pages, dirty_held}
-use Rattle.pm_engine.specs.FrameEngines.{NamesDirty}
+use Rattle.pm_engine.specs.Engines.{NamesDirty}
 use Rattle.pm_engine.specs.FrameStores.{FrameStoreView, pages_in_frames}
 
 -- the names of the pages in Dirty frames

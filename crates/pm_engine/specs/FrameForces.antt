@@ -2,7 +2,7 @@
 use Rattle.std.specs.Prelude.{◌≡◌, Result, OnOk, OnErr}
 use Rattle.pm_disk.specs.Worlds.{World}
 use Rattle.pm_segments.specs.Ends.{EndsThere}
-use Rattle.pm_engine.specs.FrameEngines.{FrameRunning, closed_engine}
+use Rattle.pm_engine.specs.Engines.{FrameRunning, closed_engine}
 use Rattle.pm_engine.specs.FrameStores.{pages_in_frames, HasCleanPages}
 
 -- The engine is as it was. Where the call failed it is open no more, and nothing else of it changed.

@@ -26,7 +26,7 @@ use Rattle.pm_core.specs.Held.{AllWellFormed}
 use Rattle.pm_redo.specs.LogEnds.{LogEndsAt}
 use Rattle.pm_redo.specs.Pictures.{files_in}
 use Rattle.pm_redo.specs.Restoring.{IsBadRestore, KeepsBase}
-use Rattle.pm_engine.specs.FrameEngines.{FrameRunning, HasDoneLines, map_in}
+use Rattle.pm_engine.specs.Engines.{FrameRunning, HasDoneLines, map_in}
 use Rattle.pm_engine.specs.FrameStores.{FrameStoreView, pages_in_frames, IsDirtyPage, HasCleanPages}
 use Rattle.pm_engine.specs.MetPages.{AllowsRecord, MeetsBadPage}
 use Rattle.pm_engine.specs.Replays.{IsRefusedReplay, LogLeadsTo}

@@ -17,10 +17,10 @@ use Rattle.pm_records.specs.Records.{Record}
 use Rattle.pm_ckpt.specs.Checkpoints.{KeepsLogFrom}
 use Rattle.pm_core.specs.Replays.{all_replayed}
 use Rattle.pm_core.specs.States.{State}
-use Rattle.pm_engine.specs.declared.frame_engine_replay.Applied.{Applied}
-use Rattle.pm_engine.specs.declared.frame_engine_replay.Applied.TheVariants as applied
-use Rattle.pm_engine.specs.FrameEngineReplays.{HasWholePages, IsReplayingIn, KeepsEngineReady, NamesNoPage}
-use Rattle.pm_engine.specs.FrameEngines.{FrameRunning, map_in}
+use Rattle.pm_engine.specs.declared.engine_replay.Applied.{Applied}
+use Rattle.pm_engine.specs.declared.engine_replay.Applied.TheVariants as applied
+use Rattle.pm_engine.specs.EngineReplays.{HasWholePages, IsReplayingIn, KeepsEngineReady, NamesNoPage}
+use Rattle.pm_engine.specs.Engines.{FrameRunning, map_in}
 use Rattle.pm_engine.specs.FrameStores.{IsDirtyPage, pages_in_frames}
 use Rattle.pm_engine.specs.MetPages.{AllowsRecord, KeepsPagesBut, KeepsOrMeets}
 use Rattle.pm_engine.specs.RunningStores.{number_of}

@@ -20,9 +20,9 @@ use Rattle.pm_core.specs.Held.{AllWellFormed}
 use Rattle.pm_core.specs.Replays.{replayed, all_replayed}
 use Rattle.pm_core.specs.States.{State}
 use Rattle.pm_ckpt.specs.Checkpoints.{KeepsLogFrom}
-use Rattle.pm_engine.specs.FrameEngineReplays.{HasWholePages, IsReplayingIn, KeepsEngineReady, NamesNoPage}
+use Rattle.pm_engine.specs.EngineReplays.{HasWholePages, IsReplayingIn, KeepsEngineReady, NamesNoPage}
 use Rattle.pm_engine.specs.FrameReplayCheckpoints.{ReplaysRecord}
-use Rattle.pm_engine.specs.FrameEngines.{FrameRunning, map_in}
+use Rattle.pm_engine.specs.Engines.{FrameRunning, map_in}
 use Rattle.pm_engine.specs.FrameStores.{pages_in_frames}
 use Rattle.pm_engine.specs.MetPages.{AllowsRecord, KeepsOrMeets}
 use Rattle.pm_engine.specs.RunningStores.{number_of}

@@ -1,11 +1,11 @@
 pub mod AppendRuns
 pub mod Batches
 pub mod CheckedEngines
+pub mod EngineReplays
+pub mod Engines
 pub mod FrameBatches
 pub mod FrameCheckpoints
 pub mod FrameCommands
-pub mod FrameEngineReplays
-pub mod FrameEngines
 pub mod FramedEdits
 pub mod FrameDirty
 pub mod FramedStores

@@ -31,7 +31,7 @@ ghost use Rattle.pm_engine.specs.Openings.{HasFewNumbers, opened_last, opened_nu
 ghost use Rattle.pm_engine.specs.Openings.{IsPlainOpen, ComparesOpening, CountsFaults, CountsOpenFaults};
 ghost use Rattle.pm_engine.specs.Openings.{IsRestoredHolding};
 
-use crate::frame_engine::FrameEngine;
+use crate::engine::Engine;
 use crate::frame_replay_log::replay_in_frames;
 use crate::frame_store::FrameStore;
 use crate::replay_log::has_numbers;
@@ -45,7 +45,7 @@ use pm_types::{Mark, OpenFault, Shape, StoreFault};
 use std::alloc::{AllocError, Global};
 use std::sync::Wait;
 
-impl FrameEngine {
+impl Engine {
     /// Opens the store, with as many page frames as the configuration says. It is restored: its shape is compared with
     /// the one that the configuration asks for, its log is cut where it ends, and a checkpoint that was running is
     /// ended. A RESTART is appended, and the records of the log from the replay place up to it are applied again, whose
@@ -73,7 +73,7 @@ impl FrameEngine {
         alloc: Global,
         host: &mut H,
         config: &Config,
-    ) -> Result<FrameEngine, OpenFault>
+    ) -> Result<Engine, OpenFault>
         requires usable { IsUsable (H.Device.state host.old) }
         requires wanted { IsConfig config.now }
 
@@ -125,7 +125,7 @@ fn open_restored<Q: Wait, H: Host>(
     host: &mut H,
     config: &Config,
     base: Base,
-) -> Result<FrameEngine, StoreFault>
+) -> Result<Engine, StoreFault>
     requires usable { IsUsable (H.Device.state host.old) }
     requires wanted { IsConfig config.now }
     requires fit { IsFit config.now.shape base }
@@ -175,7 +175,7 @@ fn start_engine<H: Host>(
     config: &Config,
     mark: Option<Mark>,
     log: Log,
-) -> Result<FrameEngine, StoreFault>
+) -> Result<Engine, StoreFault>
     requires usable { IsUsable (H.Device.state host.old) }
     requires wanted { IsConfig config.now }
     requires marked { IfSome mark (λ mark. IsMark mark × (mark.shape ≡ config.now.shape)) }
@@ -194,7 +194,7 @@ fn start_engine<H: Host>(
     let mut log = on_heap(alloc, log)?;
     let (pages, ckpt) = empty_frames(alloc, &config.shape, config.frames, mark)?;
     match append_restart(host, &mut *log, &config.shape) {
-        Ok(()) => Ok(FrameEngine::new(pages, log, ckpt, Vec::new(alloc))),
+        Ok(()) => Ok(Engine::new(pages, log, ckpt, Vec::new(alloc))),
         Err(_) => {
             pages.close();
             Err(StoreFault::Failed)

@@ -12,11 +12,11 @@ ghost use Rattle.pm_engine.specs.FrameReplayLogs.{StepsReplay, ReplaysLog};
 ghost use Rattle.pm_engine.specs.FrameStores.{HasCleanPages};
 ghost use Rattle.pm_engine.specs.Openings.{CountsFaults};
 
-use crate::frame_engine::FrameEngine;
-use crate::replay_log::{has_numbers, keep_ahead, may_stand, segment_of};
+use crate::engine::Engine;
+use crate::replay_log::{has_numbers, keep_ahead, may_stand};
 use pm_disk::Host;
 use pm_model::Replies;
-use pm_segments::Scan;
+use pm_segments::{Scan, segment_of};
 use pm_types::{Place, StoreFault};
 use std::alloc::Global;
 use std::sync::Wait;
@@ -28,10 +28,10 @@ fn replay_next_in_frames<Q: Wait, H: Host>(
     rt: &Q,
     alloc: Global,
     host: &mut H,
-    engine: FrameEngine,
+    engine: Engine,
     scan: &mut Scan,
     replies: &mut Replies,
-) -> (FrameEngine, Result<(), StoreFault>)
+) -> (Engine, Result<(), StoreFault>)
     requires open { engine.store.is_open ≡ true }
     requires usable { IsUsable (H.Device.state host.old) }
     requires from_one { 1 ≤ scan.old.next.seg }
@@ -68,10 +68,10 @@ fn apply_next_in_frames<Q: Wait, H: Host>(
     rt: &Q,
     alloc: Global,
     host: &mut H,
-    engine: FrameEngine,
+    engine: Engine,
     scan: &mut Scan,
     replies: &mut Replies,
-) -> (FrameEngine, Result<bool, StoreFault>)
+) -> (Engine, Result<bool, StoreFault>)
     requires open { engine.store.is_open ≡ true }
     requires usable { IsUsable (H.Device.state host.old) }
     requires at { IsMarkPlace scan.old.next }
@@ -110,10 +110,10 @@ pub(crate) fn replay_in_frames<Q: Wait, H: Host>(
     rt: &Q,
     alloc: Global,
     host: &mut H,
-    engine: FrameEngine,
+    engine: Engine,
     from: Place,
     end: Place,
-) -> (FrameEngine, Result<(), StoreFault>)
+) -> (Engine, Result<(), StoreFault>)
     requires open { engine.store.is_open ≡ true }
     requires usable { IsUsable (H.Device.state host.old) }
     requires from_one { 1 ≤ from.seg }
@@ -138,11 +138,11 @@ fn replay_all<Q: Wait, H: Host>(
     rt: &Q,
     alloc: Global,
     host: &mut H,
-    engine: FrameEngine,
+    engine: Engine,
     scan: &mut Scan,
     end: Place,
     replies: &mut Replies,
-) -> (FrameEngine, Result<(), StoreFault>)
+) -> (Engine, Result<(), StoreFault>)
     requires open { engine.store.is_open ≡ true }
     requires usable { IsUsable (H.Device.state host.old) }
     requires from_one { 1 ≤ scan.old.next.seg }

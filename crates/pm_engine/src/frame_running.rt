@@ -16,7 +16,7 @@ ghost use Rattle.pm_ckpt.specs.Marked.{mark_for};
 ghost use Rattle.pm_ckpt.specs.Writes.{Writing, IsOrderOf, written_page};
 ghost use Rattle.pm_engine.specs.FrameCheckpoints.{IsCheckpointed};
 ghost use Rattle.pm_engine.specs.FrameDirty.{ListsDirty, dirty_names, dirty_bytes};
-ghost use Rattle.pm_engine.specs.FrameEngines.{FrameRunning, NamesDirty, HasLastingLinesIn, running_in};
+ghost use Rattle.pm_engine.specs.Engines.{FrameRunning, NamesDirty, HasLastingLinesIn, running_in};
 ghost use Rattle.pm_engine.specs.FrameStores.{FrameStoreView, IsFrameStore, HasCleanPages};
 ghost use Rattle.pm_engine.specs.RunningStores.{number_of};
 ghost use Rattle.pm_engine.specs.RunningLines.{HasRun};

@@ -2,20 +2,20 @@
 #![tactic(auto)]
 
 mod accepting;
+mod engine;
+mod engine_batch;
+mod engine_batch_end;
+mod engine_between_lines;
+mod engine_checkpoint;
+mod engine_forcing;
+mod engine_lines;
+mod engine_parts;
+mod engine_replay;
+mod engine_replay_checkpoint;
+mod engine_rounds;
 mod frame_checkpoint;
 mod frame_commands;
 mod frame_dirty;
-mod frame_engine;
-mod frame_engine_batch;
-mod frame_engine_batch_end;
-mod frame_engine_between_lines;
-mod frame_engine_checkpoint;
-mod frame_engine_forcing;
-mod frame_engine_lines;
-mod frame_engine_parts;
-mod frame_engine_replay;
-mod frame_engine_replay_checkpoint;
-mod frame_engine_rounds;
 mod frame_host;
 mod frame_lines;
 mod frame_opening;
@@ -38,8 +38,8 @@ mod running;
 mod running_lines;
 mod tracking;
 
+pub use engine::Engine;
 pub use frame_commands::run_in_frames;
-pub use frame_engine::FrameEngine;
 pub use frame_lines::{Stop, line_in_frames};
 pub use frame_rounds::{RoundEnd, lines_in_frames};
 pub use frame_running::{

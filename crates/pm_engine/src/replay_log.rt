@@ -10,7 +10,7 @@ ghost use Rattle.pm_marks.specs.Slots.{IsMarkPlace};
 ghost use Rattle.pm_segments.specs.Scans.{IsAhead, StaysAt};
 
 use pm_frame::FRAME_END_MAX;
-use pm_segments::Scan;
+use pm_segments::{Scan, segment_of};
 use pm_types::Place;
 
 // While the log ends in a segment below this one, an operation's records have numbers for their segments, and so has
@@ -56,11 +56,4 @@ fn stays_ahead(before: Place, next: Place) -> bool
     ensures { result ≡ true → (before.seg + OP_PAGES + 1 < 2 ^ 64) × (next.seg ≤ before.seg) }
 {
     before.seg < LAST_LOOK && next.seg <= before.seg
-}
-
-/// The segment of a place: a number below 2^64, so that a log ends.
-pub(crate) fn segment_of(at: Place) -> u64
-    ensures { result ≡ at.seg }
-{
-    at.seg
 }

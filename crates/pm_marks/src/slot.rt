@@ -98,7 +98,9 @@ fn named_shape(bytes: &[u8; SLOT_LEN], at: u16) -> Shape
     }
 }
 
-fn is_mark(mark: &Mark) -> bool
+/// Whether a slot may have this mark: its number is 1 or more, each of its places is in a segment from 1 on, at an offset
+/// where a frame may end, and its shape is one that a store may have.
+pub fn is_mark(mark: &Mark) -> bool
     ensures { IsTrue result ↔ IsMark mark.now }
 {
     mark.number >= 1

@@ -14,7 +14,7 @@ use pm_types::StoreFault;
 use std::alloc::Global;
 
 /// A store that runs lines, a batch at a time. Tests alone use it, with `PlainBatcher`: the program's
-/// batches are those of `pm_engine::FrameEngine`.
+/// batches are those of `pm_engine::Engine`.
 ///
 /// A new one has run no lines, is open and has no fault. After an error it isn't open any more:
 /// no further call is made on it.

@@ -18,10 +18,9 @@ ghost use Rattle.pm_redo.specs.Pictures.{rebuilt_in, shape_in, marked_shape, Are
 ghost use Rattle.pm_redo.specs.Rebuilding.{CanNotRebuildFor, IsSame};
 
 use crate::log_pages::rebuild;
-use crate::markers::is_mark;
 use crate::rebuilt_pages::RebuiltPages;
 use pm_disk::{Failed, Host};
-use pm_marks::read_marks;
+use pm_marks::{is_mark, read_marks};
 use pm_types::{Mark, PageId, Shape, StoreFault};
 use std::alloc::Global;
 use std::marker::Model;

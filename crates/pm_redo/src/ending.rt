@@ -1,23 +1,22 @@
 //! The end of a checkpoint that a restart found without its end marker.
 
 ghost use Rattle.std.specs.Prelude.{◌≡◌, ℕ, List, [], OnOk};
-ghost use Rattle.pm_types.specs.declared.limits.TheConstants.{PARTITIONS_MAX};
 ghost use Rattle.pm_types.specs.declared.shape.Shape.{Shape};
 ghost use Rattle.pm_types.specs.declared.shape.Mark.{Mark};
 ghost use Rattle.pm_disk.specs.Moments.{AllMoments};
 ghost use Rattle.pm_disk.specs.States.{HasCause, IsUsable};
 ghost use Rattle.pm_marks.specs.Slots.{IsMark};
-ghost use Rattle.pm_core.specs.Calls.{AreRebuilt, ChangesDisk, MakesSteps, force_steps, finish_steps};
-ghost use Rattle.pm_core.specs.PageSets.{has_part};
+ghost use Rattle.pm_core.specs.Calls.{AreRebuilt, ChangesDisk, MakesSteps, finish_steps};
 ghost use Rattle.pm_core.specs.States.{State};
 ghost use Rattle.pm_redo.specs.Ending.{IsUnended, BeginsSteps, WritesOne, WritesPages, MayEnd};
 ghost use Rattle.pm_redo.specs.Ending.{EndsCheckpoint, LaysPages};
 ghost use Rattle.pm_redo.specs.PageMaps.{kept_pages};
 
 use crate::rebuilt_pages::RebuiltPages;
+use pm_core::force_parts;
 use pm_disk::{Failed, Host};
 use pm_marks::write_end;
-use pm_types::{Mark, PARTITIONS_MAX, PageId};
+use pm_types::{Mark, PageId};
 
 /// Writes the pages that were rebuilt to their files, forces these files, and then writes the end marker
 /// and forces it. After `Failed` some of this may be done, and it is to be done again.
@@ -105,44 +104,4 @@ fn finish<H: Host>(host: &mut H, mark: &Mark, pages: &Vec<PageId>) -> Result<(),
 {
     force_parts(host, pages)?;
     write_end(host, mark)
-}
-
-// Forces the files of the partitions of these pages.
-fn force_parts<H: Host>(host: &mut H, pages: &Vec<PageId>) -> Result<(), Failed>
-    requires usable { IsUsable (H.Device.state host.old) }
-    ensures steps { H.Device.tells → (s : State)
-        → MakesSteps (H.Device.history host.old) (H.Device.history host.new) result
-        (force_steps 0 PARTITIONS_MAX pages.now.items) s }
-    ensures cause { HasCause (H.Device.state host.old) (H.Device.state host.new) result }
-{
-    'each: for part in 0..PARTITIONS_MAX {
-        force_part(host, part, pages)?;
-    }
-    Ok(())
-}
-
-// Forces a partition's file, where one of the pages is of it.
-fn force_part<H: Host>(host: &mut H, part: u16, pages: &Vec<PageId>) -> Result<(), Failed>
-    requires usable { IsUsable (H.Device.state host.old) }
-    ensures steps { H.Device.tells → (s : State)
-        → MakesSteps (H.Device.history host.old) (H.Device.history host.new) result
-        (force_steps part 1 pages.now.items) s }
-    ensures cause { HasCause (H.Device.state host.old) (H.Device.state host.new) result }
-{
-    if has_part(part, pages) {
-        host.force_pages(part)?;
-    }
-    Ok(())
-}
-
-// Whether one of the pages is of this partition.
-fn has_part(part: u16, pages: &Vec<PageId>) -> bool
-    ensures { result ≡ has_part part pages.now.items }
-{
-    'each: for page in pages {
-        if page.part() == part {
-            return true;
-        }
-    }
-    false
 }

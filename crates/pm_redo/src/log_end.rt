@@ -11,7 +11,7 @@ ghost use Rattle.pm_redo.specs.LogEnds.{LogEndsAt, PassesNext, PassesFurther};
 ghost use Rattle.pm_redo.specs.Rebuilding.{IsSame};
 
 use pm_disk::{Failed, Host};
-use pm_segments::Scan;
+use pm_segments::{Scan, segment_of};
 use pm_types::{Place, StoreFault};
 use std::alloc::Global;
 
@@ -71,11 +71,4 @@ pub fn reaches<H: Host>(host: &mut H, at: Place) -> Result<bool, Failed>
         Some(len) => Ok(at.off as u64 <= len),
         None => Ok(at.off == 0),
     }
-}
-
-// The segment of a place: a number below 2^64, so that a log ends.
-fn segment_of(at: Place) -> u64
-    ensures { result ≡ at.seg }
-{
-    at.seg
 }

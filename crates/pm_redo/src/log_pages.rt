@@ -20,7 +20,7 @@ ghost use Rattle.pm_redo.specs.Rebuilding.{IsBeginRead, TakesRead, IsSame};
 use crate::rebuilt_pages::RebuiltPages;
 use pm_disk::Host;
 use pm_records::{LogRecord, decode};
-use pm_segments::Scan;
+use pm_segments::{Scan, segment_of};
 use pm_types::{Mark, Place, StoreFault};
 use std::alloc::{AllocError, Global};
 
@@ -257,11 +257,4 @@ fn first_bad(refused: Option<Place>, at: Place) -> Place
         Some(first) => first,
         None => at,
     }
-}
-
-// The segment of a place: a number below 2^64, so that a log ends.
-fn segment_of(at: Place) -> u64
-    ensures { result ≡ at.seg }
-{
-    at.seg
 }

@@ -1,19 +1,18 @@
 //! The markers of a store, as a restart reads them.
 
-ghost use Rattle.std.specs.Prelude.{◌≡◌, ◌↔◌, IfOk, IfSome, IsErrOf, IsTrue};
+ghost use Rattle.std.specs.Prelude.{◌≡◌, IfOk, IfSome, IsErrOf};
 ghost use Rattle.pm_types.specs.declared.place.Place.{Place};
 ghost use Rattle.pm_disk.specs.Moments.{Does};
 ghost use Rattle.pm_disk.specs.States.{IsUsable};
 ghost use Rattle.pm_marks.specs.InForce.{marks_of};
-ghost use Rattle.pm_marks.specs.Slots.{IsMark, IsMarkPlace};
+ghost use Rattle.pm_marks.specs.Slots.{IsMark};
 ghost use Rattle.pm_core.specs.Held.{in_force};
 ghost use Rattle.pm_core.specs.LogAlone.{image_of};
 ghost use Rattle.pm_redo.specs.Faults.{HasStoreFault};
 
 use pm_disk::Host;
-use pm_frame::FRAME_END_MAX;
-use pm_marks::{Marks, read_marks};
-use pm_types::{Mark, Place, StoreFault, is_shape};
+use pm_marks::{Marks, is_mark, read_marks};
+use pm_types::StoreFault;
 
 /// Reads the checkpoint in force. What is read of a valid slot is a mark; where the host tells nothing,
 /// a test alone shows it.
@@ -38,22 +37,4 @@ pub(crate) fn read_start<H: Host>(host: &mut H) -> Result<Marks, StoreFault>
         }
         None => Ok(marks),
     }
-}
-
-/// Whether a marker may say this.
-pub(crate) fn is_mark(mark: &Mark) -> bool
-    ensures { IsTrue result ↔ IsMark mark.now }
-{
-    mark.number >= 1
-        && is_mark_place(mark.begin)
-        && is_mark_place(mark.replay)
-        && is_mark_place(mark.from)
-        && is_shape(&mark.shape)
-}
-
-// Whether a mark may name this place.
-fn is_mark_place(place: Place) -> bool
-    ensures { IsTrue result ↔ IsMarkPlace place }
-{
-    place.seg >= 1 && place.off <= FRAME_END_MAX
 }

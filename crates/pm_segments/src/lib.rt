@@ -3,7 +3,9 @@
 
 mod dropping;
 mod log;
+mod places;
 mod scan;
 
 pub use log::Log;
+pub use places::segment_of;
 pub use scan::Scan;

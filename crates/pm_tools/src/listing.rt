@@ -15,7 +15,7 @@ use crate::lines::{append_end, append_line, read_record};
 use pm_disk::{Failed, Host};
 use pm_frame::SEGMENT_END_MAX;
 use pm_marks::read_marks;
-use pm_segments::Scan;
+use pm_segments::{Scan, segment_of};
 use pm_types::{Place, StoreFault};
 use std::alloc::Global;
 
@@ -183,11 +183,4 @@ fn finish<H: Host>(host: &mut H, at: Place, lines: &mut Vec<u8>) -> Result<(), S
     append_end(at, lines)?;
     host.print(lines)?;
     Ok(())
-}
-
-/// The segment of a place: a number below 2^64, so that a log ends.
-pub(crate) fn segment_of(at: Place) -> u64
-    ensures { result ≡ at.seg }
-{
-    at.seg
 }

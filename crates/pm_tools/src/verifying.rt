@@ -24,14 +24,14 @@ ghost use Rattle.pm_tools.specs.Verifying.{IsVerified, IsBadRecord, IsBadBasePag
 ghost use Rattle.pm_tools.specs.Verifying.{ArePagesSound, CountsChanges, CountsPartition, HasCounted};
 ghost use Rattle.pm_tools.specs.Verifying.{CountsNext, CountsRecord};
 
-use crate::listing::{Next, list_place, segment_of};
+use crate::listing::{Next, list_place};
 use pm_disk::Host;
 use pm_frame::SEGMENT_END_MAX;
 use pm_meta::MetaSlot;
 use pm_pages::is_well_formed;
 use pm_records::{LogRecord, decode};
 use pm_redo::{Pictures, base_pages, load_pages};
-use pm_segments::Scan;
+use pm_segments::{Scan, segment_of};
 use pm_types::{Page, PageId, Place, Shape, StoreFault};
 use std::alloc::{AllocError, Global};
 

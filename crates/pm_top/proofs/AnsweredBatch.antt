@@ -10,7 +10,7 @@ use Rattle.pm_disk.proofs.Chain.{at_last, started, weaker, joined}
 use Rattle.pm_model.specs.Eval.{Pairs}
 use Rattle.pm_model.specs.declared.line.Line.{Line}
 use Rattle.pm_script.specs.Reading.{OnlyTakes}
-use Rattle.pm_engine.specs.FrameEngines.{map_in}
+use Rattle.pm_engine.specs.Engines.{map_in}
 use Rattle.pm_engine.specs.FrameOpenings.{IsReadyOver}
 use Rattle.pm_engine.specs.FrameStores.{pages_in_frames}
 use Rattle.pm_engine.specs.RunningLines.{SameDisk}

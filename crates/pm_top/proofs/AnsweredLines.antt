@@ -17,7 +17,7 @@ use Rattle.pm_script.specs.Texts.{texts_of}
 use Rattle.pm_core.specs.Calls.{ChangesDisk}
 use Rattle.pm_core.specs.Held.{pairs_in}
 use Rattle.pm_engine.specs.FrameBatches.{HasNumbersIn, LeavesAllAtRest, MayGoOn, RunsFrameBatch, TakesNumbersIn}
-use Rattle.pm_engine.specs.FrameEngines.{FrameRunning, map_in}
+use Rattle.pm_engine.specs.Engines.{FrameRunning, map_in}
 use Rattle.pm_engine.specs.FrameRounds.{EvaluatesLines}
 use Rattle.pm_engine.specs.FrameStores.{pages_in_frames}
 use Rattle.pm_engine.specs.RunningStores.{number_of}

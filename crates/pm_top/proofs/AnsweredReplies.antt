@@ -17,7 +17,7 @@ use Rattle.pm_core.specs.BasePages.{Partitions}
 use Rattle.pm_core.specs.Calls.{ChangesDisk}
 use Rattle.pm_engine.specs.Batches.{IsPlainFault}
 use Rattle.pm_engine.specs.FrameBatches.{EndsAtReplayIn, LeavesAllAtRest, MakesAskedIn, RunsFrameBatch, TakesNumbersIn}
-use Rattle.pm_engine.specs.FrameEngines.{FrameRunning, IsSameEngine, map_in}
+use Rattle.pm_engine.specs.Engines.{FrameRunning, IsSameEngine, map_in}
 use Rattle.pm_engine.specs.FrameOpenings.{IsReadyOver}
 use Rattle.pm_engine.specs.FrameStores.{pages_in_frames}
 use Rattle.pm_engine.specs.Batches.{asked_last}

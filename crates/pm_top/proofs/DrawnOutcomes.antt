@@ -16,7 +16,7 @@ use Rattle.pm_model.specs.Orders.{HasTried, after_numbers}
 use Rattle.pm_model.proofs.OrderLaws.{as_many_has, script_tried}
 use Rattle.pm_core.specs.Calls.{ChangesDisk}
 use Rattle.pm_core.specs.LogAlone.{image_of}
-use Rattle.pm_engine.specs.FrameEngines.{FrameRunning, map_in}
+use Rattle.pm_engine.specs.Engines.{FrameRunning, map_in}
 use Rattle.pm_top.specs.Crashes.{CrashKeeps, SoundUpTo}
 use Rattle.pm_top.specs.DrawnRuns.{CrashHoldsDrawn, DrawnIsCutShort, DrawnIsDone, DrawnIsLeft, DrawnOutcomeIs, summarized, summary_of}
 use Rattle.pm_top.specs.DrawnSteps.{EndsDrawn, TriesDrawn}

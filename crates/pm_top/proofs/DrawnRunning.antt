@@ -18,7 +18,7 @@ use Rattle.pm_model.specs.ReplyLists.{ReplyList}
 use Rattle.pm_model.proofs.Runs.{replies_to-append, accepted-append, length-replies_to}
 use Rattle.pm_core.specs.Calls.{ChangesDisk}
 use Rattle.pm_engine.specs.FrameBatches.{MayGoOn, RunsFrameBatch}
-use Rattle.pm_engine.specs.FrameEngines.{FrameRunning, HasDoneLines, HasLastingLinesIn, map_in}
+use Rattle.pm_engine.specs.Engines.{FrameRunning, HasDoneLines, HasLastingLinesIn, map_in}
 use Rattle.pm_engine.specs.Batches.{StaysOpen}
 use Rattle.pm_engine.specs.RunningStores.{number_of}
 use Rattle.pm_engine.specs.RunningLines.{CrashHoldsLines, says_nothing}

@@ -4,7 +4,7 @@ use Rattle.pm_types.specs.declared.shape.Shape.{Shape}
 use Rattle.pm_config.specs.declared.config.Config.{Config}
 use Rattle.pm_disk.specs.Worlds.{World, with_said}
 use Rattle.pm_script.specs.Reading.{OnlyTakes}
-use Rattle.pm_engine.specs.FrameEngines.{FrameRunning, AllLastIn, IsSameEngine, running_in, map_in}
+use Rattle.pm_engine.specs.Engines.{FrameRunning, AllLastIn, IsSameEngine, running_in, map_in}
 use Rattle.pm_engine.specs.FrameOpenings.{IsReadyOver}
 use Rattle.pm_engine.specs.RunningStores.{number_of}
 use Rattle.pm_engine.specs.RunningLines.{SameDisk, CrashHoldsLines, says_nothing}

@@ -11,7 +11,7 @@ use Rattle.pm_model.proofs.Runs.{after_all-append, replies_to-append, length-rep
 use Rattle.pm_script.specs.Texts.{texts_of}
 use Rattle.pm_top.specs.declared.run.Run.{Run}
 use Rattle.pm_top.specs.ScriptOrder.{CrashHoldsAcknowledged, HoldsAfter, after_numbers, acknowledged_count}
-use Rattle.pm_engine.specs.FrameEngines.{map_in}
+use Rattle.pm_engine.specs.Engines.{map_in}
 use Rattle.pm_engine.specs.RunningLines.{HoldsPrefix, SameDisk}
 use Rattle.pm_top.specs.Crashes.{CrashKeeps, SoundUpTo, begun}
 use Rattle.pm_top.specs.Promises.{replies_of}

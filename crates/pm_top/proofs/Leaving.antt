@@ -6,7 +6,7 @@ use Rattle.pm_model.specs.declared.line.Line.{Line}
 use Rattle.pm_model.specs.Eval.{Pairs, after_all}
 use Rattle.pm_core.specs.LogAlone.{image_of}
 use Rattle.pm_engine.specs.Batches.{asked_last}
-use Rattle.pm_engine.specs.FrameEngines.{AllLastIn, map_in}
+use Rattle.pm_engine.specs.Engines.{AllLastIn, map_in}
 use Rattle.pm_engine.specs.RunningLines.{says_nothing}
 use Rattle.pm_top.specs.declared.run.Run.{Run}
 use Rattle.pm_top.specs.Crashes.{SoundUpTo}

@@ -12,7 +12,7 @@ use Rattle.pm_disk.specs.Worlds.{World}
 use Rattle.pm_model.specs.declared.line.Line.{Line}
 use Rattle.pm_core.specs.BasePages.{Partitions}
 use Rattle.pm_engine.specs.Batches.{StaysOpen}
-use Rattle.pm_engine.specs.FrameEngines.{FrameRunning}
+use Rattle.pm_engine.specs.Engines.{FrameRunning}
 use Rattle.pm_engine.specs.FrameStores.{pages_in_frames}
 use Rattle.pm_engine.specs.MetPages.{AllowsLine, KeepsOrMeets, KeepsPagesBut, MeetsBadPage}
 use Rattle.pm_engine.specs.RunningLines.{SameDisk}

@@ -8,7 +8,7 @@ use Rattle.pm_marks.specs.InForce.{Checkpoint}
 use Rattle.pm_model.specs.declared.line.Line.{Line}
 use Rattle.pm_core.specs.Held.{in_force}
 use Rattle.pm_core.specs.LogAlone.{image_of}
-use Rattle.pm_engine.specs.FrameEngines.{FrameRunning}
+use Rattle.pm_engine.specs.Engines.{FrameRunning}
 use Rattle.pm_engine.specs.FrameOpenings.{IsBadOpeningPage, OpensOverBase}
 use Rattle.pm_engine.specs.FrameStores.{pages_in_frames}
 use Rattle.pm_engine.specs.MetPages.{AllowsLine, MeetsBadPage}

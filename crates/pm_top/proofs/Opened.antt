@@ -11,7 +11,7 @@ use Rattle.pm_core.specs.Calls.{ChangesDisk}
 use Rattle.pm_core.specs.Held.{in_force}
 use Rattle.pm_core.specs.LogAlone.{image_of}
 use Rattle.pm_redo.specs.Rebuilding.{IsSame}
-use Rattle.pm_engine.specs.FrameEngines.{FrameRunning, HasDoneLines}
+use Rattle.pm_engine.specs.Engines.{FrameRunning, HasDoneLines}
 use Rattle.pm_engine.specs.FrameOpenings.{OpensRunningIn}
 use Rattle.pm_engine.specs.Replays.{CrashHoldsMap}
 use Rattle.pm_engine.specs.RunningLines.{says_nothing}

@@ -13,7 +13,7 @@ use Rattle.pm_model.proofs.Runs.{replies_to-append, after_all-append, length-rep
 use Rattle.pm_script.specs.Lines.{lines_of, after_line}
 use Rattle.pm_script.specs.Texts.{text_of, texts_of}
 use Rattle.pm_engine.specs.FrameBatches.{EndsAtReplayIn}
-use Rattle.pm_engine.specs.FrameEngines.{map_in}
+use Rattle.pm_engine.specs.Engines.{map_in}
 use Rattle.pm_engine.specs.Batches.{asked_last, is_checkpoint}
 use Rattle.pm_engine.specs.RunningLines.{SameDisk}
 use Rattle.pm_top.specs.declared.run.Run.{Run}

@@ -18,7 +18,7 @@ use Rattle.pm_core.specs.Stands.{soon_or}
 use Rattle.pm_core.specs.States.{View}
 use Rattle.pm_core.proofs.Saying.{say_in_force}
 use Rattle.pm_engine.specs.FrameBatches.{EndsAtReplayIn}
-use Rattle.pm_engine.specs.FrameEngines.{FrameRunning, AllLastIn}
+use Rattle.pm_engine.specs.Engines.{FrameRunning, AllLastIn}
 use Rattle.pm_engine.specs.RunningLines.{says_nothing}
 use Rattle.pm_engine.specs.RunningStores.{ended_with}
 

@@ -13,7 +13,7 @@ use Rattle.pm_script.specs.Reading.{Unread}
 use Rattle.pm_core.specs.BasePages.{Partitions}
 use Rattle.pm_core.specs.Calls.{ChangesDisk}
 use Rattle.pm_core.specs.Held.{pairs_in}
-use Rattle.pm_engine.specs.FrameEngines.{FrameRunning, AllLastIn, map_in, closed_engine}
+use Rattle.pm_engine.specs.Engines.{FrameRunning, AllLastIn, map_in, closed_engine}
 use Rattle.pm_engine.specs.FrameStores.{pages_in_frames}
 use Rattle.pm_engine.specs.RunningStores.{number_of}
 use Rattle.pm_engine.specs.RunningLines.{CrashHoldsLines, says_nothing}

@@ -10,7 +10,7 @@ use Rattle.pm_model.specs.Batches.{HasCache}
 use Rattle.pm_model.specs.Eval.{accepted}
 use Rattle.pm_model.specs.ReplyLists.{ReplyList}
 use Rattle.pm_core.specs.Calls.{ChangesDisk}
-use Rattle.pm_engine.specs.FrameEngines.{FrameRunning, AllLastIn, HasDoneLines, IsSameEngine, map_in}
+use Rattle.pm_engine.specs.Engines.{FrameRunning, AllLastIn, HasDoneLines, IsSameEngine, map_in}
 use Rattle.pm_engine.specs.RunningLines.{says_nothing}
 use Rattle.pm_tools.specs.DrawnLines.{drawn_lines}
 use Rattle.pm_top.specs.Crashes.{CrashKeeps}

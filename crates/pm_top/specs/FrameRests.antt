@@ -3,7 +3,7 @@ use Rattle.std.specs.Prelude.{◌≡◌, ℕ, [], true, length}
 use Rattle.pm_types.specs.declared.shape.Shape.{Shape}
 use Rattle.pm_config.specs.declared.config.Config.{Config}
 use Rattle.pm_disk.specs.Worlds.{World}
-use Rattle.pm_engine.specs.FrameEngines.{FrameRunning, HasDoneLines, map_in}
+use Rattle.pm_engine.specs.Engines.{FrameRunning, HasDoneLines, map_in}
 use Rattle.pm_engine.specs.RunningLines.{says_nothing}
 
 -- in some state of the disk machine its store runs, and has done no line since it had this map

@@ -14,7 +14,7 @@ use Rattle.pm_model.specs.Eval.{Pairs, replies_to, after_all, accepted}
 use Rattle.pm_script.specs.Reading.{Unread, KnowsEnd}
 use Rattle.pm_script.specs.Texts.{texts_of}
 use Rattle.pm_engine.specs.FrameBatches.{EndsAtReplayIn, TakesNumbersIn}
-use Rattle.pm_engine.specs.FrameEngines.{FrameRunning, IsSameEngine, map_in}
+use Rattle.pm_engine.specs.Engines.{FrameRunning, IsSameEngine, map_in}
 use Rattle.pm_engine.specs.FrameOpenings.{IsReadyOver}
 use Rattle.pm_engine.specs.FrameStores.{pages_in_frames}
 use Rattle.pm_engine.specs.MetPages.{AllowsLine, KeepsPagesBut, KeepsOrMeets}

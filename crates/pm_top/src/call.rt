@@ -6,7 +6,7 @@ ghost use Rattle.pm_config.specs.Limits.{IsConfig};
 ghost use Rattle.pm_disk.specs.Moments.{AllMoments};
 ghost use Rattle.pm_disk.specs.States.{IsUsable};
 ghost use Rattle.pm_disk.specs.Worlds.{World};
-ghost use Rattle.pm_engine.specs.FrameEngines.{map_in};
+ghost use Rattle.pm_engine.specs.Engines.{map_in};
 ghost use Rattle.pm_engine.specs.FrameOpenings.{IsReadyOver};
 ghost use Rattle.pm_top.specs.Causes.{BindsFolder, HasStatusCause};
 ghost use Rattle.pm_top.specs.Commands.{CommandCompletes, CommandHolds, CommandIsSafe};
@@ -36,7 +36,7 @@ use crate::status::Status;
 use crate::words::{CommandName, command_of};
 use pm_config::Config;
 use pm_disk::Host;
-use pm_engine::FrameEngine;
+use pm_engine::Engine;
 use pm_tools::{verify, wal};
 use pm_types::{OpenFault, StoreFault};
 use std::alloc::Global;
@@ -234,7 +234,7 @@ fn run<Q: Wait, H: Host>(rt: &Q, alloc: Global, host: &mut H, config: &Config) -
         (H.history host.old).world) }
     ensures cause { HasRunCause result.status (H.state host.old) (H.state host.new) }
 {
-    match FrameEngine::open_store(rt, alloc, host, config) {
+    match Engine::open_store(rt, alloc, host, config) {
         Ok(engine) => answer_script(rt, alloc, host, config, engine),
         Err(OpenFault::Shape(field)) => {
             Outcome::without(alloc, print_config_fault(alloc, host, field))
@@ -257,7 +257,7 @@ fn answer_script<Q: Wait, H: Host>(
     alloc: Global,
     host: &mut H,
     config: &Config,
-    engine: FrameEngine,
+    engine: Engine,
 ) -> Outcome
     requires usable { IsUsable (H.state host.old) }
     requires order { engine.order ≡ [] }

@@ -6,7 +6,7 @@ ghost use Rattle.pm_types.specs.declared.page_id.PageId.{PageId as Page};
 ghost use Rattle.pm_disk.specs.States.{IsUsable};
 ghost use Rattle.pm_model.specs.Eval.{replies_to};
 ghost use Rattle.pm_engine.specs.FrameBatches.{HasFrameFault};
-ghost use Rattle.pm_engine.specs.FrameEngines.{map_in};
+ghost use Rattle.pm_engine.specs.Engines.{map_in};
 ghost use Rattle.pm_engine.specs.FrameOpenings.{IsReadyOver};
 ghost use Rattle.pm_engine.specs.FrameStores.{pages_in_frames};
 ghost use Rattle.pm_tools.specs.DrawnLines.{drawn_lines};
@@ -20,7 +20,7 @@ use crate::drawing::{batch_len, draw_lines};
 use crate::reply_room::make_room;
 use pm_config::Config;
 use pm_disk::Host;
-use pm_engine::FrameEngine;
+use pm_engine::Engine;
 use pm_model::{Line, Replies};
 use pm_tools::Gen;
 use pm_types::{BATCH_LINES_MAX, StoreFault};
@@ -33,14 +33,14 @@ use std::sync::Wait;
 /// `BadPage` comes only over a store that isn't sound, at a line that met the page, which fails its check, isn't there, or
 /// names a wrong page or row. What was run is said of a store over which a run may begin.
 pub fn run_drawn<Q: Wait, H: Host>(
-    engine: FrameEngine,
+    engine: Engine,
     rt: &Q,
     alloc: Global,
     host: &mut H,
     config: &Config,
     seed: u32,
     count: u32,
-) -> (FrameEngine, Result<ReplyCounts, StoreFault>)
+) -> (Engine, Result<ReplyCounts, StoreFault>)
     requires usable { IsUsable (H.state host.old) }
     requires few { count ≤ most_lines }
     requires order { engine.order ≡ [] }

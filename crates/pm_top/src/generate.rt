@@ -7,7 +7,7 @@ ghost use Rattle.pm_config.specs.Limits.{IsConfig};
 ghost use Rattle.pm_disk.specs.Moments.{AllMoments};
 ghost use Rattle.pm_disk.specs.States.{IsUsable};
 ghost use Rattle.pm_disk.specs.Worlds.{World};
-ghost use Rattle.pm_engine.specs.FrameEngines.{map_in};
+ghost use Rattle.pm_engine.specs.Engines.{map_in};
 ghost use Rattle.pm_engine.specs.FrameOpenings.{IsReadyOver};
 ghost use Rattle.pm_tools.specs.DrawnLines.{drawn_lines};
 ghost use Rattle.pm_top.specs.Configurations.{AsksFor};
@@ -27,7 +27,7 @@ use crate::outcome::Outcome;
 use crate::status::Status;
 use pm_config::Config;
 use pm_disk::Host;
-use pm_engine::FrameEngine;
+use pm_engine::Engine;
 use pm_types::{OpenFault, StoreFault};
 use std::alloc::Global;
 use std::sync::Wait;
@@ -82,7 +82,7 @@ fn generate<Q: Wait, H: Host>(
         (H.history host.old).world) }
     ensures cause { HasRunCause result.status (H.state host.old) (H.state host.new) }
 {
-    match FrameEngine::open_store(rt, alloc, host, config) {
+    match Engine::open_store(rt, alloc, host, config) {
         Ok(engine) => answer_drawn(rt, alloc, host, config, engine, seed, count),
         Err(OpenFault::Shape(field)) => {
             Outcome::without(alloc, print_config_fault(alloc, host, field))
@@ -106,7 +106,7 @@ fn answer_drawn<Q: Wait, H: Host>(
     alloc: Global,
     host: &mut H,
     config: &Config,
-    engine: FrameEngine,
+    engine: Engine,
     seed: u32,
     count: u32,
 ) -> Outcome

@@ -14,7 +14,7 @@ ghost use Rattle.pm_script.specs.Reading.{rest_of, KnowsEnd};
 ghost use Rattle.pm_script.specs.Texts.{texts_of};
 ghost use Rattle.pm_engine.specs.Batches.{HasPlainFault};
 ghost use Rattle.pm_engine.specs.FrameBatches.{HasFrameFault};
-ghost use Rattle.pm_engine.specs.FrameEngines.{map_in};
+ghost use Rattle.pm_engine.specs.Engines.{map_in};
 ghost use Rattle.pm_engine.specs.FrameOpenings.{IsReadyOver};
 ghost use Rattle.pm_engine.specs.FrameStores.{pages_in_frames};
 ghost use Rattle.pm_top.specs.FrameRests.{IsServing};
@@ -29,7 +29,7 @@ use crate::batch::{Batch, Continuation, next_batch};
 use crate::reply_room::make_room;
 use pm_config::Config;
 use pm_disk::{Failed, Host};
-use pm_engine::FrameEngine;
+use pm_engine::Engine;
 use pm_model::{Line, Replies};
 use pm_script::{Lines, print_reply};
 use pm_types::{BATCH_LINES_MAX, StoreFault};
@@ -49,7 +49,7 @@ pub enum Stop {
 #[derive(Drop)]
 pub struct Run {
     /// The store.
-    pub engine: FrameEngine,
+    pub engine: Engine,
     /// The number of lines whose reply was printed.
     pub lines: u64,
     // The texts of the replies at hand: their memory serves all batches.
@@ -58,7 +58,7 @@ pub struct Run {
 
 impl Run {
     /// A run that has done nothing.
-    pub fn new(alloc: Global, engine: FrameEngine) -> Run
+    pub fn new(alloc: Global, engine: Engine) -> Run
         ensures engine { result.engine ≡ engine }
         ensures lines { result.lines ≡ 0 }
     {

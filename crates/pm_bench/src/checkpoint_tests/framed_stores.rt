@@ -9,7 +9,7 @@ ghost use Rattle.pm_bench.specs.OpenEngines.{IsOpenOver};
 use crate::worker_pages::commands::{SHAPE, Step, command};
 use pm_config::{CHECKPOINT_BYTES_MAX, Config, Kind};
 use pm_disk::Host;
-use pm_engine::FrameEngine;
+use pm_engine::Engine;
 use pm_model::{Line, Replies};
 use pm_types::{OpenFault, StoreFault};
 use std::alloc::{AllocError, Global};
@@ -27,7 +27,7 @@ pub const CONFIG: Config = Config {
 };
 
 /// Opens the store of a folder that isn't bound yet.
-pub fn open<Q: Wait, H: Host>(rt: &Q, alloc: Global, host: &mut H) -> Result<FrameEngine, OpenFault>
+pub fn open<Q: Wait, H: Host>(rt: &Q, alloc: Global, host: &mut H) -> Result<Engine, OpenFault>
     requires whole { (H.Device.state host.old).access.is_lent ≡ false }
     ensures usable { OnOk result (IsUsable (H.Device.state host.new)) }
     ensures open { IfOk result (IsOpenOver H.Device.tells CONFIG (H.Device.history host.new).world) }
@@ -35,7 +35,7 @@ pub fn open<Q: Wait, H: Host>(rt: &Q, alloc: Global, host: &mut H) -> Result<Fra
     if host.bind("store").is_err() {
         return Err(OpenFault::Store(StoreFault::Failed));
     }
-    FrameEngine::open_store(rt, alloc, host, &CONFIG)
+    Engine::open_store(rt, alloc, host, &CONFIG)
 }
 
 /// The line that puts a partition's row, with a value of so many bytes.
@@ -50,9 +50,9 @@ pub fn run<Q: Wait, H: Host>(
     rt: &Q,
     alloc: Global,
     host: &mut H,
-    engine: FrameEngine,
+    engine: Engine,
     lines: &[Line],
-) -> Result<FrameEngine, StoreFault>
+) -> Result<Engine, StoreFault>
     requires usable { IsUsable (H.Device.state host.old) }
     requires open { IsOpenOver H.Device.tells CONFIG (H.Device.history host.old).world engine }
     requires caches { All HasCache lines.now }

@@ -9,7 +9,7 @@ ghost use Rattle.pm_bench.specs.OpenEngines.{IsOpenOver};
 use crate::checkpoint_tests::framed_stores::{CONFIG, open, put_line, run};
 use crate::checkpoint_tests::kept_segments::no_files;
 use pm_disk::{Failed, Host, LogReader};
-use pm_engine::FrameEngine;
+use pm_engine::Engine;
 use pm_marks::read_marks;
 use pm_model::Line;
 use pm_types::{OpenFault, StoreFault};
@@ -109,7 +109,7 @@ struct Seen {
 }
 
 /// Looks at the segments, makes a checkpoint, and looks at them again.
-fn checkpoint<H: Host>(host: &mut H, engine: &mut FrameEngine) -> Result<Seen, StoreFault>
+fn checkpoint<H: Host>(host: &mut H, engine: &mut Engine) -> Result<Seen, StoreFault>
     requires usable { IsUsable (H.Device.state host.old) }
     requires open { IsOpenOver H.Device.tells CONFIG (H.Device.history host.old).world engine.old }
     ensures usable { IsUsable (H.Device.state host.new) }
@@ -131,9 +131,9 @@ fn put_and_checkpoint<Q: Wait, H: Host>(
     rt: &Q,
     alloc: Global,
     host: &mut H,
-    engine: FrameEngine,
+    engine: Engine,
     number: u32,
-) -> Result<(FrameEngine, Seen), StoreFault>
+) -> Result<(Engine, Seen), StoreFault>
     requires usable { IsUsable (H.Device.state host.old) }
     requires open { IsOpenOver H.Device.tells CONFIG (H.Device.history host.old).world engine }
     ensures usable { IsUsable (H.Device.state host.new) }

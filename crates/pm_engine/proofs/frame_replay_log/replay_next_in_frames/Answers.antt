@@ -9,7 +9,7 @@ use Rattle.pm_frame.specs.Frames.{Frame}
 use Rattle.pm_records.proofs.Runs.{next_rises}
 use Rattle.pm_segments.specs.Ends.{LogEnd}
 use Rattle.pm_segments.specs.Scans.{Advances, IsAhead}
-use Rattle.pm_engine.specs.FrameEngines.{FrameRunning}
+use Rattle.pm_engine.specs.Engines.{FrameRunning}
 use Rattle.pm_engine.specs.FrameReplayLogs.{AppliesNextIn}
 use Rattle.pm_engine.specs.RunningStores.{HasSegmentsFor}
 use Rattle.pm_engine.proofs.ReplayedFrames.{steps_unnumbered, steps_past, steps_fault, steps_bad, steps_on}

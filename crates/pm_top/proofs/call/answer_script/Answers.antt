@@ -3,7 +3,7 @@ use Rattle.std.specs.Prelude.{codes}
 use Rattle.pm_disk.specs.Moments.{AllMoments}
 use Rattle.pm_disk.specs.States.{IsLaterState}
 use Rattle.pm_disk.specs.Worlds.{World}
-use Rattle.pm_engine.specs.FrameEngines.{FrameRunning, map_in}
+use Rattle.pm_engine.specs.Engines.{FrameRunning, map_in}
 use Rattle.pm_engine.specs.FrameStores.{pages_in_frames}
 use Rattle.pm_top.specs.declared.status.Status.{Status}
 use Rattle.pm_top.specs.FrameRests.{IsServing}

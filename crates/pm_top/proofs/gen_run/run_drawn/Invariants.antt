@@ -2,7 +2,7 @@ use Rattle.std.proofs.Common.{◌≡◌, ◌-◌, ◌≤◌, ℕ, Bool}
 use Rattle.std.specs.List.{All}
 use Rattle.pm_disk.specs.States.{IsLaterState}
 use Rattle.pm_model.specs.Eval.{replies_to}
-use Rattle.pm_engine.specs.FrameEngines.{map_in}
+use Rattle.pm_engine.specs.Engines.{map_in}
 use Rattle.pm_engine.specs.FrameOpenings.{IsReadyOver}
 use Rattle.pm_engine.specs.FrameStores.{pages_in_frames}
 use Rattle.pm_engine.specs.MetPages.{AllowsLine, KeepsPagesBut}

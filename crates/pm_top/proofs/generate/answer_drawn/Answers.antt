@@ -6,7 +6,7 @@ use Rattle.pm_disk.specs.Worlds.{World}
 use Rattle.pm_disk.proofs.Chain.{at_last}
 use Rattle.pm_model.specs.Eval.{replies_to}
 use Rattle.pm_core.specs.Calls.{ChangesDisk}
-use Rattle.pm_engine.specs.FrameEngines.{map_in}
+use Rattle.pm_engine.specs.Engines.{map_in}
 use Rattle.pm_engine.specs.FrameStores.{pages_in_frames}
 use Rattle.pm_tools.specs.DrawnLines.{drawn_lines}
 use Rattle.pm_top.specs.declared.counting.ReplyCounts.{ReplyCounts}

@@ -11,7 +11,7 @@ use Rattle.pm_core.specs.Calls.{ChangesDisk}
 use Rattle.pm_core.specs.Held.{in_force}
 use Rattle.pm_core.specs.LogAlone.{image_of}
 use Rattle.pm_redo.specs.Restoring.{ComparesShape}
-use Rattle.pm_engine.specs.FrameEngines.{map_in}
+use Rattle.pm_engine.specs.Engines.{map_in}
 use Rattle.pm_engine.specs.FrameOpenings.{HasOpenCauseIn, OpensRunningIn}
 use Rattle.pm_engine.specs.Openings.{IsPlainOpen}
 use Rattle.pm_engine.specs.RunningLines.{says_nothing}

@@ -6,7 +6,7 @@ use Rattle.pm_disk.proofs.Chain.{at_last}
 use Rattle.pm_script.specs.Reading.{rest_of, Unread}
 use Rattle.pm_core.specs.Calls.{ChangesDisk}
 use Rattle.pm_model.specs.declared.line.Line.{Line}
-use Rattle.pm_engine.specs.FrameEngines.{map_in}
+use Rattle.pm_engine.specs.Engines.{map_in}
 use Rattle.pm_engine.specs.FrameStores.{pages_in_frames}
 use Rattle.pm_engine.proofs.MetPages.{kept_same}
 use Rattle.pm_engine.specs.RunningLines.{says_nothing}
