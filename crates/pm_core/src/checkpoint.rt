@@ -4,7 +4,7 @@
 //!     Idle --begin--> Begun --finish--> Ended --idle--> Idle
 //!                     wrote: these pages are in their files
 
-ghost use Rattle.std.specs.Prelude.{◌≡◌, length, reverse, [], IfOk, Some, None};
+ghost use Rattle.std.specs.Prelude.{◌≡◌, ◌+◌, length, reverse, [], IfOk, Some, None};
 ghost use Rattle.std.specs.Vec.{vec_capacity};
 ghost use Rattle.pm_disk.specs.States.{HasCause, IsUsable};
 ghost use Rattle.pm_marks.specs.Slots.{IsMark};
