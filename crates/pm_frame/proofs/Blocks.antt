@@ -1,13 +1,13 @@
 -- Several bytes can be shifted out at once, each by its own distance from the end.
-use Rattle.std.proofs.Common.{◌≡◌, ℕ, suc, ◌+◌, ◌*◌, ◌^◌, ◌<◌, List, [], ◌∷◌, length, get_or, refl, sym, ap, ◌∙◌, take, drop, arith}
+use Rattle.std.proofs.Common.{◌≡◌, ℕ, suc, ◌+◌, ◌*◌, ◌/◌, ◌%◌, ◌^◌, ◌<◌, List, [], ◌∷◌, length, get_or, refl, sym, ap, ◌∙◌, take, drop, arith}
 use Rattle.std.specs.Prelude.{bit_xor, fold}
-use Rattle.std.specs.Int.{w64, to_le_bytes, from_le_bytes}
-use Rattle.std.specs.Int.Bits.{xor_assoc, xor_lt, xor_zero_r}
-use Rattle.std.proofs.lemmas.Nat.{xor_comm, le_bytes_8, from_le_bytes-to_le_bytes_8}
+use Rattle.std.specs.Int.{w32, w64, to_le_bytes, from_le_bytes}
+use Rattle.std.specs.Int.Bits.{xor_assoc, xor_zero_r}
+use Rattle.std.proofs.lemmas.Nat.{xor_comm, div-add-mod', le_bytes_8, from_le_bytes-to_le_bytes_4, from_le_bytes-to_le_bytes_8}
 use Rattle.std.proofs.lemmas.List.{take-append-drop}
 use Rattle.std.proofs.lemmas.List.Sums.{fold-append}
 use Rattle.pm_frame.specs.Crc.{shifted_by, with_byte}
-use Rattle.pm_frame.proofs.Bytes.{AreBytes}
+use Rattle.pm_frame.proofs.Bytes.{AreBytes, AreBytes-bytes_low_first}
 use Rattle.pm_frame.proofs.Division.{joined, shifted_by-xor, shifted_by-add, shifted_by-front, shifted_by-low}
 
 -- the number that these bytes stand for, the lowest first
@@ -51,6 +51,12 @@ number-eight a b c d e f g h = omega arith
 number-to_le_bytes : (n : ℕ) → n < 2 ^ 64 → number (to_le_bytes w64 n) ≡ n
 number-to_le_bytes n h = number-eight _ _ _ _ _ _ _ _ ∙ from_le_bytes-to_le_bytes_8 n h
 
+number-four : (a b c d : ℕ) → number (a ∷ b ∷ c ∷ d ∷ []) ≡ from_le_bytes w32 (a ∷ b ∷ c ∷ d ∷ [])
+number-four a b c d = omega arith
+
+number-to_word : (n : ℕ) → n < 2 ^ 32 → number (to_le_bytes w32 n) ≡ n
+number-to_word n h = number-four _ _ _ _ ∙ from_le_bytes-to_le_bytes_4 n h
+
 -- each byte shifted out, by itself, with so many bytes of zeros after them all
 abbrev pub parts_before : ℕ → List ℕ → ℕ
 parts_before after [] = 0
@@ -76,16 +82,14 @@ shifted_by-parts after (b ∷ bs) =
     )
     refl
 
--- the parts of eight bytes, added from the left
-abbrev pub eight_parts : ℕ → List ℕ → ℕ
-eight_parts after bytes =
+-- the parts of four bytes, added from the left
+abbrev pub four_parts : ℕ → List ℕ → ℕ
+four_parts after bytes =
     let part : ℕ → ℕ → ℕ = λ more i. shifted_by (8 * (after + more) + 8) (get_or bytes i 0) in
-    bit_xor (bit_xor (bit_xor (bit_xor (bit_xor (bit_xor (bit_xor (part 7 0) (part 6 1)) (part 5 2)) (part 4 3)) (part 3 4)) (part 2 5)) (part 1 6)) (part 0 7)
+    bit_xor (bit_xor (bit_xor (part 3 0) (part 2 1)) (part 1 2)) (part 0 3)
 
-parts-eight : (after a b c d e f g h : ℕ)
-    → parts_before after (a ∷ b ∷ c ∷ d ∷ e ∷ f ∷ g ∷ h ∷ [])
-    ≡ eight_parts after (a ∷ b ∷ c ∷ d ∷ e ∷ f ∷ g ∷ h ∷ [])
-parts-eight after a b c d e f g h = simp (xor_assoc, xor_zero_r)
+parts-four : (after a b c d : ℕ) → parts_before after (a ∷ b ∷ c ∷ d ∷ []) ≡ four_parts after (a ∷ b ∷ c ∷ d ∷ [])
+parts-four after a b c d = simp (xor_assoc, xor_zero_r)
 
 -- eight bytes as the number that is shifted out
 number-block : (block : List ℕ) → length block ≡ 8 → AreBytes block → number block ≡ from_le_bytes w64 block
@@ -95,22 +99,31 @@ number-block block long bytes =
     let below : n < 2 ^ 64 = omega (arith, bytes 0, bytes 1, bytes 2, bytes 3, bytes 4, bytes 5, bytes 6, bytes 7) in
     ap number (sym again) ∙ number-to_le_bytes n below
 
-pub shifted_by-block : (after : ℕ) (block : List ℕ) → length block ≡ 8 → AreBytes block
-    → shifted_by (8 * after + 64) (from_le_bytes w64 block) ≡ eight_parts after block
-shifted_by-block after block long bytes =
-    let n = from_le_bytes w64 block in
-    let again : to_le_bytes w64 n ≡ block = le_bytes_8 block n long bytes refl in
-    let as_number : number block ≡ n = number-block block long bytes in
-    let out : shifted_by 64 (number block) ≡ parts block =
-    ap (λ k. shifted_by (8 * k) (number block)) (sym long) ∙ shifted_by-number block bytes
+pub shifted_by-word : (after word : ℕ) (bytes : List ℕ) → word < 2 ^ 32 → bytes ≡ to_le_bytes w32 word
+    → shifted_by (8 * after + 32) word ≡ four_parts after bytes
+shifted_by-word after word bytes fits told =
+    let written = to_le_bytes w32 word in
+    let out : shifted_by 32 word ≡ parts written =
+    ap (shifted_by 32) (sym (number-to_word word fits)) ∙ shifted_by-number written (AreBytes-bytes_low_first 4 0 word)
     in
-    shifted_by-add 64 (8 * after) n
-    ∙ ap (λ k. shifted_by (8 * after) (shifted_by 64 k)) (sym as_number)
+    shifted_by-add 32 (8 * after) word
     ∙ ap (shifted_by (8 * after)) out
-    ∙ shifted_by-parts after block
-    ∙ ap (parts_before after) (sym again)
-    ∙ parts-eight after _ _ _ _ _ _ _ _
-    ∙ ap (eight_parts after) again
+    ∙ shifted_by-parts after written
+    ∙ parts-four after _ _ _ _
+    ∙ ap (four_parts after) (sym told)
+
+-- the words of a number can be shifted out by themselves
+two_words : (bits n : ℕ) → shifted_by (bits + 32) n ≡ bit_xor (shifted_by (bits + 32) (n % 2 ^ 32)) (shifted_by bits (n / 2 ^ 32))
+two_words bits n =
+    let low = n % 2 ^ 32 in
+    let high = n / 2 ^ 32 in
+    let first : shifted_by 32 n ≡ bit_xor (shifted_by 32 low) high =
+    ap (shifted_by 32) (sym (div-add-mod' n (2 ^ 32))) ∙ shifted_by-low 32 high low (omega arith)
+    in
+    shifted_by-add 32 bits n
+    ∙ ap (shifted_by bits) first
+    ∙ shifted_by-xor bits (shifted_by 32 low) high
+    ∙ ap (λ x. bit_xor x (shifted_by bits high)) (sym (shifted_by-add 32 bits low))
 
 -- the register after eight bytes: it goes into the first four, and the eight are shifted out
 pub fold-block : (register : ℕ) (block : List ℕ) → length block ≡ 8 → AreBytes block
@@ -120,26 +133,40 @@ fold-block register block long bytes =
     ∙ ap (λ k. shifted_by (8 * k) (bit_xor register (number block))) long
     ∙ ap (λ k. shifted_by 64 (bit_xor register k)) (number-block block long bytes)
 
--- sixteen bytes at once: the register goes into the first four, and each half is shifted out by itself
-pub fold-blocks : (register : ℕ) (front back mixed : List ℕ) → register < 2 ^ 32 → length front ≡ 8 → AreBytes front
-    → length back ≡ 8 → AreBytes back
-    → mixed ≡ to_le_bytes w64 (bit_xor (from_le_bytes w64 front) register)
-    → fold with_byte (fold with_byte register front) back
-    ≡ bit_xor (shifted_by 128 (from_le_bytes w64 mixed)) (shifted_by 64 (from_le_bytes w64 back))
-fold-blocks register front back mixed small long bytes long_back bytes_back e =
+-- what waits for the register comes last
+last_first : (register low high third fourth : ℕ)
+    → bit_xor (bit_xor register (bit_xor low high)) (bit_xor third fourth)
+    ≡ bit_xor (bit_xor (bit_xor high third) fourth) (bit_xor low register)
+last_first register low high third fourth =
+    ap (λ x. bit_xor x (bit_xor third fourth)) (sym (xor_assoc register low high))
+    ∙ xor_assoc (bit_xor register low) high (bit_xor third fourth)
+    ∙ ap (bit_xor (bit_xor register low)) (sym (xor_assoc high third fourth))
+    ∙ xor_comm (bit_xor register low) (bit_xor (bit_xor high third) fourth)
+    ∙ ap (bit_xor (bit_xor (bit_xor high third) fourth)) (xor_comm register low)
+
+-- sixteen bytes at once: the register goes into the first four, and each four are shifted out by themselves
+pub fold-words : (register : ℕ) (front back : List ℕ) → length front ≡ 8 → AreBytes front → length back ≡ 8 → AreBytes back
+    → let n = from_le_bytes w64 front in
+    let m = from_le_bytes w64 back in
+    fold with_byte (fold with_byte register front) back
+    ≡ bit_xor (bit_xor (bit_xor (shifted_by 96 (n / 2 ^ 32)) (shifted_by 64 (m % 2 ^ 32))) (shifted_by 32 (m / 2 ^ 32)))
+    (shifted_by 128 (bit_xor (n % 2 ^ 32) register))
+fold-words register front back long bytes long_back bytes_back =
     let n = from_le_bytes w64 front in
-    let below : n < 2 ^ 64 = omega (arith, bytes 0, bytes 1, bytes 2, bytes 3, bytes 4, bytes 5, bytes 6, bytes 7) in
-    let x = bit_xor n register in
-    let x_below : x < 2 ^ 64 = xor_lt 64 n register below (omega arith) in
-    let told : from_le_bytes w64 mixed ≡ x = ap (from_le_bytes w64) e ∙ from_le_bytes-to_le_bytes_8 x x_below in
-    let first : fold with_byte register front ≡ shifted_by 64 x =
-    fold-block register front long bytes ∙ ap (shifted_by 64) (xor_comm register n)
+    let m = from_le_bytes w64 back in
+    let first : shifted_by 64 (fold with_byte register front) ≡ bit_xor (shifted_by 128 register) (bit_xor (shifted_by 128 (n % 2 ^ 32)) (shifted_by 96 (n / 2 ^ 32))) =
+    ap (shifted_by 64) (fold-block register front long bytes)
+    ∙ sym (shifted_by-add 64 64 (bit_xor register n))
+    ∙ shifted_by-xor 128 register n
+    ∙ ap (bit_xor (shifted_by 128 register)) (two_words 96 n)
     in
     fold-block (fold with_byte register front) back long_back bytes_back
-    ∙ ap (λ r. shifted_by 64 (bit_xor r (from_le_bytes w64 back))) first
-    ∙ shifted_by-xor 64 (shifted_by 64 x) (from_le_bytes w64 back)
-    ∙ ap (λ r. bit_xor r (shifted_by 64 (from_le_bytes w64 back)))
-    (sym (shifted_by-add 64 64 x) ∙ ap (shifted_by 128) (sym told))
+    ∙ shifted_by-xor 64 (fold with_byte register front) m
+    ∙ ap (λ x. bit_xor x (shifted_by 64 m)) first
+    ∙ ap (bit_xor (bit_xor (shifted_by 128 register) (bit_xor (shifted_by 128 (n % 2 ^ 32)) (shifted_by 96 (n / 2 ^ 32))))) (two_words 32 m)
+    ∙ last_first (shifted_by 128 register) (shifted_by 128 (n % 2 ^ 32)) (shifted_by 96 (n / 2 ^ 32)) (shifted_by 64 (m % 2 ^ 32)) (shifted_by 32 (m / 2 ^ 32))
+    ∙ ap (bit_xor (bit_xor (bit_xor (shifted_by 96 (n / 2 ^ 32)) (shifted_by 64 (m % 2 ^ 32))) (shifted_by 32 (m / 2 ^ 32))))
+    (sym (shifted_by-xor 128 (n % 2 ^ 32) register))
 
 pub fold_halves : (register : ℕ) (block : List ℕ)
     → fold with_byte (fold with_byte register (take 8 block)) (drop 8 block) ≡ fold with_byte register block

@@ -1,7 +1,6 @@
 //! CRC-32, sixteen bytes at a time.
 
-ghost use Rattle.std.specs.Prelude.{◌≡◌, ℕ, ◌+◌, ◌*◌, ◌<◌, ◌≤◌, ◌^◌, length, fold, take, drop};
-ghost use Rattle.std.specs.Int.{w64, from_le_bytes};
+ghost use Rattle.std.specs.Prelude.{◌≡◌, ℕ, ◌+◌, ◌*◌, ◌/◌, ◌%◌, ◌<◌, ◌≤◌, ◌^◌, length, fold, take, drop};
 ghost use Rattle.pm_frame.specs.Crc.{shifted_by, with_byte, crc_of};
 
 use crate::tables::TABLES;
@@ -31,13 +30,18 @@ fn after_block(register: u32, block: &[u8; 16]) -> u32
 
 // The register after sixteen bytes in two halves. All of them are shifted out at once: each is
 // looked up in the table for its distance from the end, and since the division is linear, the
-// parts add up without carries.
+// parts add up without carries. Only the first four wait for the register, so that the others are
+// looked up while the block before is still summed.
 #[inline(always)]
 fn after_halves(register: u32, front: &[u8; 8], back: &[u8; 8]) -> u32
     ensures { result ≡ fold with_byte (fold with_byte register front.now) back.now }
 {
-    let mixed = (u64::from_le_bytes(*front) ^ u64::from(register)).to_le_bytes();
-    shifted_out(8, &mixed) ^ shifted_out(0, back)
+    let front = u64::from_le_bytes(*front);
+    let back = u64::from_le_bytes(*back);
+    let others = shifted_out(8, high_word(front))
+        ^ shifted_out(4, low_word(back))
+        ^ shifted_out(0, high_word(back));
+    others ^ shifted_out(12, low_word(front) ^ register)
 }
 
 // The first half of a block.
@@ -73,20 +77,33 @@ fn after_bytes(mut register: u32, bytes: &[u8]) -> u32
     register
 }
 
-// A register that holds these eight bytes, once they and as many bytes of zeros after them are shifted out.
+// The lower four bytes of a number.
 #[inline(always)]
-fn shifted_out(zeros: usize, bytes: &[u8; 8]) -> u32
-    requires { zeros ≤ 8 }
-    ensures { result ≡ shifted_by (8 * zeros + 64) (from_le_bytes w64 bytes.now) }
+fn low_word(number: u64) -> u32
+    ensures { result ≡ number % 2 ^ 32 }
 {
-    shifted(zeros + 7, bytes[0])
-        ^ shifted(zeros + 6, bytes[1])
-        ^ shifted(zeros + 5, bytes[2])
-        ^ shifted(zeros + 4, bytes[3])
-        ^ shifted(zeros + 3, bytes[4])
-        ^ shifted(zeros + 2, bytes[5])
-        ^ shifted(zeros + 1, bytes[6])
-        ^ shifted(zeros, bytes[7])
+    (number % (1 << 32)) as u32
+}
+
+// The upper four bytes.
+#[inline(always)]
+fn high_word(number: u64) -> u32
+    ensures { result ≡ number / 2 ^ 32 }
+{
+    (number >> 32) as u32
+}
+
+// A register that holds this word, once its bytes and as many bytes of zeros after them are shifted out.
+#[inline(always)]
+fn shifted_out(zeros: usize, word: u32) -> u32
+    requires { zeros ≤ 12 }
+    ensures { result ≡ shifted_by (8 * zeros + 32) word }
+{
+    let bytes = word.to_le_bytes();
+    shifted(zeros + 3, bytes[0])
+        ^ shifted(zeros + 2, bytes[1])
+        ^ shifted(zeros + 1, bytes[2])
+        ^ shifted(zeros, bytes[3])
 }
 
 // A register that holds this byte, once it and as many bytes of zeros after it are shifted out.
