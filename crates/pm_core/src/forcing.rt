@@ -10,8 +10,9 @@ ghost use Rattle.pm_core.specs.States.{State};
 use pm_disk::{Failed, Host};
 use pm_types::{PARTITIONS_MAX, PageId};
 
-/// Forces the file of each partition that one of these pages is of, by rising number. After `Failed` some of them
-/// may be forced.
+/// Forces the file of each partition that one of these pages is of, by rising number, once each.
+///
+/// `Failed` comes only where a call on the disk failed: those before it are forced then, and none after it is.
 pub fn force_parts<H: Host>(host: &mut H, pages: &Vec<PageId>) -> Result<(), Failed>
     requires usable { IsUsable (H.Device.state host.old) }
     ensures steps { H.Device.tells → (s : State)
