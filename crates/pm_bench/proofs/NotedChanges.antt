@@ -1,7 +1,7 @@
 -- Code that looks at pages, and code that edits them and notes each change, notes what it changed.
-use Rattle.std.proofs.Common.{ℕ, ◌⊎◌, ⊎_elim, inl, inr, true, sym, ap, subst, ◌∙◌, ◌≡◌, ◌<◌, arith}
+use Rattle.std.proofs.Common.{ℕ, ◌⊎◌, ⊎_elim, inl, inr, sym, ap, subst, ◌∙◌, ◌<◌}
 use Rattle.std.specs.Prelude.{slice_index}
-use Rattle.pm_pages.specs.Edits.{byte_of, EditsPages, LooksAtPages}
+use Rattle.pm_pages.specs.Edits.{EditsPages, LooksAtPages}
 use Rattle.pm_pages.specs.Paged.{Paged, IsTold}
 use Rattle.pm_pages.specs.Rows.{bytes_of}
 use Rattle.pm_stripe.specs.Covers.{NotesChanges}

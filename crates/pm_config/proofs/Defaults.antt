@@ -1,6 +1,5 @@
 -- A text without fields says the defaults, and so does an empty one.
-use Rattle.std.proofs.Common.{◌≡◌, ℕ, ◌<◌, List, [], ◌∷◌, Some, Ok, Err, length, refl, sym, ap, ◌∙◌, arith}
-use Rattle.std.specs.Prelude.{nat_lt, true, Bool, None, Option, if◌then◌else◌}
+use Rattle.std.proofs.Common.{◌≡◌, ℕ, ◌<◌, List, [], ◌∷◌, Some, Ok, Err, length, refl, ap, ◌∙◌, arith}
 use Rattle.std.proofs.lemmas.Bool.{lt-ltb}
 use Rattle.pm_types.specs.declared.fault.Field.TheVariants.{Text}
 use Rattle.pm_config.specs.declared.fault.ConfigFault.TheVariants.{Bad}

@@ -1,5 +1,5 @@
 -- Steps that say nothing change nothing but the store's files.
-use Rattle.std.proofs.Common.{◌≡◌, ℕ, zero, suc, ◌+◌, List, [], ◌∷◌, ◌++◌, take, Bool, true, false, Result, inl, inr, refl, sym, ◌∙◌, subst}
+use Rattle.std.proofs.Common.{◌≡◌, ℕ, zero, suc, ◌+◌, List, [], ◌∷◌, ◌++◌, take, Bool, true, false, Result, refl, sym, ◌∙◌, subst}
 use Rattle.std.specs.Prelude.{if◌then◌else◌}
 use Rattle.pm_types.specs.declared.limits.TheConstants.{PARTITIONS_MAX}
 use Rattle.pm_types.specs.declared.page_id.PageId.{PageId}
@@ -14,7 +14,7 @@ use Rattle.pm_records.specs.LogSteps.{Step, DoesPrefix}
 use Rattle.pm_records.proofs.QuietLog.{steps_change, prefix_changes}
 use Rattle.pm_core.specs.BasePages.{Partitions}
 use Rattle.pm_core.specs.Calls.{ChangesDisk, MakesPrefix, begin_steps, end_steps, force_steps, finish_steps}
-use Rattle.pm_core.specs.Machine.{DiskStep, OnLog, WriteFirst, WriteStart, ForceStart, WritePage, ForcePages, WriteEnd, ForceEnd, Say, next_state, next_world, states, worlds}
+use Rattle.pm_core.specs.Machine.{DiskStep, OnLog, WriteFirst, WriteStart, ForceStart, WritePage, ForcePages, WriteEnd, ForceEnd, Say, next_state, next_world, worlds}
 use Rattle.pm_core.specs.PageSets.{has_part}
 use Rattle.pm_core.specs.Rounds.{on_log}
 use Rattle.pm_core.specs.States.{State}

@@ -1,6 +1,6 @@
 -- Where each file that is open after what was buffered was written is synced, a folder is left synced.
 use Rattle.std.proofs.Common.{◌≡◌, ◌<◌, ◌∙◌, ℕ, List, ◌∷◌, [], length, inl, inr, refl, sym, subst, arith}
-use Rattle.std.specs.Prelude.{◌⊎◌, Option, Bool, true, false, IsTrue, Contains}
+use Rattle.std.specs.Prelude.{◌⊎◌, Option, Bool, false, IsTrue, Contains}
 use Rattle.std.specs.Bool.{MatchBool}
 use Rattle.std.proofs.lemmas.List.Elements.{All-contains, Contains-append_right}
 use Rattle.pm_disk.specs.declared.names.StoreFile.TheVariants.{Segment}

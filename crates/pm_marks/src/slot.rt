@@ -6,7 +6,7 @@ ghost use Rattle.pm_marks.specs.Slots.{named_place, named_shape, named_mark, mar
 
 use pm_disk::SLOT_LEN;
 use pm_frame::{FRAME_END_MAX, sum};
-use pm_records::{SHAPE_LEN, shape_bytes};
+use pm_records::shape_bytes;
 use pm_types::fields::{get_u16, get_u32, get_u64};
 use pm_types::{Mark, Place, Shape, is_shape};
 

@@ -1,10 +1,10 @@
 -- A page of zeros, into which a name, a kind and one number were written.
-use Rattle.std.proofs.Common.{◌≡◌, ℕ, ◌+◌, ◌*◌, ◌<◌, ◌≤◌, ◌⊎◌, List, [], ◌∷◌, length, get_or, replicate, sym, ap, subst, ◌∙◌, inl, inr, arith}
+use Rattle.std.proofs.Common.{◌≡◌, ℕ, ◌+◌, ◌<◌, ◌≤◌, ◌⊎◌, List, length, get_or, sym, subst, ◌∙◌, inl, inr, arith}
 use Rattle.pm_types.specs.PageSizes.{IsPageSize}
 use Rattle.pm_types.specs.Spans.{IsInSpan, span_of}
 use Rattle.pm_types.specs.Pages.{SameOutside}
 use Rattle.pm_types.specs.declared.page_id.PageId.{PageId}
-use Rattle.pm_types.specs.Fields.{bytes_at, u32_at, u64_at, AreZero}
+use Rattle.pm_types.specs.Fields.{u32_at, u64_at}
 use Rattle.pm_types.specs.Heads.{IsBlank}
 use Rattle.pm_types.proofs.PageSizeBounds.{page_size_bounds}
 use Rattle.pm_types.proofs.Unchanged.{u64_same, zero_u32}

@@ -1,10 +1,9 @@
 -- The numbers of a meta page that are indexes are its first thirty-three.
-use Rattle.std.proofs.Common.{◌≡◌, ℕ, ◌+◌, ◌-◌, ◌*◌, ◌<◌, ◌≤◌, List, sym, ap, subst, inl, inr, arith}
+use Rattle.std.proofs.Common.{◌≡◌, ℕ, ◌+◌, ◌-◌, ◌*◌, ◌<◌, List, subst, inl, inr, arith}
 use Rattle.std.proofs.lemmas.Bool.{cases_lt}
 use Rattle.pm_types.specs.Fields.{u32_at}
-use Rattle.pm_meta.specs.declared.slots.MetaSlot.{MetaSlot}
 use Rattle.pm_meta.specs.declared.slots.MetaSlot.TheVariants.{Root, Bucket, Reuse, Pages, Rows}
-use Rattle.pm_meta.specs.MetaPages.{field_of, IsPageSlot, AllBelow}
+use Rattle.pm_meta.specs.MetaPages.{AllBelow}
 
 -- each number, from the first index on, is below this one
 abbrev pub EachBelow : ℕ → List ℕ → ℕ → Type 0

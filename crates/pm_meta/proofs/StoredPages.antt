@@ -1,10 +1,10 @@
 -- A meta page that may stand in its file still may after one of its numbers was set within its bounds.
-use Rattle.std.proofs.Common.{◌≡◌, ◌≢◌, ℕ, ◌*◌, ◌+◌, ◌<◌, ◌≤◌, ◌⊎◌, List, sym, ap, subst, ◌∙◌, refl, inl, inr, arith}
+use Rattle.std.proofs.Common.{◌≡◌, ◌≢◌, ℕ, ◌<◌, ◌⊎◌, List, sym, ap, subst, ◌∙◌, refl, inl, inr, arith}
 use Rattle.std.proofs.lemmas.Bool.{cases_eq}
 use Rattle.pm_types.specs.declared.page_id.PageId.{PageId}
 use Rattle.pm_meta.specs.declared.slots.MetaSlot.{MetaSlot}
 use Rattle.pm_meta.specs.declared.slots.MetaSlot.TheVariants.{Root, Bucket, Reuse, Pages, Rows}
-use Rattle.pm_meta.specs.MetaPages.{field_of, IsSlot, IsPageSlot, AllBelow, IsInBounds, HasCounts, IsStoredMeta}
+use Rattle.pm_meta.specs.MetaPages.{field_of, IsSlot, IsPageSlot, IsInBounds, IsStoredMeta}
 use Rattle.pm_meta.proofs.OneField.{KeepsAllElse}
 use Rattle.pm_meta.proofs.OffsetsApart.{is_slot}
 

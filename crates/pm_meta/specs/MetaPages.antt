@@ -26,7 +26,7 @@ use Rattle.pm_types.specs.declared.page_id.PageId.{PageId}
 use Rattle.pm_types.specs.Fields.{u32_at, u64_at, AreZero}
 use Rattle.pm_types.specs.declared.head.TheConstants.{KIND_AT}
 use Rattle.pm_meta.specs.declared.layout.TheConstants.{META_KIND, REUSE_KIND, FIELDS_AT, HEADS_AT}
-use Rattle.pm_meta.specs.declared.layout.TheConstants.{REUSE_AT, PAGES_AT, ROWS_AT, FIELDS_END, INDEXES}
+use Rattle.pm_meta.specs.declared.layout.TheConstants.{REUSE_AT, PAGES_AT, ROWS_AT, FIELDS_END}
 use Rattle.pm_meta.specs.declared.layout.TheConstants.{BUCKETS, NEXT_AT, REUSE_END, EXTRA_PAGES}
 use Rattle.pm_meta.specs.declared.slots.MetaSlot.{MetaSlot}
 use Rattle.pm_meta.specs.declared.slots.MetaSlot.TheVariants.{Root, Bucket, Reuse, Pages, Rows}

@@ -1,12 +1,11 @@
 -- What calls on plain pages leave of them, besides their edits.
-use Rattle.std.proofs.Common.{◌≡◌, ℕ, ◌<◌, ◌≤◌, ◌⊎◌, List, length, refl, sym, ap, ◌∙◌, subst, inl, inr, arith}
+use Rattle.std.proofs.Common.{◌≡◌, ℕ, ◌<◌, ◌≤◌, List, length, refl, sym, ap, ◌∙◌, subst, inl, inr, arith}
 use Rattle.std.specs.Prelude.{Option, None, Some, IsSome, IsSomeAnd, All}
 use Rattle.std.specs.Option.{option_map}
 use Rattle.std.proofs.lemmas.Bool.{cases_lt}
 use Rattle.std.proofs.lemmas.Option.{slice_get_cases}
 use Rattle.pm_types.specs.declared.page.Page.{Page}
 use Rattle.pm_types.specs.declared.shape.Shape.{Shape}
-use Rattle.pm_types.specs.Spans.{Coverage}
 use Rattle.pm_pages.specs.declared.asked.Asked.{Asked}
 use Rattle.pm_pages.specs.declared.plain.PlainPages.{PlainPages}
 use Rattle.pm_pages.specs.Asked.{entry_of, patch_of, IsPatchFor}

@@ -1,7 +1,7 @@
 -- Rows that trees list by rising key: no two of a cache have one key. And what a search among rising items finds.
-use Rattle.std.proofs.Common.{◌≡◌, ◌≢◌, ℕ, ◌+◌, ◌*◌, ◌/◌, ◌%◌, ◌<◌, ◌≤◌, List, length, [], get_or, nat_eq, false, true, Result, Ok, Err, refl, sym, ap, subst, ◌∙◌, inl, inr, arith, Less, Equal, Greater}
+use Rattle.std.proofs.Common.{◌≡◌, ◌≢◌, ℕ, ◌+◌, ◌*◌, ◌/◌, ◌%◌, ◌<◌, ◌≤◌, List, length, [], get_or, nat_eq, false, true, Result, Ok, Err, refl, sym, ap, subst, ◌∙◌, inl, inr, arith, Less, Greater}
 use Rattle.std.specs.Prelude.{◌^◌, ◌↔◌, All, Any, AllPairs, IfOk, IfErr}
-use Rattle.std.specs.Ordering.{nat_cmp, is_lt, ordering_index, ordering_reverse}
+use Rattle.std.specs.Ordering.{nat_cmp, is_lt, ordering_reverse}
 use Rattle.std.specs.Cmp.Lexicographic.{slice_cmp}
 use Rattle.std.specs.List.Sorted.{IsBinarySearchResult, IsSearchInRange, IsSortedBy}
 use Rattle.std.proofs.lemmas.Bool.{cases_lt, eq-eqb, eqb-true, le-ltb}
@@ -10,7 +10,6 @@ use Rattle.std.proofs.lemmas.List.{get_or_default, length-map}
 use Rattle.std.proofs.lemmas.List.Sorted.{searchable_from_sorted}
 use Rattle.std.proofs.lemmas.Map.Lookups.{exact_bytes}
 use Rattle.pm_types.specs.declared.limits.TheConstants.{CACHES}
-use Rattle.pm_types.specs.declared.page_id.Link.{Link}
 use Rattle.pm_btpage.specs.IndexPages.{Item, IsBelow, IsRising, key_in}
 use Rattle.pm_data.specs.declared.layout.TheConstants.{DATA_KIND}
 use Rattle.pm_pages.specs.declared.row.Row.{Row}
@@ -18,7 +17,7 @@ use Rattle.pm_pages.specs.declared.well_formed.listing.TreeItem.{TreeItem}
 use Rattle.pm_pages.specs.PageLists.{AreReadable}
 use Rattle.pm_pages.specs.Rows.{Partition, page_at, page_count, kind_of, rows_of}
 use Rattle.pm_pages.specs.TreeItems.{as_item, as_items, HasKey}
-use Rattle.pm_pages.specs.Trees.{IsItemOf, ListsRows, HasTree}
+use Rattle.pm_pages.specs.Trees.{IsItemOf, HasTree}
 use Rattle.pm_pages.specs.WellFormed.{AreDifferent}
 use Rattle.pm_pages.proofs.PageReads.{reads}
 use Rattle.pm_pages.proofs.Quantified.{all_of, any_of, each_map, holds_of, meets}

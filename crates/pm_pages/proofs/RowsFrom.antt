@@ -6,7 +6,6 @@ use Rattle.std.proofs.lemmas.List.{drop_all, append-nil}
 use Rattle.pm_types.specs.declared.page_id.PageId.{PageId}
 use Rattle.std.specs.List.{flat_map, range_with_len}
 use Rattle.pm_data.specs.declared.layout.TheConstants.{DATA_KIND}
-use Rattle.pm_data.specs.DataPages.{row_at}
 use Rattle.pm_data.specs.DataPages as data_page
 use Rattle.pm_pages.specs.declared.row.Row.{Row}
 use Rattle.pm_pages.specs.Rows.{kind_of, rows_from, rows_on}

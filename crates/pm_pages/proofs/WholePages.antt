@@ -1,5 +1,5 @@
 -- To cover every byte of a page is to cover it as a whole.
-use Rattle.std.proofs.Common.{◌≡◌, ℕ, ◌<◌, ◌≤◌, ◌⊎◌, [], ◌∷◌, inl, inr, arith}
+use Rattle.std.proofs.Common.{◌≡◌, ℕ, ◌<◌, ◌⊎◌, [], ◌∷◌, inl, inr, arith}
 use Rattle.std.specs.Prelude.{IsTrue}
 use Rattle.pm_types.specs.PageSizes.{IsPageSize}
 use Rattle.pm_types.specs.Spans.{Coverage, IsInSpan, span_of, IsInSpans, Covers, no_coverage, NeedsWhole, AlsoCovers, IsPatch}

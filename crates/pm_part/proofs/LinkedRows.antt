@@ -1,19 +1,15 @@
 -- In a well-formed partition each item of an index names the row of its key, on a page of the partition.
-use Rattle.std.proofs.Common.{◌≡◌, ℕ, zero, suc, ◌+◌, ◌*◌, ◌%◌, ◌/◌, ◌<◌, ◌≤◌, List, [], ◌∷◌, ◌++◌, None, Some, refl, sym, ap, subst, ◌∙◌, inl, inr, arith}
+use Rattle.std.proofs.Common.{◌≡◌, ℕ, zero, suc, ◌+◌, ◌*◌, ◌%◌, ◌/◌, ◌<◌, ◌≤◌, List, [], ◌∷◌, ◌++◌, sym, ap, subst, ◌∙◌, inl, inr, arith}
 use Rattle.std.specs.Prelude.{◌^◌, Any}
-use Rattle.std.specs.Option.{is_some}
-use Rattle.std.proofs.lemmas.Bool.{false≢true}
 use Rattle.std.proofs.lemmas.Grind.{flat_map-append}
-use Rattle.pm_types.specs.Ids.{page_id, link}
+use Rattle.pm_types.specs.Ids.{link}
 use Rattle.pm_types.specs.declared.shape.Shape.{Shape}
 use Rattle.pm_btpage.specs.IndexPages.{Item, items_of}
 use Rattle.pm_data.specs.declared.layout.TheConstants.{DATA_KIND}
-use Rattle.pm_data.specs.Rows.{IsRow}
 use Rattle.pm_data.specs.DataPages as data_page
-use Rattle.pm_data.specs.DataPages.{row_at, row_in, slot_at, count_of, is_empty, IsSound, IsDataPage}
-use Rattle.pm_data.proofs.RowsByItem.{live_item, get_or-rows_of, row_in_live}
+use Rattle.pm_data.specs.DataPages.{IsDataPage}
 use Rattle.pm_pages.specs.declared.row.Row.{Row}
-use Rattle.pm_pages.specs.Rows.{Partition, bytes_of, page_at, page_count, kind_of, rows_of, row_of}
+use Rattle.pm_pages.specs.Rows.{Partition, bytes_of, page_at, page_count, kind_of, rows_of}
 use Rattle.pm_pages.specs.Trees.{items_in, IsItemOf}
 use Rattle.pm_pages.specs.Paged.{Paged}
 use Rattle.pm_pages.proofs.PageReads.{page_at-below}

@@ -1,14 +1,11 @@
 -- A link names one row of a partition.
-use Rattle.std.proofs.Common.{◌≡◌, ◌≢◌, ℕ, zero, suc, ◌+◌, ◌*◌, ◌%◌, ◌<◌, ◌≤◌, List, [], ◌∷◌, refl, sym, ap, subst, ◌∙◌, inl, inr, arith}
-use Rattle.std.specs.Prelude.{◌^◌, Option, None, Some}
-use Rattle.pm_types.specs.declared.page_id.PageId.{PageId}
-use Rattle.pm_types.specs.declared.page_id.Link.{Link}
+use Rattle.std.proofs.Common.{◌≡◌, ℕ, ◌<◌, ◌≤◌, List, refl, sym, subst, ◌∙◌, arith}
+use Rattle.std.specs.Prelude.{◌^◌, Some}
 use Rattle.pm_types.specs.Ids.{page_id, link}
-use Rattle.pm_data.specs.declared.layout.TheConstants.{DATA_KIND}
 use Rattle.pm_data.specs.DataPages as data_page
 use Rattle.pm_data.specs.DataPages.{row_at}
 use Rattle.pm_pages.specs.declared.row.Row.{Row}
-use Rattle.pm_pages.specs.Rows.{Partition, page_at, page_count, kind_of, rows_from, rows_on, rows_of, row_of}
+use Rattle.pm_pages.specs.Rows.{Partition, page_at, page_count, rows_of, row_of}
 use Rattle.pm_pages.proofs.RowPlaces.{rows_each, same_name}
 use Rattle.pm_free.specs.Placed.{HasOneMore}
 use Rattle.pm_pages.proofs.Quantified.{Each, each_middle}

@@ -6,7 +6,7 @@ use Rattle.std.proofs.lemmas.Bool.{cases_eq, eq-eqb, ne_eqb}
 use Rattle.pm_types.specs.Ids.{page_id, link}
 use Rattle.pm_data.specs.declared.layout.TheConstants.{DATA_KIND}
 use Rattle.pm_data.specs.DataPages as data_page
-use Rattle.pm_data.specs.DataPages.{DataPage, data_of, row_at, with_row, IsDataPage}
+use Rattle.pm_data.specs.DataPages.{DataPage, row_at, with_row, IsDataPage}
 use Rattle.pm_data.proofs.RowLaws.{row_at-with_row_here, row_at-with_row_other}
 use Rattle.pm_meta.specs.declared.layout.TheConstants.{BUCKETS}
 use Rattle.pm_meta.specs.declared.slots.MetaSlot.TheVariants.{Bucket, Reuse, Pages}

@@ -1,5 +1,5 @@
 -- What the reply says of a command that wasn't accepted.
-use Rattle.std.proofs.Common.{◌≡◌, ℕ, Bool, true, false, List, [], ◌∷◌, ◌++◌, refl, sym, ap, ◌∙◌, subst}
+use Rattle.std.proofs.Common.{◌≡◌, ℕ, Bool, true, false, List, [], ◌∷◌, ◌++◌, sym, ap, ◌∙◌}
 use Rattle.std.proofs.lemmas.Bool.{false≢true}
 use Rattle.pm_model.specs.declared.line.Cmd.{Cmd}
 use Rattle.pm_model.specs.declared.line.Cmd.TheVariants.{Put, Remove}

@@ -13,7 +13,7 @@ use Rattle.pm_types.specs.Ids.{page_id, page_of_link, index_of_id}
 use Rattle.pm_btpage.specs.IndexPages.{Item}
 use Rattle.pm_data.specs.Rows.{IsRow}
 use Rattle.pm_data.specs.DataPages as data_page
-use Rattle.pm_data.specs.DataPages.{count_of, slot_at, row_at, IsDataPage, IsSound}
+use Rattle.pm_data.specs.DataPages.{slot_at, row_at, IsDataPage}
 use Rattle.pm_data.proofs.RowsByItem.{live_item, get_or-rows_of, row_in_live}
 use Rattle.pm_meta.specs.declared.slots.MetaSlot.TheVariants.{Pages}
 use Rattle.pm_pages.specs.declared.row.Row.{Row}

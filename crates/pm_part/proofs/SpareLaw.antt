@@ -11,7 +11,7 @@ use Rattle.pm_types.specs.Ids.{page_id}
 use Rattle.pm_types.specs.Fields.{bytes_at}
 use Rattle.pm_btpage.specs.IndexPages.{Item}
 use Rattle.pm_data.specs.declared.layout.TheConstants.{DATA_KIND}
-use Rattle.pm_data.specs.DataPages.{IsStoredPage, count_of, slot_at, row_in}
+use Rattle.pm_data.specs.DataPages.{IsStoredPage, count_of, slot_at}
 use Rattle.pm_data.specs.DataPages as data_page
 use Rattle.pm_data.proofs.RowsByItem.{length-rows_of, get_or-rows_of, row_in_live}
 use Rattle.pm_meta.specs.declared.slots.MetaSlot.TheVariants.{Rows}

@@ -7,7 +7,7 @@ use Rattle.pm_types.specs.declared.page_id.Link.{Link}
 use Rattle.pm_types.specs.Ids.{page_id, link}
 use Rattle.pm_data.specs.declared.layout.TheConstants.{DATA_KIND}
 use Rattle.pm_data.specs.DataPages as data_page
-use Rattle.pm_data.specs.DataPages.{DataPage, data_of, row_at, with_row, without_row, free_item, IsDataPage}
+use Rattle.pm_data.specs.DataPages.{DataPage, row_at, with_row, without_row, free_item}
 use Rattle.pm_data.proofs.RowLaws.{row_at-with_row_here, row_at-with_row_other, row_at-without_row_here, row_at-without_row_other}
 use Rattle.pm_meta.specs.declared.slots.MetaSlot.TheVariants.{Pages}
 use Rattle.pm_pages.specs.declared.row.Row.{Row}

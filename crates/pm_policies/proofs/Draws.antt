@@ -1,7 +1,7 @@
 -- The oldest of the frames drawn so far.
-use Rattle.std.proofs.Common.{◌≡◌, ℕ, zero, suc, ◌+◌, ◌%◌, ◌<◌, ◌≤◌, ◌⊎◌, ⊎_elim, inl, inr, List, length, refl, sym, ap, ◌∙◌, subst, arith, add-one}
+use Rattle.std.proofs.Common.{◌≡◌, ℕ, ◌+◌, ◌%◌, ◌⊎◌, ⊎_elim, List, length, refl, sym, ap, ◌∙◌, subst, arith, add-one}
 use Rattle.std.specs.Prelude.{slice_index}
-use Rattle.std.proofs.lemmas.Bool.{cases_lt, cases_eq}
+use Rattle.std.proofs.lemmas.Bool.{cases_eq}
 use Rattle.pm_policies.specs.Stamps.{IsNoLater}
 use Rattle.pm_policies.specs.Draws.{state_after_draw, state_after, frame_drawn, IsOldestDrawn}
 use Rattle.pm_policies.proofs.Orders.{no_later_itself, no_later_along}

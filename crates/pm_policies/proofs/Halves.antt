@@ -1,8 +1,8 @@
 -- At most half of the frames are protected.
-use Rattle.std.proofs.Common.{◌≡◌, ℕ, ◌+◌, ◌/◌, ◌<◌, ◌≤◌, ◌⊎◌, ⊎_elim, Bool, true, false, List, length, set, replicate, refl, sym, ap, ◌∙◌, subst, arith, length-set}
+use Rattle.std.proofs.Common.{◌≡◌, ℕ, ◌+◌, ◌/◌, ◌<◌, ◌≤◌, ◌⊎◌, ⊎_elim, Bool, true, false, List, length, set, replicate, sym, ap, ◌∙◌, subst, arith, length-set}
 use Rattle.std.proofs.lemmas.Bool.{cases_lt}
 use Rattle.pm_policies.specs.declared.segments.Standing.{Standing}
-use Rattle.pm_policies.specs.Segments.{standing_at, count_protected, fresh, placed, IsOldest, Demotes, Protects}
+use Rattle.pm_policies.specs.Segments.{standing_at, count_protected, fresh, placed, Demotes, Protects}
 use Rattle.pm_policies.proofs.Sides.{count_placed, count-replicate, one_if}
 
 abbrev pub IsHalf : List Standing → Type 0

@@ -1,13 +1,11 @@
 -- The frames on one side, and the oldest of them by their tournament.
 use Rattle.std.proofs.Common.{◌≡◌, ◌≢◌, ℕ, zero, suc, ◌+◌, ◌*◌, ◌^◌, ◌<◌, ◌≤◌, ◌⊎◌, ⊎_elim, inl, inr, Bool, true, false, cond, List, [], ◌∷◌, length, set, replicate, Option, Some, None, refl, sym, ap, ◌∙◌, subst, arith, length-set}
-use Rattle.std.specs.Prelude.{count_by}
-use Rattle.std.proofs.lemmas.Bool.{cases_lt, cases_eq, cases_Bool, false≢true}
+use Rattle.std.proofs.lemmas.Bool.{cases_eq, cases_Bool}
 use Rattle.std.proofs.lemmas.List.{get_or-set_same, get_or-set_other, get_or-replicate, length-replicate}
 use Rattle.std.proofs.lemmas.List.Sums.{sum_by-cons, sum_by-set}
 use Rattle.pm_policies.specs.declared.segments.Standing.{Standing}
 use Rattle.pm_policies.specs.declared.tournament.Contender.{Contender}
-use Rattle.pm_policies.specs.Stamps.{IsNoLater}
-use Rattle.pm_policies.specs.Tournaments.{node_at, leaf_at, winner, IsTournament}
+use Rattle.pm_policies.specs.Tournaments.{node_at, leaf_at, IsTournament}
 use Rattle.pm_policies.specs.Segments.{fresh, standing_at, count_protected, contender_of, IsOldest, HasSide, IsSegments}
 use Rattle.pm_policies.proofs.Orders.{Leads}
 use Rattle.pm_policies.proofs.Trees.{root_leads, root_is_leaf, node_at-replicate, nobody}

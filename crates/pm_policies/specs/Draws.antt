@@ -1,5 +1,5 @@
 -- The kind RandomLru: some frames are drawn, and the one used longest ago is picked.
-use Rattle.std.specs.Prelude.{◌≡◌, ℕ, zero, suc, ◌+◌, ◌*◌, ◌/◌, ◌%◌, ◌^◌, ◌<◌, ◌≤◌, ◌==◌, List, length}
+use Rattle.std.specs.Prelude.{◌≡◌, ℕ, zero, suc, ◌*◌, ◌/◌, ◌%◌, ◌^◌, ◌≤◌, ◌==◌, List, length}
 use Rattle.std.specs.Prelude.{bit_xor, slice_index, slice_set, if◌then◌else◌}
 use Rattle.pm_policies.specs.Stamps.{raised, IsNoLater}
 

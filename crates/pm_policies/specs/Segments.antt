@@ -1,6 +1,6 @@
 -- The kind SegmentedLru: a frame that was used since it was taken is protected, and at most half of
 -- the frames are.
-use Rattle.std.specs.Prelude.{◌≡◌, ℕ, ◌+◌, ◌*◌, ◌/◌, ◌^◌, ◌<◌, ◌≤◌, List, length, Option, Some, None}
+use Rattle.std.specs.Prelude.{◌≡◌, ℕ, ◌/◌, ◌^◌, ◌<◌, ◌≤◌, List, length, Option, Some, None}
 use Rattle.std.specs.Prelude.{Bool, false, true, count_by, slice_index_or, slice_set, if◌then◌else◌}
 use Rattle.pm_policies.specs.declared.segments.Standing.{Standing}
 use Rattle.pm_policies.specs.declared.tournament.Contender.{Contender}

@@ -4,7 +4,6 @@
 use Rattle.std.specs.Prelude.{◌≡◌, ℕ, ◌+◌, ◌*◌, ◌<◌, ◌≤◌, ◌==◌, ◌&&◌, ◌||◌, Bool, List, length, Option}
 use Rattle.std.specs.Prelude.{Some, None, nat_lt, slice_index_or, if◌then◌else◌}
 use Rattle.pm_policies.specs.declared.tournament.Contender.{Contender}
-use Rattle.pm_policies.specs.Stamps.{IsNoLater}
 
 abbrev pub node_at : List (Option Contender) → ℕ → Option Contender
 node_at nodes i = slice_index_or nodes i None

@@ -1,25 +1,24 @@
 -- A log that grows at its end keeps what it had: each of its segments begins with the bytes that it had, its frames
 -- stand where they stood, and what a scan has read ahead is still ahead of it.
-use Rattle.std.proofs.Common.{◌≡◌, ◌≢◌, ◌⊎◌, inl, inr, ℕ, zero, suc, ◌+◌, ◌-◌, ◌<◌, ◌≤◌, min, Bool, true, false, List, [], ◌∷◌, ◌++◌, length, take, drop, Option, Some, refl, sym, ◌∙◌, ap, subst, arith, append_assoc, append-nil, length-append}
-use Rattle.std.specs.Prelude.{◌^◌, ◌==◌, if◌then◌else◌, slice_get, IsTrue}
+use Rattle.std.proofs.Common.{◌≡◌, ◌≢◌, inl, inr, ℕ, zero, suc, ◌+◌, ◌-◌, ◌<◌, ◌≤◌, Bool, true, false, List, [], ◌∷◌, ◌++◌, length, take, drop, Option, Some, refl, sym, ◌∙◌, ap, subst, arith, append_assoc, append-nil, length-append}
+use Rattle.std.specs.Prelude.{◌^◌, if◌then◌else◌, slice_get}
 use Rattle.std.proofs.lemmas.Bool.Decides.{nat_tests}
 use Rattle.std.proofs.lemmas.List.{length-take, length-drop, take-append-le, drop-append-le}
 use Rattle.pm_types.specs.declared.place.Place.{Place}
-use Rattle.pm_frame.specs.declared.limits.TheConstants.{FRAME_EXTRA}
 use Rattle.pm_frame.specs.Frames.{Frame, frame_len, frame_bytes}
 use Rattle.pm_disk.specs.Files.{File, Write, Cut, bytes_of, content, with_change, all_forced}
 use Rattle.pm_disk.specs.Worlds.{World, log_changed, log_forced, segment_in}
-use Rattle.pm_disk.proofs.Families.{file_here, file_there, file_cases}
+use Rattle.pm_disk.proofs.Families.{file_there, file_cases}
 use Rattle.pm_disk.proofs.Files.{content_change}
 use Rattle.pm_disk.proofs.Writes.{slice_get-append_left}
 use Rattle.pm_records.specs.LogFiles.{contents}
-use Rattle.pm_records.specs.LogSteps.{Step, Append, Force, NextSegment, written, next_segment, next_begin, end_after, world_after}
-use Rattle.pm_records.specs.Logs.{all_frames, is_last, place, next_place, after_frames, seal_frame, HasFrames}
+use Rattle.pm_records.specs.LogSteps.{Step, Append, written, next_segment, next_begin, end_after, world_after}
+use Rattle.pm_records.specs.Logs.{all_frames, is_last, next_place, after_frames, seal_frame, HasFrames}
 use Rattle.pm_records.proofs.FileSteps.{at_end-write}
 use Rattle.pm_records.proofs.FrameGrammar.{frame_laws}
-use Rattle.pm_records.proofs.Runs.{bool_cases, next_rises, rises_from}
+use Rattle.pm_records.proofs.Runs.{bool_cases, rises_from}
 use Rattle.pm_records.proofs.Tracing.{world_after-append}
-use Rattle.pm_segments.specs.Appends.{can_seal, seal_len, seal_steps, enter_steps, roll_steps, rolled, room_steps, roomy, append_steps, grown}
+use Rattle.pm_segments.specs.Appends.{can_seal, seal_steps, enter_steps, roll_steps, rolled, room_steps, roomy, append_steps, grown}
 use Rattle.pm_segments.specs.Ends.{LogEnd, EndsThere, has_room}
 use Rattle.pm_segments.specs.Scans.{Scanned, IsAhead, bytes_after, looking_again, forgotten}
 use Rattle.pm_segments.proofs.Emptied.{emptied, written_ends}

@@ -1,10 +1,10 @@
 -- Which calls may be made on parts that were lent just now, and which on the host once they are back.
-use Rattle.std.proofs.Common.{◌≡◌, List, [], ◌∷◌, ℕ, Option, refl, sym, ◌∙◌, ap, subst, arith}
-use Rattle.std.specs.Prelude.{Bool, true, false, ◌==◌, ◌||◌, not, IsSome, Result, Ok}
+use Rattle.std.proofs.Common.{◌≡◌, List, [], ◌∷◌, refl, sym, ◌∙◌, ap, subst, arith}
+use Rattle.std.specs.Prelude.{Bool, true, false, ◌==◌, ◌||◌, IsSome}
 use Rattle.std.proofs.lemmas.Bool.Decides.{nat_tests}
 use Rattle.pm_types.specs.declared.page_id.PageId.{PageId}
-use Rattle.pm_disk.specs.Lending.{is_among, reader_lent, writer_lent, log_lent, Lends, TakesBack}
-use Rattle.pm_disk.specs.States.{Access, DeviceState, IsUsable, MayRead, MayWrite, HasCause}
+use Rattle.pm_disk.specs.Lending.{is_among, writer_lent, log_lent, TakesBack}
+use Rattle.pm_disk.specs.States.{Access, DeviceState, IsUsable, MayWrite}
 
 pub log_usable : (part host : DeviceState) → part ≡ log_lent host → IsUsable host → IsUsable part
 log_usable part host is usable = subst (λ (s : DeviceState). IsUsable s) (sym is) (record { bound = usable.bound; whole = refl })

@@ -1,5 +1,5 @@
 -- Calls may be made once a folder is bound, and still when another one is.
-use Rattle.std.proofs.Common.{List, ℕ, refl, sym, subst, ap, ◌∙◌}
+use Rattle.std.proofs.Common.{List, ℕ, sym, subst, ap, ◌∙◌}
 use Rattle.std.specs.Prelude.{◌≡◌, Result, Ok, Err, OnOk, false, IsSome}
 use Rattle.pm_disk.specs.States.{Access, DeviceState, IsUsable, Binds}
 use Rattle.pm_disk.proofs.Usable.{usable-bound}

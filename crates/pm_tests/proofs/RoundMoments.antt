@@ -4,14 +4,14 @@ use Rattle.std.specs.Prelude.{◌≢◌, slice_get, is_ok}
 use Rattle.std.proofs.lemmas.Bool.{false≢true}
 use Rattle.pm_types.specs.Ids.{part_of_id, index_of_id}
 use Rattle.pm_types.specs.declared.page_id.PageId.{PageId}
-use Rattle.pm_disk.specs.Files.{File, Write, content, bytes_of, changed, with_change, all_forced, at_change, missing, gapped}
-use Rattle.pm_disk.specs.Images.{Image, Leaves, LeavesAll, Lasting, Touches}
+use Rattle.pm_disk.specs.Files.{File, Write, content, bytes_of, with_change, all_forced, at_change, gapped}
+use Rattle.pm_disk.specs.Images.{Image, Leaves, LeavesAll, Lasting}
 use Rattle.pm_disk.specs.Lending.{BeginsLog, BeginsPages, Joins}
 use Rattle.pm_disk.specs.Moments.{History, IsHistory, AllMoments, Does, WritesPage}
-use Rattle.pm_disk.specs.Worlds.{World, log_changed, log_forced, pages_changed, pages_in, page_at, joined}
+use Rattle.pm_disk.specs.Worlds.{World, log_changed, log_forced, pages_in, page_at, joined}
 use Rattle.pm_disk.proofs.Chain.{started, does, joins, since_lent}
 use Rattle.pm_disk.proofs.Families.{file_here, file_there, changed_here, changed_there, forced_here, forced_there}
-use Rattle.pm_disk.proofs.Files.{at_change-last, content_change, kept_range, lasting_push, quiet_lasting}
+use Rattle.pm_disk.proofs.Files.{at_change-last, kept_range, lasting_push, quiet_lasting}
 use Rattle.pm_disk.proofs.Gaps.{page_alone}
 use Rattle.pm_disk.proofs.Writes.{length-write, write_before}
 use Rattle.pm_tests.specs.Rounds.{IsAppended, LogMoment, IsPageWritten, PageMoment, RoundMoment, LeftByRound}

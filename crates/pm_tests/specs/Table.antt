@@ -1,5 +1,5 @@
 -- What contracts see of pages that a table names: a page is at hand where it is held.
-use Rattle.std.specs.Prelude.{◌≡◌, ℕ, ◌≤◌, Bool, true, false, Option, None, Some, List}
+use Rattle.std.specs.Prelude.{ℕ, ◌≤◌, Bool, true, false, Option, None, Some, List}
 use Rattle.pm_pages.specs.Paged.{Paged}
 use Rattle.pm_pages.specs.Plain.{plain_seen, plain_written, ArePlainReady, KeepsPlain}
 use Rattle.pm_tests.specs.declared.pages.table.TablePages.{TablePages}

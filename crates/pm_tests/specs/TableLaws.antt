@@ -1,13 +1,11 @@
 -- The laws of pages that a table names.
-use Rattle.std.proofs.Common.{◌≡◌, ◌≢◌, ℕ, ◌≤◌, ◌⊎◌, Bool, true, List, refl, sym, ap, subst, ◌∙◌, inl}
+use Rattle.std.proofs.Common.{◌≡◌, ℕ, List, refl, sym, ap, subst, ◌∙◌, inl}
 use Rattle.std.proofs.Common.{inr, length, arith}
 use Rattle.std.specs.Prelude.{Option, None, Some, IsSome, IsTrue}
 use Rattle.std.proofs.lemmas.Bool.{cases_eq, eq-eqb, ne_eqb}
-use Rattle.pm_types.specs.Spans.{Coverage}
-use Rattle.pm_pages.specs.Paged.{Paged, with_page, AsksPage, WritesPage, MakesPage, NotesPatch}
-use Rattle.pm_pages.specs.Paged.{GivesUpPages, IsLent}
+use Rattle.pm_pages.specs.Paged.{Paged, WritesPage}
 use Rattle.pm_pages.specs.Asked.{entry_of}
-use Rattle.pm_pages.specs.Plain.{plain_seen, plain_written, ArePlainReady}
+use Rattle.pm_pages.specs.Plain.{plain_seen, plain_written}
 use Rattle.pm_pages.specs.PlainLaws as plain
 use Rattle.pm_tests.specs.declared.pages.table.TablePages.{TablePages}
 use Rattle.pm_tests.specs.Table.{is_held, held_only, table_seen, IsTableReady, KeepsTable, table_written}

@@ -1,5 +1,5 @@
 -- How a listing goes on: what was said is a prefix of the log's text.
-use Rattle.std.proofs.Common.{◌≡◌, ◌⊎◌, inl, inr, ℕ, ◌+◌, ◌^◌, ◌<◌, ◌≤◌, List, [], ◌∷◌, ◌++◌, length, take, Some, None, false, refl, sym, ◌∙◌, ap, subst, arith, append_assoc, length-append}
+use Rattle.std.proofs.Common.{◌≡◌, inl, ℕ, ◌+◌, ◌<◌, List, [], ◌∷◌, ◌++◌, length, take, Some, None, false, refl, sym, ◌∙◌, ap, subst, arith, append_assoc, length-append}
 use Rattle.std.proofs.lemmas.List.{append-nil, take-append-le}
 use Rattle.std.proofs.Math.Seq.{take-append-add}
 use Rattle.pm_types.specs.declared.place.Place.{Place}
@@ -11,12 +11,12 @@ use Rattle.pm_records.specs.Logs.{all_frames, record_in, after_frames, HasFrames
 use Rattle.pm_records.specs.Records.{Record}
 use Rattle.pm_records.proofs.Runs.{run_begins}
 use Rattle.pm_segments.specs.Read.{HasScanned}
-use Rattle.pm_segments.specs.Scans.{Scanned, frame_ahead, Advances, IsAhead, bytes_after}
+use Rattle.pm_segments.specs.Scans.{Scanned, frame_ahead, Advances}
 use Rattle.pm_segments.proofs.Reading.{scan_starts, scan_goes, scan_ends}
 use Rattle.pm_tools.specs.declared.listing.Next.TheVariants as next
-use Rattle.pm_tools.specs.Lines.{record_text, line_of, line_in, lines_from, end_line}
-use Rattle.pm_tools.specs.Listings.{AreRecords, ListsAll, ListsUpTo, IsLogText, SaysPrefix, SaysOfLog, IsListed, IsListedUpTo, IsSaid, ReadsFrame, AddsLine, HasListed}
-use Rattle.pm_tools.proofs.LogTexts.{HasText, text_after, lines_append, records_append, none_past_end}
+use Rattle.pm_tools.specs.Lines.{line_of, line_in, lines_from, end_line}
+use Rattle.pm_tools.specs.Listings.{AreRecords, ListsAll, ListsUpTo, IsLogText, SaysPrefix, SaysOfLog, IsSaid, ReadsFrame, AddsLine, HasListed}
+use Rattle.pm_tools.proofs.LogTexts.{text_after, lines_append, records_append, none_past_end}
 
 -- ---- what was said
 

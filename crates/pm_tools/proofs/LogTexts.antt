@@ -1,6 +1,6 @@
 -- Each log has a text, and the lines of frames with which it begins are a prefix of that.
-use Rattle.std.proofs.Common.{◌≡◌, ◌⊎◌, inl, inr, ℕ, zero, suc, ◌+◌, ◌-◌, ◌*◌, ◌^◌, ◌<◌, ◌≤◌, List, [], ◌∷◌, ◌++◌, Option, Some, None, Bool, true, false, refl, sym, ◌∙◌, ap, subst, arith, append_assoc, eq-eqb}
-use Rattle.std.specs.Prelude.{◌&&◌, ◌||◌, not, ◌==◌, if◌then◌else◌, drop, nat_lt}
+use Rattle.std.proofs.Common.{◌≡◌, ◌⊎◌, inl, inr, ℕ, zero, suc, ◌+◌, ◌-◌, ◌*◌, ◌^◌, ◌<◌, ◌≤◌, List, [], ◌∷◌, ◌++◌, Some, None, Bool, true, false, refl, sym, ◌∙◌, ap, subst, arith, append_assoc, eq-eqb}
+use Rattle.std.specs.Prelude.{not, ◌==◌, if◌then◌else◌, drop, nat_lt}
 use Rattle.std.proofs.lemmas.Bool.{and_parts, ltb-true, ltb-false}
 use Rattle.pm_types.specs.declared.place.Place.{Place}
 use Rattle.pm_frame.specs.declared.kinds.TheConstants.{SEAL}
@@ -8,10 +8,9 @@ use Rattle.pm_frame.specs.declared.limits.TheConstants.{FRAME_END_MAX, SEGMENT_E
 use Rattle.pm_frame.specs.Frames.{Frame, frame_len, frame_at, end_max}
 use Rattle.pm_frame.proofs.FrameAt.{frame_at-some}
 use Rattle.pm_records.specs.Logs.{all_frames, place, record_in, enters_next, ends_log, is_seal, is_last, next_place, place_after, after_frames, is_over, HasFrames, IsLogFrom}
-use Rattle.pm_records.specs.Records.{Record}
-use Rattle.pm_records.proofs.Runs.{bool_cases, option_cases, neither, next-enters, next-stays, after_frames-append, run_begins}
+use Rattle.pm_records.proofs.Runs.{bool_cases, option_cases, neither, next-enters, next-stays, run_begins}
 use Rattle.pm_tools.specs.Lines.{line_in, lines_from, end_line}
-use Rattle.pm_tools.specs.Listings.{AreRecords, ListsAll, ListsUpTo, IsLogText}
+use Rattle.pm_tools.specs.Listings.{AreRecords, IsLogText}
 
 -- ---- each place has a log
 

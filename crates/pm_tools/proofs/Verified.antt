@@ -1,5 +1,5 @@
 -- How the check of a store goes on.
-use Rattle.std.proofs.Common.{◌≡◌, ◌⊎◌, inl, inr, ℕ, zero, suc, ◌+◌, ◌<◌, ◌≤◌, List, [], ◌∷◌, ◌++◌, Option, Some, None, false, refl, sym, ◌∙◌, ap, subst, arith}
+use Rattle.std.proofs.Common.{◌≡◌, inl, inr, ℕ, suc, ◌+◌, ◌<◌, List, [], ◌∷◌, ◌++◌, Option, Some, None, false, refl, sym, ◌∙◌, ap, subst, arith}
 use Rattle.std.specs.Prelude.{Err, IsErrOf, Result}
 use Rattle.std.proofs.lemmas.Bool.{cases_lt}
 use Rattle.pm_types.specs.declared.fault.StoreFault.{StoreFault}
@@ -14,7 +14,7 @@ use Rattle.pm_meta.specs.declared.slots.MetaSlot.TheVariants.{Rows}
 use Rattle.pm_pages.specs.Rows.{Partition, number_of, number_in, page_count}
 use Rattle.pm_pages.specs.WellFormed.{IsWellFormed}
 use Rattle.pm_records.specs.LogFiles.{contents}
-use Rattle.pm_records.specs.Logs.{record_in, after_frames}
+use Rattle.pm_records.specs.Logs.{record_in}
 use Rattle.pm_records.specs.Records.{Record}
 use Rattle.pm_core.specs.BasePages.{Partitions, base_of, counted}
 use Rattle.pm_redo.specs.Loading.{AreCounted, BaseIs}

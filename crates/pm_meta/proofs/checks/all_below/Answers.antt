@@ -1,5 +1,4 @@
-use Rattle.std.proofs.Common.{◌+◌, ◌*◌, ◌<◌, refl, arith}
-use Rattle.pm_types.specs.Fields.{u32_at}
+use Rattle.std.proofs.Common.{refl, arith}
 use Rattle.pm_meta.proofs.Indexes.{all_below, each_below}
 use Rattle.pm_meta.proofs.checks.all_below.Goals as goal
 

@@ -1,4 +1,4 @@
-use Rattle.std.proofs.Common.{◌≡◌, ◌+◌, ◌<◌, length, false, set, sym, arith}
+use Rattle.std.proofs.Common.{◌<◌, length, false, set, sym, arith}
 use Rattle.pm_policies.proofs.Rings.{passed_none, no_place, passed_more, stands_next, stops_early, stops_late}
 use Rattle.pm_policies.proofs.clock.sweep.Goals as goal
 

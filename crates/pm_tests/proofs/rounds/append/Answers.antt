@@ -1,5 +1,5 @@
 -- The segment is as it was, written, or written and forced.
-use Rattle.std.proofs.Common.{◌≡◌, List, ℕ}
+use Rattle.std.proofs.Common.{◌≡◌}
 use Rattle.std.proofs.lemmas.Result.{on_ok_weaker}
 use Rattle.pm_disk.specs.Worlds.{log_forced}
 use Rattle.pm_tests.proofs.RoundMoments.{wrote, forced_too, lasts_then}

@@ -1,9 +1,8 @@
-use Rattle.std.proofs.Common.{◌≡◌, ◌++◌, ◌∙◌, inl, List, [], ℕ, false, None, refl, ap, sym, subst, arith}
+use Rattle.std.proofs.Common.{◌++◌, ◌∙◌, inl, [], false, None, refl, ap, sym, subst, arith}
 use Rattle.std.proofs.lemmas.List.{append-nil}
 use Rattle.std.proofs.lemmas.Result.{on_ok_weaker}
 use Rattle.pm_disk.proofs.Chain.{started, does, joined, weaker, at_last}
-use Rattle.pm_disk.specs.Worlds.{with_said}
-use Rattle.pm_segments.specs.Scans.{Scanned, IsAhead, bytes_after}
+use Rattle.pm_segments.specs.Scans.{Scanned, IsAhead}
 use Rattle.pm_tools.specs.Lines.{end_line, line_of}
 use Rattle.pm_tools.specs.declared.listing.Next.TheVariants as next
 use Rattle.pm_tools.specs.Listings.{SaysOfLog, SaysPrefix, ReadsNext, ReadsFrame, HasListed, IsSaid, IsListedUpTo}

@@ -1,4 +1,4 @@
-use Rattle.std.proofs.Common.{◌≡◌, sym, subst}
+use Rattle.std.proofs.Common.{subst}
 use Rattle.pm_disk.proofs.Chain.{started, does, joined, weaker}
 use Rattle.pm_tools.specs.Listings.{list_place, SaysOfLog}
 use Rattle.pm_tools.proofs.Listed.{nothing_yet}

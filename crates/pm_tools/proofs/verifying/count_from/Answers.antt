@@ -1,12 +1,11 @@
-use Rattle.std.proofs.Common.{◌≡◌, ◌+◌, ◌∙◌, ℕ, [], false, None, refl, ap, sym, subst, arith}
-use Rattle.std.proofs.lemmas.Result.{on_ok_weaker}
-use Rattle.pm_disk.proofs.Chain.{started, does, at_last}
+use Rattle.std.proofs.Common.{◌∙◌, [], false, None, refl, ap, sym, subst, arith}
+use Rattle.pm_disk.proofs.Chain.{started, does}
 use Rattle.pm_disk.specs.Worlds.{World}
 use Rattle.pm_records.specs.LogFiles.{contents}
 use Rattle.pm_redo.specs.Rebuilding.{IsSame}
 use Rattle.pm_segments.specs.Scans.{Scanned, IsAhead}
 use Rattle.pm_tools.specs.declared.listing.Next.TheVariants as next
-use Rattle.pm_tools.specs.Verifying.{CountsChanges, CountsNext, CountsFrame, HasRead, IsBadFrame}
+use Rattle.pm_tools.specs.Verifying.{CountsChanges, CountsNext, CountsFrame, IsBadFrame}
 use Rattle.pm_tools.proofs.Verified.{reads_none, reads_more, bad_there, all_read, same_place}
 use Rattle.pm_tools.proofs.verifying.count_from.Goals as goal
 

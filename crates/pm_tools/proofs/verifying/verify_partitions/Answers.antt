@@ -1,4 +1,4 @@
-use Rattle.std.proofs.Common.{◌≡◌, ◌∙◌, ◌+◌, refl, sym, subst, arith}
+use Rattle.std.proofs.Common.{◌≡◌, ◌∙◌, refl, sym, subst, arith}
 use Rattle.pm_disk.proofs.Chain.{joined, at_last}
 use Rattle.pm_disk.specs.Moments.{AllMoments}
 use Rattle.pm_disk.specs.Worlds.{World}

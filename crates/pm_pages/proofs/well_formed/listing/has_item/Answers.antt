@@ -1,12 +1,8 @@
-use Rattle.std.proofs.Common.{◌≡◌, ◌≢◌, ℕ, ◌<◌, List, length, get_or, nat_eq, true, Ok, Err, refl, sym, ap, subst, ◌∙◌}
-use Rattle.std.specs.Prelude.{◌↔◌, All, Any, IsTrue}
+use Rattle.std.proofs.Common.{Ok, Err}
 use Rattle.std.specs.Ordering.{nat_cmp}
 use Rattle.std.specs.Cmp.Lexicographic.{slice_cmp}
 use Rattle.std.proofs.lemmas.Fn.{always_returns_same}
-use Rattle.pm_pages.specs.declared.row.Row.{Row}
 use Rattle.pm_pages.specs.declared.well_formed.listing.TreeItem.{TreeItem}
-use Rattle.pm_pages.specs.TreeItems.{as_item, as_items}
-use Rattle.pm_pages.specs.Trees.{IsItemOf}
 use Rattle.pm_pages.proofs.ListedKeys.{finds, item_found, item_absent}
 use Rattle.pm_pages.proofs.well_formed.listing.has_item.Goals as goal
 

@@ -1,5 +1,5 @@
-use Rattle.std.proofs.Common.{◌<◌, length, ap, subst, arith}
-use Rattle.pm_policies.specs.Segments.{Halves, IsOldest}
+use Rattle.std.proofs.Common.{length, ap, arith}
+use Rattle.pm_policies.specs.Segments.{Halves}
 use Rattle.pm_policies.proofs.segmented_lru.SegmentedLruPolicy.pick.Goals as goal
 
 pub oldest_probationary-frame-requires : goal.oldest_probationary-frame-requires

@@ -1,4 +1,4 @@
-use Rattle.std.proofs.Common.{◌<◌, length, sym, ap, subst, arith}
+use Rattle.std.proofs.Common.{length, sym, ap, subst, arith}
 use Rattle.pm_policies.specs.Segments.{Halves}
 use Rattle.pm_policies.proofs.Halves.{IsHalf, half_left}
 use Rattle.pm_policies.proofs.segmented_lru.SegmentedLruPolicy.taken.Goals as goal

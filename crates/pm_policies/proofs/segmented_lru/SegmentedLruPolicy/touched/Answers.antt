@@ -1,4 +1,4 @@
-use Rattle.std.proofs.Common.{◌<◌, length, ap, subst, ◌∙◌, arith}
+use Rattle.std.proofs.Common.{length, ap, subst, ◌∙◌, arith}
 use Rattle.pm_policies.specs.Stamps.{raised}
 use Rattle.pm_policies.specs.Segments.{Halves, Protects}
 use Rattle.pm_policies.proofs.Halves.{half_protects, length_protects}

@@ -1,5 +1,5 @@
 use Rattle.pm_disk.specs.States.{IsLaterState}
-use Rattle.std.proofs.Common.{◌≡◌, ◌⊎◌, ◌<◌, ◌≤◌, ◌-◌, [], true}
+use Rattle.std.proofs.Common.{◌≡◌, ◌⊎◌, ◌<◌, ◌-◌, [], true}
 use Rattle.pm_types.specs.declared.limits.TheConstants.{SCRIPT_BYTES_MAX, LINES_MAX}
 use Rattle.pm_disk.specs.Moments.{AllMoments}
 use Rattle.pm_script.specs.Reading.{OnlyTakes, IsWithinLine, rest_of, KnowsEnd}

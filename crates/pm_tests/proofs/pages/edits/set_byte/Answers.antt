@@ -4,7 +4,6 @@ use Rattle.std.proofs.lemmas.Bool.{ne_eqb}
 use Rattle.pm_types.specs.Spans.{Coverage}
 use Rattle.pm_pages.specs.PageLists.{ReadsAt}
 use Rattle.pm_pages.specs.Paged.{Paged, AsksPage, WritesPage, NotesPatch, with_page}
-use Rattle.pm_tests.specs.Edits.{SetsByte}
 use Rattle.pm_tests.proofs.pages.edits.set_byte.Goals as goal
 
 some_is : (o : Option (List ℕ)) → IsSome o → (bytes : List ℕ) × (o ≡ Some bytes)
