@@ -1,10 +1,10 @@
 //! Runs of the top call over two real folders in turn.
 
-use crate::consoles::SAID;
+use crate::file_runs::run_over_files;
 use crate::looks::{same, same_bytes};
-use crate::recorded::TRACE;
 use crate::runs::FIRST_PAGES;
-use crate::tasks::{Task, over_files};
+use pm_tests_hosts::consoles::SAID;
+use pm_tests_hosts::recorded::TRACE;
 use std::fs;
 use std::process::Abort;
 use std::rt::Files;
@@ -42,10 +42,10 @@ fn remove_all(rt: &(impl Abort + AllocGlobal + Files)) {
 // three pages, which a replay logs again.
 #[test]
 fn each_run_is_over_the_folder_that_its_words_name(rt: HostRuntime) {
-    over_files(&rt, &rt, b"put 0 a 1\n", Task::Run, "left");
-    over_files(&rt, &rt, b"put 0 b 22\nget 0 a\n", Task::Run, "right");
+    run_over_files(&rt, &rt, b"put 0 a 1\n", "left");
+    run_over_files(&rt, &rt, b"put 0 b 22\nget 0 a\n", "right");
     look_at_lengths(&rt, 67 + PAGES, 68 + PAGES);
-    over_files(&rt, &rt, b"get 0 a\nget 0 b\n", Task::Run, "left");
+    run_over_files(&rt, &rt, b"get 0 a\nget 0 b\n", "left");
     look_at_lengths(&rt, 104 + 2 * PAGES, 68 + PAGES);
     look_at_printed(&rt, b"ok\nok\nnone\nvalue 1\nnone\n");
     remove_all(&rt);

@@ -1,19 +1,15 @@
 //! A run of the top call over real files that write a trace.
 
-ghost use Rattle.std.specs.Prelude.{◌≡◌, false};
-
-use crate::consoles::SAID;
-use crate::looks::{holds, same};
-use crate::noted::{Forced, note_force};
-use crate::recorded::TRACE;
-use crate::runs::call_with;
-use crate::tasks::{Task, over_files};
-use crate::traces::{count_forces, count_prints};
-use pm_disk::{Host, MarkFile};
+use crate::file_runs::run_over_files;
+use crate::looks::holds;
+use pm_disk::MarkFile;
+use pm_tests_hosts::consoles::SAID;
+use pm_tests_hosts::noted::{Forced, note_force};
+use pm_tests_hosts::recorded::TRACE;
+use pm_tests_hosts::traces::{count_forces, count_prints};
 use std::fs;
 use std::process::Abort;
 use std::rt::Files;
-use std::sync::Wait;
 
 /// The folder of the store.
 const FOLDER: &str = "lasts";
@@ -38,14 +34,6 @@ const DEEP_SEGMENT: &str = "deep/down/store/wal-0000000000000001.seg";
 
 /// The folders that get the names of those that are made for it, by the paths that they are synced by.
 static ABOVE: [&str; 3] = [".", "deep", "deep/down"];
-
-/// Makes a run over a folder, and looks at the status.
-pub fn run_over<H: Host>(rt: &(impl Abort + AllocGlobal + Wait), host: &mut H, folder: &str)
-    requires { (H.state host.old).access.is_lent ≡ false }
-{
-    let report = call_with(rt, &["run", folder], host);
-    same(rt, "status", u64::from(report.status), 0, &folder);
-}
 
 /// The trace so far.
 fn trace_of(rt: &(impl Abort + AllocGlobal + Files)) -> String {
@@ -79,9 +67,9 @@ fn remove_all(rt: &(impl Abort + AllocGlobal + Files), folder: &str) {
 
 #[test]
 fn what_a_run_prints_lasts(rt: HostRuntime) {
-    over_files(&rt, &rt, SCRIPT, Task::Run, FOLDER);
+    run_over_files(&rt, &rt, SCRIPT, FOLDER);
     look_at_forces(&rt, 1);
-    over_files(&rt, &rt, SCRIPT, Task::Run, FOLDER);
+    run_over_files(&rt, &rt, SCRIPT, FOLDER);
     look_at_forces(&rt, 2);
     remove_all(&rt, FOLDER);
 }
@@ -94,7 +82,7 @@ fn look_at_name(rt: &(impl Abort + AllocGlobal + Files), folder: &str) {
 
 #[test]
 fn each_folder_that_is_made_lasts_before_a_reply(rt: HostRuntime) {
-    over_files(&rt, &rt, SCRIPT, Task::Run, DEEP_FOLDER);
+    run_over_files(&rt, &rt, SCRIPT, DEEP_FOLDER);
     for folder in &ABOVE {
         look_at_name(&rt, folder);
     }

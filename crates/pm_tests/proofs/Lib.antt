@@ -1,3 +1,0 @@
-pub mod PartStates
-pub mod Rebinding
-pub mod RoundMoments

@@ -1,5 +1,0 @@
-use Rattle.pm_logger.specs.LogEnds.{SameEnd}
-use Rattle.pm_tests.proofs.log_writers.Worker.push.Given as goal
-
-abbrev pub invariant-tries : goal.invariant-tries
-invariant-tries l = SameEnd l.fn.self.end l.self.end

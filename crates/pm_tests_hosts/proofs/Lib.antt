@@ -1,0 +1,2 @@
+pub mod PartStates
+pub mod Rebinding
