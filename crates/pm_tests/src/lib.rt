@@ -29,8 +29,6 @@ mod long_logs;
 #[cfg(test)]
 mod looks;
 #[cfg(test)]
-mod page_hosts;
-#[cfg(test)]
 mod page_reads;
 #[cfg(test)]
 mod pieces;

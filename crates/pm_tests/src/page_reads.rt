@@ -1,15 +1,12 @@
 //! How many pages are read: by an opening those that the records of its log need, and by a line those of its path.
 
-ghost use Rattle.std.specs.Prelude.{◌≡◌, false};
-
 use crate::few_frames::pages_on;
 use crate::looks::holds;
-use crate::page_hosts::PageHost;
+use crate::pieces::PieceHost;
 use crate::rows::{Digits, KEYS, add_put};
-use crate::runs::{
-    Disk, Run, add, call_with, host_over, look_at_said, look_at_status, no_files, run_configured,
-};
-use pm_disk_mem::{MemHost, Pick};
+use crate::runs::{Disk, add, host_over, look_at_said, look_at_status, no_files, run_configured};
+use crate::scripts::run_pieces;
+use pm_disk_mem::Pick;
 use std::process::Abort;
 use std::sync::Wait;
 
@@ -40,16 +37,6 @@ fn store(rt: &(impl Abort + AllocGlobal + Wait), then: &[u8]) -> Disk {
     disk
 }
 
-/// Runs a script over a host. Answers how many calls read a page.
-fn run_counted(rt: &(impl Abort + AllocGlobal + Wait), host: MemHost) -> (Run, u64)
-    requires { host.is_lent ≡ false }
-{
-    let mut pages = PageHost::of(host);
-    let report = call_with(rt, &["run", "d"], &mut pages);
-    let PageHost { host, reads, .. } = pages;
-    (Run::of(rt, report, host), reads)
-}
-
 /// Runs a script over a disk, looks at what is said, and that so many calls read a page, at least and at most.
 fn look_at_reads(
     rt: &(impl Abort + AllocGlobal + Wait),
@@ -59,7 +46,7 @@ fn look_at_reads(
     bounds: (u64, u64),
 ) {
     let host = host_over(rt, script, CONFIG, disk, &[], None);
-    let (run, reads) = run_counted(rt, host);
+    let (run, reads) = run_pieces(rt, &["run", "d"], PieceHost::of(host, 65_536));
     look_at_status(rt, &run, 0, &script);
     look_at_said(rt, &run, said, &script);
     let (least, most) = bounds;

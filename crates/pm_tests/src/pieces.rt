@@ -1,4 +1,4 @@
-//! A host in memory that gives its input in pieces.
+//! A host in memory that gives its input in pieces, and counts the calls which read pages.
 
 ghost use Rattle.std.specs.Prelude.{◌≡◌, ◌<◌, ◌∷◌, true, map, refl};
 ghost use Rattle.pm_disk.specs.Lending.{Joins, TakesBack};
@@ -10,12 +10,32 @@ use pm_disk_mem::{MemHost, MemPart, MemReader};
 use pm_types::PageId;
 use std::alloc::AllocError;
 
-/// A host in memory whose reads take at most so many bytes of the input. All else is passed on.
+/// A host in memory whose reads take at most so many bytes of the input, and that counts the calls which read pages.
+/// All else is passed on.
 #[derive(Drop)]
 pub struct PieceHost {
     pub host: MemHost,
-    pub piece: usize,
+    piece: usize,
+    /// How many calls read a page. Of a round each call of its parts counts.
+    pub reads: u64,
+    // How many calls there were before the last round.
+    before: u64,
     ghost some: { 0 < piece },
+}
+
+impl PieceHost {
+    /// A host that gives pieces of this size, and has counted no call.
+    pub fn of(host: MemHost, piece: usize) -> PieceHost
+        requires { 0 < piece }
+        ensures { result.host ≡ host }
+    {
+        PieceHost {
+            host,
+            piece,
+            reads: 0,
+            before: 0,
+        }
+    }
 }
 
 impl Device for PieceHost {
@@ -57,6 +77,7 @@ impl LogFile for PieceHost {
 
 impl PageReader for PieceHost {
     fn read_page(&mut self, page: PageId, into: &mut [u8]) -> Result<bool, Failed> {
+        self.reads = self.reads.saturating_add(1);
         self.host.read_page(page, into)
     }
 }
@@ -129,6 +150,7 @@ impl Host for PieceHost {
         due: &[PageId],
         workers: u32,
     ) -> Result<Lent<MemReader, MemPart, MemPart>, AllocError> {
+        self.before = self.host.calls();
         self.host.lend(due, workers)
     }
 
@@ -140,7 +162,9 @@ impl Host for PieceHost {
             (state_of_part lent.log ∷ state_of_part lent.writer
             ∷ map (λ reader. state_of_reader reader) lent.readers.items) }
     {
-        self.host.take_back(lent)
+        self.host.take_back(lent);
+        let made = self.host.calls().saturating_sub(self.before);
+        self.reads = self.reads.saturating_add(made);
     }
 
     ghost parts_tell = { ((λ t. t, λ t. t), (λ t. t, λ t. t), (λ t. t, λ t. t)) };

@@ -11,29 +11,18 @@ use crate::runs::{
 use std::process::Abort;
 use std::sync::Wait;
 
-/// A host over an empty disk that gives this input in pieces of this size, and refuses the calls of
-/// these numbers.
-fn host_of(
-    rt: &(impl Abort + AllocGlobal),
-    input: &[u8],
-    piece: usize,
-    refused: &[u64],
-) -> PieceHost
-    requires { 0 < piece }
-    ensures { result.host.is_lent ≡ false }
-{
-    let host = host_over(rt, input, b"", no_files(rt), refused, None);
-    PieceHost { host, piece }
-}
-
-/// Makes the call of these words over a host that gives its input in pieces.
-fn run_pieces(rt: &(impl Abort + AllocGlobal + Wait), words: &[&str], pieces: PieceHost) -> Run
+/// Makes the call of these words over a host that gives its input in pieces. Answers how many calls read a page, too.
+pub fn run_pieces(
+    rt: &(impl Abort + AllocGlobal + Wait),
+    words: &[&str],
+    pieces: PieceHost,
+) -> (Run, u64)
     requires { pieces.host.is_lent ≡ false }
 {
     let mut pieces = pieces;
     let report = call_with(rt, words, &mut pieces);
-    let PieceHost { host, piece: _ } = pieces;
-    Run::of(rt, report, host)
+    let PieceHost { host, reads, .. } = pieces;
+    (Run::of(rt, report, host), reads)
 }
 
 /// The top call over an input in pieces of this size, where the calls of these numbers are refused.
@@ -46,7 +35,9 @@ pub fn run_in_pieces(
 ) -> Run
     requires { 0 < piece }
 {
-    run_pieces(rt, words, host_of(rt, input, piece, refused))
+    let host = host_over(rt, input, b"", no_files(rt), refused, None);
+    let (run, _) = run_pieces(rt, words, PieceHost::of(host, piece));
+    run
 }
 
 /// Runs a script in pieces of this size over a disk with a configuration.
@@ -60,7 +51,8 @@ pub fn run_pieces_over(
     requires { 0 < piece }
 {
     let host = host_over(rt, script, config, disk, &[], None);
-    run_pieces(rt, &["run", "d"], PieceHost { host, piece })
+    let (run, _) = run_pieces(rt, &["run", "d"], PieceHost::of(host, piece));
+    run
 }
 
 /// Runs a script in pieces of this size, and looks at how many lines were answered and at what was said.
