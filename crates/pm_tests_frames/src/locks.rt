@@ -1,0 +1,4 @@
+//! Page locks.
+
+mod churn;
+mod takes;

@@ -1,0 +1,5 @@
+//! Partitions whose pages are written by hand or made by their calls.
+
+mod grown;
+mod made;
+mod stored;

@@ -1,0 +1,6 @@
+//! Commands on a partition.
+
+mod commands;
+mod damage;
+mod filling;
+mod maps;
