@@ -9,8 +9,6 @@ mod layout;
 mod removal;
 mod search;
 mod spans;
-#[cfg(test)]
-mod tests;
 
 pub use checks::{check, is_below};
 pub use head::{

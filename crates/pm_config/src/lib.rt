@@ -23,6 +23,3 @@ pub use limits::{
     WORKERS_MAX,
 };
 pub use read::read_config_text;
-
-#[cfg(test)]
-mod tests;

@@ -10,8 +10,6 @@ mod removal;
 mod replacing;
 mod rows;
 mod slots;
-#[cfg(test)]
-mod tests;
 
 pub use checks::check;
 pub use head::{fresh, links, set_links};

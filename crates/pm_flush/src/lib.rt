@@ -7,8 +7,6 @@ mod done;
 mod due_page;
 mod flushing;
 mod one_page;
-#[cfg(test)]
-mod tests;
 mod work;
 
 pub use copies::CopyList;

@@ -114,22 +114,3 @@ fn shifted(zeros: usize, byte: u8) -> u32
 {
     TABLES[zeros][usize::from(byte)]
 }
-
-#[cfg(test)]
-mod tests {
-    use super::*;
-
-    // Published check values of this CRC.
-    #[test]
-    fn known_bytes_have_their_published_sums(rt: HostRuntime) {
-        assert_eq!(rt; sum(b"123456789"), 0xCBF4_3926);
-        assert_eq!(rt; sum(b"a"), 0xE8B7_BE43);
-        assert_eq!(rt; sum(b"abc"), 0x3524_41C2);
-        assert_eq!(rt; sum(&[0, 0, 0, 0]), 0x2144_DF1C);
-        assert_eq!(rt; sum(&[]), 0);
-        assert_eq!(rt;
-            sum(b"The quick brown fox jumps over the lazy dog"),
-            0x414F_A339
-        );
-    }
-}

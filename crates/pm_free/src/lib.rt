@@ -7,8 +7,6 @@ mod edits;
 mod placing;
 mod removal;
 mod seats;
-#[cfg(test)]
-mod tests;
 
 pub use buckets::{Head, check_head, find_head};
 pub use chains::{link, settle, unlink};

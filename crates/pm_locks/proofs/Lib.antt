@@ -21,4 +21,3 @@ pub mod Facts
 pub mod Knowing
 pub mod Refusing
 pub mod Callers
-pub mod Pairs

@@ -1,8 +1,6 @@
 //! Page locks: the threads of a round take page frames and put them back, and none of them waits.
 #![tactic(auto)]
 
-#[cfg(test)]
-mod churn;
 mod flush;
 mod locks;
 mod look;
@@ -12,8 +10,6 @@ mod seats;
 mod share;
 mod slots;
 mod steal;
-#[cfg(test)]
-mod tests;
 mod view;
 mod word;
 

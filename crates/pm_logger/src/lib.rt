@@ -21,6 +21,3 @@ pub use block::{BLOCK_BYTES_MAX, Block};
 pub use limits::{FORCE_AFTER, TURNS_MAX};
 pub use log_end::LogEnd;
 pub use logger::Logger;
-
-#[cfg(test)]
-mod tests;

@@ -6,8 +6,6 @@ mod layout;
 mod meta;
 mod reuse;
 mod slots;
-#[cfg(test)]
-mod tests;
 
 pub use checks::check;
 pub use layout::{BUCKETS, META_KIND, REUSE_KIND};

@@ -11,8 +11,6 @@ mod relinking;
 mod removing;
 mod rows;
 mod spots;
-#[cfg(test)]
-mod tests;
 
 pub use laws::{a_partition_has_one_map, a_partition_has_pages_to_spare};
 pub use part::Part;

@@ -13,6 +13,3 @@ pub use encoding::{encode, encoded_len};
 pub use limits::{PUT, REMOVE, SHAPE_LEN};
 pub use record::{BadPayload, LogRecord, kind_of};
 pub use shape::{shape_bytes, shape_of};
-
-#[cfg(test)]
-mod tests;

@@ -13,6 +13,3 @@ pub use item::Item;
 pub use line::read_line;
 pub use lines::Lines;
 pub use reply::{append_field, each_reply_has_text, fields_read_back, print_reply, texts_differ};
-
-#[cfg(test)]
-mod tests;

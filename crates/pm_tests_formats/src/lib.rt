@@ -5,7 +5,11 @@
 #[cfg(test)]
 mod configs;
 #[cfg(test)]
+mod drawn_lines;
+#[cfg(test)]
 mod frames;
+#[cfg(test)]
+mod listings;
 #[cfg(test)]
 mod marks;
 #[cfg(test)]

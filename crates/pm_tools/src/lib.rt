@@ -10,6 +10,3 @@ pub use drawing::Gen;
 pub use lines::append_page;
 pub use listing::wal;
 pub use verifying::{Counts, verify};
-
-#[cfg(test)]
-mod tests;

@@ -125,36 +125,3 @@ impl Value {
         &self.bytes
     }
 }
-
-#[cfg(test)]
-mod tests {
-    use super::*;
-    use crate::limits::KEY_MAX;
-    use std::test::Fail;
-
-    #[test]
-    fn keys_are_ordered_by_unsigned_bytes_a_proper_prefix_first(
-        rt: HostRuntime,
-    ) -> Result<(), Fail> {
-        let rows: [(&[u8], &[u8], Ordering); 5] = [
-            (b"a", b"a", Ordering::Equal),
-            (b"a", b"aa", Ordering::Less),
-            (b"b", b"aa", Ordering::Greater),
-            (b"\x7f", b"\x80", Ordering::Less),
-            (b"\xff", b"\x00\x00", Ordering::Greater),
-        ];
-        for (one, other, order) in rows {
-            assert!(rt;
-                !one.is_empty()
-                    && one.len() <= KEY_MAX
-                    && !other.is_empty()
-                    && other.len() <= KEY_MAX
-            );
-            let (a, b) = (Key::of(rt.alloc(), one)?, Key::of(rt.alloc(), other)?);
-            assert_eq!(rt; a.cmp(&b), order, "{one:?} and {other:?}");
-            assert_eq!(rt; a == b, order == Ordering::Equal, "{one:?} and {other:?}");
-        }
-        assert_eq!(rt; Value::of(rt.alloc(), b"")?.bytes().len(), 0);
-        Ok(())
-    }
-}

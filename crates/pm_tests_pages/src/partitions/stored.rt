@@ -1,5 +1,8 @@
 //! A partition of four pages that are written by hand, with its rows and with wrong bytes.
 
+ghost use Rattle.pm_types.specs.PageSizes.{IsPageSize};
+ghost use Rattle.pm_model.specs.Partitions.{ArePartitions};
+
 use pm_pages::{
     Row, all_pass, has_chain, has_reuse_chain, is_well_formed, page_count, reuse_chain, rows_of,
 };
@@ -74,7 +77,10 @@ pub fn look_at_form(
     pages: &[[u8; 1024]],
     wanted: bool,
     what: &str,
-) {
+)
+    requires size { IsPageSize shape.now.page_size }
+    requires partitions { ArePartitions shape.now.partitions }
+{
     let pages = pages_of(rt, pages);
     let is_so = is_well_formed(rt.alloc(), shape, 0, &pages).expect(rt, what);
     assert_eq!(rt; is_so, wanted, "{what}");

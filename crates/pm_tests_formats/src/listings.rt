@@ -5,11 +5,11 @@ ghost use Rattle.pm_disk.specs.States.{IsUsable};
 ghost use Rattle.pm_disk_mem.specs.Hosts.{state_of};
 ghost use Rattle.pm_marks.specs.Slots.{IsMark};
 
-use crate::wal;
 use pm_disk::{Failed, Host};
 use pm_disk_mem::{MemDisk, MemHost};
 use pm_frame::{CP_BEGIN, DELTA, LOGICAL, RESTART, SEAL, SNAPSHOT, sum};
 use pm_marks::write_start;
+use pm_tools::wal;
 use pm_types::{Mark, Place, Shape, StoreFault};
 use std::alloc::Global;
 use std::test::Fail;

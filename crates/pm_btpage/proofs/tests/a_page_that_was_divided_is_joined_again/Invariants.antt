@@ -1,6 +1,0 @@
-use Rattle.std.proofs.Common.{◌≡◌, length}
-use Rattle.pm_btpage.specs.IndexPages.{IsIndexPage}
-use Rattle.pm_btpage.proofs.tests.a_page_that_was_divided_is_joined_again.Given as goal
-
-abbrev pub invariant-keys : goal.invariant-keys
-invariant-keys g l = record { page : IsIndexPage l.page; size : l.patch.page_size ≡ length l.page }

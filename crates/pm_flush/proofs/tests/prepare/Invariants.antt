@@ -1,5 +1,0 @@
-use Rattle.pm_locks.specs.Rounds.{IsWorkers, IsFlushers}
-use Rattle.pm_flush.proofs.tests.prepare.Given as goal
-
-abbrev pub invariant-frames : goal.invariant-frames
-invariant-frames l = IsWorkers l.locks 0 l.owner × IsFlushers l.locks l.flusher

@@ -1,5 +1,0 @@
-use Rattle.pm_locks.specs.Rounds.{IsFlushers}
-use Rattle.pm_locks.proofs.churn.flush_often.Given as goal
-
-abbrev pub invariant-turns : goal.invariant-turns
-invariant-turns l = IsFlushers l.locks l.seat

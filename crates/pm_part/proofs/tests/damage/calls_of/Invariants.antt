@@ -1,9 +1,0 @@
-use Rattle.pm_pages.specs.Paged.{AllReadable}
-use Rattle.pm_pages.specs.Plain.{plain_seen, ArePlain}
-use Rattle.pm_part.proofs.tests.damage.calls_of.Given as goal
-
-abbrev pub invariant-lengths : goal.invariant-lengths
-invariant-lengths l = record {
-  plain : ArePlain l.pages;
-  readable : AllReadable (plain_seen l.pages);
-}
