@@ -47,7 +47,7 @@ impl Device for Segment {
 
     ghost state = { λ segment. record {
       faults = segment.faults;
-      access = record { folder = Some []; is_lent = false; reads = λ _. true; writes = λ _. true };
+      access = record { folder = Some []; is_lent = false; reads = λ _. true; writes = λ _. true; made = 0 };
     } };
 
     ghost sound = { λ _ tells. absurd tells };

@@ -24,6 +24,7 @@ reader_lent due host = record {
     is_lent = false;
     reads = λ page. not (is_among due page);
     writes = λ _. false;
+    made = 0;
   };
 }
 
@@ -31,14 +32,26 @@ reader_lent due host = record {
 abbrev pub writer_lent : List PageId → DeviceState → DeviceState
 writer_lent due host = record {
   faults = 0;
-  access = record { folder = host.access.folder; is_lent = false; reads = λ _. false; writes = is_among due };
+  access = record {
+    folder = host.access.folder;
+    is_lent = false;
+    reads = λ _. false;
+    writes = is_among due;
+    made = 0;
+  };
 }
 
 -- what the log part reports
 abbrev pub log_lent : DeviceState → DeviceState
 log_lent host = record {
   faults = 0;
-  access = record { folder = host.access.folder; is_lent = false; reads = λ _. false; writes = λ _. false };
+  access = record {
+    folder = host.access.folder;
+    is_lent = false;
+    reads = λ _. false;
+    writes = λ _. false;
+    made = 0;
+  };
 }
 
 -- The log part has the host's segments, and its clock begins.

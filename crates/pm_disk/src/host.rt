@@ -5,6 +5,7 @@ ghost use Rattle.std.specs.Prelude.{vec_len, Some, IfOk, IsErr, All};
 ghost use Rattle.std.specs.Result.{result_unwrap_or};
 ghost use Rattle.pm_disk.specs.Lending.{PartsLent, PartsBegin, Lends, TakesBack, Joins};
 ghost use Rattle.pm_disk.specs.States.{HasCause, IsUsable, MayUseAllPages, Binds};
+ghost use Rattle.pm_disk.specs.States.{BindsFound};
 ghost use Rattle.pm_disk.specs.Files.{Drop, ReadsFrom, ReadsWhole};
 ghost use Rattle.pm_disk.specs.Worlds.{log_changed, marks_in, marks_changed, marks_forced, slot_at};
 ghost use Rattle.pm_disk.specs.Worlds.{slot_change, with_taken};
@@ -29,11 +30,20 @@ pub trait Host: LogFile + PageReader + PageWriter {
     /// Has the log, on a thread of its own.
     type Log: LogFile + Send + Drop;
 
-    /// Binds the folder of the store, and makes it where it isn't there. This comes before every other
-    /// call but `print`. After `Failed` the folder is bound that was bound before.
+    /// Binds the folder of the store, and makes it where it isn't there. This, or `bind_found`, comes before
+    /// every other call but `print`. After `Failed` the folder is bound that was bound before, and the one of
+    /// this name may have been made.
     fn bind(&mut self, dir: &str) -> Result<(), Failed>
         requires whole { (Self.state self.old).access.is_lent ≡ false }
         ensures binds { Binds (Self.state self.old) (Self.state self.new) dir.now result }
+        ensures does { Self.tells →
+            Does (Self.history self.old) (Self.history self.new) result (Self.history self.old).world };
+
+    /// Binds the folder of a store that is there. Where no folder of this name is there it fails, and makes
+    /// nothing.
+    fn bind_found(&mut self, dir: &str) -> Result<(), Failed>
+        requires whole { (Self.state self.old).access.is_lent ≡ false }
+        ensures binds { BindsFound (Self.state self.old) (Self.state self.new) dir.now result }
         ensures does { Self.tells →
             Does (Self.history self.old) (Self.history self.new) result (Self.history self.old).world };
 

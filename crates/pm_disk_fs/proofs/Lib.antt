@@ -3,6 +3,7 @@ pub mod Fills
 pub mod ForcedSegments
 pub mod JoinedReaders
 pub mod Leaving
+pub mod LentNone
 pub mod Names
 pub mod Openings
 pub mod SortingOut

@@ -23,6 +23,8 @@ pub record HostView : Type 0 where
   pub is_lent : Bool
   -- the bytes of the name of the folder that is bound
   pub folder : Option (List ℕ)
+  -- how many folders were made for stores, up to 2^64 - 1, where the count stands still
+  pub made : ℕ
   -- whether a change or a force of a file has failed, and what of the log isn't with the system yet
   pub writes : Writes
   -- the files that are open since they were changed, in the order of their last changes
@@ -34,7 +36,13 @@ pub record HostView : Type 0 where
 abbrev pub state_of : HostView → DeviceState
 state_of host = record {
   faults = host.faults;
-  access = record { folder = host.folder; is_lent = host.is_lent; reads = λ _. true; writes = λ _. true };
+  access = record {
+    folder = host.folder;
+    is_lent = host.is_lent;
+    reads = λ _. true;
+    writes = λ _. true;
+    made = host.made;
+  };
 }
 
 -- A failure of a call that makes these calls of the system, on a host that was so.

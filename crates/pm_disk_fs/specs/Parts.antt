@@ -35,7 +35,13 @@ pub record ReaderView : Type 0 where
 abbrev pub state_of_part : PartView → DeviceState
 state_of_part part = record {
   faults = part.faults.count;
-  access = record { folder = part.folder; is_lent = false; reads = λ _. false; writes = is_among part.due };
+  access = record {
+    folder = part.folder;
+    is_lent = false;
+    reads = λ _. false;
+    writes = is_among part.due;
+    made = 0;
+  };
 }
 
 -- what a reader reports about itself: it reads the pages that aren't due, and writes none
@@ -47,6 +53,7 @@ state_of_reader reader = record {
     is_lent = false;
     reads = λ page. not (is_among reader.due page);
     writes = λ _. false;
+    made = 0;
   };
 }
 

@@ -17,7 +17,7 @@ ghost use Rattle.std.specs.Path.{path_join};
 use crate::calls::{FileCalls, PathCalls, ReadCalls, SameCalls};
 use crate::failure::{Failure, Object, SystemCall, named};
 use crate::lock::{Lockable, lock_folder};
-use crate::paths::{file_path, open_folder, sync_above, sync_folder};
+use crate::paths::{IfMissing, file_path, open_folder, sync_folder, sync_name};
 use crate::reading::{fill, whole_or_zeros};
 use pm_disk::StoreFile;
 use std::alloc::AllocError;
@@ -31,38 +31,55 @@ pub struct Folder<R: Drop> {
     pub rt: R,
     // The folder's name, none before one is bound.
     pub dir: Option<String>,
+    // How many folders were made for a store.
+    pub made: u64,
 }
 
 impl<R: PathCalls<File: Lockable + FileCalls + SameCalls> + AllocGlobal + Drop> Folder<R> {
-    /// Makes the folder where it isn't there, locks it, and makes its name lasting, also where it is there:
-    /// an earlier run may have ended between making it and that, or the user may have made it just now.
-    /// From now on the files are in it. Gives the file that has the lock, or none where the one at hand has
-    /// it. Where another run has it, nothing of the folder was read or changed.
-    pub fn bind(&mut self, dir: &str, at_hand: &Option<R::File>) -> Result<Option<R::File>, Failure>
+    /// Makes the folder where it isn't there, or fails then, and locks it. From now on the files are in it.
+    /// Gives the file that has the lock, or none where the one at hand has it. Where another run has it,
+    /// nothing of the folder was read or changed.
+    ///
+    /// Where it may be made, its name is made lasting, also where it is there: an earlier run may have ended
+    /// between making it and that, or the user may have made it just now.
+    pub fn bind(
+        &mut self,
+        dir: &str,
+        missing: IfMissing,
+        at_hand: &Option<R::File>,
+    ) -> Result<Option<R::File>, Failure>
         ensures bound { OnOk result (option_map string_bytes self.new.dir ≡ Some dir.now) }
         ensures unchanged { OnErr result (self.new.dir ≡ self.old.dir) }
         ensures locked { IfOk result
             (IsLocked R.opened R.File.locked R.File.same_file dir.now at_hand.now) }
-        ensures lasts { OnOk result (AreNamesSynced R.opened R.File.synced
+        ensures lasts { missing ≡ IfMissing.Make → OnOk result (AreNamesSynced R.opened R.File.synced
             (path_join dir.now (codes ".."))) }
+        ensures counted { self.old.made ≤ self.new.made }
+        ensures none_made { missing ≡ IfMissing.Fail → self.new.made ≡ self.old.made }
         ensures failed { IfErr result (IsLockFailure
             ((file : R.File) × R.File.may_be_held file)) }
     {
         let store = Path::new(dir);
         let name = String::from_str(self.rt.alloc(), dir)?;
-        let lock = lock_folder(open_folder(&self.rt, store)?, at_hand)?;
-        sync_above(&self.rt, store)?;
+        let folder = open_folder(&self.rt, store, missing, &mut self.made)?;
+        let lock = lock_folder(folder, at_hand)?;
+        sync_name(&self.rt, store, missing)?;
         self.dir = Some(name);
         Ok(lock)
     }
 }
 
 impl<R: PathCalls<File: FileCalls> + AllocGlobal + Drop> Folder<R> {
-    /// No folder is bound yet.
+    /// No folder is bound yet, and none was made.
     pub fn new(rt: R) -> Folder<R>
-        ensures { result.dir ≡ None }
+        ensures unbound { result.dir ≡ None }
+        ensures none_made { result.made ≡ 0 }
     {
-        Folder { rt, dir: None }
+        Folder {
+            rt,
+            dir: None,
+            made: 0,
+        }
     }
 
     /// The same folder, for a part.
@@ -79,6 +96,7 @@ impl<R: PathCalls<File: FileCalls> + AllocGlobal + Drop> Folder<R> {
         Ok(Folder {
             rt: self.rt.clone()?,
             dir,
+            made: 0,
         })
     }
 

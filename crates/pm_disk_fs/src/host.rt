@@ -6,7 +6,7 @@ ghost use Rattle.std.specs.Prelude.{◌+◌, ◌⊎◌, All, replicate, Err, IfE
 ghost use Rattle.std.specs.Io.KnownBytes.{ReadConsumes};
 ghost use Rattle.std.specs.Option.{option_copied};
 ghost use Rattle.pm_types.specs.declared.limits.TheConstants.{PAGE_SIZE_MAX};
-ghost use Rattle.pm_disk.specs.States.{HasCause, Binds};
+ghost use Rattle.pm_disk.specs.States.{HasCause, Binds, BindsFound};
 ghost use Rattle.pm_disk.specs.Moments.{nothing_told};
 ghost use Rattle.pm_disk_fs.specs.WriteBuffer.{IsBufferedOrWritten, FitsAfter, IsAppended};
 ghost use Rattle.pm_disk_fs.specs.Writes.{ChangesFile, ChangesLog, FlushesBuffer, PoisonsOnFailure};
@@ -29,6 +29,7 @@ use crate::faults::Faults;
 use crate::folder::Folder;
 use crate::lock::Lockable;
 use crate::part::FsPart;
+use crate::paths::IfMissing;
 use crate::reader::FsReader;
 use crate::reading::read_some;
 use crate::split::join_readers;
@@ -72,6 +73,7 @@ impl<R: Files + Input + Drop> Model for FsHost<R> {
       first = host.faults.first;
       is_lent = host.is_lent;
       folder = option_map string_bytes host.folder.dir;
+      made = host.folder.made;
       writes = host.store.writes;
       files = open_views host.store.open.files.items;
       input = R.Reader.remaining host.input;
@@ -85,6 +87,7 @@ impl<R: Files + Input + Print + AllocGlobal + Clone + Send + Drop> FsHost<R> {
     pub fn new(rt: R) -> FsHost<R>
         ensures unfailed { result.faults ≡ 0 }
         ensures unbound { result.folder ≡ None }
+        ensures none_made { result.made ≡ 0 }
         ensures whole { result.is_lent ≡ false }
         ensures sound { result.writes.is_poisoned ≡ false }
         ensures empty { result.writes.buffer.bytes ≡ [] }
@@ -127,10 +130,14 @@ impl<R: Files + Input + Drop> FsHost<R> {
 
 impl<R: PathCalls<File: Lockable + FileCalls + SameCalls> + Input + AllocGlobal + Drop> FsHost<R> {
     // Binds the folder and locks it, after all that is left to do in the one that is bound.
-    fn rebind(&mut self, dir: &str) -> Result<(), Failure>
+    fn rebind(&mut self, dir: &str, missing: IfMissing) -> Result<(), Failure>
         ensures faults { self.new.faults ≡ self.old.faults }
         ensures first { self.new.first ≡ self.old.first }
-        ensures bound { OnOk result (IsBoundTo R.opened R.File.synced self.new.folder dir.now) }
+        ensures bound { OnOk result (self.new.folder ≡ Some dir.now) }
+        ensures lasts { missing ≡ IfMissing.Make → OnOk result (IsBoundTo R.opened R.File.synced
+            self.new.folder dir.now) }
+        ensures counted { self.old.made ≤ self.new.made }
+        ensures none_made { missing ≡ IfMissing.Fail → self.new.made ≡ self.old.made }
         ensures unchanged { OnErr result (self.new.folder ≡ self.old.folder) }
         ensures writes { FlushesBuffer self.old.writes self.new.writes result }
         ensures refused { IsTrue self.old.writes.is_poisoned → IsErr result }
@@ -139,7 +146,7 @@ impl<R: PathCalls<File: Lockable + FileCalls + SameCalls> + Input + AllocGlobal 
             ((file : R.File) × R.File.may_be_held file)) }
     {
         self.store.leave(&self.folder)?;
-        if let Some(lock) = self.folder.bind(dir, &self.lock)? {
+        if let Some(lock) = self.folder.bind(dir, missing, &self.lock)? {
             self.lock = Some(lock);
         }
         Ok(())
@@ -311,7 +318,20 @@ impl<
         ensures writes { FlushesBuffer self.old.writes self.new.writes result }
         ensures refused { IsTrue self.old.writes.is_poisoned → IsErr result }
     {
-        let bound = self.rebind(dir);
+        let bound = self.rebind(dir, IfMissing::Make);
+        self.counted(bound)
+    }
+
+    /// As `bind`, but where no folder of this name is there the call fails, and the folder's name isn't made
+    /// lasting. It makes nothing, whatever comes of it.
+    fn bind_found(&mut self, dir: &str) -> Result<(), Failed>
+        ensures binds { BindsFound (state_of self.old) (state_of self.new) dir.now result }
+        ensures first { KeepsFirstFailure (λ failure. IsBindFailure self.old failure
+            ((file : R.File) × R.File.may_be_held file)) self.old self.new result }
+        ensures writes { FlushesBuffer self.old.writes self.new.writes result }
+        ensures refused { IsTrue self.old.writes.is_poisoned → IsErr result }
+    {
+        let bound = self.rebind(dir, IfMissing::Fail);
         self.counted(bound)
     }
 

@@ -1,8 +1,9 @@
 //! The paths of the store's folder and of the files in it.
 
-ghost use Rattle.std.specs.Prelude.{◌≡◌, ◌<◌, ◌++◌, IfOk, OnOk, IfErr, codes};
+ghost use Rattle.std.specs.Prelude.{◌≡◌, ◌<◌, ◌≤◌, ◌++◌, true, IfOk, OnOk, IfErr, codes};
 ghost use Rattle.std.specs.String.{string_bytes};
 ghost use Rattle.pm_types.specs.declared.limits.TheConstants.{PARTITIONS_MAX};
+ghost use Rattle.pm_types.specs.Counts.{HasRisen};
 ghost use Rattle.pm_disk.specs.Names.{segment_name, partition_name};
 ghost use Rattle.pm_disk_fs.specs.Failures.{IsPathFailure, IsSystemFailure, IsOn, IsOnFolders};
 ghost use Rattle.pm_disk_fs.specs.Paths.{name_of};
@@ -20,22 +21,85 @@ use std::path::{Path, PathBuf};
 use std::rt::Files;
 use std::str;
 
-/// Makes the folder, and those above it, where they aren't there, and opens it.
+/// What comes of it where the store's folder isn't there.
+#[derive(Clone, Copy, Debug, PartialEq, Eq)]
+pub enum IfMissing {
+    /// It is made, and those above it too.
+    Make,
+    /// The call fails, and makes nothing.
+    Fail,
+}
+
+/// Opens the folder. Each folder that it makes is counted, also where it fails in the end.
 pub fn open_folder<R: PathCalls<File: FileCalls> + AllocGlobal>(
     rt: &R,
     store: Path<'_>,
+    missing: IfMissing,
+    made: &mut u64,
 ) -> Result<R::File, Failure>
     ensures opened { IfOk result (R.opened to_read (folder_path (path_bytes store.entry))) }
+    ensures counted { made.old ≤ made.new }
+    ensures none_made { missing ≡ IfMissing.Fail → made.new ≡ made.old }
     ensures failed { IfErr result (IsSystemFailure IsOnFolders) }
 {
-    if !store.is_dir(rt) {
-        make_missing(rt, store)?;
-    }
-    if !store.is_dir(rt) {
-        let error = io::Error::from(ErrorKind::NotADirectory);
-        return Err(Failure::System(SystemCall::MakeFolder, Object::Folder, error));
-    }
+    see_to_folder(rt, store, missing, made)?;
     open_names(rt, store, Object::Folder)
+}
+
+// Sees that the folder is there.
+fn see_to_folder<R: PathCalls<File: FileCalls> + AllocGlobal>(
+    rt: &R,
+    store: Path<'_>,
+    missing: IfMissing,
+    made: &mut u64,
+) -> Result<(), Failure>
+    ensures counted { made.old ≤ made.new }
+    ensures none_made { missing ≡ IfMissing.Fail → made.new ≡ made.old }
+    ensures failed { IfErr result (IsSystemFailure IsOnFolders) }
+{
+    match missing {
+        IfMissing::Make => make_folder(rt, store, made),
+        IfMissing::Fail => find_folder(rt, store),
+    }
+}
+
+// Makes the folder, and those above it, where they aren't there.
+fn make_folder<R: PathCalls<File: FileCalls> + AllocGlobal>(
+    rt: &R,
+    store: Path<'_>,
+    made: &mut u64,
+) -> Result<(), Failure>
+    ensures counted { made.old ≤ made.new }
+    ensures failed { IfErr result (IsSystemFailure IsOnFolders) }
+{
+    if store.is_dir(rt) {
+        return Ok(());
+    }
+    make_missing(rt, store, made)?;
+    if store.is_dir(rt) {
+        Ok(())
+    } else {
+        Err(no_folder(SystemCall::MakeFolder))
+    }
+}
+
+// Fails where nothing is at the path, or what isn't a folder. It opens nothing: a pipe would keep it waiting.
+fn find_folder<R: Files>(rt: &R, store: Path<'_>) -> Result<(), Failure>
+    ensures { IfErr result (IsSystemFailure (IsOn Object.Folder)) }
+{
+    let found = named(SystemCall::Stat, Object::Folder, fs::metadata(rt, store))?;
+    if found.is_dir() {
+        Ok(())
+    } else {
+        Err(no_folder(SystemCall::Stat))
+    }
+}
+
+// What is there isn't a folder.
+fn no_folder(call: SystemCall) -> Failure
+    ensures { IsSystemFailure (IsOn Object.Folder) result }
+{
+    Failure::System(call, Object::Folder, io::Error::from(ErrorKind::NotADirectory))
 }
 
 // Makes each folder on the path that isn't there, and syncs the one above it before the next is made. So
@@ -43,15 +107,17 @@ pub fn open_folder<R: PathCalls<File: FileCalls> + AllocGlobal>(
 fn make_missing<R: PathCalls<File: FileCalls> + AllocGlobal>(
     rt: &R,
     store: Path<'_>,
+    made: &mut u64,
 ) -> Result<(), Failure>
-    ensures { IfErr result (IsSystemFailure IsOnFolders) }
+    ensures counted { made.old ≤ made.new }
+    ensures failed { IfErr result (IsSystemFailure IsOnFolders) }
 {
     let mut folder = PathBuf::new(rt.alloc());
     let mut lasts = true;
     for part in store.components() {
         let above = folder.as_path().to_path_buf(rt.alloc())?;
         folder.push(part.as_os_str())?;
-        if make_one(rt, folder.as_path())? {
+        if make_one(rt, folder.as_path(), made)? {
             if !lasts {
                 sync_above(rt, above.as_path())?;
             }
@@ -64,8 +130,8 @@ fn make_missing<R: PathCalls<File: FileCalls> + AllocGlobal>(
     Ok(())
 }
 
-/// Makes the name of a folder that is there lasting.
-pub fn sync_above<R: PathCalls<File: FileCalls> + AllocGlobal>(
+// Makes the name of a folder that is there lasting.
+fn sync_above<R: PathCalls<File: FileCalls> + AllocGlobal>(
     rt: &R,
     folder: Path<'_>,
 ) -> Result<(), Failure>
@@ -75,6 +141,22 @@ pub fn sync_above<R: PathCalls<File: FileCalls> + AllocGlobal>(
 {
     let above = folder.join(rt.alloc(), "..")?;
     sync_folder(rt, above.as_path(), Object::FolderAbove)
+}
+
+/// Makes the name of a store's folder lasting, where the folder is one that would have been made.
+pub fn sync_name<R: PathCalls<File: FileCalls> + AllocGlobal>(
+    rt: &R,
+    store: Path<'_>,
+    missing: IfMissing,
+) -> Result<(), Failure>
+    ensures synced { missing ≡ IfMissing.Make → OnOk result
+        (AreNamesSynced R.opened R.File.synced (path_join (path_bytes store.entry) (codes ".."))) }
+    ensures failed { IfErr result (IsSystemFailure (IsOn Object.FolderAbove)) }
+{
+    match missing {
+        IfMissing::Make => sync_above(rt, store),
+        IfMissing::Fail => Ok(()),
+    }
 }
 
 /// Makes the names in the folder lasting.
@@ -155,13 +237,17 @@ fn push_partition(path: &mut String, part: u16) -> Result<(), AllocError>
 }
 
 // Makes the folder, and answers whether it wasn't there before.
-fn make_one<R: Files>(rt: &R, folder: Path<'_>) -> Result<bool, Failure>
-    ensures { IfErr result (IsSystemFailure (IsOn Object.Folder)) }
+fn make_one<R: Files>(rt: &R, folder: Path<'_>, made: &mut u64) -> Result<bool, Failure>
+    ensures counted { IfOk result (λ is_new. is_new ≡ true → HasRisen made.old made.new) }
+    ensures later { made.old ≤ made.new }
+    ensures failed { IfErr result (IsSystemFailure (IsOn Object.Folder)) }
 {
-    let made = match fs::create_dir(rt, folder) {
-        Ok(()) => Ok(true),
+    match fs::create_dir(rt, folder) {
+        Ok(()) => {
+            *made = made.saturating_add(1);
+            Ok(true)
+        }
         Err(e) if e.kind() == ErrorKind::AlreadyExists => Ok(false),
-        Err(e) => Err(e),
-    };
-    named(SystemCall::MakeFolder, Object::Folder, made)
+        Err(e) => Err(Failure::System(SystemCall::MakeFolder, Object::Folder, e)),
+    }
 }

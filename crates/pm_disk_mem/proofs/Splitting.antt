@@ -27,7 +27,7 @@ files_same old new files same are = λ i. λ n. (each n) i
 
 pub reader_state : (host : MemHost) (due : List PageId) (reader : MemReader) → IsReader host due reader → state_of_reader reader ≡ reader_lent due (state_of host)
 reader_state host due reader is =
-    λ i. record { faults = is.counts.count i; access = record { folder = is.folder i; is_lent = false; reads = λ page. not (is_among (is.due_is i) page); writes = λ _. false } }
+    λ i. record { faults = is.counts.count i; access = record { folder = is.folder i; is_lent = false; reads = λ page. not (is_among (is.due_is i) page); writes = λ _. false; made = 0 } }
 
 pub reader_begins : (host : MemHost) (due : List PageId) (reader : MemReader) → IsReader host due reader → BeginsPages (history_of host) (history_of_reader reader)
 reader_begins host due reader is = record {
@@ -36,7 +36,7 @@ reader_begins host due reader is = record {
 }
 
 pub writer_state : (host : MemHost) (due : List PageId) (part : MemPart) → IsPart host due part → state_of_part part ≡ writer_lent due (state_of host)
-writer_state host due part is = λ i. record { faults = is.counts.count i; access = record { folder = is.folder i; is_lent = false; reads = λ _. false; writes = is_among (is.due_is i) } }
+writer_state host due part is = λ i. record { faults = is.counts.count i; access = record { folder = is.folder i; is_lent = false; reads = λ _. false; writes = is_among (is.due_is i); made = 0 } }
 
 pub log_state : (host : MemHost) (part : MemPart) → IsPart host [] part → state_of_part part ≡ log_lent (state_of host)
 log_state host part is = writer_state host [] part is

@@ -4,6 +4,7 @@ use Rattle.std.specs.String.{string_bytes}
 use Rattle.pm_disk.specs.Worlds.{World}
 use Rattle.pm_disk.specs.Moments.{History}
 use Rattle.pm_disk.specs.States.{DeviceState}
+use Rattle.pm_disk_mem.specs.Presences.{made_by}
 use Rattle.pm_disk_mem.specs.Plans.{HasPlan, IsCallCounted, IsCallPlanned, IsStepCounted}
 use Rattle.pm_disk_mem.specs.Steps.{start_world}
 use Rattle.pm_disk_mem.specs.Events.{after_events, history_during}
@@ -42,7 +43,13 @@ folder_of host = option_map string_bytes host.folder
 abbrev pub state_of : MemHost → DeviceState
 state_of host = record {
   faults = faults_of host;
-  access = record { folder = folder_of host; is_lent = host.is_lent; reads = λ _. true; writes = λ _. true };
+  access = record {
+    folder = folder_of host;
+    is_lent = host.is_lent;
+    reads = λ _. true;
+    writes = λ _. true;
+    made = made_by host.presence;
+  };
 }
 
 -- these calls are to fail, and each one from the stop on
@@ -58,8 +65,9 @@ IsCounted old new result = IsCallCounted old.failures new.failures result
 abbrev pub FailsAsPlanned : {T E : Type 0} → MemHost → MemHost → Result T E → Type 0
 FailsAsPlanned old new result = IsCallPlanned old.failures new.failures result
 
--- A step of a call was counted, and left the folder and whether the parts are lent.
+-- A step of a call was counted, and left the folder, whether it is there, and whether the parts are lent.
 pub record KeepsAccess {T E : Type 0} (old new : MemHost) (result : Result T E) : Type 0 where
   pub counted : IsStepCounted old.failures new.failures result
   pub folder : new.folder ≡ old.folder
+  pub presence : new.presence ≡ old.presence
   pub is_lent : new.is_lent ≡ old.is_lent

@@ -33,6 +33,7 @@ state_of_part part = record {
     is_lent = false;
     reads = λ _. false;
     writes = is_among part.due.value.items;
+    made = 0;
   };
 }
 
@@ -59,6 +60,7 @@ state_of_reader reader = record {
     is_lent = false;
     reads = λ page. not (is_among reader.due.value.items page);
     writes = λ _. false;
+    made = 0;
   };
 }
 

@@ -9,6 +9,7 @@ pub mod Lent
 pub mod Parts
 pub mod Picks
 pub mod Plans
+pub mod Presences
 pub mod Sound
 pub mod Steps
 pub mod Tracks

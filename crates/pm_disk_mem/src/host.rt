@@ -1,12 +1,13 @@
 //! Disk and console in memory.
 
-ghost use Rattle.std.specs.Prelude.{◌≡◌, ◌<◌, true, false, replicate, vec_len, vec_capacity, IfOk, None, OnErr};
+ghost use Rattle.std.specs.Prelude.{◌≡◌, ◌<◌, [], true, false, replicate, vec_len, vec_capacity, IfOk, None, Some, OnOk, OnErr};
 ghost use Rattle.pm_disk.specs.Files.{content, gapped, missing};
 ghost use Rattle.pm_disk.specs.Moments.{Does};
 ghost use Rattle.pm_disk.specs.Images.{LeavesAll};
-ghost use Rattle.pm_disk_mem.specs.Disks.{image_of, world_from};
+ghost use Rattle.pm_disk_mem.specs.Disks.{image_of, no_files, world_from};
 ghost use Rattle.pm_disk_mem.specs.Held.{file_of, file_changed};
 ghost use Rattle.pm_disk_mem.specs.Picks.{IsPicked};
+ghost use Rattle.pm_disk_mem.specs.Plans.{IsStepCounted};
 ghost use Rattle.pm_disk_mem.specs.Steps.{CanStep, HoldsWorld, start_world, stepped};
 ghost use Rattle.pm_disk_mem.specs.Events.{after_events};
 
@@ -18,6 +19,7 @@ use crate::event::Event;
 use crate::failures::Failures;
 use crate::files::Files;
 use crate::pick::Pick;
+use crate::presence::Presence;
 use crate::step::{ChangedFile, Step};
 use crate::work::make;
 use pm_disk::{Device, Failed};
@@ -37,6 +39,8 @@ pub struct MemHost {
     pub(crate) failures: Failures,
     // The name of the folder that is bound.
     pub(crate) folder: Option<String>,
+    // Whether the folder is there.
+    pub(crate) presence: Presence,
     // Whether the parts are lent.
     pub(crate) is_lent: bool,
     ghost stands: { HoldsWorld files console
@@ -51,7 +55,7 @@ impl MemHost {
     /// A host over this disk, with a copy of the script as its input and of the bytes of the configuration.
     /// Where these are none, it has the configuration of the disk.
     ///
-    /// No folder is bound yet. Of its calls that can fail, counted from 0, those fail whose number is in
+    /// The folder is there, and not bound yet. Of its calls that can fail, counted from 0, those fail whose number is in
     /// `failing`, and from the number `stop` on all. Each other one fails only when it is out of memory.
     pub fn new(
         alloc: Global,
@@ -67,6 +71,7 @@ impl MemHost {
         ensures plan { IfOk result (λ host. IsPlanned host failing.now stop) }
         ensures unbound { IfOk result (λ host. folder_of host ≡ None) }
         ensures whole { IfOk result (λ host. host.is_lent ≡ false) }
+        ensures found { IfOk result (λ host. host.presence ≡ Presence.Found) }
     {
         let (parts, stored) = disk.into_parts();
         let files = Files::new(alloc, parts)?;
@@ -79,8 +84,29 @@ impl MemHost {
             events: Vec::new(alloc),
             failures: Failures::new(alloc, failing, stop)?,
             folder: None,
+            presence: Presence::Found,
             is_lent: false,
         })
+    }
+
+    /// A host where no folder is there yet, so no file and no configuration. All else is as with `new`.
+    pub fn without_folder(
+        alloc: Global,
+        script: &[u8],
+        failing: &[u64],
+        stop: Option<u64>,
+    ) -> Result<MemHost, AllocError>
+        ensures world { IfOk result (λ host. world_of host ≡ world_from no_files script.now []) }
+        ensures uncalled { IfOk result (λ host. calls_of host ≡ 0) }
+        ensures unfailed { IfOk result (λ host. faults_of host ≡ 0) }
+        ensures plan { IfOk result (λ host. IsPlanned host failing.now stop) }
+        ensures unbound { IfOk result (λ host. folder_of host ≡ None) }
+        ensures whole { IfOk result (λ host. host.is_lent ≡ false) }
+        ensures missing { IfOk result (λ host. host.presence ≡ Presence.Missing) }
+    {
+        let mut host = MemHost::new(alloc, script, &[], MemDisk::empty(alloc), failing, stop)?;
+        host.presence = Presence::Missing;
+        Ok(host)
     }
 
     /// What was said so far.
@@ -138,6 +164,20 @@ impl MemHost {
         self.failures.counted(made)
     }
 
+    /// Keeps the name of the folder that is bound. Out of memory fails the call.
+    pub(crate) fn take_name(&mut self, dir: &str) -> Result<(), Failed>
+        ensures bound { OnOk result (folder_of self.new ≡ Some dir.now) }
+        ensures unchanged { OnErr result (self.new.folder ≡ self.old.folder) }
+        ensures presence { self.new.presence ≡ self.old.presence }
+        ensures is_lent { self.new.is_lent ≡ self.old.is_lent }
+        ensures does { Does (history_of self.old) (history_of self.new) result (world_of self.old) }
+        ensures counted { IsStepCounted self.old.failures self.new.failures result }
+    {
+        let name = self.failures.counted(String::from_str(self.alloc, dir))?;
+        self.folder = Some(name);
+        Ok(())
+    }
+
     // Does the step and keeps it in the record, in which there is room before anything is changed.
     fn record_step(&mut self, step: Step) -> Result<(), AllocError>
         requires { CanStep step self.old.files self.old.console }
@@ -146,6 +186,7 @@ impl MemHost {
         ensures unchanged { OnErr result (world_of self.new ≡ world_of self.old) }
         ensures failures { self.new.failures ≡ self.old.failures }
         ensures folder { self.new.folder ≡ self.old.folder }
+        ensures presence { self.new.presence ≡ self.old.presence }
         ensures is_lent { self.new.is_lent ≡ self.old.is_lent }
     {
         // Room for a round too, should one be going on.

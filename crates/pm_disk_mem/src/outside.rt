@@ -1,10 +1,10 @@
 //! The calls on the console, the configuration and the markers, in memory.
 
 ghost use Rattle.std.specs.Prelude.{◌≡◌, ◌<◌, ◌≤◌, [], ◌∷◌, true, length, map, take, vec_len, refl};
-ghost use Rattle.std.specs.Prelude.{Some, IfOk, OnErr, IsErr, All};
+ghost use Rattle.std.specs.Prelude.{Some, IfOk, OnOk, OnErr, IsErr, All};
 ghost use Rattle.std.specs.Result.{result_unwrap_or};
 ghost use Rattle.pm_disk.specs.Lending.{PartsLent, PartsBegin, Lends, TakesBack, Joins};
-ghost use Rattle.pm_disk.specs.States.{Binds, HasCause};
+ghost use Rattle.pm_disk.specs.States.{Binds, BindsFound, HasCause};
 ghost use Rattle.pm_disk.specs.Files.{Drop, ReadsFrom, ReadsWhole};
 ghost use Rattle.pm_disk.specs.Worlds.{log_changed, marks_in, marks_changed, marks_forced, slot_at};
 ghost use Rattle.pm_disk.specs.Worlds.{slot_change, with_taken};
@@ -15,6 +15,7 @@ use crate::bytes::copy_front;
 use crate::change::FileChange;
 use crate::host::MemHost;
 use crate::part::MemPart;
+use crate::presence::Presence;
 use crate::reader::MemReader;
 use crate::split::join_readers;
 use crate::step::{ChangedFile, Step};
@@ -27,6 +28,7 @@ impl Host for MemHost {
     ghost use Rattle.pm_disk_mem.specs.Hosts.{FailsAsPlanned};
     ghost use Rattle.pm_disk_mem.specs.Lent.{history_of_part, state_of_part, history_of_reader};
     ghost use Rattle.pm_disk_mem.specs.Lent.{state_of_reader};
+    ghost use Rattle.pm_disk_mem.specs.Presences.{once_bound};
 
     type Reader = MemReader;
 
@@ -34,16 +36,34 @@ impl Host for MemHost {
 
     type Log = MemPart;
 
-    /// There is one folder, and it is there under each name: what changes is which name is bound.
+    /// There is one folder, under each name: what changes is which name is bound, and that the folder is
+    /// there. A failed call has made none.
     fn bind(&mut self, dir: &str) -> Result<(), Failed>
         ensures binds { Binds (state_of self.old) (state_of self.new) dir.now result }
+        ensures made { OnOk result (self.new.presence ≡ once_bound self.old.presence) }
+        ensures unmade { OnErr result (self.new.presence ≡ self.old.presence) }
         ensures does { Does (history_of self.old) (history_of self.new) result (world_of self.old) }
         ensures counted { IsCounted self.old self.new result }
     {
         self.failures.begin()?;
-        let name = self.failures.counted(String::from_str(self.alloc, dir))?;
-        self.folder = Some(name);
+        self.take_name(dir)?;
+        self.presence = self.presence.once_bound();
         Ok(())
+    }
+
+    /// The one folder is there or not, under each name.
+    fn bind_found(&mut self, dir: &str) -> Result<(), Failed>
+        ensures binds { BindsFound (state_of self.old) (state_of self.new) dir.now result }
+        ensures missing { self.old.presence ≡ Presence.Missing → IsErr result }
+        ensures unmade { self.new.presence ≡ self.old.presence }
+        ensures does { Does (history_of self.old) (history_of self.new) result (world_of self.old) }
+        ensures counted { IsCounted self.old self.new result }
+    {
+        self.failures.begin()?;
+        if self.presence == Presence::Missing {
+            return Err(self.failures.fail());
+        }
+        self.take_name(dir)
     }
 
     fn read_config(&mut self, into: &mut [u8]) -> Result<usize, Failed>

@@ -116,6 +116,7 @@ impl MemHost {
             (history_of_part log) (history_of_part writer) }
         ensures failures { self.new.failures ≡ self.old.failures }
         ensures folder { self.new.folder ≡ self.old.folder }
+        ensures presence { self.new.presence ≡ self.old.presence }
         ensures is_lent { self.new.is_lent ≡ false }
     {
         let MemPart {

@@ -23,6 +23,8 @@ mod folders;
 #[cfg(test)]
 mod forces;
 #[cfg(test)]
+mod found_folders;
+#[cfg(test)]
 mod left_segments;
 #[cfg(test)]
 mod long_logs;

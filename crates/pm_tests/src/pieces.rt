@@ -106,6 +106,10 @@ impl Host for PieceHost {
         self.host.bind(dir)
     }
 
+    fn bind_found(&mut self, dir: &str) -> Result<(), Failed> {
+        self.host.bind_found(dir)
+    }
+
     fn read_config(&mut self, into: &mut [u8]) -> Result<usize, Failed> {
         self.host.read_config(into)
     }

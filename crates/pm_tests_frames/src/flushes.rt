@@ -31,7 +31,7 @@ impl Device for Sheets {
 
     ghost state = { λ sheets. record {
       faults = sheets.faults;
-      access = record { folder = Some []; is_lent = false; reads = λ _. true; writes = λ _. true };
+      access = record { folder = Some []; is_lent = false; reads = λ _. true; writes = λ _. true; made = 0 };
     } };
 
     ghost sound = { λ _ told. absurd told };

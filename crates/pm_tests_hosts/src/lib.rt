@@ -15,6 +15,8 @@ mod file_failures;
 #[cfg(test)]
 mod file_hosts;
 #[cfg(test)]
+mod found_folders;
+#[cfg(test)]
 mod hosts;
 #[cfg(test)]
 mod lasting;

@@ -2,6 +2,7 @@ pub mod AnsweredBatch
 pub mod AnsweredLines
 pub mod AnsweredReplies
 pub mod AnsweredScripts
+pub mod BoundFolders
 pub mod Chained
 pub mod Configured
 pub mod KeptConfigs

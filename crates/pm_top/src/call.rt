@@ -3,12 +3,12 @@
 ghost use Rattle.std.specs.Prelude.{◌≡◌, ℕ, [], map, false, Some, string_bytes};
 ghost use Rattle.pm_types.specs.declared.shape.Shape.{Shape};
 ghost use Rattle.pm_config.specs.Limits.{IsConfig};
-ghost use Rattle.pm_disk.specs.Moments.{AllMoments};
-ghost use Rattle.pm_disk.specs.States.{IsUsable};
+ghost use Rattle.pm_disk.specs.Moments.{AllMoments, Does};
+ghost use Rattle.pm_disk.specs.States.{Binds, IsUsable};
 ghost use Rattle.pm_disk.specs.Worlds.{World};
 ghost use Rattle.pm_engine.specs.Engines.{map_in};
 ghost use Rattle.pm_engine.specs.FrameOpenings.{IsReadyOver};
-ghost use Rattle.pm_top.specs.Causes.{BindsFolder, HasStatusCause};
+ghost use Rattle.pm_top.specs.Causes.{BindsFolder, HasStatusCause, makes_folder};
 ghost use Rattle.pm_top.specs.Commands.{CommandCompletes, CommandHolds, CommandIsSafe};
 ghost use Rattle.pm_top.specs.RunCauses.{HasRunCause, HasScriptCause};
 ghost use Rattle.pm_top.specs.Configurations.{AsksFor};
@@ -35,7 +35,7 @@ use crate::run::{Run, Stop};
 use crate::status::Status;
 use crate::words::{CommandName, command_of};
 use pm_config::Config;
-use pm_disk::Host;
+use pm_disk::{Failed, Host};
 use pm_engine::Engine;
 use pm_tools::{verify, wal};
 use pm_types::{OpenFault, StoreFault};
@@ -45,8 +45,9 @@ use std::sync::Wait;
 /// Does what the words of a command line ask for.
 ///
 /// The words are those after the program's name: `run`, `wal`, `verify` or `gen`, and a folder, which isn't
-/// empty and doesn't begin with `-`. After `gen` and its folder two numbers stand. The folder is bound, and
-/// made where it isn't there. Where memory runs out while the words are read, nothing is done.
+/// empty and doesn't begin with `-`. After `gen` and its folder two numbers stand. The folder is bound. Where it
+/// isn't there, `run` and `gen` make it, and `wal` and `verify` end with status 3. A folder with nothing in it is
+/// an empty store. Where memory runs out while the words are read, nothing is done.
 ///
 /// `run` reads the folder's configuration: one that is refused, or that asks for another shape than
 /// the store has, is named by its field, and nothing is changed. Then the store is opened: it is restored
@@ -72,8 +73,8 @@ use std::sync::Wait;
 /// from that place on holds a record, and prints how many pages, rows and changes of the map there are. A page
 /// or a record that is bad is named.
 ///
-/// `wal` and `verify` change nothing, and read no configuration. After the statuses 3 and 4 nothing more is
-/// printed.
+/// `wal` and `verify` change nothing: at no moment does a file or a folder change. They read no configuration.
+/// After the statuses 3 and 4 nothing more is printed.
 pub fn top<Q: AllocGlobal + Wait, H: Host>(rt: &Q, words: &[String], host: &mut H) -> Report
     requires whole { (H.state host.old).access.is_lent ≡ false }
     ensures known { result.status ≡ code_of (status_of result.status) }
@@ -90,7 +91,7 @@ pub fn top<Q: AllocGlobal + Wait, H: Host>(rt: &Q, words: &[String], host: &mut 
     ensures config { H.tells → AllMoments (H.history host.old) (H.history host.new) (SameConfig
         (H.history host.old).world) }
 
-    // Which folder is bound.
+    // Which folder is bound, and that `wal` and `verify` made none.
     ensures folder { BindsFolder (map string_bytes words.now) (status_of result.status)
         (H.state host.old) (H.state host.new) }
 
@@ -129,9 +130,27 @@ fn command<Q: Wait, H: Host>(rt: &Q, alloc: Global, words: &[String], host: &mut
     let Some(asked) = found else {
         return Outcome::without(alloc, print_usage_fault(host));
     };
-    match host.bind(asked.folder) {
+    match bind_folder(host, asked.name, asked.folder) {
         Ok(()) => do_command(rt, alloc, host, asked.name),
         Err(_) => Outcome::without(alloc, Status::Failed),
+    }
+}
+
+// Binds the folder that a command is about. Where it isn't there it is made for `run` and `gen` alone: a store that
+// never was isn't to be found whole.
+fn bind_folder<H: Host>(host: &mut H, name: CommandName, folder: &str) -> Result<(), Failed>
+    requires whole { (H.state host.old).access.is_lent ≡ false }
+    ensures binds { Binds (H.state host.old) (H.state host.new) folder.now result }
+    ensures none_made { makes_folder (Some name) ≡ false
+        → (H.state host.new).access.made ≡ (H.state host.old).access.made }
+    ensures does { H.tells →
+        Does (H.history host.old) (H.history host.new) result (H.history host.old).world }
+{
+    match name {
+        CommandName::Run => host.bind(folder),
+        CommandName::Wal => host.bind_found(folder),
+        CommandName::Verify => host.bind_found(folder),
+        CommandName::Gen { .. } => host.bind(folder),
     }
 }
 

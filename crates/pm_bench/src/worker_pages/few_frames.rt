@@ -33,7 +33,7 @@ impl Device for NoPages {
 
     ghost state = { λ _. record {
       faults = 0;
-      access = record { folder = Some []; is_lent = false; reads = λ _. true; writes = λ _. true };
+      access = record { folder = Some []; is_lent = false; reads = λ _. true; writes = λ _. true; made = 0 };
     } };
 
     ghost sound = { λ _ tells. absurd tells };

@@ -51,7 +51,7 @@ impl Device for ListReader {
 
     ghost state = { λ reader. record {
       faults = reader.faults;
-      access = record { folder = Some []; is_lent = false; reads = λ _. true; writes = λ _. true };
+      access = record { folder = Some []; is_lent = false; reads = λ _. true; writes = λ _. true; made = 0 };
     } };
 
     ghost sound = { λ _ tells. absurd tells };

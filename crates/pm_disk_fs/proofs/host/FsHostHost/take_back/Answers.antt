@@ -18,11 +18,11 @@ returns-clause-returns g c =
     let lent = c.args.lent in
     let now : DeviceState = record {
       faults = c.join_readers.new.faults.count;
-      access = record { folder = option_map string_bytes inside.folder.dir; is_lent = false; reads = λ _. true; writes = λ _. true };
+      access = record { folder = option_map string_bytes inside.folder.dir; is_lent = false; reads = λ _. true; writes = λ _. true; made = inside.folder.made };
     } in
     let was : DeviceState = record {
       faults = inside.faults.count;
-      access = record { folder = option_map string_bytes inside.folder.dir; is_lent = inside.is_lent; reads = λ _. true; writes = λ _. true };
+      access = record { folder = option_map string_bytes inside.folder.dir; is_lent = inside.is_lent; reads = λ _. true; writes = λ _. true; made = inside.folder.made };
     } in
     subst (λ (h : HostView). TakesBack (state_of h) now (state_of_part lent.log ∷ state_of_part lent.writer ∷ map (λ reader. state_of_reader reader) lent.readers.items)) c.self.view_is
     (takes_back was now lent.log lent.writer lent.readers.items inside.faults c.join.new.self c.join-2.new.self c.join_readers.new.faults refl refl refl
