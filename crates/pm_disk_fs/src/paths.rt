@@ -99,7 +99,11 @@ fn find_folder<R: Files>(rt: &R, store: Path<'_>) -> Result<(), Failure>
 fn no_folder(call: SystemCall) -> Failure
     ensures { IsSystemFailure (IsOn Object.Folder) result }
 {
-    Failure::System(call, Object::Folder, io::Error::from(ErrorKind::NotADirectory))
+    Failure::System(
+        call,
+        Object::Folder,
+        io::Error::from(ErrorKind::NotADirectory),
+    )
 }
 
 // Makes each folder on the path that isn't there, and syncs the one above it before the next is made. So

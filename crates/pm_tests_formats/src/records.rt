@@ -112,7 +112,11 @@ fn page_of(rt: &(impl Abort + AllocGlobal), page_len: usize) -> Vec<u8> {
 
 // Looks that the payload is of no record of this kind.
 fn is_refused(rt: &impl Abort, kind: u8, payload: &[u8]) {
-    assert_eq!(rt; decode(kind, payload), Err(BadPayload), "kind {kind}: {payload:?}");
+    assert_eq!(rt;
+        decode(kind, payload),
+        Err(BadPayload),
+        "kind {kind}: {payload:?}"
+    );
 }
 
 #[test]

@@ -6,10 +6,10 @@ ghost use Rattle.pm_disk_mem.specs.Hosts.{state_of};
 
 use crate::calls::{Call, Round, answer, bind};
 use crate::consoles::SAID;
+use crate::disks::{Disk, host_over, left_of, no_files, put_file};
 use crate::looks::{holds, same_bytes};
 use crate::noted::note_force;
 use crate::recorded::TRACE;
-use crate::disks::{Disk, host_over, left_of, no_files, put_file};
 use crate::tasks::{Task, over_files};
 use crate::traces::count_forces;
 use pm_disk::{Host, MarkFile};

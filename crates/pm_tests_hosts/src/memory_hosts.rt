@@ -1,9 +1,9 @@
 //! The configuration of a host in memory, and its calls that are planned to fail.
 
+use crate::disks::{host_over, no_files};
 use crate::looks::{same, same_bytes};
 use crate::memory_calls::{DONE, FAILED, MemoryCall, make_calls};
 use crate::memory_images::{MemoryHost, boxed, disk_with, host_on, look_at_file};
-use crate::disks::{host_over, no_files};
 use pm_disk::MarkFile;
 use pm_disk_mem::{MemHost, Pick};
 use std::process::Abort;

@@ -5,9 +5,9 @@ ghost use Rattle.pm_disk.specs.Files.{Write, Cut, with_change, all_forced};
 ghost use Rattle.pm_disk.specs.States.{IsUsable};
 
 use crate::calls::bind;
+use crate::disks::{Disk, SEGMENT, host_over, left_of, no_files};
 use crate::looks::holds;
 use crate::memory_calls::{DONE, MemoryCall, make_calls};
-use crate::disks::{Disk, SEGMENT, host_over, left_of, no_files};
 use pm_disk::{Failed, LogFile, MarkFile};
 use pm_disk_mem::{MemHost, Pick};
 use std::process::Abort;

@@ -6,8 +6,8 @@ ghost use Rattle.pm_disk.specs.States.{IsLaterState, IsUsable, MayWrite};
 ghost use Rattle.pm_disk_mem.specs.Hosts.{state_of};
 
 use crate::calls::bind;
-use crate::looks::holds;
 use crate::disks::{Disk, file_bytes, host_over, left_of, no_files, put_file};
+use crate::looks::holds;
 use pm_disk::{Failed, Host, LogFile, PageWriter};
 use pm_disk_mem::{MemHost, Pick};
 use pm_types::PageId;

@@ -23,12 +23,7 @@ pub enum Task {
     Refuse,
 }
 
-fn do_task<H: Host>(
-    rt: &(impl Abort + AllocGlobal),
-    real: &HostRuntime,
-    host: &mut H,
-    task: Task,
-)
+fn do_task<H: Host>(rt: &(impl Abort + AllocGlobal), real: &HostRuntime, host: &mut H, task: Task)
     requires { (H.state host.old).access.is_lent ≡ false }
 {
     match task {

@@ -5,8 +5,15 @@ use std::process::Abort;
 
 /// Looks that a patch has these ranges and no others.
 pub fn has_ranges(rt: &impl Abort, patch: &Patch, wanted: &[(u16, u16)]) {
-    assert!(rt; !patch.is_whole() && usize::from(patch.len()) == wanted.len(), "{wanted:?}");
+    assert!(rt;
+        !patch.is_whole() && usize::from(patch.len()) == wanted.len(),
+        "{wanted:?}"
+    );
     for i in 0..patch.len() {
-        assert_eq!(rt; Some(&patch.range(i)), wanted.get(usize::from(i)), "range {i}");
+        assert_eq!(rt;
+            Some(&patch.range(i)),
+            wanted.get(usize::from(i)),
+            "range {i}"
+        );
     }
 }

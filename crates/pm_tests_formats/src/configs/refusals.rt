@@ -73,7 +73,10 @@ fn padded(alloc: Global, length: usize) -> Result<String, AllocError> {
 
 #[test]
 fn a_text_has_at_most_65536_bytes(rt: HostRuntime) {
-    for (length, fault) in [(65_536, None), (65_537, Some(ConfigFault::Bad(Field::Text)))] {
+    for (length, fault) in [
+        (65_536, None),
+        (65_537, Some(ConfigFault::Bad(Field::Text))),
+    ] {
         let text = padded(rt.alloc(), length).expect(&rt, "a text");
         look(&rt, text.as_str(), fault);
     }
@@ -94,7 +97,11 @@ fn nested(alloc: Global, depth: usize) -> Result<String, AllocError> {
 
 #[test]
 fn a_text_nests_at_most_127_deep(rt: HostRuntime) {
-    for (depth, field) in [(126, Field::Unknown), (127, Field::Text), (30_000, Field::Text)] {
+    for (depth, field) in [
+        (126, Field::Unknown),
+        (127, Field::Text),
+        (30_000, Field::Text),
+    ] {
         let text = nested(rt.alloc(), depth).expect(&rt, "a text");
         look(&rt, text.as_str(), Some(ConfigFault::Bad(field)));
     }

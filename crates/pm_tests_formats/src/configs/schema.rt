@@ -233,7 +233,13 @@ fn lists_policies(rt: &(impl Abort + AllocGlobal), schema: &Value) -> bool {
 fn the_schema_lists_the_page_sizes_and_the_policies(rt: HostRuntime) {
     let schema = schema(&rt);
     assert!(rt; lists_page_sizes(&schema));
-    look(&rt, &schema, "page_size", "default", PAGE_SIZE_DEFAULT as u64);
+    look(
+        &rt,
+        &schema,
+        "page_size",
+        "default",
+        PAGE_SIZE_DEFAULT as u64,
+    );
     assert!(rt; lists_policies(&rt, &schema));
     let policy = part(&schema, "policy", "default").and_then(Value::as_str);
     let policy = policy.expect(&rt, "a policy");

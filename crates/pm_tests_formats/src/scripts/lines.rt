@@ -111,7 +111,9 @@ fn every_other_line_is_bad(rt: HostRuntime) {
 
 /// What a line may be.
 const GOOD: &str = "good";
+
 const BAD: &str = "bad";
+
 const LONG: &str = "long";
 
 /// Which of them a line is.

@@ -33,7 +33,11 @@ fn names_are_packed_as_the_format_says(rt: HostRuntime) {
     for (part, index, item, id, row, text) in rows {
         let page = PageId::new(part, index);
         let link = Link::new(page, item);
-        assert_eq!(rt; (page, link), (PageId(id), Link(row)), "item {item} of {page}");
+        assert_eq!(rt;
+            (page, link),
+            (PageId(id), Link(row)),
+            "item {item} of {page}"
+        );
         let parts = (page.part(), page.index(), link.page(), link.item());
         assert_eq!(rt; parts, (part, index, page, item), "item {item} of {page}");
         let printed = format!(in rt.alloc(); "{page}").expect(&rt, text);

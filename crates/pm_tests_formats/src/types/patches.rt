@@ -12,7 +12,11 @@ fn look(rt: &impl Abort, patch: &Patch, len: u8, is_whole: bool) {
 fn has_ranges(rt: &impl Abort, patch: &Patch, wanted: &[(u16, u16)]) {
     assert_eq!(rt; usize::from(patch.len()), wanted.len(), "{wanted:?}");
     for i in 0..patch.len() {
-        assert_eq!(rt; Some(&patch.range(i)), wanted.get(usize::from(i)), "range {i}");
+        assert_eq!(rt;
+            Some(&patch.range(i)),
+            wanted.get(usize::from(i)),
+            "range {i}"
+        );
     }
 }
 

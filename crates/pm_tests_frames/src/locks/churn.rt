@@ -235,7 +235,9 @@ fn begin(alloc: Global) -> Result<(Locks, PageSeat, PageSeat, PageSeat, PageSeat
 
 #[test]
 fn four_threads_find_what_they_last_left(rt: HostRuntime) {
-    let (locks, mut first, mut second, mut third, mut flusher) = begin(rt.alloc()).expect(&rt, "locks");
+    let (locks, mut first, mut second, mut third, mut flusher) = begin(rt.alloc()).expect(
+        &rt, "locks",
+    );
     let wrong = four(
         &rt,
         &locks,

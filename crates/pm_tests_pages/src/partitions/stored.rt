@@ -94,12 +94,7 @@ fn lay_all(rt: &impl Abort, page: &mut [u8; 1024], parts: &[(u16, &[u8])]) {
 }
 
 // The pages, with other bytes from an offset of one of them on.
-fn partition(
-    rt: &(impl Abort + AllocGlobal),
-    index: usize,
-    at: u16,
-    bytes: &[u8],
-) -> Vec<Page> {
+fn partition(rt: &(impl Abort + AllocGlobal), index: usize, at: u16, bytes: &[u8]) -> Vec<Page> {
     let mut pages = [[0; 1024]; 4];
     for (i, parts) in PAGES.iter().enumerate() {
         let page = &mut pages[i % 4];

@@ -6,9 +6,7 @@ ghost use Rattle.pm_pages.specs.Paged.{AllReadable};
 ghost use Rattle.pm_pages.specs.Plain.{plain_seen, ArePlain};
 ghost use Rattle.pm_part.specs.Commands.{IsPartCmd};
 
-use crate::parts::commands::{
-    answered, get_of, is_done, pairs_in, put_of, remove_of, shape_of,
-};
+use crate::parts::commands::{answered, get_of, is_done, pairs_in, put_of, remove_of, shape_of};
 use crate::turned::{copied, opened, turned};
 use pm_model::{Cmd, Reply};
 use pm_pages::PlainPages;
@@ -58,12 +56,7 @@ fn small_partition(rt: &(impl Abort + AllocGlobal), shape: Shape, rows: Rows) ->
 }
 
 // Removes the first keys of cache 3.
-fn remove_first(
-    rt: &(impl Abort + AllocGlobal),
-    shape: Shape,
-    pages: &mut PlainPages,
-    count: u32,
-)
+fn remove_first(rt: &(impl Abort + AllocGlobal), shape: Shape, pages: &mut PlainPages, count: u32)
     requires plain { ArePlain pages.old }
     requires readable { AllReadable (plain_seen pages.old) }
     requires shape { IsShape shape }

@@ -153,7 +153,13 @@ fn a_turned_byte_of_a_small_tree_stops_no_removal(rt: HostRuntime) {
     assert!(rt; pages.len() == 5);
     for (index, least, bad) in TURNED {
         for bits in [1, 255] {
-            look(&rt, removals_of_turned(&rt, &pages, index, bits), index, least, bad);
+            look(
+                &rt,
+                removals_of_turned(&rt, &pages, index, bits),
+                index,
+                least,
+                bad,
+            );
         }
     }
 }

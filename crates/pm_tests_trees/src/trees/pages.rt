@@ -114,7 +114,10 @@ pub fn look_at_reuse(rt: &(impl Abort + AllocGlobal), shape: &Shape, pages: &mut
 {
     let root = root_of(rt, pages);
     let all = copied(rt, pages);
-    assert!(rt; root == 0 && has_all_for_reuse(rt, shape, &all), "root {root}");
+    assert!(rt;
+        root == 0 && has_all_for_reuse(rt, shape, &all),
+        "root {root}"
+    );
 }
 
 fn has_all_for_reuse(rt: &(impl Abort + AllocGlobal), shape: &Shape, pages: &[Page]) -> bool

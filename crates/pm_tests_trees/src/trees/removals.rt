@@ -8,9 +8,7 @@ ghost use Rattle.pm_pages.specs.Plain.{plain_seen, ArePlain};
 use crate::trees::calls::root_of;
 use crate::trees::keys::Order;
 use crate::trees::maps::{get_all, put_all, put_both, remove_all, remove_both};
-use crate::trees::pages::{
-    SHAPE, look_at_bytes, look_at_reuse, look_at_tree, partition, shape_of,
-};
+use crate::trees::pages::{SHAPE, look_at_bytes, look_at_reuse, look_at_tree, partition, shape_of};
 use pm_pages::PlainPages;
 use pm_types::{Key, Link, Shape};
 use std::collections::BTreeMap;
