@@ -21,7 +21,7 @@ from numbered import KEYS, Missing, NumberedPuts
 from pagemem import Store
 
 IS_WHOLE = bool(os.environ.get("PAGEMEM_WHOLE"))
-CALLS = 100_000 if IS_WHOLE else 3_000
+CALLS = 100_000 if IS_WHOLE else 2_000
 PUTS = 100_000 if IS_WHOLE else 20_000
 KILLS = 100 if IS_WHOLE else 6
 POWER_CUT = pathlib.Path(__file__).resolve().parents[2] / "tools" / "power-cut"
