@@ -26,7 +26,8 @@ pub fn put_both(
     let key = key_of(rt, order, number);
     let link = link_of_row(number);
     let was = put(rt, pages, key.bytes(), link);
-    let had = map.insert(key, Link(link)).expect(rt, "a key");
+    let had: Result<_, _> = map.insert(key, Link(link));
+    let had = had.expect(rt, "a key");
     assert_eq!(rt; was, Some(had), "put {number}");
 }
 
