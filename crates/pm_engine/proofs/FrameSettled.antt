@@ -1,6 +1,6 @@
 -- A force of the log after a batch over page frames, and a checkpoint where one is due.
 use Rattle.std.proofs.Common.{◌≡◌, ℕ, ◌+◌, ◌-◌, ◌*◌, ◌<◌, ◌≤◌, List, [], ◌++◌, length, Bool, true, false, Some, None}
-use Rattle.std.proofs.Common.{Result, Ok, Err, nat_lt, refl, sym, ◌∙◌, ap, subst, arith}
+use Rattle.std.proofs.Common.{Result, Ok, Err, inl, inr, nat_lt, refl, sym, ◌∙◌, ap, subst, arith}
 use Rattle.std.specs.Prelude.{◌^◌, ◌||◌, if◌then◌else◌, OnOk}
 use Rattle.std.proofs.lemmas.Bool.{le-ltb}
 use Rattle.std.proofs.lemmas.Bool.Decides.{nat_tests}
@@ -24,7 +24,9 @@ use Rattle.pm_ckpt.proofs.GoingOn.{payload_len}
 use Rattle.pm_core.specs.BasePages.{Partitions}
 use Rattle.pm_core.specs.Calls.{ChangesDisk}
 use Rattle.pm_engine.specs.CheckedEngines.{IsAfterCheckpoint}
-use Rattle.pm_engine.specs.FrameBatches.{is_due_in, HasNumbersIn, TakesNumbersIn, EndsAtReplayIn, KeepsEngine, RunsFrameBatch, ChecksBetween, LeavesAllLastingIn, LeavesAllAtRest, LooksAtEngine}
+use Rattle.pm_engine.specs.declared.log_count.LogCount.{LogCount}
+use Rattle.pm_engine.specs.FrameBatches.{is_due_idle, is_due_past, SettlesEngine, HasNumbersIn, TakesNumbersIn, EndsAtReplayIn, KeepsEngine, RunsFrameBatch, ChecksBetween, LeavesAllLastingIn, LeavesAllAtRest, LooksAtEngine}
+use Rattle.pm_engine.specs.LogCounts.{idle_bytes}
 use Rattle.pm_engine.specs.FrameDirty.{ListsDirty, dirty_names, dirty_bytes}
 use Rattle.pm_engine.specs.Engines.{FrameRunning, HasDoneLines, HasLastingLinesIn, AllLastIn, IsSameEngine, closed_engine, map_in}
 use Rattle.pm_engine.specs.FrameStores.{FrameStoreView, pages_in_frames, HasCleanPages, IsDirtyPage}
@@ -32,7 +34,7 @@ use Rattle.pm_engine.specs.Batches.{StaysOpen}
 use Rattle.pm_engine.specs.RunningStores.{number_of}
 use Rattle.pm_engine.specs.RunningLines.{CrashHoldsLines}
 use Rattle.pm_engine.specs.RunningStores.{HasSegmentsFor}
-use Rattle.pm_engine.proofs.FrameBatchCalls.{done_none_more, keeps_done, keeps_ends, keeps_map, keeps_numbers, failed_none, done_none}
+use Rattle.pm_engine.proofs.FrameBatchCalls.{done_none_more, keeps_done, keeps_ends, keeps_map, keeps_numbers, kept_none, failed_none, done_none}
 use Rattle.pm_engine.proofs.FrameBatching.{numbers_more, batch_more}
 use Rattle.pm_engine.proofs.FrameLooks.{looks_keep, looks_names, none_dirty}
 use Rattle.pm_engine.proofs.RisenNumbers.{number_rises, mark_rises}
@@ -81,10 +83,10 @@ module _ (before now : FrameRunning) (next : IsAfterCheckpoint before now) where
         ∙ ap (λ (n : ℕ). place (roomy before.log n).end.seg ((roomy before.log n).end.off + (n + FRAME_EXTRA))) (payload_len mark.number mark.replay);
   }
 
-  next_not_due : dirty_names now.store ≡ [] → (config : Config) → is_due_in now config ≡ false
-  next_not_due none config =
-      let total : now.log.total - now.began ≡ 0 = omega (arith, next.began) in
-      none_due (nat_lt config.checkpoint_bytes (now.log.total - now.began)) (nat_lt (config.dirty_percent * config.frames) (100 * length (dirty_names now.store)))
+  next_not_due : dirty_names now.store ≡ [] → (most : ℕ) (config : Config) → is_due_past most now config ≡ false
+  next_not_due none most config =
+      let total : now.began.found + (now.log.total - now.began.total) ≡ 0 = omega (arith, ap (λ (b : LogCount). b.found) next.began, ap (λ (b : LogCount). b.total) next.began) in
+      none_due (nat_lt most (now.began.found + (now.log.total - now.began.total))) (nat_lt (config.dirty_percent * config.frames) (100 * length (dirty_names now.store)))
       (le-ltb _ _ (omega (arith, total))) (le-ltb _ _ (omega (arith, ap length none)))
     where
       none_due : (a b : Bool) → a ≡ false → b ≡ false → (a || b) ≡ false
@@ -107,7 +109,8 @@ module _ (tells : Type 0) (old new : History) (before now : FrameRunning) (same 
     numbers = λ stays. absurd stays;
     made = tt;
     ends = tt;
-    not_due = λ config. tt;
+    not_due = λ most config. tt;
+    order = order;
     plain = refl;
   })
 
@@ -127,6 +130,7 @@ module _ (tells : Type 0) (old new : History) (before now : FrameRunning) (same 
     made = next_number before now next;
     ends = next_ends before now next;
     not_due = next_not_due before now next (none_dirty now.store lists none);
+    order = order;
     plain = tt;
   }
 
@@ -214,9 +218,9 @@ module _ (tells : Type 0) (old mid : History) (before forced looked : FrameRunni
     ends = ap (λ (l : LogEnd). l.end) kept.log ∙ ends.ends;
   }
 
-  pub looked_due : (config : Config) → is_due_in looked config ≡ is_due_in forced config
-  looked_due config = λ i.
-      nat_lt config.checkpoint_bytes ((keeps.log i).total - keeps.began i)
+  pub looked_due : (most : ℕ) (config : Config) → is_due_past most looked config ≡ is_due_past most forced config
+  looked_due most config = λ i.
+      nat_lt most ((keeps.began i).found + ((keeps.log i).total - (keeps.began i).total))
       || nat_lt (config.dirty_percent * config.frames) (100 * length (looks_names forced.store looked.store looks.frames i))
 
   -- and a checkpoint
@@ -245,3 +249,52 @@ module _ (tells : Type 0) (old mid : History) (before forced looked : FrameRunni
 
     pub then_still : OnOk r (EndsAtReplayIn before → EndsAtReplayIn now)
     then_still = on_ok_weaker r (λ ends was. ends) checks.ends
+
+-- ---- a look whether a checkpoint is due, where nothing was forced
+
+module _ (tells : Type 0) (old : History) (before looked : FrameRunning) (opens : before.store.is_open ≡ true) (sound : tells → IsHistory old)
+    (ends : tells → EndsThere before.log old.world) (clean : tells → HasCleanPages before.store old.world) (looks : LooksAtEngine before looked) where
+  seen : KeepsEngine tells old old before looked
+  seen = looks_keep tells old before looked looks sound clean
+
+  pub seen_opens : looked.store.is_open ≡ true
+  seen_opens = ap (λ (e : FrameRunning). e.store.is_open) looks.engine ∙ ap (λ (s : FrameStoreView). s.is_open) looks.frames.store ∙ opens
+
+  pub seen_ends : tells → EndsThere looked.log old.world
+  seen_ends t = keeps_ends tells old old before looked seen t (ends t)
+
+  pub seen_clean : tells → HasCleanPages looked.store old.world
+  seen_clean t = seen.clean t
+
+  seen_runs : (first : ℕ) (list : ReplyList) → RunsFrameBatch tells old old first [] 1 1 before looked list list (Ok tt)
+  seen_runs first list =
+      kept_none tells old old before looked seen first 1 1 list (Ok tt) (λ stays. seen_opens) (λ shut. absurd (shut tt)) ends (λ t may id bad. absurd (cc bad)) (λ t may_change id bad. absurd (cc bad)) refl
+
+  seen_due : (most : ℕ) (config : Config) → is_due_past most looked config ≡ is_due_past most before config
+  seen_due most config = λ i.
+      nat_lt most ((seen.began i).found + ((seen.log i).total - (seen.began i).total))
+      || nat_lt (config.dirty_percent * config.frames) (100 * length (looks_names before.store looked.store looks.frames i))
+
+  -- none is
+  pub settled_seen : (config : Config) → is_due_idle before config ≡ false → SettlesEngine tells old old config before looked (Ok tt)
+  settled_seen config none = record {
+    runs = seen_runs;
+    numbers = λ stays. keeps_numbers tells old old before looked seen 1 1;
+    not_due = seen_due (idle_bytes config) config ∙ none;
+    counted = inr seen.began;
+    order = seen.order;
+    plain = tt;
+  }
+
+  -- one was made
+  pub settled_then : (new : History) (now : FrameRunning) (r : Result (Unit {0}) StoreFault) → ChecksBetween tells old new looked now r → (config : Config) → SettlesEngine tells old new config before now r
+  settled_then new now r checks config = record {
+    runs = λ first list.
+        batch_more tells old old first [] 1 1 before looked list list (seen_runs first list) new first [] 1 1 now list r (checks.runs first list)
+        (omega arith) 0 0 (keeps_numbers tells old old before looked seen 0 0) 1 1 (omega arith) (omega arith) (omega arith) (omega arith) sound;
+    numbers = λ stays. numbers_more before looked now 0 0 1 1 (keeps_numbers tells old old before looked seen 0 0) (checks.numbers stays) 1 1 (omega arith) (omega arith);
+    not_due = checks.not_due (idle_bytes config) config;
+    counted = on_ok_weaker r inl checks.ends;
+    order = checks.order ∙ seen.order;
+    plain = checks.plain;
+  }

@@ -52,6 +52,7 @@ pub mod LentReaders
 pub mod LineChains
 pub mod LoadedStores
 pub mod LoggedLines
+pub mod LogCounts
 pub mod LogRooms
 pub mod MergedLists
 pub mod MetBasePages
@@ -96,6 +97,7 @@ pub mod ScannedStores
 pub mod ScanSteps
 pub mod SealedFrames
 pub mod SentOutboxes
+pub mod SettledOpenings
 pub mod StillEnds
 pub mod StoreMaps
 pub mod TakenLines

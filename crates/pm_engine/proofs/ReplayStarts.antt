@@ -154,7 +154,7 @@ module _ (last highest : ℕ) (wanted : Shape) (told : List ℕ → ℕ) (shape 
     room = (holding.room records run_here to_end).0;
     last_fits = holding.last_fits;
     marks = (holding.room records run_here to_end).1;
-    highest_fits = holding.highest_fits;
+    highest_fits = omega (arith, holding.highest_fits);
   })
 
 -- a store that was read, and to whose log a RESTART was appended

@@ -1,5 +1,5 @@
 -- What the steps of an opening leave of a store that was restored.
-use Rattle.std.proofs.Common.{◌≡◌, ◌⊎◌, inl, inr, ℕ, zero, suc, ◌+◌, ◌*◌, ◌≤◌, List, [], ◌∷◌, ◌++◌, length, take, drop, Option, Some, None, Result, Ok, Err, refl, sym, ap, ◌∙◌, subst, arith, append-nil}
+use Rattle.std.proofs.Common.{◌≡◌, ◌⊎◌, inl, inr, ℕ, zero, suc, ◌+◌, ◌-◌, ◌*◌, ◌≤◌, ◌<◌, List, [], ◌∷◌, ◌++◌, length, take, drop, Option, Some, None, Result, Ok, Err, refl, sym, ap, ◌∙◌, subst, arith, append-nil}
 use Rattle.std.specs.Prelude.{◌≢◌, IsErr, IsErrOf, IfErr, slice_get}
 use Rattle.std.specs.Option.{option_and_then}
 use Rattle.std.proofs.lemmas.Bool.Decides.{eqb_tells}
@@ -61,9 +61,10 @@ use Rattle.pm_redo.proofs.RestoringSteps.{one_end}
 use Rattle.pm_redo.proofs.SoundStores.{no_bad_record}
 use Rattle.pm_engine.specs.AppendRuns.{append_all_steps}
 use Rattle.pm_engine.specs.FrameOpenings.{HasRecords}
+use Rattle.pm_engine.specs.LogCounts.{log_bytes, segments_len}
 use Rattle.pm_engine.specs.OpenedStores.{IsRestoredStore}
 use Rattle.pm_engine.specs.RunningStores.{number_of}
-use Rattle.pm_engine.specs.Openings.{loaded_base, restored_base, IsBadOver, IsRestoredHolding, HasFewNumbers, opened_last, opened_number, IsPlainOpen, ComparesOpening}
+use Rattle.pm_engine.specs.Openings.{replayed_last, replayed_number, loaded_base, restored_base, IsBadOver, IsRestoredHolding, HasFewNumbers, opened_last, opened_number, IsPlainOpen, ComparesOpening}
 use Rattle.pm_engine.specs.Replays.{CrashHoldsMap, IsBadReplay, IsRefusedReplay, LogLeadsTo}
 use Rattle.pm_engine.specs.RunningStores.{ended_with}
 use Rattle.pm_engine.proofs.LoadedStores.{HasMark}
@@ -364,7 +365,7 @@ module _ (wanted : Shape) (told : List ℕ → ℕ) (shape : Shape) (pairs : Pai
 
     -- the frames from the replay place on are as many as before the restart
     frames_room : RestoresAll wanted told checkpoint shape pairs s old new → (fs : List Frame) → HasFrames all_frames (contents new.world.log) (replay_at base.mark) fs → after_frames (replay_at base.mark) fs ≡ base.log.end
-        → (base.log.end.seg + (1 + 33 * length fs) ≤ opened_last can) × (number_of base.mark + length fs ≤ opened_number can)
+        → (base.log.end.seg + (1 + 33 * length fs) ≤ replayed_last can) × (number_of base.mark + length fs ≤ replayed_number can)
     frames_room all fs run to =
         let start : replay_at base.mark ≡ replay_of checkpoint = sym fit.replay ∙ is.replay in
         let leads : after_frames (replay_of checkpoint) fs ≡ s.at = ap (λ (p : Place). after_frames p fs) (sym start) ∙ to ∙ at_end in
@@ -375,7 +376,7 @@ module _ (wanted : Shape) (told : List ℕ → ℕ) (shape : Shape) (pairs : Pai
         let same : fs ≡ can.sound.holds.frames = one_run (contents old.world.log) (replay_of checkpoint) fs can.sound.holds.frames before can.sound.holds.log.run leads in
         (omega (arith, ap (λ (p : Place). p.seg) at_end, ap (λ (l : List Frame). length l) same), omega (arith, number_is, ap (λ (l : List Frame). length l) same))
 
-    pub holding : RestoresAll wanted told checkpoint shape pairs s old new → (t : State) × IsRestoredHolding (opened_last can) (opened_number can) wanted told wanted pairs base.log base.mark t new.world
+    pub holding : RestoresAll wanted told checkpoint shape pairs s old new → (t : State) × IsRestoredHolding (replayed_last can) (replayed_number can) wanted told wanted pairs base.log base.mark t new.world
     holding all =
         let t = states all.made.steps s old.world in
         let restored = all.made.restored in
@@ -392,12 +393,31 @@ module _ (wanted : Shape) (told : List ℕ → ℕ) (shape : Shape) (pairs : Pai
                 after_whole wanted pairs [] p (sym (same_Some pairs p whole));
             below = omega (arith, ap (λ (p : Place). p.seg) at_end);
             room = λ fs run to. frames_room all fs run to;
-            last_fits = low.in_log;
+            last_fits = omega (arith, low.in_log);
             number = omega (arith, number_is);
-            highest_fits = low.in_marks;
+            highest_fits = omega (arith, low.in_marks);
           },
         )
 
 -- the field that a fault names
 pub field_named : {T : Type 0} (differs : Option Field) (result : Result T OpenFault) (field : Field) → IsErrOf result (opening.Shape field) → IfErr result (ComparesShape differs) → differs ≡ Some field
 field_named {T} differs result field is compared = subst (λ (r : Result T OpenFault). IfErr r (ComparesShape differs)) is compared
+
+-- the bytes that stand up to where the log ends are those of before it was cut
+segments_same : (a b : ℕ → List ℕ) (first n : ℕ) → ((seg : ℕ) → first ≤ seg → seg < first + n → a seg ≡ b seg) → segments_len a first n ≡ segments_len b first n
+segments_same a b first zero same = refl
+segments_same a b first (suc n) same = λ i. segments_same a b first n (λ seg le lt. same seg le (omega (arith, lt))) i + length (same (first + n) (omega arith) (omega arith) i)
+
+pub bytes_uncut : (shape : Shape) (checkpoint : Checkpoint) (old mid : World) (base : Base) (end : Place) → IsBase checkpoint shape (contents old.log) mid base → OnlyCutsLog checkpoint old mid → LogEndsAt (contents old.log) (replay_of checkpoint) end
+    → log_bytes (contents mid.log) base.replay base.log_end ≡ log_bytes (contents old.log) (replay_of checkpoint) end
+bytes_uncut shape checkpoint old mid base end is only ends =
+    let there = subst (λ (p : Place). LogEndsAt (contents old.log) p base.log_end) is.replay is.ends in
+    let same : end ≡ base.log_end = one_end (contents old.log) (replay_of checkpoint) end base.log_end ends there in
+    let log_is : mid.log ≡ (world_after cut_steps base.log_end old).log = only base.log_end there in
+    (λ i. log_bytes (contents (log_is i)) (is.replay i) base.log_end)
+    ∙ cut_bytes (replay_of checkpoint) base.log_end
+    ∙ ap (log_bytes (contents old.log) (replay_of checkpoint)) (sym same)
+  where
+    cut_bytes : (from to : Place) → log_bytes (contents (world_after cut_steps to old).log) from to ≡ log_bytes (contents old.log) from to
+    cut_bytes from to = ap (λ (n : ℕ). n + to.off - from.off)
+        (segments_same (contents (world_after cut_steps to old).log) (contents old.log) from.seg (to.seg - from.seg) (λ seg le lt. cut_there to old seg (λ is. absurd (omega (arith, le, lt, is)))))

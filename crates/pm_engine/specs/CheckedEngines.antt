@@ -7,10 +7,10 @@ use Rattle.pm_engine.specs.FrameCheckpoints.{IsCheckpointed}
 use Rattle.pm_engine.specs.Engines.{FrameRunning, IsSameEngine}
 use Rattle.pm_engine.specs.FrameOpenings.{IsReadyOver}
 
--- Its log, its mark and the bytes that its log had appended are those after the next checkpoint.
+-- Its log and its mark are those after the next checkpoint, and no byte of its log is counted.
 pub record IsAfterCheckpoint (before now : FrameRunning) : Type 0 where
   pub next : IsNext (mark_for before.ckpt before.log None) before.ckpt now.ckpt before.log now.log
-  pub began : now.began ≡ now.log.total
+  pub began : now.began ≡ record { found = 0; total = now.log.total }
 
 -- It is the same engine with the same order. Once the checkpoint was made it is the engine after it, and where the call
 -- failed it is open no more.

@@ -1,5 +1,5 @@
 -- What contracts see of an engine over page frames, and how its lines stand over the disk.
-use Rattle.std.specs.Prelude.{◌≡◌, ◌≤◌, ◌<◌, ◌+◌, ◌*◌, ◌^◌, ◌↔◌, ◌++◌, ℕ, List, [], length, All, Bool, true, false}
+use Rattle.std.specs.Prelude.{◌≡◌, ◌≤◌, ◌<◌, ◌+◌, ◌-◌, ◌*◌, ◌^◌, ◌↔◌, ◌++◌, ℕ, List, [], length, All, Bool, true, false}
 use Rattle.std.specs.Prelude.{Some, None}
 use Rattle.pm_types.specs.declared.fault.PageFault.TheVariants.{BadPage}
 use Rattle.pm_types.specs.declared.limits.TheConstants.{OP_PAGES, SEGMENT_BYTES_MAX}
@@ -20,6 +20,7 @@ use Rattle.pm_core.specs.States.{State}
 use Rattle.pm_ckpt.specs.Marked.{Kept}
 use Rattle.pm_engine.specs.declared.frame_lines.Stop.TheVariants.{Faulted}
 use Rattle.pm_engine.specs.declared.frame_rounds.RoundEnd.{RoundEnd}
+use Rattle.pm_engine.specs.declared.log_count.LogCount.{LogCount}
 use Rattle.pm_engine.specs.FrameHosts.{may_go_on, ChangesNoWorld}
 use Rattle.pm_engine.specs.FrameRounds.{EvaluatesLines, lines_from}
 use Rattle.pm_engine.specs.FrameStores.{FrameStoreView, pages_in_frames, IsDirtyPage, HasCleanPages, shut}
@@ -29,14 +30,14 @@ use Rattle.pm_engine.specs.RunningLines.{HasRun, CrashHoldsLines}
 use Rattle.pm_engine.specs.RunningStores.{StoreState, IsMarkIn, HasSegmentsFor}
 
 -- An engine over page frames: its pages, where its log ends, what is kept for checkpoints, and the numbers of the
--- lines whose records were handed to the log, whether they could be appended or not. `began` is how many bytes of
--- frames its log had appended when the last CP_BEGIN was, or when it was opened. It is open until a fault ends a round
--- or a call on the disk fails.
+-- lines whose records were handed to the log, whether they could be appended or not. `began` says from where the bytes
+-- of its log are counted: what was found of them when it was opened, and how many its log had appended then; or none,
+-- and how many it had at the last CP_BEGIN. It is open until a fault ends a round or a call on the disk fails.
 pub record FrameRunning : Type 0 where
   pub store : FrameStoreView
   pub log : LogEnd
   pub ckpt : Kept
-  pub began : ℕ
+  pub began : LogCount
   pub order : List ℕ
 
 -- Between two calls: it is of one shape. As long as it is open, its log is in a segment that a place may name, a
@@ -58,6 +59,10 @@ running_in engine world logged = record {
   log = engine.log;
   mark = engine.ckpt.mark;
 }
+
+-- how many bytes of log are counted since the last CP_BEGIN, or since what was found when the store was opened
+abbrev pub counted_in : FrameRunning → ℕ
+counted_in engine = engine.began.found + (engine.log.total - engine.began.total)
 
 -- the map of its pages
 abbrev pub map_in : FrameRunning → World → Pairs

@@ -28,22 +28,30 @@ use Rattle.pm_engine.specs.declared.frame_rounds.RoundEnd.{RoundEnd}
 use Rattle.pm_engine.specs.declared.frame_scans.ScanStop.{ScanStop}
 use Rattle.pm_engine.specs.declared.frame_scans.ScanStop.TheVariants as scan
 use Rattle.pm_engine.specs.FrameDirty.{dirty_names}
-use Rattle.pm_engine.specs.Engines.{FrameRunning, HasDoneLines, HasLastingLinesIn, AllLastIn, IsSameEngine, map_in}
+use Rattle.pm_engine.specs.Engines.{FrameRunning, HasDoneLines, HasLastingLinesIn, AllLastIn, IsSameEngine, counted_in, map_in}
 use Rattle.pm_engine.specs.FrameHosts.{ChangesNoWorld, may_go_on}
 use Rattle.pm_engine.specs.FrameRounds.{EvaluatesLines}
 use Rattle.pm_engine.specs.FrameStores.{FrameStoreView, pages_in_frames, IsDirtyPage, HasCleanPages}
+use Rattle.pm_engine.specs.LogCounts.{idle_bytes}
 use Rattle.pm_engine.specs.MetPages.{AllowsLine, KeepsOrMeets}
 use Rattle.pm_engine.specs.Batches.{StaysOpen, checkpoints_in, asked_last}
 use Rattle.pm_engine.specs.RunningStores.{number_of}
 use Rattle.pm_engine.specs.RunningLines.{CrashHoldsLines}
 use Rattle.pm_engine.specs.RunningStores.{HasSegmentsFor}
 
--- more bytes of log were appended since the last CP_BEGIN than may be, or more than this percentage of the frames are
--- Dirty
-abbrev pub is_due_in : FrameRunning → Config → Bool
-is_due_in engine config =
-    nat_lt config.checkpoint_bytes (engine.log.total - engine.began)
+-- more than so many bytes of log are counted, or more than this percentage of the frames are Dirty
+abbrev pub is_due_past : ℕ → FrameRunning → Config → Bool
+is_due_past most engine config =
+    nat_lt most (counted_in engine)
     || nat_lt (config.dirty_percent * config.frames) (100 * length (dirty_names engine.store))
+
+-- the same of as many bytes as may stand between two checkpoints
+abbrev pub is_due_in : FrameRunning → Config → Bool
+is_due_in engine config = is_due_past config.checkpoint_bytes engine config
+
+-- the same of as many as a run that ends, or an opening, may leave
+abbrev pub is_due_idle : FrameRunning → Config → Bool
+is_due_idle engine config = is_due_past (idle_bytes config) engine config
 
 -- All that a seat knows of its frames is as it was, but for which words it met.
 pub record LooksOnce (old new : Sight) : Type 0 where
@@ -188,7 +196,19 @@ pub record ChecksBetween (tells : Type 0) (old new : History) (before now : Fram
   pub made : OnOk result (number_of before.ckpt.mark + 1 < 2 ^ 64
       → number_of before.ckpt.mark + 1 ≤ number_of now.ckpt.mark)
   pub ends : OnOk result (EndsAtReplayIn now)
-  pub not_due : (config : Config) → OnOk result (is_due_in now config ≡ false)
+  pub not_due : (most : ℕ) (config : Config) → OnOk result (is_due_past most now config ≡ false)
+  pub order : now.order ≡ before.order
+  pub plain : IfErr result (λ fault. fault ≡ Failed)
+
+-- An engine was looked at, and a checkpoint made where more bytes of log were counted than an opening may leave. No
+-- checkpoint was made only where the count is as it was.
+pub record SettlesEngine (tells : Type 0) (old new : History) (config : Config) (before now : FrameRunning)
+    (result : Result (Unit {0}) StoreFault) : Type 0 where
+  pub runs : (first : ℕ) (list : ReplyList) → RunsFrameBatch tells old new first [] 1 1 before now list list result
+  pub numbers : StaysOpen result → TakesNumbersIn before now 1 1
+  pub not_due : OnOk result (is_due_idle now config ≡ false)
+  pub counted : OnOk result (EndsAtReplayIn now ⊎ (now.began ≡ before.began))
+  pub order : now.order ≡ before.order
   pub plain : IfErr result (λ fault. fault ≡ Failed)
 
 -- what is said of a part of a batch, without how many of its lines were run

@@ -26,8 +26,10 @@ use Rattle.pm_core.specs.Held.{AllWellFormed}
 use Rattle.pm_redo.specs.LogEnds.{LogEndsAt}
 use Rattle.pm_redo.specs.Pictures.{files_in}
 use Rattle.pm_redo.specs.Restoring.{IsBadRestore, KeepsBase}
-use Rattle.pm_engine.specs.Engines.{FrameRunning, HasDoneLines, map_in}
+use Rattle.pm_engine.specs.Engines.{FrameRunning, HasDoneLines, counted_in, map_in}
+use Rattle.pm_engine.specs.FrameBatches.{EndsAtReplayIn}
 use Rattle.pm_engine.specs.FrameStores.{FrameStoreView, pages_in_frames, IsDirtyPage, HasCleanPages}
+use Rattle.pm_engine.specs.LogCounts.{CountsAtLeast, log_bytes}
 use Rattle.pm_engine.specs.MetPages.{AllowsRecord, MeetsBadPage}
 use Rattle.pm_engine.specs.Replays.{IsRefusedReplay, LogLeadsTo}
 use Rattle.pm_engine.specs.RunningStores.{number_of}
@@ -84,6 +86,11 @@ pub record OpensRunningIn (last highest : ℕ) (wanted : Shape) (told : List ℕ
   pub runs : HasDoneLines wanted told 0 pairs [] engine world
   pub segment : engine.log.end.seg ≤ last
   pub number : number_of engine.ckpt.mark ≤ highest
+
+-- Of the log that stood between these places all bytes are counted, or the log ends at the replay place of a checkpoint
+-- that was made since.
+abbrev pub CountsLog : (ℕ → List ℕ) → Place → Place → FrameRunning → Type 0
+CountsLog log from end engine = EndsAtReplayIn engine ⊎ CountsAtLeast (counted_in engine) (log_bytes log from end)
 
 -- Without a start marker no partition's file has its first page. The base pages are none then, but the first checkpoint
 -- lets the files' pages be read.

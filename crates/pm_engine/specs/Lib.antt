@@ -21,6 +21,7 @@ pub mod FrameScans
 pub mod FrameStores
 pub mod HandedPages
 pub mod LineChains
+pub mod LogCounts
 pub mod Merges
 pub mod MetPages
 pub mod OpenedStores

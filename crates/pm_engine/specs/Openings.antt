@@ -50,7 +50,7 @@ IsBadOver shape base log from end world at =
 
 -- A store was restored, holds this map, and to its log nothing was appended since that changes a map. There are
 -- numbers for the segments that the records from its replay place on may take, with a checkpoint before each,
--- up to the last one, and for these checkpoints, up to the highest.
+-- up to the last one, and for these checkpoints, up to the highest; and for one checkpoint more.
 pub record IsRestoredHolding (last highest : ℕ) (wanted : Shape) (told : List ℕ → ℕ) (shape : Shape)
     (pairs : Pairs) (log : LogEnd) (mark : Option Mark) (s : State) (world : World) : Type 0 where
   pub store : IsRestoredStore wanted told shape log mark s world
@@ -62,20 +62,29 @@ pub record IsRestoredHolding (last highest : ℕ) (wanted : Shape) (told : List 
       → (log.end.seg + (1 + (OP_PAGES + 1) * length frames) ≤ last) × (number_of mark + length frames ≤ highest)
   pub last_fits : last + 2 < 2 ^ 64
   pub number : number_of mark ≤ highest
-  pub highest_fits : highest < 2 ^ 64
+  pub highest_fits : highest + 1 < 2 ^ 64
 
--- the segment in which the log of an opened store ends at most: one after the start's last segment, and for
--- each record from the replay place on one for each page that it may change, and one for a checkpoint before it
-abbrev pub opened_last : {wanted : Shape} {told : List ℕ → ℕ} {world : World} {shape : Shape} {pairs : Pairs}
+-- the segment in which the log ends at most once its records were applied again: one after the start's last segment,
+-- and for each record from the replay place on one for each page that it may change, and one for a checkpoint before it
+abbrev pub replayed_last : {wanted : Shape} {told : List ℕ → ℕ} {world : World} {shape : Shape} {pairs : Pairs}
     → CanBegin wanted told world shape pairs → ℕ
-opened_last {wanted} {told} {world} {shape} {pairs} can =
+replayed_last {wanted} {told} {world} {shape} {pairs} can =
     (left_state can).at.seg + (1 + (OP_PAGES + 1) * length can.sound.holds.frames)
 
--- the number of its checkpoint at most: there may be one more for each record from the replay place on
+-- the number of its checkpoint at most then: there may be one more for each record from the replay place on
+abbrev pub replayed_number : {wanted : Shape} {told : List ℕ → ℕ} {world : World} {shape : Shape} {pairs : Pairs}
+    → CanBegin wanted told world shape pairs → ℕ
+replayed_number {wanted} {told} {world} {shape} {pairs} can =
+    number_in (in_force (image_of world)) + length can.sound.holds.frames
+
+-- the same of an opened store, for which one more checkpoint may be made
+abbrev pub opened_last : {wanted : Shape} {told : List ℕ → ℕ} {world : World} {shape : Shape} {pairs : Pairs}
+    → CanBegin wanted told world shape pairs → ℕ
+opened_last {wanted} {told} {world} {shape} {pairs} can = replayed_last can + 1
+
 abbrev pub opened_number : {wanted : Shape} {told : List ℕ → ℕ} {world : World} {shape : Shape} {pairs : Pairs}
     → CanBegin wanted told world shape pairs → ℕ
-opened_number {wanted} {told} {world} {shape} {pairs} can =
-    number_in (in_force (image_of world)) + length can.sound.holds.frames
+opened_number {wanted} {told} {world} {shape} {pairs} can = replayed_number can + 1
 
 -- there are numbers for these segments, and two more, and for these checkpoints
 pub record HasFewNumbers {wanted : Shape} {told : List ℕ → ℕ} {world : World} {shape : Shape} {pairs : Pairs}

@@ -5,6 +5,7 @@ ghost use Rattle.pm_types.specs.declared.limits.TheConstants.{SEGMENT_BYTES_MAX}
 ghost use Rattle.pm_engine.specs.RunningStores.{IsMarkIn};
 
 use crate::frame_store::FrameStore;
+use crate::log_count::LogCount;
 use pm_ckpt::Ckpt;
 use pm_segments::Log;
 use std::marker::Model;
@@ -21,8 +22,8 @@ pub struct Engine {
     // heap.
     pub(crate) log: Box<Log>,
     pub(crate) ckpt: Ckpt,
-    // The bytes that the log had appended when the last CP_BEGIN was, or when the store was opened.
-    pub(crate) began: u64,
+    // From where the bytes of log are counted that a restart would apply.
+    pub(crate) began: LogCount,
     // The numbers of the accepted lines whose records were handed to the log, in the order in which they were. A line's
     // is there also where its records couldn't be appended whole.
     pub(crate) order: Vec<u32>,
@@ -67,18 +68,27 @@ impl Engine {
           store = pages;
           log = log.value;
           ckpt = ckpt;
-          began = log.value.total;
+          began = record { found = 0; total = log.value.total };
           order = order.items;
         } }
     {
-        let began = log.appended();
+        let total = log.appended();
         Engine {
             pages,
             log,
             ckpt,
-            began,
+            began: LogCount { found: 0, total },
             order,
         }
+    }
+
+    /// The same engine, which counts from now on all bytes that its log appended, and these that were found before.
+    pub(crate) fn counting_from(self, found: u64) -> Engine
+        ensures { result ≡ record self { began = record { found = found; total = 0 } } }
+    {
+        let mut engine = self;
+        engine.began = LogCount { found, total: 0 };
+        engine
     }
 
     /// Gives the memory of the page frames back, and the numbers of the accepted lines whose records were handed to

@@ -71,7 +71,7 @@ impl Engine {
         match ran {
             Err(fault) => (engine, Err(fault)),
             Ok(()) => {
-                let ended = engine.end_batch(host, config);
+                let ended = engine.end_batch(host, config, config.checkpoint_bytes);
                 (engine, ended)
             }
         }

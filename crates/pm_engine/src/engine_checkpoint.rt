@@ -18,6 +18,7 @@ ghost use Rattle.pm_engine.specs.RunningLines.{CrashHoldsLines};
 ghost use Rattle.pm_engine.specs.RunningStores.{HasSegmentsFor};
 
 use crate::engine::Engine;
+use crate::log_count::LogCount;
 use pm_disk::Host;
 use pm_segments::Log;
 use pm_types::{Place, StoreFault};
@@ -66,7 +67,8 @@ impl Engine {
         let _begin = begin_place(&*self.log);
         self.pages
             .checkpoint(host, &mut *self.log, &mut self.ckpt, None)?;
-        self.began = self.log.appended();
+        let total = self.log.appended();
+        self.began = LogCount { found: 0, total };
         Ok(())
     }
 }

@@ -21,7 +21,7 @@ impl Engine {
     ///
     /// `Failed` comes only where a call on the disk failed. The engine is open no more then, and what was appended since
     /// the last force may last or not.
-    pub fn force<H: Host>(&mut self, host: &mut H) -> Result<(), Failed>
+    pub(crate) fn force<H: Host>(&mut self, host: &mut H) -> Result<(), Failed>
         requires usable { IsUsable (H.Device.state host.old) }
         requires open { self.old.store.is_open ≡ true }
         requires end { H.Device.tells → EndsThere self.old.log (H.Device.history host.old).world }

@@ -13,6 +13,7 @@ ghost use Rattle.pm_engine.specs.FrameStores.{HasCleanPages};
 ghost use Rattle.pm_engine.specs.Openings.{CountsFaults};
 
 use crate::engine::Engine;
+use crate::log_count::LogCount;
 use crate::engine_checkpoint::begin_place;
 use crate::engine_replay::Applied;
 use pm_disk::Host;
@@ -49,7 +50,8 @@ impl Engine {
         {
             Err(_) => Err(StoreFault::Failed),
             Ok(()) => {
-                self.began = self.log.appended();
+                let total = self.log.appended();
+                self.began = LogCount { found: 0, total };
                 Ok(())
             }
         }

@@ -30,6 +30,7 @@ mod framed_stores;
 mod handed_pages;
 mod laws;
 mod line_chains;
+mod log_count;
 mod merging;
 mod outbox_log;
 mod replay_log;

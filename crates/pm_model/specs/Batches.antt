@@ -31,7 +31,7 @@ pub record IsBatch (lines : List Line) (first : ℕ) (replies : ReplyList) : Typ
 
 -- the fault that is left by an answer: out of memory leaves none
 abbrev pub fault_left : StoreFault → Option StoreFault
-fault_left Memory = None
+fault_left (Memory lack) = None
 fault_left Failed = Some Failed
 fault_left (BadPage page) = Some (BadPage page)
 fault_left (BadRecord place) = Some (BadRecord place)

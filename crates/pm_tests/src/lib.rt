@@ -45,6 +45,8 @@ mod scripts;
 #[cfg(test)]
 mod shapes;
 #[cfg(test)]
+mod short_logs;
+#[cfg(test)]
 mod stores;
 #[cfg(test)]
 mod tools;

@@ -180,7 +180,7 @@ module _ {tells : Type 0} {old mid : History} {script : List Line} {before now :
     ended_crash : CrashKeeps wanted last number before.store.shape (after_all before.store.shape script (map_in before old.world)) [] mid.world
     ended_crash =
         subst (λ (x : Shape × Pairs). CrashKeeps wanted last number x.0 x.1 [] mid.world) (λ i. (ends.ran.same.shape i, drawn_map ends.ran t wanted last number can i))
-        (rest_crash wanted last number 2048 now mid.world (ends.within last number can.within) ended_rest)
+        (rest_crash wanted last number 2047 now mid.world (ends.within last number can.within) ended_rest)
 
     -- while the summary is said
     pub ended_moments : (start : World) → SameConsole start old.world → (new : History) (text : List ℕ) → TriesDrawn tells old mid script before now → AllMoments mid new (SaysPart text mid.world)

@@ -128,15 +128,15 @@ refused_gen script old new order c bytes all shape pairs start =
     (keeps_said wanted last number shape pairs [] (take part.0 (fault_line c bytes)) old.world (rest_keeps wanted old.world shape pairs start)))) all
 
 -- while the store is opened
-pub opening_gen : (script : List Line) (wanted : Shape) (old mid : History) (shape : Shape) (pairs : Pairs) (start : IsStart wanted old.world shape pairs) (order : List ℕ) → AllMoments old mid (CrashHoldsMap (opened_to start.sound + 1) (opened_number start.sound) wanted shape pairs)
+pub opening_gen : (script : List Line) (wanted : Shape) (old mid : History) (shape : Shape) (pairs : Pairs) (start : IsStart wanted old.world shape pairs) (order : List ℕ) → AllMoments old mid (CrashHoldsMap (opened_to start.sound + 1 + 1) (opened_number start.sound + 1) wanted shape pairs)
     → AllMoments old mid (ChangesDisk old.world) → AllMoments old mid (CrashHoldsDrawn wanted (last_after start) (number_after start) script old.world shape pairs order)
 opening_gen script wanted old mid shape pairs start order keeps only =
     let last : ℕ = last_after start in
     let number : ℕ = number_after start in
-    let Q : World → Type 0 = CrashHoldsMap (opened_to start.sound + 1) (opened_number start.sound) wanted shape pairs in
+    let Q : World → Type 0 = CrashHoldsMap (opened_to start.sound + 1 + 1) (opened_number start.sound + 1) wanted shape pairs in
     weaker old mid (λ w. Q w × ChangesDisk old.world w) (CrashHoldsDrawn wanted last number script old.world shape pairs order)
     (λ w is. idle_drawn wanted last number script old.world shape pairs w order (says_none old.world w is.1.said)
-    (map_keeps (opened_to start.sound + 1) (opened_number start.sound) last number wanted shape pairs w (omega arith) (omega arith) is.0)) (both old mid Q (ChangesDisk old.world) keeps only)
+    (map_keeps (opened_to start.sound + 1 + 1) (opened_number start.sound + 1) last number wanted shape pairs w (omega arith) (omega arith) is.0)) (both old mid Q (ChangesDisk old.world) keeps only)
 
 -- the calls that come after ones that left the world as it was
 pub gen_then : (script : List Line) (old mid new : History) (order : List ℕ) → GenIsSafe script old mid order → mid.world ≡ old.world → GenIsSafe script mid new order → GenIsSafe script old new order

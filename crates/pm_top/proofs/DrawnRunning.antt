@@ -1,5 +1,5 @@
 -- How a run over drawn lines goes on batch after batch, and how it ends.
-use Rattle.std.proofs.Common.{◌≡◌, ℕ, ◌+◌, ◌*◌, ◌≤◌, List, [], ◌++◌, length, take, Result, refl, ap, sym, ◌∙◌, subst, arith, length-append}
+use Rattle.std.proofs.Common.{◌≡◌, ℕ, zero, suc, append-nil, ◌+◌, ◌*◌, ◌≤◌, List, [], ◌++◌, length, take, Result, refl, ap, sym, ◌∙◌, subst, arith, length-append}
 use Rattle.std.specs.Prelude.{IsErrOf}
 use Rattle.std.proofs.lemmas.List.{take_at, take_all, take-append-le}
 use Rattle.std.proofs.Math.Seq.{take-append-add}
@@ -17,8 +17,8 @@ use Rattle.pm_model.specs.Eval.{Pairs, replies_to, after_all, accepted}
 use Rattle.pm_model.specs.ReplyLists.{ReplyList}
 use Rattle.pm_model.proofs.Runs.{replies_to-append, accepted-append, length-replies_to}
 use Rattle.pm_core.specs.Calls.{ChangesDisk}
-use Rattle.pm_engine.specs.FrameBatches.{MayGoOn, RunsFrameBatch}
-use Rattle.pm_engine.specs.Engines.{FrameRunning, HasDoneLines, HasLastingLinesIn, map_in}
+use Rattle.pm_engine.specs.FrameBatches.{HasNumbersIn, MayGoOn, RunsFrameBatch, TakesNumbersIn}
+use Rattle.pm_engine.specs.Engines.{FrameRunning, HasDoneLines, map_in}
 use Rattle.pm_engine.specs.Batches.{StaysOpen}
 use Rattle.pm_engine.specs.RunningStores.{number_of}
 use Rattle.pm_engine.specs.RunningLines.{CrashHoldsLines, says_nothing}
@@ -56,6 +56,18 @@ drawn_begins tells old engine sound none = record {
   order = λ t wanted last number can. none;
   runs = λ t wanted last number can. can.stands.has;
 }
+
+-- no reply
+abbrev pub no_reply : ReplyList
+no_reply = record { replies = []; spare = 0 }
+
+-- lines after which none were tried
+no_line_more : (ls : List Line) (n : ℕ) → ls ++ take n [] ≡ ls
+no_line_more ls n = ap (λ (more : List Line). ls ++ more) (take_none n) ∙ append-nil ls
+  where
+    take_none : (n : ℕ) → take {A = Line} n [] ≡ []
+    take_none zero = refl
+    take_none (suc n) = refl
 
 -- there are numbers for the next lines
 pub room_drawn : (last number many next : ℕ) (before now : FrameRunning) → many + next ≤ LINES_MAX + 2048 → StaysWithin last number (LINES_MAX + 2048) before → TakesFor many before now → StaysWithin last number next now
@@ -183,28 +195,41 @@ module _ {tells : Type 0} {old mid : History} {first engine : FrameRunning} {lin
         ∙ ap (with_all counted) (take_all (length more) told (omega (arith, length-replies_to engine.store.shape more (map_in engine mid.world))))
         ∙ counts_more t wanted last number can more
 
-  -- ---- the force at the end
+  -- ---- the force at the end, and a checkpoint where one is made
 
-  module _ {new : History} (sound : tells → IsHistory mid) (few : length lines ≤ LINES_MAX) (takes : TakesFor (length lines) first engine)
-      (disk : tells → AllMoments mid new (ChangesDisk mid.world))
-      (crash : tells → (wanted : Shape) (told : List ℕ → ℕ) (from : ℕ) (start : Pairs) (done : List Line) → HasDoneLines wanted told from start done engine mid.world
-      → AllMoments mid new (CrashHoldsLines (engine.log.end.seg + 1) (number_of engine.ckpt.mark) wanted engine.store.shape start done)) where
+  module _ {new : History} {later : FrameRunning} {r : Result (Unit {0}) StoreFault} {list : ReplyList} (sound : tells → IsHistory mid) (few : length lines ≤ LINES_MAX) (takes : TakesFor (length lines) first engine)
+      (ended : RunsFrameBatch tells mid new 1 [] 1 1 engine later list list r) (order_is : later.order ≡ engine.order) where
+    room : (last number : ℕ) → StaysWithin last number (LINES_MAX + 2048) first → StaysWithin last number 2048 engine
+    room last number stays = room_drawn last number (length lines) 2048 first engine (omega (arith, few)) stays takes
+
+    pub forced_numbers : (last number : ℕ) → StaysWithin last number (LINES_MAX + 2048) first → HasNumbersIn engine 1 1
+    forced_numbers last number stays =
+        let within = room last number stays in
+        record { in_log = omega (arith, within.segments, within.last_fits); in_marks = omega (arith, within.checkpoints, within.number_fits) }
+
+    pub forced_within : TakesNumbersIn engine later 1 1 → (last number : ℕ) → StaysWithin last number (LINES_MAX + 2048) first → StaysWithin last number 2047 later
+    forced_within took last number stays =
+        let within = room last number stays in
+        record { segments = omega (arith, within.segments, took.in_log); checkpoints = omega (arith, within.checkpoints, took.in_marks); last_fits = within.last_fits; number_fits = within.number_fits }
+
     pub forced_keeps : KeepsDrawn tells old new first lines
     forced_keeps = record {
-      disk = λ t. disk_then old mid new (sound t) (so_far.keeps.disk t) (disk t);
+      disk = λ t. disk_then old mid new (sound t) (so_far.keeps.disk t) (ended.disk t);
       crash = λ t wanted last number can.
           let start = map_in first old.world in
-          let within = room_drawn last number (length lines) 2048 first engine (omega (arith, few)) can.within takes in
+          let within = room last number can.within in
           let K : World → Type 0 = CrashKeeps wanted last number first.store.shape start lines in
+          let crash : AllMoments mid new (CrashHoldsLines (engine.log.end.seg + (1 + 1)) (number_of engine.ckpt.mark + 1) wanted engine.store.shape start lines) =
+          subst (λ (ls : List Line). AllMoments mid new (CrashHoldsLines (engine.log.end.seg + (1 + 1)) (number_of engine.ckpt.mark + 1) wanted engine.store.shape start ls)) (no_line_more lines ended.tried)
+          (ended.crash t wanted says_nothing can.stands.from start lines (so_far.runs t wanted last number can) (forced_numbers last number can.within)) in
           joined old mid new K (so_far.keeps.crash t wanted last number can)
           (subst (λ (s : Shape). AllMoments mid new (CrashKeeps wanted last number s start lines)) so_far.same.shape
-          (moments_further (engine.log.end.seg + 1) (number_of engine.ckpt.mark) last number wanted engine.store.shape start lines mid new (omega (arith, within.segments)) (omega (arith, within.checkpoints))
-          (crash t wanted says_nothing can.stands.from start lines (so_far.runs t wanted last number can))));
+          (moments_further (engine.log.end.seg + (1 + 1)) (number_of engine.ckpt.mark + 1) last number wanted engine.store.shape start lines mid new (omega (arith, within.segments)) (omega (arith, within.checkpoints)) crash));
     }
 
-    -- all lines were run, and the force failed or not
-    pub forced_tries : (script : List Line) (later : FrameRunning) → script ≡ lines → later.order ≡ engine.order → TriesDrawn tells old new script first later
-    forced_tries script later is same =
+    -- all lines were run, and a call at the end failed or not
+    pub forced_tries : (script : List Line) → script ≡ lines → TriesDrawn tells old new script first later
+    forced_tries script is =
         let front : take (length lines) script ≡ lines = ap (take (length lines)) is ∙ take_all (length lines) lines (omega arith) in
         record {
           many = length lines;
@@ -212,15 +237,16 @@ module _ {tells : Type 0} {old mid : History} {first engine : FrameRunning} {lin
           from = omega arith;
           to = omega arith;
           within = omega (arith, ap (λ (l : List Line). length l) is);
-          order = λ t wanted last number can. same ∙ so_far.order t wanted last number can ∙ ap (λ ls. accepted first.store.shape 1 ls (map_in first old.world)) (sym front);
+          order = λ t wanted last number can. order_is ∙ so_far.order t wanted last number can ∙ ap (λ ls. accepted first.store.shape 1 ls (map_in first old.world)) (sym front);
           keeps = subst (KeepsDrawn tells old new first) (sym front) forced_keeps;
         }
 
-    pub forced_ran : (lasts : tells → (wanted : Shape) (told : List ℕ → ℕ) (from : ℕ) (start : Pairs) (done : List Line) → HasDoneLines wanted told from start done engine mid.world
-        → HasLastingLinesIn wanted told from start done engine new.world) → HasRunDrawn tells old new first engine lines
-    forced_ran lasts = record {
+    pub forced_ran : StaysOpen r → HasRunDrawn tells old new first later lines
+    forced_ran stays = record {
       keeps = forced_keeps;
-      same = so_far.same;
-      order = so_far.order;
-      runs = λ t wanted last number can. (lasts t wanted says_nothing can.stands.from (map_in first old.world) lines (so_far.runs t wanted last number can)).done;
+      same = same_both first engine later so_far.same ended.same;
+      order = λ t wanted last number can. order_is ∙ so_far.order t wanted last number can;
+      runs = λ t wanted last number can.
+          subst (λ (ls : List Line). HasDoneLines wanted says_nothing can.stands.from (map_in first old.world) ls later new.world) (no_line_more lines ended.tried)
+          (ended.runs t stays wanted says_nothing can.stands.from (map_in first old.world) lines (so_far.runs t wanted last number can) (forced_numbers last number can.within));
     }

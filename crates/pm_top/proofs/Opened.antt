@@ -55,7 +55,7 @@ module _ (wanted : Shape) (old : World) (shape : Shape) (pairs : Pairs) (start :
   start_map = crash_one (opened_to start.sound) (number_in (in_force (image_of old))) wanted shape pairs old (start_keeps wanted old shape pairs start)
 
   -- a run may begin over the engine that opened it
-  pub can_run : (engine : FrameRunning) (mid : World) → OpensRunningIn (opened_to start.sound) (opened_number start.sound) wanted says_nothing shape pairs engine mid → CanRun wanted (last_after start) (number_after start) engine mid
+  pub can_run : (engine : FrameRunning) (mid : World) → OpensRunningIn (opened_to start.sound + 1) (opened_number start.sound + 1) wanted says_nothing shape pairs engine mid → CanRun wanted (last_after start) (number_after start) engine mid
   can_run engine mid opened = record {
     stands = record { from = 0; has = subst (λ (m : Pairs). HasDoneLines wanted says_nothing 0 m [] engine mid) (sym opened.map) opened.runs };
     within = record {
@@ -67,15 +67,15 @@ module _ (wanted : Shape) (old : World) (shape : Shape) (pairs : Pairs) (start :
   }
 
 -- while the store is opened
-pub opening_moments : (wanted : Shape) (old mid : History) (shape : Shape) (pairs : Pairs) (start : IsStart wanted old.world shape pairs) (order : List ℕ) → AllMoments old mid (CrashHoldsMap (opened_to start.sound + 1) (opened_number start.sound) wanted shape pairs)
+pub opening_moments : (wanted : Shape) (old mid : History) (shape : Shape) (pairs : Pairs) (start : IsStart wanted old.world shape pairs) (order : List ℕ) → AllMoments old mid (CrashHoldsMap (opened_to start.sound + 1 + 1) (opened_number start.sound + 1) wanted shape pairs)
     → AllMoments old mid (ChangesDisk old.world) → AllMoments old mid (CrashHoldsAcknowledged wanted (last_after start) (number_after start) old.world shape pairs order)
 opening_moments wanted old mid shape pairs start order keeps only =
     let last : ℕ = last_after start in
     let number : ℕ = number_after start in
-    let Q : World → Type 0 = CrashHoldsMap (opened_to start.sound + 1) (opened_number start.sound) wanted shape pairs in
+    let Q : World → Type 0 = CrashHoldsMap (opened_to start.sound + 1 + 1) (opened_number start.sound + 1) wanted shape pairs in
     weaker old mid (λ w. Q w × ChangesDisk old.world w) (CrashHoldsAcknowledged wanted last number old.world shape pairs order)
     (λ w is. idle_keeps wanted last number old.world shape pairs order w (none_said old.world shape pairs w is.1.said)
-    (map_keeps (opened_to start.sound + 1) (opened_number start.sound) last number wanted shape pairs w (omega arith) (omega arith) is.0)) (both old mid Q (ChangesDisk old.world) keeps only)
+    (map_keeps (opened_to start.sound + 1 + 1) (opened_number start.sound + 1) last number wanted shape pairs w (omega arith) (omega arith) is.0)) (both old mid Q (ChangesDisk old.world) keeps only)
 
 pub same_console : (old mid : World) → ChangesDisk old mid → SameConsole old mid
 same_console old mid only = record { said = only.said; input = only.input }

@@ -1,5 +1,5 @@
 -- How a run over a script goes on batch after batch, and how it ends.
-use Rattle.std.proofs.Common.{◌≡◌, inl, inr, ℕ, ◌+◌, ◌≤◌, List, [], ◌∷◌, ◌++◌, length, Ok, Err, refl, ap, sym, ◌∙◌, subst, append-nil, arith, length-append}
+use Rattle.std.proofs.Common.{◌≡◌, inl, inr, ℕ, zero, suc, ◌+◌, ◌-◌, ◌≤◌, List, [], ◌∷◌, ◌++◌, length, take, Result, Ok, Err, refl, ap, sym, ◌∙◌, subst, append-nil, arith, length-append}
 use Rattle.pm_types.specs.declared.fault.StoreFault.{StoreFault}
 use Rattle.pm_types.specs.declared.fault.StoreFault.TheVariants.{BadPage, Failed, Memory}
 use Rattle.pm_types.specs.declared.limits.TheConstants.{SCRIPT_BYTES_MAX, LINES_MAX}
@@ -13,8 +13,10 @@ use Rattle.pm_script.specs.Reading.{Unread}
 use Rattle.pm_core.specs.BasePages.{Partitions}
 use Rattle.pm_core.specs.Calls.{ChangesDisk}
 use Rattle.pm_core.specs.Held.{pairs_in}
-use Rattle.pm_engine.specs.Engines.{FrameRunning, AllLastIn, map_in, closed_engine}
-use Rattle.pm_engine.specs.FrameStores.{pages_in_frames}
+use Rattle.pm_model.specs.ReplyLists.{ReplyList}
+use Rattle.pm_engine.specs.Engines.{AllLastIn, HasDoneLines, map_in}
+use Rattle.pm_engine.specs.Batches.{StaysOpen}
+use Rattle.pm_engine.specs.FrameBatches.{EndsAtReplayIn, HasNumbersIn, RunsFrameBatch, TakesNumbersIn}
 use Rattle.pm_engine.specs.RunningStores.{number_of}
 use Rattle.pm_engine.specs.RunningLines.{CrashHoldsLines, says_nothing}
 use Rattle.pm_engine.proofs.RunningLines.{moments_further}
@@ -95,35 +97,50 @@ module _ (continuation : Continuation) {old new : Unread} {rest now_rest : List 
         | inr past ↦ inr (omega (arith, past, left_bytes bytes, long))
       ])
 
--- ---- the force at the end
+-- ---- the force at the end, and a checkpoint where one is made
 
--- it changes no page
-pub force_map : (before now : FrameRunning) (old new : World) → now ≡ before → pages_in_frames now.store new ≡ pages_in_frames before.store old → map_in now new ≡ map_in before old
-force_map before now old new same pages =
-    ap (λ (e : FrameRunning). pairs_in e.store.shape.partitions (pages_in_frames now.store new)) same ∙ ap (λ (p : Partitions). pairs_in before.store.shape.partitions p) pages
+abbrev pub none_said : ReplyList
+none_said = record { replies = []; spare = 0 }
+
+take_no_line : (n : ℕ) → ◌++◌ {A = Line} [] (take n []) ≡ []
+take_no_line n = take_none n
+  where
+    take_none : (n : ℕ) → take {A = Line} n [] ≡ []
+    take_none zero = refl
+    take_none (suc n) = refl
+
 
 module _ (wanted : Shape) (last number lines : ℕ) (mid new : History) (run later : Run) (left : List Line) (can : MayRun wanted last number lines run.engine mid.world) (sound : IsHistory new) (lines_is : later.lines ≡ run.lines)
     (disk : AllMoments mid new (ChangesDisk mid.world))
-    (crash : AllMoments mid new (CrashHoldsLines (run.engine.log.end.seg + 1) (number_of run.engine.ckpt.mark) wanted run.engine.store.shape (map_in run.engine mid.world) [])) where
+    (some : 1 ≤ lines) {tells : Type 0} (t : tells) {r : Result (Unit {0}) StoreFault} (runs : RunsFrameBatch tells mid new 1 [] 1 1 run.engine later.engine none_said none_said r) (order_is : later.engine.order ≡ run.engine.order) where
   only : ChangesDisk mid.world new.world
   only = at_last mid new (ChangesDisk mid.world) sound disk
 
+  -- a checkpoint takes no more numbers than a line
+  pub numbers : HasNumbersIn run.engine 1 1
+  numbers = record { in_log = omega (arith, can.within.segments, can.within.last_fits, some); in_marks = omega (arith, can.within.checkpoints, can.within.number_fits, some) }
+
+  crash : AllMoments mid new (CrashHoldsLines (run.engine.log.end.seg + (1 + 1)) (number_of run.engine.ckpt.mark + 1) wanted run.engine.store.shape (map_in run.engine mid.world) [])
+  crash =
+      subst (λ (ls : List Line). AllMoments mid new (CrashHoldsLines (run.engine.log.end.seg + (1 + 1)) (number_of run.engine.ckpt.mark + 1) wanted run.engine.store.shape (map_in run.engine mid.world) ls)) (take_no_line runs.tried)
+      (runs.crash t wanted says_nothing can.stands.from (map_in run.engine mid.world) [] can.stands.has numbers)
+
   force_keeps : AllMoments mid new (CrashKeeps wanted last number run.engine.store.shape (map_in run.engine mid.world) [])
   force_keeps =
-      moments_further (run.engine.log.end.seg + 1) (number_of run.engine.ckpt.mark) last number wanted run.engine.store.shape (map_in run.engine mid.world) [] mid new (omega (arith, can.within.segments)) (omega (arith, can.within.checkpoints)) crash
+      moments_further (run.engine.log.end.seg + (1 + 1)) (number_of run.engine.ckpt.mark + 1) last number wanted run.engine.store.shape (map_in run.engine mid.world) [] mid new (omega (arith, can.within.segments)) (omega (arith, can.within.checkpoints, some)) crash
 
   -- while the log is forced
-  force_moments : later.engine.order ≡ run.engine.order → (start : World) (shape : Shape) (pairs : Pairs) → Progress start mid.world left shape pairs run → AllMoments mid new (CrashHoldsAcknowledged wanted last number start shape pairs later.engine.order)
-  force_moments order start shape pairs progress =
+  force_moments : (start : World) (shape : Shape) (pairs : Pairs) → Progress start mid.world left shape pairs run → AllMoments mid new (CrashHoldsAcknowledged wanted last number start shape pairs later.engine.order)
+  force_moments start shape pairs progress =
       let Q : World → Type 0 = CrashKeeps wanted last number run.engine.store.shape (map_in run.engine mid.world) [] in
-      subst (λ (o : List ℕ). AllMoments mid new (CrashHoldsAcknowledged wanted last number start shape pairs o)) (sym order)
+      subst (λ (o : List ℕ). AllMoments mid new (CrashHoldsAcknowledged wanted last number start shape pairs o)) (sym order_is)
       (weaker mid new (λ w. Q w × ChangesDisk mid.world w) (CrashHoldsAcknowledged wanted last number start shape pairs run.engine.order)
       (λ w is. keeps_rest progress wanted last number w is.1.said is.0) (both mid new Q (ChangesDisk mid.world) force_keeps disk))
 
   -- that failed
-  pub force_stops : later.engine ≡ closed_engine run.engine → GoesOn {T = Unit {0}} wanted last number mid new left [] run later (Err Failed)
-  force_stops closed =
-      let order : later.engine.order ≡ run.engine.order = ap (λ (e : FrameRunning). e.order) closed in
+  pub force_stops : GoesOn {T = Unit {0}} wanted last number mid new left [] run later (Err Failed)
+  force_stops =
+      let order = order_is in
       record {
         order = record { more = []; order = order ∙ sym (append-nil run.engine.order) };
         sound = λ id is. absurd (let both : Failed ≡ BadPage id = err_same Failed (BadPage id) _ refl is in cc);
@@ -135,27 +152,31 @@ module _ (wanted : Shape) (last number lines : ℕ) (mid new : History) (run lat
             memory = λ _. subst (λ (x : ℕ × List ℕ). HasNoMemory start new.world shape pairs x.0 x.1) (λ i. (sym lines_is i, sym order i)) (memory_still progress new.world only.said);
           };
         };
-        moments = force_moments order;
+        moments = force_moments;
       }
 
-  module _ (same : later.engine ≡ run.engine) (map : map_in later.engine new.world ≡ map_in run.engine mid.world) (lasts : AllLastIn wanted says_nothing later.engine new.world) where
+  module _ (stays : StaysOpen r) (takes : TakesNumbersIn run.engine later.engine 1 1) (still : EndsAtReplayIn run.engine → EndsAtReplayIn later.engine) (lasts : AllLastIn wanted says_nothing later.engine new.world) where
+    map : map_in later.engine new.world ≡ map_in run.engine mid.world
+    map =
+        let done : HasDoneLines wanted says_nothing can.stands.from (map_in run.engine mid.world) [] later.engine new.world =
+        subst (λ (ls : List Line). HasDoneLines wanted says_nothing can.stands.from (map_in run.engine mid.world) ls later.engine new.world) (take_no_line runs.tried) (runs.runs t stays wanted says_nothing can.stands.from (map_in run.engine mid.world) [] can.stands.has numbers) in
+        done.has.map
+
     closed_progress : (start : World) (shape : Shape) (pairs : Pairs) → Progress start mid.world left shape pairs run → Progress start new.world left shape pairs later
     closed_progress start shape pairs progress = record {
       done = progress.done;
       script = progress.script;
       count = progress.count ∙ sym lines_is;
       said = only.said ∙ progress.said;
-      shape_is = ap (λ (e : FrameRunning). e.store.shape) same ∙ progress.shape_is;
+      shape_is = runs.same.shape ∙ progress.shape_is;
       map = map ∙ progress.map;
-      order = ap (λ (e : FrameRunning). e.order) same ∙ progress.order;
-      replay = λ is.
-          let ends = progress.replay is in
-          record { mark = ends.mark; is = ap (λ (e : FrameRunning). e.ckpt.mark) same ∙ ends.is; ends = ap (λ (e : FrameRunning). e.log.end) same ∙ ends.ends };
+      order = order_is ∙ progress.order;
+      replay = λ is. still (progress.replay is);
     }
 
     pub force_goes : GoesOn {T = Unit {0}} wanted last number mid new left left run later (Ok tt)
     force_goes =
-        let order : later.engine.order ≡ run.engine.order = ap (λ (e : FrameRunning). e.order) same in
+        let order = order_is in
         record {
           order = record { more = []; order = order ∙ sym (append-nil run.engine.order) };
           sound = λ id is. absurd (let both : Ok tt ≡ Err (BadPage id) = is in cc);
@@ -163,14 +184,19 @@ module _ (wanted : Shape) (last number lines : ℕ) (mid new : History) (run lat
           answered = λ start shape pairs progress.
               let done = closed_progress start shape pairs progress in
               record { done = done; fault = record { failed = λ _. failed_still done new.world refl; memory = λ _. memory_still done new.world refl } };
-          moments = force_moments order;
+          moments = force_moments;
         }
 
     -- the whole run left its store so
     pub force_leaves : left ≡ [] → (start : World) (shape : Shape) (pairs : Pairs) → Progress start new.world left shape pairs later → IsLeft wanted last number start new.world shape pairs
     force_leaves none start shape pairs progress =
-        leaves_store wanted last number lines later new.world (subst (λ (ls : List Line). Progress start new.world ls shape pairs later) none progress)
-        (subst (λ (e : FrameRunning). StaysWithin last number lines e) (sym same) can.within) (rest_of_last wanted later.engine new.world lasts) lasts
+        leaves_store wanted last number (lines - 1) later new.world (subst (λ (ls : List Line). Progress start new.world ls shape pairs later) none progress)
+        (record {
+          segments = omega (arith, takes.in_log, can.within.segments, some);
+          checkpoints = omega (arith, takes.in_marks, can.within.checkpoints, some);
+          last_fits = can.within.last_fits;
+          number_fits = can.within.number_fits;
+        }) (rest_of_last wanted later.engine new.world lasts) lasts
 
 -- ---- what a run promises of its script
 

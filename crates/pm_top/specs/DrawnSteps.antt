@@ -64,11 +64,12 @@ pub record TriesDrawn (tells : Type 0) (old new : History) (script : List Line) 
       (now.order ≡ accepted before.store.shape 1 (take tried script) (map_in before old.world))
   pub keeps : KeepsDrawn tells old new before (take tried script)
 
--- All lines of the script were run, and last.
+-- All lines of the script were run, and last. Of the numbers that a whole run may take those of one line were kept for
+-- the checkpoint at its end.
 pub record EndsDrawn (tells : Type 0) (old new : History) (script : List Line) (before now : FrameRunning)
     : Type 0 where
   pub ran : HasRunDrawn tells old new before now script
   pub lasts : tells → (wanted : Shape) (last number : ℕ) → CanRun wanted last number before old.world
       → AllLastIn wanted says_nothing now new.world
   pub within : (last number : ℕ) → StaysWithin last number (LINES_MAX + 2048) before
-      → StaysWithin last number 2048 now
+      → StaysWithin last number 2047 now

@@ -1,11 +1,11 @@
 //! A run over lines that are drawn from a number, a batch at a time.
 
-ghost use Rattle.std.specs.Prelude.{◌≡◌, ◌≤◌, ◌<◌, ◌+◌, ◌^◌, [], IfOk, OnOk, IsErrOf};
+ghost use Rattle.std.specs.Prelude.{◌≡◌, ◌≤◌, ◌<◌, ◌+◌, ◌^◌, [], false, IfOk, OnOk, IsErrOf};
 ghost use Rattle.pm_types.specs.declared.limits.TheConstants.{LINES_MAX as most_lines};
 ghost use Rattle.pm_types.specs.declared.page_id.PageId.{PageId as Page};
 ghost use Rattle.pm_disk.specs.States.{IsUsable};
 ghost use Rattle.pm_model.specs.Eval.{replies_to};
-ghost use Rattle.pm_engine.specs.FrameBatches.{HasFrameFault};
+ghost use Rattle.pm_engine.specs.FrameBatches.{HasFrameFault, is_due_idle};
 ghost use Rattle.pm_engine.specs.Engines.{map_in};
 ghost use Rattle.pm_engine.specs.FrameOpenings.{IsReadyOver};
 ghost use Rattle.pm_engine.specs.FrameStores.{pages_in_frames};
@@ -27,8 +27,9 @@ use pm_types::{BATCH_LINES_MAX, StoreFault};
 use std::alloc::{AllocError, Global};
 use std::sync::Wait;
 
-/// Runs so many lines, which are drawn from a number, batch after batch. Then the log is forced. Gives the engine
-/// back, and how many replies of each kind there were.
+/// Runs so many lines, which are drawn from a number, batch after batch. Then the log is forced, and a checkpoint is made
+/// where more log stands after the last one than a run is to leave to the next opening. Gives the engine back, and how
+/// many replies of each kind there were.
 ///
 /// `BadPage` comes only over a store that isn't sound, at a line that met the page, which fails its check, isn't there, or
 /// names a wrong page or row. What was run is said of a store over which a run may begin.
@@ -52,6 +53,7 @@ pub fn run_drawn<Q: Wait, H: Host>(
         engine result.0 }
     ensures ends { OnOk result.1 (EndsDrawn H.tells (H.history host.old) (H.history host.new)
         (drawn_lines seed 1 count) engine result.0) }
+    ensures settled { OnOk result.1 (is_due_idle result.0 config.now ≡ false) }
 
     ensures counts { IfCanRun H.tells engine (H.history host.old).world (IfOk result.1 (λ counts. counts ≡ counts_of
         (replies_to engine.store.shape (drawn_lines seed 1 count) (map_in engine (H.history host.old).world)))) }
@@ -85,7 +87,7 @@ pub fn run_drawn<Q: Wait, H: Host>(
             }
         }
     }
-    match engine.force(host) {
+    match engine.end_run(host, config) {
         Err(_) => (engine, Err(StoreFault::Failed)),
         Ok(()) => (engine, Ok(counts)),
     }

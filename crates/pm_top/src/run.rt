@@ -1,6 +1,6 @@
 //! A run over a script, a batch at a time.
 
-ghost use Rattle.std.specs.Prelude.{◌≡◌, ◌≤◌, ◌+◌, ℕ, [], length, IfOk, IfErr, OnOk, OnErr, IsErrOf};
+ghost use Rattle.std.specs.Prelude.{◌≡◌, ◌≤◌, ◌+◌, ℕ, [], false, length, IfOk, IfErr, OnOk, OnErr, IsErrOf};
 ghost use Rattle.std.specs.List.{All};
 ghost use Rattle.pm_types.specs.declared.limits.TheConstants.{LINES_MAX as most_lines};
 ghost use Rattle.pm_types.specs.declared.limits.TheConstants.{BATCH_LINES_MAX as most_batch};
@@ -13,7 +13,7 @@ ghost use Rattle.pm_model.specs.Batches.{HasCache};
 ghost use Rattle.pm_script.specs.Reading.{rest_of, KnowsEnd};
 ghost use Rattle.pm_script.specs.Texts.{texts_of};
 ghost use Rattle.pm_engine.specs.Batches.{HasPlainFault};
-ghost use Rattle.pm_engine.specs.FrameBatches.{HasFrameFault};
+ghost use Rattle.pm_engine.specs.FrameBatches.{HasFrameFault, is_due_idle};
 ghost use Rattle.pm_engine.specs.Engines.{map_in};
 ghost use Rattle.pm_engine.specs.FrameOpenings.{IsReadyOver};
 ghost use Rattle.pm_engine.specs.FrameStores.{pages_in_frames};
@@ -70,7 +70,8 @@ impl Run {
     }
 
     /// Answers the script of the input, batch after batch, up to its end or to a limit. At its end
-    /// the log is forced.
+    /// the log is forced, and a checkpoint is made where more log stands after the last one than a
+    /// run is to leave to the next opening.
     ///
     /// `BadPage` names a page that a line met, which fails its check, isn't there, or names a wrong page or row: then
     /// the store isn't sound.
@@ -96,6 +97,10 @@ impl Run {
             IsServed wanted last number start self.engine.store.shape
             (map_in self.engine (H.history host.old).world) (H.history host.old) (H.history host.new)
             result.0 result.1 }
+
+        // At the script's end no more log stands than a run is to leave.
+        ensures settled { IfOk result.1 (λ stop. stop ≡ Stop.Done
+            → is_due_idle result.0.engine config.now ≡ false) }
 
         // Of any store: which page a line met that couldn't be used.
         ensures meets { H.tells → (page : Page) → IsErrOf result.1 (StoreFault.BadPage page)
@@ -124,8 +129,8 @@ impl Run {
             match answered {
                 Ok(Continuation::More) => {}
                 Ok(Continuation::End) => {
-                    let forced = run.engine.force(host);
-                    match forced {
+                    let ended = run.engine.end_run(host, config);
+                    match ended {
                         Ok(()) => return (run, Ok(Stop::Done)),
                         Err(_) => return (run, Err(StoreFault::Failed)),
                     }

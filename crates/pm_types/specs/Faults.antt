@@ -1,6 +1,7 @@
 -- How the next layer reports a fault of one below.
 use Rattle.pm_types.specs.declared.fault.StoreFault.{StoreFault}
 use Rattle.pm_types.specs.declared.fault.StoreFault.TheVariants as store
+use Rattle.pm_types.specs.declared.fault.Lack.TheVariants.{Bytes}
 use Rattle.pm_types.specs.declared.fault.PageFault.{PageFault}
 use Rattle.pm_types.specs.declared.fault.PageFault.TheVariants as page
 use Rattle.pm_types.specs.declared.fault.OpenFault.{OpenFault}
@@ -13,7 +14,7 @@ store_fault_of (page.BadPage id) = store.BadPage id
 
 -- out of memory, as the store reports it
 abbrev pub memory_fault : StoreFault
-memory_fault = store.Memory
+memory_fault = store.Memory Bytes
 
 -- the store's fault, as an opening reports it
 abbrev pub opening_fault : StoreFault → OpenFault
@@ -21,4 +22,4 @@ opening_fault fault = opening.Store fault
 
 -- out of memory, as an opening reports it
 abbrev pub opening_memory : OpenFault
-opening_memory = opening.Store store.Memory
+opening_memory = opening.Store (store.Memory Bytes)

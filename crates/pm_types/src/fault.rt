@@ -27,17 +27,29 @@ pub enum Field {
     Policy,
 }
 
+/// What ran out.
+#[derive(Clone, Copy, Debug, PartialEq, Eq, Error)]
+pub enum Lack {
+    /// An allocation failed.
+    #[error("out of memory")]
+    Bytes,
+    /// An operation can't have the page frames that it needs, even after a checkpoint, or room in its outbox.
+    #[error("out of page frames")]
+    Frames,
+    /// The log may have no numbers left for its segments.
+    #[error("out of numbers for the log's segments")]
+    Numbers,
+}
+
 /// What ends the work on a store. The store on the disk is then as a crash would leave it: open it again.
 #[derive(Clone, Copy, Debug, PartialEq, Eq, Error)]
 pub enum StoreFault {
     /// A call on the disk or the console failed.
     #[error("a disk or console call failed")]
     Failed,
-    /// An allocation failed. It is also the answer where an operation can't have the page frames that it needs, even
-    /// after a checkpoint, or room in its outbox, and where a store is opened whose log may have no numbers left for
-    /// its segments.
-    #[error("out of memory")]
-    Memory,
+    /// Something ran out that the work takes before it changes anything.
+    #[error("{0}")]
+    Memory(Lack),
     /// A page that was read fails its check or isn't in its file, or it names a page or a row that isn't there.
     #[error("bad page {0}")]
     BadPage(PageId),
@@ -83,7 +95,7 @@ impl From<AllocError> for StoreFault {
     ghost from_gives = { λ _ e. e ≡ memory_fault };
 
     fn from(_e: AllocError) -> StoreFault {
-        StoreFault::Memory
+        StoreFault::Memory(Lack::Bytes)
     }
 }
 
@@ -91,7 +103,7 @@ impl<T: Drop> From<AllocFailed<T>> for StoreFault {
     ghost from_gives = { λ _ e. e ≡ memory_fault };
 
     fn from(_e: AllocFailed<T>) -> StoreFault {
-        StoreFault::Memory
+        StoreFault::Memory(Lack::Bytes)
     }
 }
 
@@ -107,6 +119,6 @@ impl From<AllocError> for OpenFault {
     ghost from_gives = { λ _ e. e ≡ opening_memory };
 
     fn from(_e: AllocError) -> OpenFault {
-        OpenFault::Store(StoreFault::Memory)
+        OpenFault::Store(StoreFault::Memory(Lack::Bytes))
     }
 }

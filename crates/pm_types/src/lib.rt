@@ -16,7 +16,7 @@ mod shape;
 mod spans;
 mod value_room;
 
-pub use fault::{Field, OpenFault, PageFault, StoreFault};
+pub use fault::{Field, Lack, OpenFault, PageFault, StoreFault};
 pub use flag::{Flag, FrameNo, Tag};
 pub use key::{Key, Value};
 pub use limits::{

@@ -20,7 +20,7 @@ use Rattle.pm_top.specs.ReplyCounts.{counted_in, counts_of, with_all}
 use Rattle.pm_top.specs.Runs.{StaysWithin, TakesFor}
 use Rattle.pm_top.proofs.AnsweredLines.{batch_takes, err_same, no_numbers, takes_both}
 use Rattle.pm_top.proofs.CountedReplies.{counted_at_most}
-use Rattle.pm_top.proofs.DrawnRunning.{drawn_begins, drawn_counts, drawn_sound, forced_ran, forced_tries, goes_on_drawn, room_drawn, stops_drawn, tries_drawn}
+use Rattle.pm_top.proofs.DrawnRunning.{drawn_begins, drawn_counts, drawn_sound, forced_numbers, forced_ran, forced_tries, forced_within, goes_on_drawn, no_reply, room_drawn, stops_drawn, tries_drawn}
 use Rattle.pm_top.proofs.DrawnScripts.{DrawnFirst, drawn_are, drawn_more, drawn_none, length-drawn_lines}
 use Rattle.pm_top.proofs.LaterStates.{frame_later}
 use Rattle.pm_top.proofs.MetLines.{kept_more, met_more}
@@ -277,8 +277,8 @@ batches-preserved g c =
           (so_far.pages t) (tries.meets t) stays);
     }
 
-pub returns-in-Err-force-clause-tries : goal.returns-in-Err-force-clause-tries
-returns-in-Err-force-clause-tries g c =
+pub returns-in-Err-end_run-clause-tries : goal.returns-in-Err-end_run-clause-tries
+returns-in-Err-end_run-clause-tries g c =
     let tells = g.H.Device.tells in
     let old = g.H.Device.history c.args.host.now in
     let first = c.args.engine in
@@ -293,12 +293,12 @@ returns-in-Err-force-clause-tries g c =
     let sound = λ (t : tells). g.H.Device.sound c.batches.host t in
     let done = drawn_lines seed 1 many in
     let done_len : length done ≡ many = length-drawn_lines seed 1 many in
-    let new = g.H.Device.history c.force.new.host in
+    let new = g.H.Device.history c.end_run.new.host in
     let all : count ≡ many = omega (arith, so_far.within, c.batches-test.false) in
     let is : script ≡ done = ap (drawn_lines seed 1) all in
     let few : length done ≤ LINES_MAX = omega (arith, done_len, so_far.within, c.requires.few) in
     let takes : TakesFor (length done) first engine = subst (λ (n : ℕ). TakesFor n first engine) (sym done_len) so_far.numbers in
-    forced_tries so_far.ran sound few takes c.force.ensures.disk c.force.ensures.crash script c.force.new.self is (ap (λ (e : FrameRunning). e.order) c.in-Err-force.ensures.engine.closed)
+    forced_tries so_far.ran sound few takes (c.end_run.ensures.runs 1 no_reply) c.end_run.ensures.order script is
 
 pub returns-clause-tries : goal.returns-clause-tries
 returns-clause-tries g c =
@@ -316,12 +316,12 @@ returns-clause-tries g c =
     let sound = λ (t : tells). g.H.Device.sound c.batches.host t in
     let done = drawn_lines seed 1 many in
     let done_len : length done ≡ many = length-drawn_lines seed 1 many in
-    let new = g.H.Device.history c.force.new.host in
+    let new = g.H.Device.history c.end_run.new.host in
     let all : count ≡ many = omega (arith, so_far.within, c.batches-test.false) in
     let is : script ≡ done = ap (drawn_lines seed 1) all in
     let few : length done ≤ LINES_MAX = omega (arith, done_len, so_far.within, c.requires.few) in
     let takes : TakesFor (length done) first engine = subst (λ (n : ℕ). TakesFor n first engine) (sym done_len) so_far.numbers in
-    forced_tries so_far.ran sound few takes c.force.ensures.disk c.force.ensures.crash script c.force.new.self is (ap (λ (e : FrameRunning). e.order) c.in-Ok-force.ensures.engine.same)
+    forced_tries so_far.ran sound few takes (c.end_run.ensures.runs 1 no_reply) c.end_run.ensures.order script is
 
 pub returns-clause-ends : goal.returns-clause-ends
 returns-clause-ends g c =
@@ -339,19 +339,20 @@ returns-clause-ends g c =
     let sound = λ (t : tells). g.H.Device.sound c.batches.host t in
     let done = drawn_lines seed 1 many in
     let done_len : length done ≡ many = length-drawn_lines seed 1 many in
-    let new = g.H.Device.history c.force.new.host in
+    let new = g.H.Device.history c.end_run.new.host in
     let all : count ≡ many = omega (arith, so_far.within, c.batches-test.false) in
     let is : script ≡ done = ap (drawn_lines seed 1) all in
     let few : length done ≤ LINES_MAX = omega (arith, done_len, so_far.within, c.requires.few) in
     let takes : TakesFor (length done) first engine = subst (λ (n : ℕ). TakesFor n first engine) (sym done_len) so_far.numbers in
-    let same = c.in-Ok-force.ensures.engine.same in
+    let later = c.end_run.new.self in
+    let stays : StaysOpen c.end_run.result = subst StaysOpen (sym c.in-Ok-end_run.is) tt in
+    let runs = c.end_run.ensures.runs 1 no_reply in
+    let order = c.end_run.ensures.order in
     record {
-      ran = subst (λ (x : FrameRunning × List Line). HasRunDrawn tells old new first x.0 x.1) (λ i. (sym same i, sym is i))
-          (forced_ran so_far.ran sound few takes c.force.ensures.disk c.force.ensures.crash
-          (λ t wanted told from start lines has. subst (λ (e : FrameRunning). HasLastingLinesIn wanted told from start lines e new.world) same (c.in-Ok-force.ensures.lasts t wanted told from start lines has)));
+      ran = subst (λ ls. HasRunDrawn tells old new first later ls) (sym is) (forced_ran so_far.ran sound few takes runs order stays);
       lasts = λ t wanted last number can.
-          c.in-Ok-force.ensures.rests t wanted says_nothing can.stands.from (map_in first old.world) done (so_far.ran.runs t wanted last number can);
-      within = λ last number stays. subst (StaysWithin last number 2048) (sym same) (room_drawn last number many 2048 first engine (omega (arith, so_far.within, c.requires.few)) stays so_far.numbers);
+          c.in-Ok-end_run.ensures.rests t wanted says_nothing can.stands.from (map_in first old.world) done (so_far.ran.runs t wanted last number can) (forced_numbers so_far.ran sound few takes runs order last number can.within);
+      within = λ last number stays_within. forced_within so_far.ran sound few takes runs order (c.end_run.ensures.numbers stays) last number stays_within;
     }
 
 pub returns-clause-counts : goal.returns-clause-counts
@@ -370,7 +371,7 @@ returns-clause-counts g c t wanted last number can =
     let sound = λ (t : tells). g.H.Device.sound c.batches.host t in
     let done = drawn_lines seed 1 many in
     let done_len : length done ≡ many = length-drawn_lines seed 1 many in
-    let new = g.H.Device.history c.force.new.host in
+    let new = g.H.Device.history c.end_run.new.host in
     let all : count ≡ many = omega (arith, so_far.within, c.batches-test.false) in
     let is : script ≡ done = ap (drawn_lines seed 1) all in
     let few : length done ≤ LINES_MAX = omega (arith, done_len, so_far.within, c.requires.few) in

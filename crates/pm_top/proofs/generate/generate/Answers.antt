@@ -1,4 +1,4 @@
-use Rattle.std.proofs.Common.{ℕ, ◌≡◌, ◌⊎◌, inl, inr, Some, None, ap, refl, sym, ◌∙◌, subst}
+use Rattle.std.proofs.Common.{ℕ, ◌≡◌, ◌+◌, ◌⊎◌, inl, inr, Some, None, ap, refl, sym, ◌∙◌, subst}
 use Rattle.std.specs.Prelude.{codes, ◌++◌}
 use Rattle.pm_types.specs.declared.fault.OpenFault.TheVariants as opening
 use Rattle.pm_types.specs.declared.shape.Shape.{Shape}
@@ -52,7 +52,7 @@ returns-in-Ok-clause-holds g c t =
     let engine = c.in-Ok.engine in
     let same = same_console old.world mid.world only in
     let script = drawn_lines c.args.seed 1 c.args.count in
-    let opens : (shape : Shape) (pairs : Pairs) (start : IsStart wanted old.world shape pairs) → OpensRunningIn (opened_to start.sound) (opened_number start.sound) wanted says_nothing shape pairs engine mid.world = λ shape pairs start.
+    let opens : (shape : Shape) (pairs : Pairs) (start : IsStart wanted old.world shape pairs) → OpensRunningIn (opened_to start.sound + 1) (opened_number start.sound + 1) wanted says_nothing shape pairs engine mid.world = λ shape pairs start.
     c.in-Ok.ensures.opened t says_nothing shape pairs (can_begin wanted old.world shape pairs start) (few_numbers wanted old.world shape pairs start) in
     let answered : (shape : Shape) (pairs : Pairs) → IsStart wanted old.world shape pairs → DrawnOutcomeIs script outcome.status old.world new.world engine.store.shape (map_in engine mid.world) outcome.lines outcome.order.items =
     λ shape pairs start. c.answer_drawn.ensures.outcome t wanted (last_after start) (number_after start) old.world same (can_run wanted old.world shape pairs start engine mid.world (opens shape pairs start)) in
@@ -99,7 +99,7 @@ returns-in-Ok-clause-crash g c t =
     let engine = c.in-Ok.engine in
     let same = same_console old.world mid.world only in
     let script = drawn_lines c.args.seed 1 c.args.count in
-    let opens : (shape : Shape) (pairs : Pairs) (start : IsStart wanted old.world shape pairs) → OpensRunningIn (opened_to start.sound) (opened_number start.sound) wanted says_nothing shape pairs engine mid.world = λ shape pairs start.
+    let opens : (shape : Shape) (pairs : Pairs) (start : IsStart wanted old.world shape pairs) → OpensRunningIn (opened_to start.sound + 1) (opened_number start.sound + 1) wanted says_nothing shape pairs engine mid.world = λ shape pairs start.
     c.in-Ok.ensures.opened t says_nothing shape pairs (can_begin wanted old.world shape pairs start) (few_numbers wanted old.world shape pairs start) in
     let order = outcome.order.items in
     let keeps : (shape : Shape) (pairs : Pairs) (start : IsStart wanted old.world shape pairs) → AllMoments old new (CrashHoldsDrawn wanted (last_after start) (number_after start) script old.world shape pairs order) = λ shape pairs start.

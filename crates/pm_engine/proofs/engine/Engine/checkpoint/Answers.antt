@@ -18,7 +18,7 @@ returns-clause-engine g c =
     let ins : FrameRunning = record { store = c.self.inside.pages; log = c.deref_mut.result.now; ckpt = c.self.inside.ckpt; began = c.self.inside.began; order = c.self.inside.order.items } in
     let lent : ins ≡ (record ins { log = c.self.inside.log.value }) = λ i. record ins { log = c.deref_mut.ensures.value i } in
     let is = lent ∙ c.self.view_is in
-    let after : FrameRunning = record { store = c.checkpoint.new.self; log = c.checkpoint.new.log; ckpt = c.checkpoint.new.ckpt; began = c.appended-self-inside.result; order = c.self.inside.order.items } in
+    let after : FrameRunning = record { store = c.checkpoint.new.self; log = c.checkpoint.new.log; ckpt = c.checkpoint.new.ckpt; began = record { found = 0; total = c.appended-total.result }; order = c.self.inside.order.items } in
     let made = c.in_ok-checkpoint.ensures.made in
     subst (λ (r : FrameRunning). IsCheckpointedOrClosed {E = StoreFault} r after (Ok tt)) is (record {
       same = record { shape = made.pages.shape; region = made.pages.region; locks = made.pages.locks };
@@ -34,7 +34,7 @@ returns-clause-pages g c =
     let is = lent ∙ c.self.view_is in
     let old = g.H.Device.history c.args.host.now in
     let new = g.H.Device.history c.checkpoint.new.host in
-    let after : FrameRunning = record { store = c.checkpoint.new.self; log = c.checkpoint.new.log; ckpt = c.checkpoint.new.ckpt; began = c.appended-self-inside.result; order = c.self.inside.order.items } in
+    let after : FrameRunning = record { store = c.checkpoint.new.self; log = c.checkpoint.new.log; ckpt = c.checkpoint.new.ckpt; began = record { found = 0; total = c.appended-total.result }; order = c.self.inside.order.items } in
     let clean = λ (t : g.H.Device.tells). subst (λ (r : FrameRunning). HasCleanPages r.store old.world) (sym is) (c.requires.clean t) in
     let made = c.in_ok-checkpoint.ensures.made in
     subst (λ (r : FrameRunning). HasPagesInFiles g.H.Device.tells r after old.world new.world) is (record {
@@ -67,7 +67,7 @@ returns-clause-lines g c t wanted told low start lines has segments numbered =
     let has_in = subst (λ (r : FrameRunning). HasDoneLines wanted told low start lines r old.world) (sym is) has in
     let segments_in = subst (λ (r : FrameRunning). HasSegmentsFor r.log 1) (sym is) segments in
     let numbered_in = subst (λ (r : FrameRunning). number_of r.ckpt.mark + 1 < 2 ^ 64) (sym is) numbered in
-    let after : FrameRunning = record { store = c.checkpoint.new.self; log = c.checkpoint.new.log; ckpt = c.checkpoint.new.ckpt; began = c.appended-self-inside.result; order = c.self.inside.order.items } in
+    let after : FrameRunning = record { store = c.checkpoint.new.self; log = c.checkpoint.new.log; ckpt = c.checkpoint.new.ckpt; began = record { found = 0; total = c.appended-total.result }; order = c.self.inside.order.items } in
     let clean = subst (λ (r : FrameRunning). HasCleanPages r.store old.world) (sym is) (c.requires.clean t) in
     let made = c.in_ok-checkpoint.ensures in
     engine_lasts g.H.Device.tells t ins after (subst IsEngine (sym lent) c.self.invariant) (dirty_names ins.store) (dirty_bytes ins.store) made.dirty old new {E = Failed} tt (made.steps t) made.made.next made.made.pages clean wanted told low start lines has_in segments_in numbered_in

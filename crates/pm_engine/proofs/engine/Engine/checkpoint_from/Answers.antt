@@ -14,7 +14,7 @@ invariant_of-self-in-Ok g c =
     let ins : FrameRunning = record { store = c.self.inside.pages; log = c.deref_mut.result.now; ckpt = c.self.inside.ckpt; began = c.self.inside.began; order = c.self.inside.order.items } in
     let lent : ins ≡ (record ins { log = c.self.inside.log.value }) = λ i. record ins { log = c.deref_mut.ensures.value i } in
     let is = lent ∙ c.self.view_is in
-    let after : FrameRunning = record { store = c.checkpoint.new.self; log = c.checkpoint.new.log; ckpt = c.checkpoint.new.ckpt; began = c.appended-self-inside.result; order = c.self.inside.order.items } in
+    let after : FrameRunning = record { store = c.checkpoint.new.self; log = c.checkpoint.new.log; ckpt = c.checkpoint.new.ckpt; began = record { found = 0; total = c.appended-total.result }; order = c.self.inside.order.items } in
     let opened : ins.store.is_open ≡ true = ap (λ (r : FrameRunning). r.store.is_open) is ∙ c.requires.is_open in
     let made = c.in-Ok.ensures in
     engine_checked ins (subst IsEngine (sym lent) c.self.invariant) c.args.replay c.requires.replay (dirty_names ins.store) (dirty_bytes ins.store) made.dirty (g.H.Device.history c.args.host.now) (g.H.Device.history c.checkpoint.new.host) g.H.Device.tells after opened made.mark made.made.next made.made.pages
@@ -26,7 +26,7 @@ returns-in-Ok-clause-checks g c =
     let is = lent ∙ c.self.view_is in
     let old = g.H.Device.history c.args.host.now in
     let new = g.H.Device.history c.checkpoint.new.host in
-    let after : FrameRunning = record { store = c.checkpoint.new.self; log = c.checkpoint.new.log; ckpt = c.checkpoint.new.ckpt; began = c.appended-self-inside.result; order = c.self.inside.order.items } in
+    let after : FrameRunning = record { store = c.checkpoint.new.self; log = c.checkpoint.new.log; ckpt = c.checkpoint.new.ckpt; began = record { found = 0; total = c.appended-total.result }; order = c.self.inside.order.items } in
     let clean = λ (t : g.H.Device.tells). subst (λ (r : FrameRunning). HasCleanPages r.store old.world) (sym is) (c.requires.clean t) in
     let opened : ins.store.is_open ≡ true = ap (λ (r : FrameRunning). r.store.is_open) is ∙ c.requires.is_open in
     let made = c.in-Ok.ensures in

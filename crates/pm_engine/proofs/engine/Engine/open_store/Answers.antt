@@ -1,4 +1,4 @@
-use Rattle.std.proofs.Common.{rules, ◌≡◌, ◌+◌, ◌∙◌, Err, None, Some, inr, sym, ap, subst}
+use Rattle.std.proofs.Common.{rules, ◌≡◌, ◌⊎◌, ℕ, ◌+◌, ◌∙◌, Err, None, Some, inr, sym, ap, subst}
 use Rattle.std.specs.Prelude.{IsErrOf, IfErr, IfOk}
 use Rattle.pm_types.specs.declared.fault.OpenFault.TheVariants as opening
 use Rattle.pm_types.specs.declared.fault.StoreFault.TheVariants.{BadPage, BadRecord}
@@ -12,15 +12,17 @@ use Rattle.pm_core.specs.BasePages.{Partitions}
 use Rattle.pm_core.specs.Held.{AllWellFormed, in_force}
 use Rattle.pm_core.specs.LogAlone.{image_of}
 use Rattle.pm_redo.specs.LogEnds.{LogEndsAt}
-use Rattle.pm_engine.specs.Engines.{FrameRunning}
-use Rattle.pm_engine.specs.FrameOpenings.{HasGoodBase, HasNoStrayPages, KeepsBasePagesBut, OpensRunningIn}
+use Rattle.pm_engine.specs.Engines.{FrameRunning, counted_in}
+use Rattle.pm_engine.specs.FrameBatches.{EndsAtReplayIn}
+use Rattle.pm_engine.specs.LogCounts.{CountsAtLeast}
+use Rattle.pm_engine.specs.FrameOpenings.{CountsLog, HasGoodBase, HasNoStrayPages, KeepsBasePagesBut, OpensRunningIn}
 use Rattle.pm_engine.specs.MetPages.{MeetsBadPage}
 use Rattle.pm_engine.specs.FrameStores.{pages_in_frames}
-use Rattle.pm_engine.specs.Openings.{loaded_base, IsPlainOpen, opened_last, opened_number}
+use Rattle.pm_engine.specs.Openings.{loaded_base, IsPlainOpen, opened_last, opened_number, replayed_last, replayed_number}
 use Rattle.pm_engine.specs.Replays.{CrashHoldsMap}
 use Rattle.pm_engine.specs.RunningStores.{ended_with}
 use Rattle.pm_engine.proofs.FrameOpened.{open_cause_in, restore_cause_in, stray_marked}
-use Rattle.pm_engine.proofs.RestoredOpenings.{bad_uncut, leaves_passed, opened_records, refused_uncut, compares_failed, none_differs, compared_store, plain_open, field_named, restored_is, never_bad_record, cut_leads, holding, shape_is, restore_moments}
+use Rattle.pm_engine.proofs.RestoredOpenings.{bad_uncut, leaves_passed, opened_records, refused_uncut, compares_failed, none_differs, compared_store, plain_open, field_named, restored_is, never_bad_record, bytes_uncut, cut_leads, holding, shape_is, restore_moments}
 use Rattle.pm_engine.proofs.engine.Engine.open_store.Goals as goal
 
 pub open_restored-requires-clause-leads : goal.open_restored-requires-clause-leads
@@ -88,7 +90,7 @@ returns-in-Err-clause-refused g c t told shape pairs can few same =
     let wanted = c.args.config.now.shape in
     let base = c.in_ok-base.ensures.base in
     let held = holding wanted told shape pairs old mid can few c.requires.wanted.shape c.in_ok-base.base base.0 (base.1 t) (c.in_ok-base.ensures.alike t) (c.in_ok-base.ensures.restored t told shape pairs can) in
-    subst (λ r. IfErr r (λ fault. IsPlainOpen (opening.Store fault))) c.in-Err.is (c.open_restored.ensures.plain t (opened_last can) (opened_number can) wanted told pairs held.0 held.1)
+    subst (λ r. IfErr r (λ fault. IsPlainOpen (opening.Store fault))) c.in-Err.is (c.open_restored.ensures.plain t (replayed_last can) (replayed_number can) wanted told pairs held.0 held.1)
 
 pub returns-in-Err-clause-within : goal.returns-in-Err-clause-within
 returns-in-Err-clause-within g c t told shape pairs can few =
@@ -102,7 +104,7 @@ returns-in-Err-clause-within g c t told shape pairs can few =
     let its = shape_is wanted told shape pairs old mid can few c.requires.wanted.shape c.in_ok-base.base base.0 (base.1 t) alike in
     joined old mid new (CrashHoldsMap (opened_last can + 1) (opened_number can) wanted shape pairs) (restore_moments wanted told shape pairs old mid can few c.requires.wanted.shape (c.restore.ensures.within t told shape pairs can))
     (subst (λ (k : Shape). AllMoments mid new (CrashHoldsMap (opened_last can + 1) (opened_number can) wanted k pairs)) (sym its)
-    (c.open_restored.ensures.within t (opened_last can) (opened_number can) wanted told pairs held.0 held.1))
+    (c.open_restored.ensures.within t (replayed_last can) (replayed_number can) wanted told pairs held.0 held.1))
 
 pub returns-in-Ok-clause-within : goal.returns-in-Ok-clause-within
 returns-in-Ok-clause-within g c t told shape pairs can few =
@@ -116,7 +118,7 @@ returns-in-Ok-clause-within g c t told shape pairs can few =
     let its = shape_is wanted told shape pairs old mid can few c.requires.wanted.shape c.in_ok-base.base base.0 (base.1 t) alike in
     joined old mid new (CrashHoldsMap (opened_last can + 1) (opened_number can) wanted shape pairs) (restore_moments wanted told shape pairs old mid can few c.requires.wanted.shape (c.restore.ensures.within t told shape pairs can))
     (subst (λ (k : Shape). AllMoments mid new (CrashHoldsMap (opened_last can + 1) (opened_number can) wanted k pairs)) (sym its)
-    (c.open_restored.ensures.within t (opened_last can) (opened_number can) wanted told pairs held.0 held.1))
+    (c.open_restored.ensures.within t (replayed_last can) (replayed_number can) wanted told pairs held.0 held.1))
 
 pub returns-in-Ok-clause-opened : goal.returns-in-Ok-clause-opened
 returns-in-Ok-clause-opened g c t told shape pairs can few =
@@ -130,7 +132,7 @@ returns-in-Ok-clause-opened g c t told shape pairs can few =
     let its = shape_is wanted told shape pairs old mid can few c.requires.wanted.shape c.in_ok-base.base base.0 (base.1 t) alike in
     subst (λ (k : Shape). OpensRunningIn (opened_last can) (opened_number can) wanted told k pairs c.in-Ok.engine new.world) (sym its)
     (subst (λ r. IfOk r (λ (engine : FrameRunning). OpensRunningIn (opened_last can) (opened_number can) wanted told wanted pairs engine new.world)) c.in-Ok.is
-    (c.open_restored.ensures.opened t (opened_last can) (opened_number can) wanted told pairs held.0 held.1))
+    (c.open_restored.ensures.opened t (replayed_last can) (replayed_number can) wanted told pairs held.0 held.1))
 
 pub returns-in_err-base-clause-base : goal.returns-in_err-base-clause-base
 returns-in_err-base-clause-base g c t = record {
@@ -211,3 +213,13 @@ returns-in-Ok-clause-base g c t = record {
             (subst (λ r. IfOk r (λ (engine : FrameRunning). KeepsBasePagesBut wanted may_change (loaded_base base.mark mid.world) (pages_in_frames engine.store new.world))) c.in-Ok.is (any.pages may_change all));
       };
 }
+
+pub returns-in-Ok-clause-counted : goal.returns-in-Ok-clause-counted
+returns-in-Ok-clause-counted g c t end ends =
+    let old = g.H.Device.history c.args.host.now in
+    let mid = g.H.Device.history c.restore.new.host in
+    let base = c.in_ok-base.base in
+    let engine = c.in-Ok.engine in
+    let counts : CountsLog (contents mid.world.log) base.replay base.log_end engine = subst (λ r. IfOk r (CountsLog (contents mid.world.log) base.replay base.log_end)) c.in-Ok.is (c.open_restored.ensures.counted t) in
+    subst (λ (n : ℕ). EndsAtReplayIn engine ⊎ CountsAtLeast (counted_in engine) n)
+    (bytes_uncut c.args.config.now.shape (in_force (image_of old.world)) old.world mid.world base end (c.in_ok-base.ensures.base.1 t) (c.in_ok-base.ensures.only t).log ends) counts

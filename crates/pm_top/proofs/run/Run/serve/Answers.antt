@@ -6,6 +6,7 @@ use Rattle.pm_disk.proofs.Chain.{at_last}
 use Rattle.pm_script.specs.Reading.{rest_of, Unread}
 use Rattle.pm_core.specs.Calls.{ChangesDisk}
 use Rattle.pm_model.specs.declared.line.Line.{Line}
+use Rattle.pm_engine.specs.Batches.{StaysOpen}
 use Rattle.pm_engine.specs.Engines.{map_in}
 use Rattle.pm_engine.specs.FrameStores.{pages_in_frames}
 use Rattle.pm_engine.proofs.MetPages.{kept_same}
@@ -21,7 +22,7 @@ use Rattle.pm_top.proofs.AnsweredLines.{err_same, no_numbers, takes_both}
 use Rattle.pm_top.proofs.FrameRests.{same_both, same_engine, serving_still}
 use Rattle.pm_top.proofs.KeptConfigs.{config_disk, config_none, config_then}
 use Rattle.pm_top.proofs.LaterStates.{frame_later}
-use Rattle.pm_top.proofs.Serving.{more_place, more_bytes, more_limit, more_goes, end_none, end_goes, end_limit, over_stopped, force_map, force_stops, force_goes, force_leaves, served_fault, served_limit, served_done, served_unbegun, begins_here, may_next, append_right}
+use Rattle.pm_top.proofs.Serving.{more_place, more_bytes, more_limit, more_goes, end_none, end_goes, end_limit, over_stopped, none_said, numbers, force_stops, force_goes, force_leaves, served_fault, served_limit, served_done, served_unbegun, begins_here, may_next, append_right}
 use Rattle.pm_top.proofs.MetLines.{done_later, kept_later, met_later}
 use Rattle.pm_top.proofs.run.Run.serve.Goals as goal
 
@@ -198,16 +199,16 @@ returns-in-Ok-Over-clause-config g c t =
 
 -- ---- the script's end
 
-pub returns-in-Ok-forced-clause-served : goal.returns-in-Ok-forced-clause-served
-returns-in-Ok-forced-clause-served g c t wanted last number start same can =
+pub returns-in-Ok-ended-clause-served : goal.returns-in-Ok-ended-clause-served
+returns-in-Ok-ended-clause-served g c t wanted last number start same can =
     let old = g.H.Device.history c.args.host.now in
     let before = g.H.Device.history c.batches.host in
     let batch = c.answer_batch-next in
     let mid = g.H.Device.history batch.new.host in
-    let new = g.H.Device.history c.force-forced.new.host in
+    let new = g.H.Device.history c.end_run-ended.new.host in
     let first = c.args.self in
     let run = batch.result.0 in
-    let later : Run = record run { engine = c.force-forced.new.self } in
+    let later : Run = record run { engine = c.end_run-ended.new.self } in
     let so_far = c.batches.invariant in
     let script = script_of old.world.input in
     let rest = script_of (rest_of c.batches.input before.world) in
@@ -221,32 +222,32 @@ returns-in-Ok-forced-clause-served g c t wanted last number start same can =
     let takes : TakesFor run.lines first.engine run.engine = subst (λ (n : ℕ). TakesFor n first.engine run.engine) (sym counts.lines) (takes_both c.batches.run.lines counts.more first.engine c.batches.run.engine run.engine so_far.numbers counts.numbers) in
     let room = may_next wanted last number old mid script [] first run can reached counts.few takes in
     let map_mid = map_in run.engine mid.world in
-    let ok = c.in-Ok-forced.ensures in
-    let disk = c.force-forced.ensures.disk t in
-    let crash = c.force-forced.ensures.crash t wanted says_nothing room.stands.from map_mid [] room.stands.has in
-    let sound = g.H.Device.sound c.force-forced.new.host t in
-    let lasts = ok.rests t wanted says_nothing room.stands.from map_mid [] room.stands.has in
-    let map = force_map run.engine c.force-forced.new.self mid.world new.world ok.engine.same (ok.reads t).pages in
+    let ok = c.in-Ok-ended.ensures in
+    let stays : StaysOpen c.end_run-ended.result = subst StaysOpen (sym c.in-Ok-ended.is) tt in
+    let runs = c.end_run-ended.ensures.runs 1 none_said in
+    let disk = runs.disk t in
+    let sound = g.H.Device.sound c.end_run-ended.new.host t in
+    let lasts = ok.rests t wanted says_nothing room.stands.from map_mid [] room.stands.has (numbers wanted last number 2048 mid new run later [] room sound refl disk (omega arith) t runs c.end_run-ended.ensures.order) in
     let shape = first.engine.store.shape in
     let pairs = map_in first.engine old.world in
     let only = at_last mid new (ChangesDisk mid.world) sound disk in
     let none = end_none then_comes.End answered old.world.input refl in
     served_done wanted last number start shape pairs old new script first later (begins_here start old.world first same c.requires.lines c.requires.order) []
-    (goes_then wanted last number old mid new script [] [] first run later (Ok tt) reached (force_goes wanted last number 2048 mid new run later [] room sound refl disk crash ok.engine.same map lasts))
+    (goes_then wanted last number old mid new script [] [] first run later (Ok tt) reached (force_goes wanted last number 2048 mid new run later [] room sound refl disk (omega arith) t runs c.end_run-ended.ensures.order stays (c.end_run-ended.ensures.numbers stays) ok.still lasts))
     refl (only.input ∙ append_right batch.new.input.pending mid.world.input none)
     (omega (arith, end_limit then_comes.End answered old.world.input refl (so_far.limit t) (so_far.bytes t), ap (λ (l : List ℕ). length l) same.input)) counts.few
-    (λ at_end. force_leaves wanted last number 2048 mid new run later [] room sound refl disk crash ok.engine.same map lasts refl start shape pairs at_end)
+    (λ at_end. force_leaves wanted last number 2048 mid new run later [] room sound refl disk (omega arith) t runs c.end_run-ended.ensures.order stays (c.end_run-ended.ensures.numbers stays) ok.still lasts refl start shape pairs at_end)
 
-pub returns-in-Err-forced-clause-served : goal.returns-in-Err-forced-clause-served
-returns-in-Err-forced-clause-served g c t wanted last number start same can =
+pub returns-in-Err-ended-clause-served : goal.returns-in-Err-ended-clause-served
+returns-in-Err-ended-clause-served g c t wanted last number start same can =
     let old = g.H.Device.history c.args.host.now in
     let before = g.H.Device.history c.batches.host in
     let batch = c.answer_batch-next in
     let mid = g.H.Device.history batch.new.host in
-    let new = g.H.Device.history c.force-forced.new.host in
+    let new = g.H.Device.history c.end_run-ended.new.host in
     let first = c.args.self in
     let run = batch.result.0 in
-    let later : Run = record run { engine = c.force-forced.new.self } in
+    let later : Run = record run { engine = c.end_run-ended.new.self } in
     let so_far = c.batches.invariant in
     let script = script_of old.world.input in
     let rest = script_of (rest_of c.batches.input before.world) in
@@ -259,25 +260,25 @@ returns-in-Err-forced-clause-served g c t wanted last number start same can =
     let reached = goes_then wanted last number old before mid script rest [] first c.batches.run run (Ok tt) goes (end_goes then_comes.End answered old.world.input refl wanted last number may) in
     let takes : TakesFor run.lines first.engine run.engine = subst (λ (n : ℕ). TakesFor n first.engine run.engine) (sym counts.lines) (takes_both c.batches.run.lines counts.more first.engine c.batches.run.engine run.engine so_far.numbers counts.numbers) in
     let room = may_next wanted last number old mid script [] first run can reached counts.few takes in
-    let crash = c.force-forced.ensures.crash t wanted says_nothing room.stands.from (map_in run.engine mid.world) [] room.stands.has in
-    let stops = force_stops wanted last number 2048 mid new run later [] room (g.H.Device.sound c.force-forced.new.host t) refl (c.force-forced.ensures.disk t) crash c.in-Err-forced.ensures.engine.closed in
+    let runs = c.end_run-ended.ensures.runs 1 none_said in
+    let stops = force_stops wanted last number 2048 mid new run later [] room (g.H.Device.sound c.end_run-ended.new.host t) refl (runs.disk t) (omega arith) t runs c.end_run-ended.ensures.order in
     served_fault wanted last number start first.engine.store.shape (map_in first.engine old.world) old new script first later (begins_here start old.world first same c.requires.lines c.requires.order) [] Failed
     (goes_then wanted last number old mid new script [] [] first run later (Err Failed) reached stops)
 
-pub returns-in-Ok-forced-clause-config : goal.returns-in-Ok-forced-clause-config
-returns-in-Ok-forced-clause-config g c t =
+pub returns-in-Ok-ended-clause-config : goal.returns-in-Ok-ended-clause-config
+returns-in-Ok-ended-clause-config g c t =
     let old = g.H.Device.history c.args.host.now in
     let before = g.H.Device.history c.batches.host in
     let mid = g.H.Device.history c.answer_batch-next.new.host in
-    let new = g.H.Device.history c.force-forced.new.host in
+    let new = g.H.Device.history c.end_run-ended.new.host in
     let so_far = config_then old before mid (g.H.Device.sound c.batches.host t) (c.batches.invariant.config t) (c.answer_batch-next.ensures.open t).config in
-    config_then old mid new (g.H.Device.sound c.answer_batch-next.new.host t) so_far (config_disk mid new (c.force-forced.ensures.disk t))
+    config_then old mid new (g.H.Device.sound c.answer_batch-next.new.host t) so_far (config_disk mid new ((c.end_run-ended.ensures.runs 1 none_said).disk t))
 
-pub returns-in-Err-forced-clause-config : goal.returns-in-Err-forced-clause-config
-returns-in-Err-forced-clause-config g c t =
+pub returns-in-Err-ended-clause-config : goal.returns-in-Err-ended-clause-config
+returns-in-Err-ended-clause-config g c t =
     let old = g.H.Device.history c.args.host.now in
     let before = g.H.Device.history c.batches.host in
     let mid = g.H.Device.history c.answer_batch-next.new.host in
-    let new = g.H.Device.history c.force-forced.new.host in
+    let new = g.H.Device.history c.end_run-ended.new.host in
     let so_far = config_then old before mid (g.H.Device.sound c.batches.host t) (c.batches.invariant.config t) (c.answer_batch-next.ensures.open t).config in
-    config_then old mid new (g.H.Device.sound c.answer_batch-next.new.host t) so_far (config_disk mid new (c.force-forced.ensures.disk t))
+    config_then old mid new (g.H.Device.sound c.answer_batch-next.new.host t) so_far (config_disk mid new ((c.end_run-ended.ensures.runs 1 none_said).disk t))
