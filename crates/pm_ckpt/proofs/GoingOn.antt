@@ -26,7 +26,7 @@ use Rattle.pm_core.specs.Stands.{Stands}
 use Rattle.pm_core.proofs.Replaying.{replayed-append, replayed-none}
 use Rattle.pm_ckpt.specs.Checkpoints.{written_so, IsBegunLog}
 use Rattle.pm_ckpt.specs.Marked.{begin_frame, begin_log}
-use Rattle.pm_ckpt.specs.declared.mark.TheConstants.{CP_BEGIN_LEN}
+use Rattle.pm_records.specs.declared.limits.TheConstants.{CP_BEGIN_LEN}
 
 -- ---- steps of the log that begins with a record already
 

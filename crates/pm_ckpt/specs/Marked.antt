@@ -13,7 +13,7 @@ use Rattle.pm_records.specs.Records.{CpBegin}
 use Rattle.pm_segments.specs.Appends.{roomy, append_steps, grown}
 use Rattle.pm_segments.specs.Drops.{kept_from}
 use Rattle.pm_segments.specs.Ends.{LogEnd}
-use Rattle.pm_ckpt.specs.declared.mark.TheConstants.{CP_BEGIN_LEN}
+use Rattle.pm_records.specs.declared.limits.TheConstants.{CP_BEGIN_LEN}
 
 -- What is kept for checkpoints: the store's shape, the start marker in force, and room for the pages
 -- of a checkpoint; no room once a call failed.

@@ -12,11 +12,10 @@ ghost use Rattle.pm_core.specs.States.{State};
 ghost use Rattle.pm_ckpt.specs.Marked.{begin_frame, begin_log};
 ghost use Rattle.pm_ckpt.specs.Checkpoints.{opening_steps};
 
-use crate::mark::CP_BEGIN_LEN;
 use pm_core::{Begun, Idle, PageSet};
 use pm_disk::{Failed, Host};
 use pm_frame::CP_BEGIN;
-use pm_records::{LogRecord, encode};
+use pm_records::{CP_BEGIN_LEN, LogRecord, encode};
 use pm_segments::Log;
 use pm_types::Mark;
 

@@ -5,11 +5,9 @@ ghost use Rattle.pm_frame.specs.declared.limits.TheConstants.{FRAME_EXTRA};
 ghost use Rattle.pm_ckpt.specs.Marked.{next_number, from_after, begin_of, replay_or, next_mark};
 
 use pm_frame::FRAME_EXTRA;
+use pm_records::CP_BEGIN_LEN;
 use pm_segments::Log;
 use pm_types::{Mark, Place, Shape};
-
-/// The bytes of a CP_BEGIN's payload.
-pub(crate) const CP_BEGIN_LEN: usize = 20;
 
 /// The mark of the checkpoint after the one with the mark `before`. Where no replay place is asked for
 /// it is the place just after the CP_BEGIN, which goes to the log's end or to the next segment.

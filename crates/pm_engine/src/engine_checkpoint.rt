@@ -20,11 +20,9 @@ ghost use Rattle.pm_engine.specs.RunningStores.{HasSegmentsFor};
 use crate::engine::Engine;
 use crate::log_count::LogCount;
 use pm_disk::Host;
+use pm_records::CP_BEGIN_LEN;
 use pm_segments::Log;
 use pm_types::{Place, StoreFault};
-
-// The bytes of a CP_BEGIN's payload.
-const CP_BEGIN_LEN: usize = 20;
 
 impl Engine {
     /// Makes the next checkpoint, of the pages that stay in their frames: `Ckpt::whole` says which steps it makes. No

@@ -13,12 +13,8 @@ ghost use Rattle.pm_engine.specs.OutboxLogs.{BeginsWithOperation, BeginsWithReco
 ghost use Rattle.pm_engine.specs.OutboxLogs.{SpellNumbers, HasNumberRoom};
 
 use pm_disk::{Failed, LogFile};
+use pm_records::{OPERATION_HEAD_LEN, RECORD_HEAD_LEN};
 use pm_segments::Log;
-
-/// The bytes of an operation before its records: its line's number, and their length.
-const OPERATION_HEAD_LEN: usize = 8;
-/// The bytes of a record before its payload: its kind, and the payload's length.
-const RECORD_HEAD_LEN: usize = 5;
 
 /// Puts the number of each operation that these bytes are, as those of an outbox, at the end of `order`, one after the
 /// other. It takes no memory.

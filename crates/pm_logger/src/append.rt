@@ -12,10 +12,11 @@ ghost use Rattle.pm_records.specs.Operations.{Operation, frame_of, MayBeLogged, 
 ghost use Rattle.pm_records.specs.Operations.{AreRecords, SpellOperation, IsWhole};
 ghost use Rattle.pm_logger.specs.Writers.{writer};
 
-use crate::operation::{OPERATION_HEAD_LEN, first_record, operation_head_of};
+use crate::operation::{first_record, operation_head_of};
 use crate::tally::Tally;
 use pm_disk::{Failed, LogFile};
 use pm_frame::LOGICAL;
+use pm_records::OPERATION_HEAD_LEN;
 use pm_segments::Log;
 
 /// Appends an operation, and forces the log where it is the last of so many.

@@ -7,12 +7,8 @@ ghost use Rattle.pm_records.specs.Operations.{frame_of, record_head, record_byte
 ghost use Rattle.pm_records.specs.Operations.{MayBeLogged, IsLogged, AreRecords, BeginsWithNoRecord};
 
 use pm_frame::{DELTA, LOGICAL, PAYLOAD_MAX};
+use pm_records::{OPERATION_HEAD_LEN, RECORD_HEAD_LEN};
 use pm_types::OUTBOX;
-
-/// The bytes of a record of an operation before its payload: kind and length.
-pub const RECORD_HEAD_LEN: usize = 5;
-/// The bytes of an operation before its records: its line's number, and their length.
-pub const OPERATION_HEAD_LEN: usize = 8;
 
 /// The record at the front of an operation's records, and what follows it.
 #[derive(Clone, Copy)]

@@ -10,9 +10,9 @@ ghost use Rattle.pm_stripe.specs.Listings.{WritesPage, WritesPages, MayBeLogical
 ghost use Rattle.pm_stripe.specs.Listings.{after_logical, HandsOver};
 
 use crate::held::Held;
-use crate::limits::{OPERATION_HEAD_LEN, PAGE_EXTRA};
+use crate::limits::PAGE_EXTRA;
 use crate::record::{write_page, write_record};
-use pm_records::LogRecord;
+use pm_records::{LogRecord, OPERATION_HEAD_LEN};
 use pm_types::{Flag, OP_EXTRA, OUTBOX};
 
 /// Writes what an operation hands to the log writer to the front of `into`, and gives where it ends.

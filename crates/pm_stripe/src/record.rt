@@ -11,10 +11,10 @@ ghost use Rattle.pm_pages.specs.Deltas.{delta_of, delta_len};
 ghost use Rattle.pm_records.specs.Operations.{IsLogged, record_head, record_bytes};
 ghost use Rattle.pm_stripe.specs.ChangedPages.{frame_for, has_bytes, page_record};
 
-use crate::limits::{PAGE_EXTRA, PAGE_NAME_LEN, RECORD_HEAD_LEN};
+use crate::limits::PAGE_EXTRA;
 use pm_frame::DELTA;
 use pm_pages::{ranges_len, write_ranges};
-use pm_records::{LogRecord, encode, encoded_len, kind_of};
+use pm_records::{LogRecord, PAGE_NAME_LEN, RECORD_HEAD_LEN, encode, encoded_len, kind_of};
 use pm_types::{PageId, Patch};
 
 /// Writes a record to the front of `into`, and gives where it ends.
