@@ -35,7 +35,7 @@ fault_in (Err fault) other = fault
 
 abbrev name_in : StoreFault → PageId → PageId
 name_in Failed other = other
-name_in Memory other = other
+name_in (Memory lack) other = other
 name_in (BadPage id) other = id
 name_in (BadRecord at) other = other
 

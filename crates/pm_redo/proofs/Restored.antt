@@ -218,7 +218,7 @@ replay_marks (Ended mark) marks is = ap replay_from is
 
 leaves : (old now : World) (fault : StoreFault) → ((at : Place) → fault ≡ BadRecord at → now ≡ old) → ((page : PageId) → fault ≡ BadPage page → ⊥) → LeavesStore old now (opening.Store fault)
 leaves old now Failed same no_page = tt
-leaves old now Memory same no_page = tt
+leaves old now (Memory lack) same no_page = tt
 leaves old now (BadPage page) same no_page = absurd (no_page page refl)
 leaves old now (BadRecord at) same no_page = same at refl
 

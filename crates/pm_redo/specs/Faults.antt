@@ -10,7 +10,7 @@ use Rattle.pm_disk.specs.States.{DeviceState, IsUsable, Rose}
 -- a fault that a call on a host or out of memory gives: no record and no page is bad
 abbrev pub IsPlainFault : StoreFault → Type 0
 IsPlainFault Failed = Unit {0}
-IsPlainFault Memory = Unit {0}
+IsPlainFault (Memory lack) = Unit {0}
 IsPlainFault (BadPage page) = ⊥
 IsPlainFault (BadRecord place) = ⊥
 

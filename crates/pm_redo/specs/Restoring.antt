@@ -112,7 +112,7 @@ IsBadRestore checkpoint log at =
 abbrev pub LeavesStore : World → World → OpenFault → Type 0
 LeavesStore old now (opening.Shape field) = now ≡ old
 LeavesStore old now (opening.Store Failed) = Unit {0}
-LeavesStore old now (opening.Store Memory) = Unit {0}
+LeavesStore old now (opening.Store (Memory lack)) = Unit {0}
 LeavesStore old now (opening.Store (BadPage page)) = now ≡ old
 LeavesStore old now (opening.Store (BadRecord at)) = now ≡ old
 
@@ -166,7 +166,7 @@ pub record OnlyRestores {T : Type 0} (differs : Option Field) (old new : History
 abbrev pub ComparesShape : Option Field → OpenFault → Type 0
 ComparesShape differs (opening.Shape field) = differs ≡ Some field
 ComparesShape differs (opening.Store Failed) = Unit {0}
-ComparesShape differs (opening.Store Memory) = Unit {0}
+ComparesShape differs (opening.Store (Memory lack)) = Unit {0}
 ComparesShape differs (opening.Store (BadPage page)) = differs ≡ None
 ComparesShape differs (opening.Store (BadRecord at)) = differs ≡ None
 

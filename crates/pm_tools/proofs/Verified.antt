@@ -49,7 +49,7 @@ reads_more old from scan later count next f read stands advances some is = recor
 -- the place that a fault names
 abbrev place_in : StoreFault → Place → Place
 place_in Failed other = other
-place_in Memory other = other
+place_in (Memory lack) other = other
 place_in (BadPage id) other = other
 place_in (BadRecord at) other = at
 
