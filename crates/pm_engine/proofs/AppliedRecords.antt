@@ -5,6 +5,7 @@ use Rattle.std.proofs.lemmas.Bool.{eqb-true, false≢true}
 use Rattle.pm_types.specs.declared.fault.PageFault.TheVariants as page
 use Rattle.pm_types.specs.declared.fault.StoreFault.{StoreFault}
 use Rattle.pm_types.specs.declared.fault.StoreFault.TheVariants as store
+use Rattle.pm_types.specs.declared.fault.Lack.{Lack}
 use Rattle.pm_types.specs.declared.page_id.PageId.{PageId}
 use Rattle.pm_types.specs.declared.place.Place.{Place}
 use Rattle.pm_types.specs.declared.shape.Shape.{Shape}
@@ -157,13 +158,13 @@ applied_no_record put (Err (Halted halt)) at is = absurd cc
 applied_no_record put (Err (Faulted page.Failed)) at is = absurd cc
 applied_no_record put (Err (Faulted (page.BadPage other))) at is = absurd cc
 
-pub applied_no_memory : (is_put : Bool) (answer : Result Bool Stop) → IsErrOf (applied_as is_put answer) store.Memory → ⊥
-applied_no_memory put (Ok true) is = absurd cc
-applied_no_memory true (Ok false) is = absurd cc
-applied_no_memory false (Ok false) is = absurd cc
-applied_no_memory put (Err (Halted halt)) is = absurd cc
-applied_no_memory put (Err (Faulted page.Failed)) is = absurd cc
-applied_no_memory put (Err (Faulted (page.BadPage other))) is = absurd cc
+pub applied_no_memory : (is_put : Bool) (answer : Result Bool Stop) (lack : Lack) → IsErrOf (applied_as is_put answer) (store.Memory lack) → ⊥
+applied_no_memory put (Ok true) lack is = absurd cc
+applied_no_memory true (Ok false) lack is = absurd cc
+applied_no_memory false (Ok false) lack is = absurd cc
+applied_no_memory put (Err (Halted halt)) lack is = absurd cc
+applied_no_memory put (Err (Faulted page.Failed)) lack is = absurd cc
+applied_no_memory put (Err (Faulted (page.BadPage other))) lack is = absurd cc
 
 pub applied_failed : (is_put : Bool) (answer : Result Bool Stop) → IsErrOf (applied_as is_put answer) store.Failed → IsErrOf answer (Faulted page.Failed)
 applied_failed put (Ok true) is = absurd cc
@@ -228,11 +229,11 @@ applied_fault tells found before now old new fault goes none keeps = record {
 }
 
 -- after a plain fault the engine is as it was, or is open no more
-pub plain_keeps : (tells : Type 0) (before now : FrameRunning) (old new : World) (fault : StoreFault) → IsPlainFault fault → (fault ≡ store.Memory → (now ≡ before) × (tells → new ≡ old)) → (fault ≡ store.Failed → now.store.is_open ≡ false) → tells → (may_change : ℕ → Bool) → now.store.is_open ≡ true
+pub plain_keeps : (tells : Type 0) (before now : FrameRunning) (old new : World) (fault : StoreFault) → IsPlainFault fault → ((lack : Lack) → fault ≡ store.Memory lack → (now ≡ before) × (tells → new ≡ old)) → (fault ≡ store.Failed → now.store.is_open ≡ false) → tells → (may_change : ℕ → Bool) → now.store.is_open ≡ true
     → KeepsPagesBut may_change (pages_in_frames before.store old) (pages_in_frames now.store new)
 plain_keeps tells before now old new store.Failed plain same closed t may_change on = absurd (false≢true (sym (closed refl) ∙ on))
-plain_keeps tells before now old new store.Memory plain same closed t may_change on =
-    let is = same refl in
+plain_keeps tells before now old new (store.Memory lack) plain same closed t may_change on =
+    let is = same lack refl in
     kept_equal may_change (pages_in_frames before.store old) (pages_in_frames now.store new) (λ i. pages_in_frames (is.0 i).store (is.1 t i))
 plain_keeps tells before now old new (store.BadPage id) plain same closed t may_change on = absurd plain
 plain_keeps tells before now old new (store.BadRecord at) plain same closed t may_change on = absurd plain

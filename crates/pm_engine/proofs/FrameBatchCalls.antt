@@ -10,6 +10,8 @@ use Rattle.pm_types.specs.declared.fault.PageFault.{PageFault}
 use Rattle.pm_types.specs.declared.fault.PageFault.TheVariants as page
 use Rattle.pm_types.specs.declared.fault.StoreFault.{StoreFault}
 use Rattle.pm_types.specs.declared.fault.StoreFault.TheVariants.{Failed, Memory, BadPage}
+use Rattle.pm_types.specs.declared.fault.Lack.{Lack}
+use Rattle.pm_types.specs.declared.fault.Lack.TheVariants.{Frames}
 use Rattle.pm_types.specs.declared.page_id.PageId.{PageId}
 use Rattle.pm_types.specs.declared.shape.Shape.{Shape}
 use Rattle.pm_types.specs.Faults.{store_fault_of}
@@ -348,10 +350,10 @@ module _ (tells : Type 0) (old new : History) (first : ℕ) (lines : List Line) 
         let long : length (take end.done lines) ≡ end.done = length-take-le end.done lines round_inside in
         round_batch (take end.done lines) (Ok tt) (take-take end.done end.done lines (omega arith)) (omega (arith, long)) (sym long) (λ stays. goes_on) (λ shut. absurd (shut tt)) (λ id bad. absurd (cc bad)) (λ id bad. absurd (cc bad))
 
-    -- none was done, and memory lacks
-    pub round_lacks : may_go_on end.stop ≡ true → RunsFrameBatch tells old new first lines (33 * length lines) 0 before now was replies (Err Memory)
+    -- none was done, and frames lack
+    pub round_lacks : may_go_on end.stop ≡ true → RunsFrameBatch tells old new first lines (33 * length lines) 0 before now was replies (Err (Memory Frames))
     round_lacks goes_on =
-        round_batch lines (Err Memory) refl round_inside tt (λ stays. goes_on) (λ shut. absurd (shut tt)) (λ id bad. absurd (cc bad)) (λ id bad. refl)
+        round_batch lines (Err (Memory Frames)) refl round_inside tt (λ stays. goes_on) (λ shut. absurd (shut tt)) (λ id bad. absurd (cc bad)) (λ id bad. refl)
 
     pub round_faulted : (fault : PageFault) → end.stop ≡ Some (Faulted fault)
         → RunsFrameBatch tells old new first lines (33 * length lines) 0 before now was replies (Err (store_fault_of fault))
@@ -418,11 +420,11 @@ keeps_itself tells old new before now is world clean =
       world = world;
     })
 
--- out of memory: none of these lines was done
-pub none_done : (tells : Type 0) (old new : History) (before now : FrameRunning) → KeepsEngine tells old new before now
+-- something ran out: none of these lines was done
+pub none_done : (lack : Lack) (tells : Type 0) (old new : History) (before now : FrameRunning) → KeepsEngine tells old new before now
     → (first segments checkpoints : ℕ) (lines : List Line) (list : ReplyList) → now.store.is_open ≡ true → (tells → EndsThere before.log old.world)
-    → RunsFrameBatch tells old new first lines segments checkpoints before now list list (Err Memory)
-none_done tells old new before now keeps first segments checkpoints lines list opens ends_there =
-    batch_part tells old new first [] lines segments checkpoints segments checkpoints before now list list Memory
-    (kept_none tells old new before now keeps first segments checkpoints list (Err Memory) (λ stays. opens) (λ shut. absurd (shut tt)) ends_there (λ t may id bad. absurd (cc bad)) (λ t may_change id bad. absurd (cc bad)) tt)
+    → RunsFrameBatch tells old new first lines segments checkpoints before now list list (Err (Memory lack))
+none_done lack tells old new before now keeps first segments checkpoints lines list opens ends_there =
+    batch_part tells old new first [] lines segments checkpoints segments checkpoints before now list list (Memory lack)
+    (kept_none tells old new before now keeps first segments checkpoints list (Err (Memory lack)) (λ stays. opens) (λ shut. absurd (shut tt)) ends_there (λ t may id bad. absurd (cc bad)) (λ t may_change id bad. absurd (cc bad)) tt)
     (omega arith) (omega arith)

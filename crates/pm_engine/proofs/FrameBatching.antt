@@ -7,6 +7,7 @@ use Rattle.std.proofs.lemmas.Result.{on_ok_weaker}
 use Rattle.std.proofs.Math.Seq.{take-length, take-append-add, take-append-le}
 use Rattle.pm_types.specs.declared.fault.StoreFault.{StoreFault}
 use Rattle.pm_types.specs.declared.fault.StoreFault.TheVariants.{Memory, BadPage}
+use Rattle.pm_types.specs.declared.fault.Lack.TheVariants.{Frames}
 use Rattle.pm_types.specs.declared.page_id.PageId.{PageId}
 use Rattle.pm_types.specs.declared.shape.Shape.{Shape}
 use Rattle.pm_disk.specs.Moments.{History, IsHistory, AllMoments}
@@ -173,12 +174,12 @@ batch_part tells old new first xs ys a b segments checkpoints start now was repl
     batch_as tells old new first xs (xs ++ ys) a b segments checkpoints start now was replies (Err fault) (Err fault) (is_itself (Err fault)) it (sym (take-append-le it.tried xs ys it.within)) (λ P all. all_first P xs ys all)
     (omega (arith, it.within, length-append xs ys)) tt in_segments in_checkpoints
 
--- memory lacks for the next line
+-- frames lack for the next line
 pub batch_lacks : (tells : Type 0) (old new : History) (first : ℕ) (xs ys : List Line) (a b segments checkpoints : ℕ)
     (start now : FrameRunning) (was replies : ReplyList) → RunsFrameBatch tells old new first xs a b start now was replies (Ok tt)
-    → a ≤ segments → b ≤ checkpoints → RunsFrameBatch tells old new first (xs ++ ys) segments checkpoints start now was replies (Err Memory)
+    → a ≤ segments → b ≤ checkpoints → RunsFrameBatch tells old new first (xs ++ ys) segments checkpoints start now was replies (Err (Memory Frames))
 batch_lacks tells old new first xs ys a b segments checkpoints start now was replies it in_segments in_checkpoints =
-    batch_as tells old new first xs (xs ++ ys) a b segments checkpoints start now was replies (Ok tt) (Err Memory)
+    batch_as tells old new first xs (xs ++ ys) a b segments checkpoints start now was replies (Ok tt) (Err (Memory Frames))
     (record { stays = λ is. tt; shuts = λ shut is. shut tt; bad = λ id bad. absurd (cc bad) }) it (sym (take-append-le it.tried xs ys it.within)) (λ P all. all_first P xs ys all)
     (omega (arith, it.within, length-append xs ys)) tt in_segments in_checkpoints
 

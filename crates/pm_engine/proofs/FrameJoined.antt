@@ -9,6 +9,7 @@ use Rattle.std.proofs.Math.Seq.{take-append-add}
 use Rattle.std.proofs.lemmas.Result.{on_ok_weaker}
 use Rattle.pm_types.specs.declared.fault.StoreFault.{StoreFault}
 use Rattle.pm_types.specs.declared.fault.StoreFault.TheVariants.{Memory}
+use Rattle.pm_types.specs.declared.fault.Lack.TheVariants.{Frames}
 use Rattle.pm_disk.specs.Moments.{History, IsHistory}
 use Rattle.pm_disk.proofs.Chain.{started}
 use Rattle.pm_segments.specs.Ends.{EndsThere}
@@ -159,7 +160,7 @@ module _ (tells : Type 0) (old mid new : History) (first : ℕ) (lines : List Li
       subst (λ (q : Result ℕ StoreFault). RunsPart tells old new first lines start now was replies q) (sym lacks.1) (record {
         some = tt;
         inside = tt;
-        runs = then_tries lines (Err Memory) (subst (λ ls. RunsFrameBatch tells mid new first ls (33 * length lines) 0 engine now was replies (Err Memory)) (take-append-drop count lines)
+        runs = then_tries lines (Err (Memory Frames)) (subst (λ ls. RunsFrameBatch tells mid new first ls (33 * length lines) 0 engine now was replies (Err (Memory Frames))) (take-append-drop count lines)
             (batch_lacks tells mid new first (take count lines) (drop count lines) (33 * length lines) 0 (33 * length lines) 0 engine now was replies tries.runs (omega arith) (omega arith)));
         numbers = λ stays. numbers_more start engine now 1 1 (33 * count) 0 (checks.numbers tt) (tries.numbers tt) (34 * length lines) (length lines) (omega (arith, some, lacks.0)) (omega (arith, some));
         asked = tt;

@@ -87,7 +87,7 @@ use Rattle.pm_engine.proofs.RunningLogs.{state_follows}
 pub open_cause_in : (tells : Type 0) (shape : Shape) (checkpoint : Checkpoint) (old new : World) (fault : StoreFault) → ((id : PageId) → fault ≡ BadPage id → IsBadOpeningPage tells shape checkpoint old id)
     → ((at : Place) → fault ≡ BadRecord at → IsBadOpeningIn shape checkpoint old new at) → HasOpenCauseIn tells shape checkpoint old new (opening.Store fault)
 open_cause_in tells shape checkpoint old new Failed page found = tt
-open_cause_in tells shape checkpoint old new Memory page found = tt
+open_cause_in tells shape checkpoint old new (Memory lack) page found = tt
 open_cause_in tells shape checkpoint old new (BadPage id) page found = page id refl
 open_cause_in tells shape checkpoint old new (BadRecord at) page found = found at refl
 
@@ -97,7 +97,7 @@ pub restore_cause_in : {T : Type 0} (tells : Type 0) (shape : Shape) (checkpoint
 restore_cause_in tells shape checkpoint old new (Ok x) found page untouched = tt
 restore_cause_in tells shape checkpoint old new (Err (opening.Shape field)) found page untouched = untouched
 restore_cause_in tells shape checkpoint old new (Err (opening.Store Failed)) found page untouched = tt
-restore_cause_in tells shape checkpoint old new (Err (opening.Store Memory)) found page untouched = tt
+restore_cause_in tells shape checkpoint old new (Err (opening.Store (Memory lack))) found page untouched = tt
 restore_cause_in tells shape checkpoint old new (Err (opening.Store (BadPage id))) found page untouched = absurd (page id refl)
 restore_cause_in tells shape checkpoint old new (Err (opening.Store (BadRecord at))) found page untouched = inl (found at refl)
 

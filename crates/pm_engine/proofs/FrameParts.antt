@@ -10,6 +10,8 @@ use Rattle.pm_types.specs.declared.fault.PageFault.{PageFault}
 use Rattle.pm_types.specs.declared.fault.PageFault.TheVariants as page
 use Rattle.pm_types.specs.declared.fault.StoreFault.{StoreFault}
 use Rattle.pm_types.specs.declared.fault.StoreFault.TheVariants.{Failed, Memory, BadPage, BadRecord}
+use Rattle.pm_types.specs.declared.fault.Lack.{Lack}
+use Rattle.pm_types.specs.declared.fault.Lack.TheVariants.{Bytes, Frames}
 use Rattle.pm_types.specs.declared.page_id.PageId.{PageId}
 use Rattle.pm_types.specs.Faults.{store_fault_of}
 use Rattle.pm_disk.specs.Moments.{History}
@@ -147,7 +149,7 @@ module _ (tells : Type 0) (old new : History) (first : ℕ) (lines : List Line) 
 
   -- a round that wasn't run, or whose lines couldn't be appended
   pub round_untried : (fault : StoreFault) → IsPlainFault fault → (fault ≡ Failed → LosesRoundLines tells old new first 0 lines before now)
-      → (fault ≡ Memory → LeavesEngine tells old new before now was replies) → before.store.is_open ≡ true → (tells → EndsThere before.log old.world)
+      → ((lack : Lack) → fault ≡ Memory lack → LeavesEngine tells old new before now was replies) → before.store.is_open ≡ true → (tells → EndsThere before.log old.world)
       → (tells → HasCleanPages before.store old.world) → TriesLines tells old new first lines before now was replies (Err fault)
   round_untried Failed plain lost left opens ends_there clean = record {
     inside = tt;
@@ -155,13 +157,13 @@ module _ (tells : Type 0) (old new : History) (first : ℕ) (lines : List Line) 
     numbers = λ stays. absurd stays;
     none_asked = tt;
   }
-  round_untried Memory plain lost left opens ends_there clean =
-      let leaves = left refl in
+  round_untried (Memory lack) plain lost left opens ends_there clean =
+      let leaves = left lack refl in
       let keeps = keeps_itself tells old new before now leaves.engine leaves.world clean in
       record {
         inside = tt;
-        runs = subst (λ (l : ReplyList). RunsFrameBatch tells old new first lines (33 * length lines) 0 before now was l (Err Memory)) (sym leaves.replies)
-            (none_done tells old new before now keeps first (33 * length lines) 0 lines was (ap (λ (e : FrameRunning). e.store.is_open) leaves.engine ∙ opens) ends_there);
+        runs = subst (λ (l : ReplyList). RunsFrameBatch tells old new first lines (33 * length lines) 0 before now was l (Err (Memory lack))) (sym leaves.replies)
+            (none_done lack tells old new before now keeps first (33 * length lines) 0 lines was (ap (λ (e : FrameRunning). e.store.is_open) leaves.engine ∙ opens) ends_there);
         numbers = λ stays. keeps_numbers tells old new before now keeps 0 0;
         none_asked = tt;
       }
@@ -230,12 +232,12 @@ module _ (tells : Type 0) (old new : History) (first cache : ℕ) (before : Fram
     scan_numbers : TakesNumbersIn before scanned 0 0
     scan_numbers = keeps_numbers tells old new before scanned scan_keeps 0 0
 
-    -- memory lacks for it
-    scan_lacks : after.is_open ≡ true → replies ≡ was → TriesLines tells old new first (line ∷ []) before scanned was replies (Err Memory)
-    scan_lacks on none = record {
+    -- something ran out for it
+    scan_lacks : (lack : Lack) → after.is_open ≡ true → replies ≡ was → TriesLines tells old new first (line ∷ []) before scanned was replies (Err (Memory lack))
+    scan_lacks lack on none = record {
       inside = tt;
-      runs = subst (λ (l : ReplyList). RunsFrameBatch tells old new first (line ∷ []) 33 0 before scanned was l (Err Memory)) (sym none)
-          (none_done tells old new before scanned scan_keeps first 33 0 (line ∷ []) was on ends_there);
+      runs = subst (λ (l : ReplyList). RunsFrameBatch tells old new first (line ∷ []) 33 0 before scanned was l (Err (Memory lack))) (sym none)
+          (none_done lack tells old new before scanned scan_keeps first 33 0 (line ∷ []) was on ends_there);
       numbers = λ stays. scan_numbers;
       none_asked = tt;
     }
@@ -276,10 +278,10 @@ module _ (tells : Type 0) (old new : History) (first cache : ℕ) (before : Fram
       })
   scan_tried (Err (scan.Halted halt)) scans r (inr counts) =
       subst (λ (q : Result ℕ StoreFault). TriesLines tells old new first (line ∷ []) before scanned was replies q) (sym counts)
-      (scan_lacks (Err (scan.Halted halt)) scans scans.is_open scans.no_reply)
+      (scan_lacks (Err (scan.Halted halt)) scans Frames scans.is_open scans.no_reply)
   scan_tried (Err scan.Memory) scans r counts =
       subst (λ (q : Result ℕ StoreFault). TriesLines tells old new first (line ∷ []) before scanned was replies q) (sym counts)
-      (scan_lacks (Err scan.Memory) scans scans.is_open scans.no_reply)
+      (scan_lacks (Err scan.Memory) scans Bytes scans.is_open scans.no_reply)
   scan_tried (Err (scan.Faulted page.Failed)) scans r counts =
       subst (λ (q : Result ℕ StoreFault). TriesLines tells old new first (line ∷ []) before scanned was replies q) (sym counts)
       (scan_fails (Err (scan.Faulted page.Failed)) scans Failed (λ stays. stays) scans.is_open scans.no_reply (λ t may id bad. absurd (cc bad)) (λ t may_change id bad. absurd (cc bad)))

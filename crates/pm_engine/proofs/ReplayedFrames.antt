@@ -4,6 +4,7 @@ use Rattle.std.specs.Prelude.{◌||◌, if◌then◌else◌, IsErrOf}
 use Rattle.std.proofs.lemmas.Option.{same_Some}
 use Rattle.pm_types.specs.declared.fault.StoreFault.{StoreFault}
 use Rattle.pm_types.specs.declared.fault.StoreFault.TheVariants.{BadPage, BadRecord, Memory}
+use Rattle.pm_types.specs.declared.fault.Lack.TheVariants.{Bytes, Numbers}
 use Rattle.pm_types.specs.declared.page_id.PageId.{PageId}
 use Rattle.pm_types.specs.declared.place.Place.{Place}
 use Rattle.pm_types.specs.declared.shape.Shape.{Shape}
@@ -373,8 +374,8 @@ module _ (tells : Type 0) (scan : Scanned) (engine : FrameRunning) (old : Histor
         started old (CrashHoldsMap (last + 1) highest wanted engine.store.shape pairs) (sound t) (now_holds last highest wanted told pairs scan end engine old.world apart c);
   }
 
-  pub steps_unnumbered : StepsReplay {T = Unit {0}} tells scan scan engine engine old old (Err Memory)
-  steps_unnumbered = steps_none Memory (λ id is. absurd cc) (λ at is. absurd cc) (λ t at is. absurd cc) (λ t last highest wanted told pairs end apart c at is. absurd cc)
+  pub steps_unnumbered : StepsReplay {T = Unit {0}} tells scan scan engine engine old old (Err (Memory Numbers))
+  steps_unnumbered = steps_none (Memory Numbers) (λ id is. absurd cc) (λ at is. absurd cc) (λ t at is. absurd cc) (λ t last highest wanted told pairs end apart c at is. absurd cc)
 
   pub steps_past : (at : Place) → at ≡ scan.next → FRAME_END_MAX < scan.next.off → StepsReplay {T = Unit {0}} tells scan scan engine engine old old (Err (BadRecord at))
   steps_past at here past = steps_none (BadRecord at) (λ id is. absurd cc)
@@ -425,7 +426,7 @@ rests_hold last highest wanted told pairs from end engine s old sound c =
 
 -- memory ran out before
 pub none_replayed : (last highest : ℕ) (wanted : Shape) (told : List ℕ → ℕ) (pairs : Pairs) (from end : Place) (engine : FrameRunning) (s : State) (old : History) → IsHistory old → CanReplayIn last highest wanted told pairs from end engine s old.world
-    → ReplaysAllIn {T = Unit {0}} last highest wanted told pairs engine engine old old (Err Memory)
+    → ReplaysAllIn {T = Unit {0}} last highest wanted told pairs engine engine old old (Err (Memory Bytes))
 none_replayed last highest wanted told pairs from end engine s old sound c = record {
   replays = tt;
   map = tt;
@@ -449,10 +450,10 @@ so_far_none tells scan end engine old sound bound from_one on clean there ahead 
 }
 
 -- memory ran out before
-pub none_applied : (from end : Place) (engine : FrameRunning) (w : World) → ReplaysWellFormed {T = Unit {0}} from end engine engine w w (Err Memory)
+pub none_applied : (from end : Place) (engine : FrameRunning) (w : World) → ReplaysWellFormed {T = Unit {0}} from end engine engine w w (Err (Memory Bytes))
 none_applied from end engine w = record { applies = tt; no_page = λ id is. absurd cc; bad = λ at is. absurd cc }
 
-pub none_refused : (tells : Type 0) (from end : Place) (frames : List Frame) (engine : FrameRunning) (w : World) → ReplaysOverAny {T = Unit {0}} tells from end frames engine engine w w (Err Memory)
+pub none_refused : (tells : Type 0) (from end : Place) (frames : List Frame) (engine : FrameRunning) (w : World) → ReplaysOverAny {T = Unit {0}} tells from end frames engine engine w w (Err (Memory Bytes))
 none_refused tells from end frames engine w = record {
   meets = λ may_change all. record { keeps = λ on. kept_same may_change (pages_in_frames engine.store w); meets = λ id is. absurd cc };
   refuses = λ at is. absurd cc;

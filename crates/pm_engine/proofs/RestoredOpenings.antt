@@ -80,7 +80,7 @@ use Rattle.pm_engine.proofs.StillEnds.{ends_still}
 pub plain_fault : {T : Type 0} (result : Result T StoreFault) → ((id : PageId) → IsErrOf result (BadPage id) → ⊥) → ((at : Place) → IsErrOf result (BadRecord at) → ⊥) → IfErr result (λ fault. IsPlainOpen (opening.Store fault))
 plain_fault (Ok x) no_page no_record = tt
 plain_fault (Err Failed) no_page no_record = tt
-plain_fault (Err Memory) no_page no_record = tt
+plain_fault (Err (Memory lack)) no_page no_record = tt
 plain_fault (Err (BadPage id)) no_page no_record = no_page id refl
 plain_fault (Err (BadRecord at)) no_page no_record = no_record at refl
 
@@ -89,14 +89,14 @@ pub plain_open : {T : Type 0} (result : Result T OpenFault) → ((field : Field)
 plain_open (Ok x) no_shape no_page no_record = tt
 plain_open (Err (opening.Shape field)) no_shape no_page no_record = no_shape field refl
 plain_open (Err (opening.Store Failed)) no_shape no_page no_record = tt
-plain_open (Err (opening.Store Memory)) no_shape no_page no_record = tt
+plain_open (Err (opening.Store (Memory lack))) no_shape no_page no_record = tt
 plain_open (Err (opening.Store (BadPage id))) no_shape no_page no_record = no_page id refl
 plain_open (Err (opening.Store (BadRecord at))) no_shape no_page no_record = no_record at refl
 
 -- a fault that says that the shape is the wanted one
 pub compared_store : (wanted : Shape) (found : Option Shape) (fault : StoreFault) → difference_from found wanted ≡ None → ComparesShape (difference_from found wanted) (opening.Store fault)
 compared_store wanted found Failed same = tt
-compared_store wanted found Memory same = tt
+compared_store wanted found (Memory lack) same = tt
 compared_store wanted found (BadPage id) same = same
 compared_store wanted found (BadRecord at) same = same
 

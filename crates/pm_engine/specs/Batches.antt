@@ -10,7 +10,7 @@ pub use Rattle.pm_redo.specs.Faults.{IsPlainFault, HasPlainFault}
 -- the call succeeded, or memory ran out: the engine is open still
 abbrev pub StaysOpen : Result (Unit {0}) StoreFault → Type 0
 StaysOpen (Ok value) = Unit {0}
-StaysOpen (Err Memory) = Unit {0}
+StaysOpen (Err (Memory lack)) = Unit {0}
 StaysOpen (Err Failed) = ⊥
 StaysOpen (Err (BadPage page)) = ⊥
 StaysOpen (Err (BadRecord place)) = ⊥

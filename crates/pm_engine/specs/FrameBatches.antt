@@ -4,6 +4,7 @@ use Rattle.std.specs.Prelude.{◌⊎◌, Bool, true, false, Some, Result, Ok, Er
 use Rattle.pm_types.specs.declared.fault.PageFault.{PageFault}
 use Rattle.pm_types.specs.declared.fault.StoreFault.{StoreFault}
 use Rattle.pm_types.specs.declared.fault.StoreFault.TheVariants.{Failed, Memory, BadPage, BadRecord}
+use Rattle.pm_types.specs.declared.fault.Lack.TheVariants.{Bytes, Frames}
 use Rattle.pm_types.specs.declared.limits.TheConstants.{OP_PAGES}
 use Rattle.pm_types.specs.declared.page_id.PageId.{PageId}
 use Rattle.pm_types.specs.declared.place.Place.{Place}
@@ -240,29 +241,29 @@ is_alone Long = false
 abbrev pub AreRoundLines : List Line → Type 0
 AreRoundLines lines = (i : ℕ) (line : Line) → slice_get lines i ≡ Some line → is_alone line ≡ false
 
--- How many lines a round did, if it may be followed by another one. Memory lacks only where none was done, no page failed,
+-- How many lines a round did, if it may be followed by another one. Frames lack only where none was done, no page failed,
 -- and the next round may go on.
 abbrev pub CountsRound : RoundEnd → Result ℕ StoreFault → Type 0
 CountsRound end (Ok count) = (count ≡ end.done) × (may_go_on end.stop ≡ true)
 CountsRound end (Err fault) =
-    ((fault ≡ Memory) × (end.done ≡ 0) × (may_go_on end.stop ≡ true))
+    ((fault ≡ Memory Frames) × (end.done ≡ 0) × (may_go_on end.stop ≡ true))
     ⊎ ((it : PageFault) × (end.stop ≡ Some (Faulted it)) × (fault ≡ store_fault_of it))
 
--- memory lacks where no line was done
+-- frames lack where no line was done
 abbrev pub LacksUnlessDone : ℕ → Result ℕ StoreFault → Type 0
 LacksUnlessDone done (Ok count) = count ≡ done
-LacksUnlessDone done (Err fault) = (fault ≡ Memory) × (done ≡ 0)
+LacksUnlessDone done (Err fault) = (fault ≡ Memory Frames) × (done ≡ 0)
 
--- memory lacks where none was done
+-- frames lack where none was done
 abbrev pub LacksIfNone : Result ℕ StoreFault → Result ℕ StoreFault → Type 0
-LacksIfNone (Ok count) result = ((count ≡ 0) × (result ≡ Err Memory)) ⊎ ((1 ≤ count) × (result ≡ Ok count))
+LacksIfNone (Ok count) result = ((count ≡ 0) × (result ≡ Err (Memory Frames))) ⊎ ((1 ≤ count) × (result ≡ Ok count))
 LacksIfNone (Err fault) result = result ≡ Err fault
 
 -- the same of a scan
 abbrev pub CountsScan : Result (Unit {0}) ScanStop → Result ℕ StoreFault → Type 0
 CountsScan (Ok done) result = result ≡ Ok 1
-CountsScan (Err (scan.Halted halt)) result = (result ≡ Ok 0) ⊎ (result ≡ Err Memory)
-CountsScan (Err scan.Memory) result = result ≡ Err Memory
+CountsScan (Err (scan.Halted halt)) result = (result ≡ Ok 0) ⊎ (result ≡ Err (Memory Frames))
+CountsScan (Err scan.Memory) result = result ≡ Err (Memory Bytes)
 CountsScan (Err (scan.Faulted fault)) result = result ≡ Err (store_fault_of fault)
 
 -- A round of some of these lines was run, or the first one is a scan and was tried: it is said how many were done, perhaps

@@ -161,7 +161,7 @@ IsBadOpeningIn shape checkpoint old new at = IsBadRestore checkpoint (contents o
 abbrev pub HasOpenCauseIn : Type 0 → Shape → Checkpoint → World → World → OpenFault → Type 0
 HasOpenCauseIn tells shape checkpoint old new (opening.Shape field) = new ≡ old
 HasOpenCauseIn tells shape checkpoint old new (opening.Store Failed) = Unit {0}
-HasOpenCauseIn tells shape checkpoint old new (opening.Store Memory) = Unit {0}
+HasOpenCauseIn tells shape checkpoint old new (opening.Store (Memory lack)) = Unit {0}
 HasOpenCauseIn tells shape checkpoint old new (opening.Store (BadPage id)) =
     IsBadOpeningPage tells shape checkpoint old id
 HasOpenCauseIn tells shape checkpoint old new (opening.Store (BadRecord at)) =

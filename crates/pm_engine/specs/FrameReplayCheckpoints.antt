@@ -5,6 +5,7 @@ use Rattle.std.specs.Prelude.{◌≡◌, ◌≤◌, ◌<◌, ◌+◌, ◌^◌, �
 use Rattle.std.specs.Prelude.{Result, Ok, Err, IfOk, OnOk, OnErr, IsErrOf}
 use Rattle.pm_types.specs.declared.fault.StoreFault.{StoreFault}
 use Rattle.pm_types.specs.declared.fault.StoreFault.TheVariants.{Memory, BadPage}
+use Rattle.pm_types.specs.declared.fault.Lack.TheVariants.{Frames}
 use Rattle.pm_types.specs.declared.limits.TheConstants.{OP_PAGES}
 use Rattle.pm_types.specs.declared.page_id.PageId.{PageId}
 use Rattle.pm_types.specs.declared.place.Place.{Place}
@@ -127,5 +128,5 @@ pub record ReplaysRecord (tells : Type 0) (from : Place) (found : Option Record)
 abbrev pub applied_once : Result Applied StoreFault → Result Bool StoreFault
 applied_once (Ok applied.Done) = Ok true
 applied_once (Ok applied.Bad) = Ok false
-applied_once (Ok (applied.Halted halt)) = Err Memory
+applied_once (Ok (applied.Halted halt)) = Err (Memory Frames)
 applied_once (Err fault) = Err fault

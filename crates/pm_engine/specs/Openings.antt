@@ -96,7 +96,7 @@ pub record HasFewNumbers {wanted : Shape} {told : List ℕ → ℕ} {world : Wor
 abbrev pub IsPlainOpen : OpenFault → Type 0
 IsPlainOpen (opening.Shape field) = ⊥
 IsPlainOpen (opening.Store Failed) = Unit {0}
-IsPlainOpen (opening.Store Memory) = Unit {0}
+IsPlainOpen (opening.Store (Memory lack)) = Unit {0}
 IsPlainOpen (opening.Store (BadPage page)) = ⊥
 IsPlainOpen (opening.Store (BadRecord at)) = ⊥
 

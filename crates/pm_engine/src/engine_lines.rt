@@ -15,7 +15,7 @@ use crate::engine::Engine;
 use crate::frame_rounds::RoundEnd;
 use pm_disk::Host;
 use pm_model::{Line, Replies};
-use pm_types::StoreFault;
+use pm_types::{Lack, StoreFault};
 use std::sync::Wait;
 
 impl Engine {
@@ -48,7 +48,7 @@ impl Engine {
             (H.Device.history host.new) first from lines.now self result.0 replies.old replies.new) }
         ensures loses { IsErrOf result.1 StoreFault.Failed → LosesRoundLines H.Device.tells
             (H.Device.history host.old) (H.Device.history host.new) first from lines.now self result.0 }
-        ensures unchanged { IsErrOf result.1 StoreFault.Memory → LeavesEngine H.Device.tells
+        ensures unchanged { (lack : Lack) → IsErrOf result.1 (StoreFault.Memory lack) → LeavesEngine H.Device.tells
             (H.Device.history host.old) (H.Device.history host.new) self result.0 replies.old replies.new }
 
         // Each fault has its cause.
@@ -72,7 +72,7 @@ impl Engine {
                 began,
                 order,
             };
-            return (engine, Err(StoreFault::Memory));
+            return (engine, Err(StoreFault::Memory(Lack::Bytes)));
         }
         let (mut pages, ran) = pages.run_round(rt, host, lines, from, first, replies);
         match ran {
@@ -84,7 +84,7 @@ impl Engine {
                     began,
                     order,
                 };
-                (unchanged, Err(StoreFault::Memory))
+                (unchanged, Err(StoreFault::Memory(Lack::Bytes)))
             }
             Ok(end) => match pages.append_outbox(host, &mut *log, &mut order) {
                 Err(_) => {

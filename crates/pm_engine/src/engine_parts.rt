@@ -14,7 +14,7 @@ ghost use Rattle.pm_engine.specs.Batches.{is_checkpoint};
 use crate::engine::Engine;
 use pm_disk::Host;
 use pm_model::{Cmd, Line, Replies, Reply};
-use pm_types::StoreFault;
+use pm_types::{Lack, StoreFault};
 use std::alloc::Global;
 use std::sync::Wait;
 
@@ -146,7 +146,7 @@ impl Engine {
     }
 }
 
-// How many lines were done. Memory lacks where none was.
+// How many lines were done. Frames lack where none was.
 fn some_done(tried: Result<usize, StoreFault>) -> Result<usize, StoreFault>
     ensures { LacksIfNone tried result }
 {
@@ -154,7 +154,7 @@ fn some_done(tried: Result<usize, StoreFault>) -> Result<usize, StoreFault>
         Err(fault) => Err(fault),
         Ok(done) => {
             if done == 0 {
-                return Err(StoreFault::Memory);
+                return Err(StoreFault::Memory(Lack::Frames));
             }
             Ok(done)
         }

@@ -23,7 +23,7 @@ use pm_disk::Host;
 use pm_model::{Cmd, Replies};
 use pm_records::{LogRecord, PUT, decode};
 use pm_stripe::Halt;
-use pm_types::{Key, StoreFault, Value};
+use pm_types::{Key, Lack, StoreFault, Value};
 use std::alloc::{AllocError, Global};
 use std::sync::Wait;
 
@@ -59,7 +59,7 @@ impl Engine {
         requires clean { H.Device.tells → HasCleanPages self.store (H.Device.history host.old).world }
         ensures applies { AppliesRecord H.Device.tells (record_of kind payload.now) self result.0
             (H.Device.history host.old) (H.Device.history host.new) result.1 }
-        ensures unchanged { IsErrOf result.1 StoreFault.Memory → (result.0 ≡ self)
+        ensures unchanged { (lack : Lack) → IsErrOf result.1 (StoreFault.Memory lack) → (result.0 ≡ self)
             × (H.Device.tells → (H.Device.history host.new).world ≡ (H.Device.history host.old).world) }
 
         // Each fault has its cause.
@@ -103,13 +103,13 @@ impl Engine {
         requires clean { H.Device.tells → HasCleanPages self.store (H.Device.history host.old).world }
         ensures applies { AppliesRecord H.Device.tells (Some (Logical op cache key.now value.now)) self result.0
             (H.Device.history host.old) (H.Device.history host.new) result.1 }
-        ensures unchanged { IsErrOf result.1 StoreFault.Memory → (result.0 ≡ self)
+        ensures unchanged { (lack : Lack) → IsErrOf result.1 (StoreFault.Memory lack) → (result.0 ≡ self)
             × (H.Device.tells → (H.Device.history host.new).world ≡ (H.Device.history host.old).world) }
         ensures no_record { (at : ThisPlace) → IsErrOf result.1 (StoreFault.BadRecord at) → ⊥ }
         ensures cause { CountsFaults (H.Device.state host.old) (H.Device.state host.new) result.1 }
     {
         match prepare(alloc, op, cache, key, value, replies) {
-            Err(_) => (self, Err(StoreFault::Memory)),
+            Err(_) => (self, Err(StoreFault::Memory(Lack::Bytes))),
             Ok((cmd, mut numbers)) => {
                 let (engine, answer) = self.apply_command(
                     rt,
@@ -153,7 +153,7 @@ impl Engine {
             (H.Device.history host.new) }
         ensures answers { IfOk result.1 (EvaluatesAgain H.Device.tells cmd.now self result.0
             (H.Device.history host.old).world (H.Device.history host.new).world replies.old replies.new) }
-        ensures unchanged { IsErrOf result.1 StoreFault.Memory → (result.0 ≡ self)
+        ensures unchanged { (lack : Lack) → IsErrOf result.1 (StoreFault.Memory lack) → (result.0 ≡ self)
             × (H.Device.tells → (H.Device.history host.new).world ≡ (H.Device.history host.old).world) }
         ensures closed { IsErrOf result.1 StoreFault.Failed → result.0.store.is_open ≡ false }
         ensures failed { IfOk result.1 (λ answer. IsErrOf answer (Faulted PageFailed)
@@ -177,7 +177,7 @@ impl Engine {
                     began,
                     order,
                 };
-                (unchanged, Err(StoreFault::Memory))
+                (unchanged, Err(StoreFault::Memory(Lack::Bytes)))
             }
             Ok(answer) => match pages.append_outbox(host, &mut *log, numbers) {
                 Err(_) => {

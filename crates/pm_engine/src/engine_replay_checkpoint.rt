@@ -18,7 +18,7 @@ use crate::engine_checkpoint::begin_place;
 use crate::engine_replay::Applied;
 use pm_disk::Host;
 use pm_model::Replies;
-use pm_types::{Place, StoreFault};
+use pm_types::{Lack, Place, StoreFault};
 use std::alloc::Global;
 use std::sync::Wait;
 
@@ -136,7 +136,7 @@ fn applied_once(applied: Result<Applied, StoreFault>) -> Result<bool, StoreFault
     match applied {
         Ok(Applied::Done) => Ok(true),
         Ok(Applied::Bad) => Ok(false),
-        Ok(Applied::Halted(_)) => Err(StoreFault::Memory),
+        Ok(Applied::Halted(_)) => Err(StoreFault::Memory(Lack::Frames)),
         Err(fault) => Err(fault),
     }
 }

@@ -22,7 +22,7 @@ use crate::frame_scans::ScanStop;
 use pm_disk::Host;
 use pm_model::{Cmd, Line, Replies};
 use pm_stripe::Halt;
-use pm_types::StoreFault;
+use pm_types::{Lack, StoreFault};
 use std::alloc::Global;
 use std::sync::Wait;
 
@@ -147,7 +147,7 @@ fn done_or_lacking(done: usize) -> Result<usize, StoreFault>
     ensures { LacksUnlessDone done result }
 {
     if done == 0 {
-        return Err(StoreFault::Memory);
+        return Err(StoreFault::Memory(Lack::Frames));
     }
     Ok(done)
 }
@@ -159,9 +159,9 @@ fn done_by(answer: Result<(), ScanStop>) -> Result<usize, StoreFault>
     match answer {
         Ok(()) => Ok(1),
         Err(ScanStop::Halted(Halt::NoFrame(_))) => Ok(0),
-        Err(ScanStop::Halted(Halt::NoLog(_))) => Err(StoreFault::Memory),
-        Err(ScanStop::Halted(Halt::NoCopy(_))) => Err(StoreFault::Memory),
-        Err(ScanStop::Memory) => Err(StoreFault::Memory),
+        Err(ScanStop::Halted(Halt::NoLog(_))) => Err(StoreFault::Memory(Lack::Frames)),
+        Err(ScanStop::Halted(Halt::NoCopy(_))) => Err(StoreFault::Memory(Lack::Frames)),
+        Err(ScanStop::Memory) => Err(StoreFault::Memory(Lack::Bytes)),
         Err(ScanStop::Faulted(fault)) => Err(StoreFault::from(fault)),
     }
 }
@@ -196,8 +196,8 @@ fn round_length(lines: &[Line]) -> usize
     lines.len()
 }
 
-// Whether a line isn't done in a round with others.
-fn is_alone(line: &Line) -> bool
+/// Whether a line isn't done in a round with others: a scan, or a `checkpoint` line.
+pub fn is_alone(line: &Line) -> bool
     ensures { result ≡ is_alone line.now }
 {
     match line {

@@ -47,7 +47,7 @@ use pm_config::Config;
 use pm_disk::Host;
 use pm_redo::{Base, restore};
 use pm_segments::Log;
-use pm_types::{Mark, OpenFault, Place, Shape, StoreFault};
+use pm_types::{Lack, Mark, OpenFault, Place, Shape, StoreFault};
 use std::alloc::{AllocError, Global};
 use std::sync::Wait;
 
@@ -296,7 +296,7 @@ fn start_engine<H: Host>(
     ensures cause { HasPlainFault (H.Device.state host.old) (H.Device.state host.new) result }
 {
     if !has_numbers(log.end()) {
-        return Err(StoreFault::Memory);
+        return Err(StoreFault::Memory(Lack::Numbers));
     }
     let mut log = on_heap(alloc, log)?;
     let (pages, ckpt) = empty_frames(alloc, &config.shape, config.frames, mark)?;

@@ -17,7 +17,7 @@ use crate::replay_log::{has_numbers, keep_ahead, may_stand};
 use pm_disk::Host;
 use pm_model::Replies;
 use pm_segments::{Scan, segment_of};
-use pm_types::{Place, StoreFault};
+use pm_types::{Lack, Place, StoreFault};
 use std::alloc::Global;
 use std::sync::Wait;
 
@@ -45,7 +45,7 @@ fn replay_next_in_frames<Q: Wait, H: Host>(
     let before = engine.log.end();
     let place = scan.next_place();
     if !has_numbers(before) {
-        return (engine, Err(StoreFault::Memory));
+        return (engine, Err(StoreFault::Memory(Lack::Numbers)));
     }
     if !may_stand(place) {
         return (engine, Err(StoreFault::BadRecord(place)));
@@ -125,9 +125,9 @@ pub(crate) fn replay_in_frames<Q: Wait, H: Host>(
     ensures cause { CountsFaults (H.Device.state host.old) (H.Device.state host.new) result.1 }
 {
     match Scan::new(alloc, from) {
-        Err(_) => (engine, Err(StoreFault::Memory)),
+        Err(_) => (engine, Err(StoreFault::Memory(Lack::Bytes))),
         Ok(mut scan) => match Replies::with_room(alloc, 1) {
-            Err(_) => (engine, Err(StoreFault::Memory)),
+            Err(_) => (engine, Err(StoreFault::Memory(Lack::Bytes))),
             Ok(mut replies) => replay_all(rt, alloc, host, engine, &mut scan, end, &mut replies),
         },
     }

@@ -235,7 +235,7 @@ fn stop_of(fault: StoreFault) -> ScanStop
     ensures not_halted { (halt : ThisHalt) → result ≡ Halted halt → ⊥ }
 {
     match fault {
-        StoreFault::Memory => ScanStop::Memory,
+        StoreFault::Memory(_) => ScanStop::Memory,
         StoreFault::Failed => ScanStop::Faulted(PageFault::Failed),
         StoreFault::BadPage(page) => ScanStop::Faulted(PageFault::BadPage(page)),
         StoreFault::BadRecord(_) => unreachable!(),

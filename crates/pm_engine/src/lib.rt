@@ -40,6 +40,7 @@ mod running_lines;
 mod tracking;
 
 pub use engine::Engine;
+pub use engine_rounds::is_alone;
 pub use frame_commands::run_in_frames;
 pub use frame_lines::{Stop, line_in_frames};
 pub use frame_rounds::{RoundEnd, lines_in_frames};

@@ -108,11 +108,6 @@ fn takes_more(count: usize, input: &Lines) -> bool
     count < BATCH_LINES_MAX && (!input.was_short() || input.has_next())
 }
 
-// Whether the line is a batch by itself.
-fn is_alone(line: &Line) -> bool {
-    matches!(line, Line::Good(Cmd::Scan { .. } | Cmd::Checkpoint))
-}
-
 // A list of one line.
 fn one_line(alloc: Global, line: Line) -> Result<Vec<Line>, AllocError>
     ensures { IfOk result (λ lines. lines.items ≡ line ∷ []) }

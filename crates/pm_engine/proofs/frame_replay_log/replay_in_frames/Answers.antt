@@ -1,6 +1,7 @@
 -- The scan begins at the replay place.
 use Rattle.std.proofs.Common.{◌∙◌, [], false, None, sym, ap, subst}
 use Rattle.pm_types.specs.declared.fault.StoreFault.TheVariants.{Memory}
+use Rattle.pm_types.specs.declared.fault.Lack.TheVariants.{Bytes}
 use Rattle.pm_types.specs.declared.place.Place.{Place}
 use Rattle.pm_records.specs.LogFiles.{contents}
 use Rattle.pm_records.specs.Logs.{all_frames, after_frames, HasFrames}
@@ -19,7 +20,7 @@ replay_all-requires-clause-ahead g c _ _ t =
 
 pub returns-in-Err-clause-replays : goal.returns-in-Err-clause-replays
 returns-in-Err-clause-replays g c = record {
-  ready = ready_refused g.H.Device.tells c.args.engine (g.H.Device.history c.args.host.now) Memory (λ t. g.H.Device.sound c.args.host.now t);
+  ready = ready_refused g.H.Device.tells c.args.engine (g.H.Device.history c.args.host.now) (Memory Bytes) (λ t. g.H.Device.sound c.args.host.now t);
   sound = λ t last highest wanted told pairs s can. none_replayed last highest wanted told pairs c.args.from c.args.end c.args.engine s (g.H.Device.history c.args.host.now) (g.H.Device.sound c.args.host.now t) can;
   any = λ t leads whole. none_applied c.args.from c.args.end c.args.engine (g.H.Device.history c.args.host.now).world;
   over_any = λ t leads. none_refused g.H.Device.tells c.args.from c.args.end leads.frames c.args.engine (g.H.Device.history c.args.host.now).world;
@@ -27,7 +28,7 @@ returns-in-Err-clause-replays g c = record {
 
 pub returns-in-Err-with_room-clause-replays : goal.returns-in-Err-with_room-clause-replays
 returns-in-Err-with_room-clause-replays g c = record {
-  ready = ready_refused g.H.Device.tells c.args.engine (g.H.Device.history c.args.host.now) Memory (λ t. g.H.Device.sound c.args.host.now t);
+  ready = ready_refused g.H.Device.tells c.args.engine (g.H.Device.history c.args.host.now) (Memory Bytes) (λ t. g.H.Device.sound c.args.host.now t);
   sound = λ t last highest wanted told pairs s can. none_replayed last highest wanted told pairs c.args.from c.args.end c.args.engine s (g.H.Device.history c.args.host.now) (g.H.Device.sound c.args.host.now t) can;
   any = λ t leads whole. none_applied c.args.from c.args.end c.args.engine (g.H.Device.history c.args.host.now).world;
   over_any = λ t leads. none_refused g.H.Device.tells c.args.from c.args.end leads.frames c.args.engine (g.H.Device.history c.args.host.now).world;

@@ -3,6 +3,7 @@ use Rattle.std.proofs.Common.{Bool, Some, Result, Err, refl, sym, ap, ◌∙◌,
 use Rattle.std.specs.Prelude.{◌==◌, IfErr}
 use Rattle.pm_types.specs.declared.fault.StoreFault.{StoreFault}
 use Rattle.pm_types.specs.declared.fault.StoreFault.TheVariants.{Memory}
+use Rattle.pm_types.specs.declared.fault.Lack.TheVariants.{Bytes}
 use Rattle.pm_records.specs.declared.limits.TheConstants.{PUT}
 use Rattle.pm_records.specs.Records.{Logical}
 use Rattle.pm_engine.specs.declared.engine_replay.Applied.{Applied}
@@ -39,12 +40,12 @@ returns-in-Err-answer-clause-applies g c =
     let plain : IsPlainFault fault = subst (λ (r : Result (Result Bool Stop) StoreFault). IfErr r IsPlainFault) c.in-Err-answer.is ran.ensures.cause.plain in
     applied_fault tells found c.args.self ran.result.0 old new fault ran.ensures.goes_on (plain_no_page {T = Applied} (Err fault) plain)
     (plain_keeps tells c.args.self ran.result.0 old.world new.world fault plain
-    (λ memory. ran.ensures.unchanged (c.in-Err-answer.is ∙ ap (λ (f : StoreFault). Err f) memory))
+    (λ lack memory. ran.ensures.unchanged lack (c.in-Err-answer.is ∙ ap (λ (f : StoreFault). Err f) memory))
     (λ failed. ran.ensures.closed (c.in-Err-answer.is ∙ ap (λ (f : StoreFault). Err f) failed)))
 
 pub returns-in-Err-clause-applies : goal.returns-in-Err-clause-applies
 returns-in-Err-clause-applies g c =
     let old = g.H.Device.history c.args.host.now in
-    applied_fault g.H.Device.tells (Some (Logical c.args.op c.args.cache c.args.key.now c.args.value.now)) c.args.self c.args.self old old Memory
+    applied_fault g.H.Device.tells (Some (Logical c.args.op c.args.cache c.args.key.now c.args.value.now)) c.args.self c.args.self old old (Memory Bytes)
     (goes_on_same g.H.Device.tells c.args.self old (λ t. g.H.Device.sound c.args.host.now t) c.requires.end c.requires.clean) (λ id is. absurd cc)
     (λ t may_change on. kept_same may_change (pages_in_frames c.args.self.store old.world))

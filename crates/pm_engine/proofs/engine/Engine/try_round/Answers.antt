@@ -29,5 +29,5 @@ returns-in-Err-clause-tries g c =
     round_untried g.H.Device.tells old new c.args.first c.args.lines.now c.args.self ran.result.0 c.args.replies.now ran.new.replies c.in-Err.fault
     (subst (λ r. IfErr r IsPlainFault) is ran.ensures.cause.plain)
     (λ e. ran.ensures.loses (subst (λ r. IsErrOf r Failed) (sym (is ∙ ap Err e)) refl))
-    (λ e. ran.ensures.unchanged (subst (λ r. IsErrOf r Memory) (sym (is ∙ ap Err e)) refl))
+    (λ lack e. ran.ensures.unchanged lack (subst (λ r. IsErrOf r (Memory lack)) (sym (is ∙ ap Err e)) refl))
     c.requires.is_open c.requires.end c.requires.clean
