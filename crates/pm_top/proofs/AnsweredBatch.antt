@@ -2,6 +2,7 @@
 use Rattle.std.proofs.Common.{◌≡◌, ℕ, ◌+◌, ◌≤◌, List, [], ◌++◌, true, length, Result, Ok, Err, refl, ap, sym, ◌∙◌, subst, append_assoc, append-nil, length-append, arith}
 use Rattle.pm_types.specs.declared.fault.StoreFault.{StoreFault}
 use Rattle.pm_types.specs.declared.fault.StoreFault.TheVariants.{BadPage, Memory}
+use Rattle.pm_types.specs.declared.fault.Lack.TheVariants.{Bytes}
 use Rattle.pm_types.specs.declared.page_id.PageId.{PageId}
 use Rattle.pm_types.specs.declared.shape.Shape.{Shape}
 use Rattle.pm_disk.specs.Worlds.{World}
@@ -80,7 +81,7 @@ module _ (wanted : Shape) (last number lines : ℕ) (old mid : History) (run : R
     rests = rest_beside wanted run.engine old.world mid.world can.stands here.disk;
     answered = λ start shape pairs progress. record {
       done = progress_still progress mid.world here.disk here.said;
-      fault = record { failed = λ _. failed_still progress mid.world here.said; memory = λ _. memory_still progress mid.world here.said };
+      fault = record { failed = λ _. failed_still progress mid.world here.said; memory = λ _ _. memory_still progress mid.world here.said };
     };
     moments = idle_moments;
   }
@@ -92,7 +93,7 @@ module _ (wanted : Shape) (last number lines : ℕ) (old mid : History) (run : R
     rests = tt;
     answered = λ start shape pairs progress. record {
       done = tt;
-      fault = record { failed = λ _. failed_still progress mid.world here.said; memory = λ _. memory_still progress mid.world here.said };
+      fault = record { failed = λ _. failed_still progress mid.world here.said; memory = λ _ _. memory_still progress mid.world here.said };
     };
     moments = idle_moments;
   }
@@ -139,14 +140,14 @@ no_lines tells old lines run sound is_open none ready =
     })
 
 -- memory ran out before the first
-pub lines_unbegun : (tells : Type 0) (old : History) (lines : List Line) (run : Run) → (tells → IsHistory old) → AnswersLines tells old old lines run run (Err Memory)
+pub lines_unbegun : (tells : Type 0) (old : History) (lines : List Line) (run : Run) → (tells → IsHistory old) → AnswersLines tells old old lines run run (Err (Memory Bytes))
 lines_unbegun tells old lines run sound = record {
   keeps = same_engine run.engine;
   counts = tt;
   ready = λ t. tt;
   only_answers = λ t. answers_none old (sound t);
-  meets = λ t. fault_met run.engine.store.shape lines (pages_in_frames run.engine.store old.world) (pages_in_frames run.engine.store old.world) Memory (λ id is. absurd cc);
-  goes = λ t wanted last number can left. idle_stops wanted last number (length lines) old old run (lines ++ left) can (sound t) (idle_none old (sound t)) left Memory (λ id is. absurd cc);
+  meets = λ t. fault_met run.engine.store.shape lines (pages_in_frames run.engine.store old.world) (pages_in_frames run.engine.store old.world) (Memory Bytes) (λ id is. absurd cc);
+  goes = λ t wanted last number can left. idle_stops wanted last number (length lines) old old run (lines ++ left) can (sound t) (idle_none old (sound t)) left (Memory Bytes) (λ id is. absurd cc);
 }
 
 -- there are numbers for the first ones

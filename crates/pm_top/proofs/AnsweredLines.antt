@@ -176,7 +176,7 @@ module _ {tells : Type 0} {old mid : History} (run : Run) {later : FrameRunning}
     rests = tt;
     answered = λ start shape pairs progress. record {
       done = tt;
-      fault = record { failed = λ _. failed_batch run tries t some few can left progress sound; memory = λ _. memory_batch run tries t some few can left progress sound };
+      fault = record { failed = λ _. failed_batch run tries t some few can left progress sound; memory = λ _ _. memory_batch run tries t some few can left progress sound };
     };
     moments = λ start shape pairs progress. batch_moments run tries t some few can left progress;
   }

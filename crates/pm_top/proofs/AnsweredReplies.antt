@@ -4,6 +4,7 @@ use Rattle.std.specs.Prelude.{IfErr, IsErrOf, OnErr, OnOk}
 use Rattle.std.proofs.lemmas.List.{take_all}
 use Rattle.pm_types.specs.declared.fault.StoreFault.{StoreFault}
 use Rattle.pm_types.specs.declared.fault.StoreFault.TheVariants.{BadPage, Memory}
+use Rattle.pm_types.specs.declared.fault.Lack.{Lack}
 use Rattle.pm_types.specs.declared.limits.TheConstants.{BATCH_LINES_MAX}
 use Rattle.pm_types.specs.declared.shape.Shape.{Shape}
 use Rattle.pm_disk.specs.Worlds.{World, with_said}
@@ -109,7 +110,7 @@ module _ {tells : Type 0} {old mid : History} (run : Run) {later : FrameRunning}
         rests = rests_now;
         answered = λ start shape pairs progress.
             let done = progress_now start shape pairs progress in
-            record { done = done; fault = record { failed = λ _. failed_still done new.world refl; memory = λ _. memory_still done new.world refl } };
+            record { done = done; fault = record { failed = λ _. failed_still done new.world refl; memory = λ _ _. memory_still done new.world refl } };
         moments = λ start shape pairs progress. all_moments t can {S = Unit {0}} {F = StoreFault} (Ok tt) (call t) start shape pairs left progress;
       }
 
@@ -138,7 +139,7 @@ module _ {tells : Type 0} {old mid : History} (run : Run) {later : FrameRunning}
 
   -- a fault came while it was said, or before that
   module _ (fault : StoreFault) (plain : IsPlainFault fault) (lines_is : now.lines ≡ run.lines)
-      (call : tells → Says {T = Unit {0}} {E = StoreFault} mid new (Err fault) (texts_of replies.replies)) (unsaid : tells → fault ≡ Memory → new.world ≡ mid.world) where
+      (call : tells → Says {T = Unit {0}} {E = StoreFault} mid new (Err fault) (texts_of replies.replies)) (unsaid : tells → (lack : Lack) → fault ≡ Memory lack → new.world ≡ mid.world) where
     module _ (t : tells) {wanted : Shape} {last number : ℕ} (can : MayRun wanted last number (length lines) run.engine old.world) (left : List Line)
         (start : World) (shape : Shape) (pairs : Pairs) (progress : Progress start old.world (lines ++ left) shape pairs run) where
       failed : HasFailed start new.world shape pairs now.lines now.engine.order
@@ -149,11 +150,11 @@ module _ {tells : Type 0} {old mid : History} (run : Run) {later : FrameRunning}
           (ap (λ (w : World). w.said) part.2 ∙ ap (λ (u : List ℕ). u ++ take part.0 (texts_of replies.replies)) (said_unchanged t can) ∙ ap (λ x. old.world.said ++ take part.0 x) (texts_are t can))
           (order_is t can))
 
-      memory : fault ≡ Memory → HasNoMemory start new.world shape pairs now.lines now.engine.order
-      memory is =
+      memory : (lack : Lack) → fault ≡ Memory lack → HasNoMemory start new.world shape pairs now.lines now.engine.order
+      memory lack is =
           subst (λ (n : ℕ). HasNoMemory start new.world shape pairs n now.engine.order) (sym lines_is)
           (memory_unsaid lines left progress new.world (length lines) now.engine.order few (omega arith)
-          (ap (λ (w : World). w.said) (unsaid t is) ∙ said_unchanged t can)
+          (ap (λ (w : World). w.said) (unsaid t lack is) ∙ said_unchanged t can)
           (order_is t can ∙ ap (λ ls. run.engine.order ++ accepted run.engine.store.shape (run.lines + 1) ls (map_in run.engine old.world)) (sym (take_all (length lines) lines (omega arith)))))
 
     unsaid_goes : tells → (wanted : Shape) (last number : ℕ) → MayRun wanted last number (length lines) run.engine old.world → (left : List Line)
@@ -164,7 +165,7 @@ module _ {tells : Type 0} {old mid : History} (run : Run) {later : FrameRunning}
       rests = tt;
       answered = λ start shape pairs progress. record {
         done = tt;
-        fault = record { failed = λ _. failed t can left start shape pairs progress; memory = λ is. memory t can left start shape pairs progress (err_same fault _ _ refl is) };
+        fault = record { failed = λ _. failed t can left start shape pairs progress; memory = λ lack is. memory t can left start shape pairs progress lack (err_same fault _ _ refl is) };
       };
       moments = λ start shape pairs progress. all_moments t can {S = Unit {0}} {F = StoreFault} (Err fault) (call t) start shape pairs left progress;
     }
@@ -181,6 +182,6 @@ module _ {tells : Type 0} {old mid : History} (run : Run) {later : FrameRunning}
 
   -- by how saying it ended
   pub said_or_not : MakesAskedIn run.engine later lines (length lines + 1) → (said : Result (Unit {0}) StoreFault) → OnOk said (now.lines ≡ run.lines + length lines) → OnErr said (now.lines ≡ run.lines)
-      → (tells → Says mid new said (texts_of replies.replies)) → (tells → IsErrOf said Memory → new.world ≡ mid.world) → IfErr said IsPlainFault → AnswersLines tells old new lines run now said
+      → (tells → Says mid new said (texts_of replies.replies)) → (tells → (lack : Lack) → IsErrOf said (Memory lack) → new.world ≡ mid.world) → IfErr said IsPlainFault → AnswersLines tells old new lines run now said
   said_or_not asked (Ok tt) counted uncounted call unsaid plain = all_said counted asked call
-  said_or_not asked (Err fault) counted uncounted call unsaid plain = not_said fault plain uncounted call (λ t is. unsaid t (ap Err is))
+  said_or_not asked (Err fault) counted uncounted call unsaid plain = not_said fault plain uncounted call (λ t lack is. unsaid t lack (ap Err is))

@@ -2,6 +2,7 @@
 use Rattle.std.proofs.Common.{◌≡◌, ◌⊎◌, inl, inr, ℕ, Ok, Err, refl, ap, sym, ◌∙◌, arith}
 use Rattle.std.specs.Prelude.{codes}
 use Rattle.pm_types.specs.declared.fault.StoreFault.TheVariants as fault
+use Rattle.pm_types.specs.declared.fault.Lack.{Lack}
 use Rattle.pm_types.specs.declared.shape.Shape.{Shape}
 use Rattle.pm_disk.specs.Moments.{History, IsHistory, AllMoments}
 use Rattle.pm_disk.specs.Worlds.{World, with_said}
@@ -27,9 +28,9 @@ module _ (wanted : Shape) (last number : ℕ) (start : World) (shape : Shape) (p
     leaves = λ is. absurd (let clash : 3 ≡ 0 = ap code_of is in omega (arith, clash));
   }
 
-  pub script_memory : IsServed wanted last number start shape pairs old mid run (Err fault.Memory) → ScriptIsAnswered wanted last number start shape pairs old mid Memory run.lines run.engine.order
-  script_memory served = record {
-    outcome = served.fault.memory refl;
+  pub script_memory : (lack : Lack) → IsServed wanted last number start shape pairs old mid run (Err (fault.Memory lack)) → ScriptIsAnswered wanted last number start shape pairs old mid Memory run.lines run.engine.order
+  script_memory lack served = record {
+    outcome = served.fault.memory lack refl;
     moments = served.moments;
     leaves = λ is. absurd (let clash : 4 ≡ 0 = ap code_of is in omega (arith, clash));
   }

@@ -2,6 +2,7 @@
 use Rattle.std.proofs.Common.{◌≡◌, inl, inr, ℕ, zero, suc, ◌+◌, ◌-◌, ◌≤◌, List, [], ◌∷◌, ◌++◌, length, take, Result, Ok, Err, refl, ap, sym, ◌∙◌, subst, append-nil, arith, length-append}
 use Rattle.pm_types.specs.declared.fault.StoreFault.{StoreFault}
 use Rattle.pm_types.specs.declared.fault.StoreFault.TheVariants.{BadPage, Failed, Memory}
+use Rattle.pm_types.specs.declared.fault.Lack.TheVariants.{Bytes}
 use Rattle.pm_types.specs.declared.limits.TheConstants.{SCRIPT_BYTES_MAX, LINES_MAX}
 use Rattle.pm_types.specs.declared.shape.Shape.{Shape}
 use Rattle.pm_disk.specs.Worlds.{World}
@@ -149,7 +150,7 @@ module _ (wanted : Shape) (last number lines : ℕ) (mid new : History) (run lat
           done = tt;
           fault = record {
             failed = λ _. subst (λ (x : ℕ × List ℕ). HasFailed start new.world shape pairs x.0 x.1) (λ i. (sym lines_is i, sym order i)) (failed_still progress new.world only.said);
-            memory = λ _. subst (λ (x : ℕ × List ℕ). HasNoMemory start new.world shape pairs x.0 x.1) (λ i. (sym lines_is i, sym order i)) (memory_still progress new.world only.said);
+            memory = λ _ _. subst (λ (x : ℕ × List ℕ). HasNoMemory start new.world shape pairs x.0 x.1) (λ i. (sym lines_is i, sym order i)) (memory_still progress new.world only.said);
           };
         };
         moments = force_moments;
@@ -183,7 +184,7 @@ module _ (wanted : Shape) (last number lines : ℕ) (mid new : History) (run lat
           rests = rest_of_last wanted later.engine new.world lasts;
           answered = λ start shape pairs progress.
               let done = closed_progress start shape pairs progress in
-              record { done = done; fault = record { failed = λ _. failed_still done new.world refl; memory = λ _. memory_still done new.world refl } };
+              record { done = done; fault = record { failed = λ _. failed_still done new.world refl; memory = λ _ _. memory_still done new.world refl } };
           moments = force_moments;
         }
 
@@ -207,7 +208,7 @@ module _ (wanted : Shape) (last number : ℕ) (start : World) (shape : Shape) (p
       let its = (goes.answered start shape pairs progress).fault in
       record {
         stop = tt;
-        fault = record { failed = λ is. its.failed (ap Err (err_same fault _ _ refl is)); memory = λ is. its.memory (ap Err (err_same fault _ _ refl is)) };
+        fault = record { failed = λ is. its.failed (ap Err (err_same fault _ _ refl is)); memory = λ lack is. its.memory lack (ap Err (err_same fault _ _ refl is)) };
         sound = λ id is. goes.sound id (ap Err (err_same fault _ _ refl is));
         moments = goes.moments start shape pairs progress;
         leaves = tt;
@@ -221,7 +222,7 @@ module _ (wanted : Shape) (last number : ℕ) (start : World) (shape : Shape) (p
     pub served_limit : (Progress start new.world left shape pairs now → IsStopped start new.world shape pairs now.lines now.engine.order []) → IsServed wanted last number start shape pairs old new now (Ok stops.Limit)
     served_limit over = record {
       stop = over reached;
-      fault = record { failed = λ _. failed_still reached new.world refl; memory = λ _. memory_still reached new.world refl };
+      fault = record { failed = λ _. failed_still reached new.world refl; memory = λ _ _. memory_still reached new.world refl };
       sound = λ id is. absurd (let both : Ok stops.Limit ≡ Err (BadPage id) = is in cc);
       moments = goes.moments start shape pairs progress;
       leaves = λ is. absurd (let both : stops.Limit ≡ stops.Done = is in cc);
@@ -231,7 +232,7 @@ module _ (wanted : Shape) (last number : ℕ) (start : World) (shape : Shape) (p
     pub served_done : left ≡ [] → new.world.input ≡ [] → length start.input ≤ SCRIPT_BYTES_MAX → now.lines ≤ LINES_MAX → (Progress start new.world left shape pairs now → IsLeft wanted last number start new.world shape pairs) → IsServed wanted last number start shape pairs old new now (Ok stops.Done)
     served_done none read bytes few leaves = record {
       stop = finished reached new.world refl none read bytes few;
-      fault = record { failed = λ _. failed_still reached new.world refl; memory = λ _. memory_still reached new.world refl };
+      fault = record { failed = λ _. failed_still reached new.world refl; memory = λ _ _. memory_still reached new.world refl };
       sound = λ id is. absurd (let both : Ok stops.Done ≡ Err (BadPage id) = is in cc);
       moments = goes.moments start shape pairs progress;
       leaves = λ _. leaves reached;
@@ -244,10 +245,10 @@ begins_here start now run same none order =
 
 -- memory ran out before the first batch
 pub served_unbegun : (wanted : Shape) (last number : ℕ) (start : World) (old : History) (run : Run) → IsHistory old → SameConsole start old.world → run.lines ≡ 0 → run.engine.order ≡ [] → CanRun wanted last number run.engine old.world
-    → IsServed wanted last number start run.engine.store.shape (map_in run.engine old.world) old old run (Err Memory)
+    → IsServed wanted last number start run.engine.store.shape (map_in run.engine old.world) old old run (Err (Memory Bytes))
 served_unbegun wanted last number start old run sound same none order can =
-    served_fault wanted last number start run.engine.store.shape (map_in run.engine old.world) old old (script_of old.world.input) run run (begins_here start old.world run same none order) [] Memory
-    (idle_stops wanted last number (LINES_MAX + 2048) old old run (script_of old.world.input) can sound (idle_none old sound) [] Memory (λ id is. absurd (let both : Memory ≡ BadPage id = is in cc)))
+    served_fault wanted last number start run.engine.store.shape (map_in run.engine old.world) old old (script_of old.world.input) run run (begins_here start old.world run same none order) [] (Memory Bytes)
+    (idle_stops wanted last number (LINES_MAX + 2048) old old run (script_of old.world.input) can sound (idle_none old sound) [] (Memory Bytes) (λ id is. absurd (let both : Memory Bytes ≡ BadPage id = is in cc)))
 
 -- ---- numbers
 

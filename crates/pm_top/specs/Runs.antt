@@ -5,6 +5,7 @@ use Rattle.std.specs.List.{All}
 use Rattle.pm_types.specs.declared.limits.TheConstants.{LINES_MAX}
 use Rattle.pm_types.specs.declared.fault.StoreFault.{StoreFault}
 use Rattle.pm_types.specs.declared.fault.StoreFault.TheVariants.{BadPage, Failed, Memory}
+use Rattle.pm_types.specs.declared.fault.Lack.{Lack}
 use Rattle.pm_types.specs.declared.page_id.PageId.{PageId}
 use Rattle.pm_types.specs.declared.shape.Shape.{Shape}
 use Rattle.pm_disk.specs.Moments.{History, AllMoments}
@@ -86,7 +87,7 @@ pub record Progress (start now : World) (left : List Line) (shape : Shape) (pair
 pub record FaultIs {T : Type 0} (start now : World) (shape : Shape) (pairs : Pairs) (run : Run)
     (result : Result T StoreFault) : Type 0 where
   pub failed : IsErrOf result Failed → HasFailed start now shape pairs run.lines run.engine.order
-  pub memory : IsErrOf result Memory → HasNoMemory start now shape pairs run.lines run.engine.order
+  pub memory : (lack : Lack) → IsErrOf result (Memory lack) → HasNoMemory start now shape pairs run.lines run.engine.order
 
 -- Lines were answered, and these are left; or a fault came.
 pub record LinesAreAnswered {T : Type 0} (start now : World) (left : List Line) (shape : Shape)

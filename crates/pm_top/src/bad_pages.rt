@@ -32,7 +32,7 @@ pub fn print_found_page<H: Host>(alloc: Global, host: &mut H, met: PageId) -> St
     match checked {
         Ok(_) => print_page_fault(alloc, host, met),
         Err(StoreFault::Failed) => Status::Failed,
-        Err(StoreFault::Memory) => Status::Memory,
+        Err(StoreFault::Memory(_)) => Status::Memory,
         Err(StoreFault::BadRecord(at)) => print_record_fault(alloc, host, at),
         Err(StoreFault::BadPage(first)) => print_page_fault(alloc, host, first),
     }

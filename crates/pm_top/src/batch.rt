@@ -10,7 +10,8 @@ ghost use Rattle.pm_top.specs.Scripts.{batch_lines, takes_more, IsBatch, BatchIs
 
 use crate::script::{NextLine, next_line};
 use pm_disk::Host;
-use pm_model::{Cmd, Line};
+use pm_engine::is_alone;
+use pm_model::Line;
 use pm_script::Lines;
 use pm_types::{BATCH_LINES_MAX, StoreFault};
 use std::alloc::{AllocError, Global};

@@ -29,7 +29,7 @@ use crate::fault_lines::{
     print_config_fault, print_limit_fault, print_page_fault, print_record_fault, print_usage_fault,
 };
 use crate::generate::gen_configured;
-use crate::outcome::Outcome;
+use crate::outcome::{Outcome, lack_of};
 use crate::report::Report;
 use crate::run::{Run, Stop};
 use crate::status::Status;
@@ -104,6 +104,7 @@ pub fn top<Q: AllocGlobal + Wait, H: Host>(rt: &Q, words: &[String], host: &mut 
     let outcome = command(rt, rt.alloc(), words, host);
     Report {
         status: outcome.status.code(),
+        lack: outcome.lack,
         lines: outcome.lines,
         order: outcome.order,
     }
@@ -187,7 +188,7 @@ fn check_store<H: Host>(alloc: Global, host: &mut H) -> Outcome
             Outcome::without(alloc, status)
         }
         Err(StoreFault::Failed) => Outcome::without(alloc, Status::Failed),
-        Err(StoreFault::Memory) => Outcome::without(alloc, Status::Memory),
+        Err(StoreFault::Memory(_)) => Outcome::without(alloc, Status::Memory),
         Err(StoreFault::BadRecord(place)) => {
             let status = print_record_fault(alloc, host, place);
             Outcome::without(alloc, status)
@@ -209,7 +210,7 @@ fn list_log<H: Host>(alloc: Global, host: &mut H) -> Outcome
     match wal(alloc, host) {
         Ok(()) => Outcome::without(alloc, Status::Done),
         Err(StoreFault::Failed) => Outcome::without(alloc, Status::Failed),
-        Err(StoreFault::Memory) => Outcome::without(alloc, Status::Memory),
+        Err(StoreFault::Memory(_)) => Outcome::without(alloc, Status::Memory),
         Err(StoreFault::BadRecord(at)) => {
             let status = print_record_fault(alloc, host, at);
             Outcome::without(alloc, status)
@@ -259,7 +260,7 @@ fn run<Q: Wait, H: Host>(rt: &Q, alloc: Global, host: &mut H, config: &Config) -
             Outcome::without(alloc, print_config_fault(alloc, host, field))
         }
         Err(OpenFault::Store(StoreFault::Failed)) => Outcome::without(alloc, Status::Failed),
-        Err(OpenFault::Store(StoreFault::Memory)) => Outcome::without(alloc, Status::Memory),
+        Err(OpenFault::Store(StoreFault::Memory(lack))) => Outcome::lacking(alloc, lack),
         Err(OpenFault::Store(StoreFault::BadRecord(at))) => {
             Outcome::without(alloc, print_record_fault(alloc, host, at))
         }
@@ -298,16 +299,18 @@ fn answer_script<Q: Wait, H: Host>(
     let (run, served) = run.serve(rt, alloc, host, config);
     let lines = run.lines;
     let order = run.engine.close();
+    let lack = lack_of(&served);
     let status = match served {
         Ok(Stop::Done) => Status::Done,
         Ok(Stop::Limit) => print_limit_fault(host),
         Err(StoreFault::Failed) => Status::Failed,
-        Err(StoreFault::Memory) => Status::Memory,
+        Err(StoreFault::Memory(_lack)) => Status::Memory,
         Err(StoreFault::BadPage(page)) => print_found_page(alloc, host, page),
         Err(StoreFault::BadRecord(_)) => unreachable!(),
     };
     Outcome {
         status,
+        lack,
         lines,
         order,
     }

@@ -23,7 +23,7 @@ use pm_disk::Host;
 use pm_engine::Engine;
 use pm_model::{Line, Replies};
 use pm_tools::Gen;
-use pm_types::{BATCH_LINES_MAX, StoreFault};
+use pm_types::{BATCH_LINES_MAX, Lack, StoreFault};
 use std::alloc::{AllocError, Global};
 use std::sync::Wait;
 
@@ -66,7 +66,7 @@ pub fn run_drawn<Q: Wait, H: Host>(
 {
     // Its memory serves all batches, so that a batch that has begun takes none for its replies.
     let Ok(mut replies) = Replies::with_room(alloc, BATCH_LINES_MAX) else {
-        return (engine, Err(StoreFault::Memory));
+        return (engine, Err(StoreFault::Memory(Lack::Bytes)));
     };
     let mut engine = engine;
     let mut drawing = Gen::new(seed);
@@ -74,7 +74,7 @@ pub fn run_drawn<Q: Wait, H: Host>(
     let mut many = 0;
     'batches: while many < count {
         let Ok(lines) = next_lines(alloc, &mut drawing, many + 1, count - many, &mut replies) else {
-            return (engine, Err(StoreFault::Memory));
+            return (engine, Err(StoreFault::Memory(Lack::Bytes)));
         };
         let (next, ran) = engine.batch(rt, alloc, host, config, &lines, many + 1, &mut replies);
         engine = next;

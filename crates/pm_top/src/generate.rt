@@ -23,7 +23,7 @@ use crate::configuration::{ConfigError, read_config};
 use crate::counting::print_summary;
 use crate::fault_lines::{print_config_fault, print_record_fault};
 use crate::gen_run::run_drawn;
-use crate::outcome::Outcome;
+use crate::outcome::{Outcome, lack_of};
 use crate::status::Status;
 use pm_config::Config;
 use pm_disk::Host;
@@ -88,7 +88,7 @@ fn generate<Q: Wait, H: Host>(
             Outcome::without(alloc, print_config_fault(alloc, host, field))
         }
         Err(OpenFault::Store(StoreFault::Failed)) => Outcome::without(alloc, Status::Failed),
-        Err(OpenFault::Store(StoreFault::Memory)) => Outcome::without(alloc, Status::Memory),
+        Err(OpenFault::Store(StoreFault::Memory(lack))) => Outcome::lacking(alloc, lack),
         Err(OpenFault::Store(StoreFault::BadRecord(at))) => {
             Outcome::without(alloc, print_record_fault(alloc, host, at))
         }
@@ -140,15 +140,17 @@ fn answer_drawn<Q: Wait, H: Host>(
 {
     let (engine, ran) = run_drawn(engine, rt, alloc, host, config, seed, count);
     let order = engine.close();
+    let lack = lack_of(&ran);
     let status = match ran {
         Ok(counts) => print_summary(alloc, host, count, counts),
         Err(StoreFault::Failed) => Status::Failed,
-        Err(StoreFault::Memory) => Status::Memory,
+        Err(StoreFault::Memory(_)) => Status::Memory,
         Err(StoreFault::BadPage(page)) => print_found_page(alloc, host, page),
         Err(StoreFault::BadRecord(_)) => unreachable!(),
     };
     Outcome {
         status,
+        lack,
         lines: lines_said(status, count),
         order,
     }

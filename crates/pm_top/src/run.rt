@@ -32,7 +32,7 @@ use pm_disk::{Failed, Host};
 use pm_engine::Engine;
 use pm_model::{Line, Replies};
 use pm_script::{Lines, print_reply};
-use pm_types::{BATCH_LINES_MAX, StoreFault};
+use pm_types::{BATCH_LINES_MAX, Lack, StoreFault};
 use std::alloc::{AllocError, Global};
 use std::sync::Wait;
 
@@ -109,11 +109,11 @@ impl Run {
         ensures cause { HasFrameFault (H.state host.old) (H.state host.new) result.1 }
     {
         let Ok(mut input) = Lines::new(alloc) else {
-            return (self, Err(StoreFault::Memory));
+            return (self, Err(StoreFault::Memory(Lack::Bytes)));
         };
         // Its memory serves all batches, so that a batch that has begun takes none for its replies.
         let Ok(mut replies) = Replies::with_room(alloc, BATCH_LINES_MAX) else {
-            return (self, Err(StoreFault::Memory));
+            return (self, Err(StoreFault::Memory(Lack::Bytes)));
         };
         let mut run = self;
         'batches: loop {
@@ -237,7 +237,7 @@ impl Run {
             return (self, Ok(()));
         }
         match make_room(alloc, replies, lines.len()) {
-            Err(_) => (self, Err(StoreFault::Memory)),
+            Err(_) => (self, Err(StoreFault::Memory(Lack::Bytes))),
             Ok(()) => self.answer_some(rt, alloc, host, config, lines, replies),
         }
     }
@@ -299,7 +299,7 @@ impl Run {
         ensures uncounted { OnErr result (self.new.lines ≡ self.old.lines) }
         ensures says { H.tells → Says (H.history host.old) (H.history host.new) result
             (texts_of replies.now.replies) }
-        ensures unsaid { H.tells → IsErrOf result StoreFault.Memory
+        ensures unsaid { H.tells → (lack : Lack) → IsErrOf result (StoreFault.Memory lack)
             → (H.history host.new).world ≡ (H.history host.old).world }
         ensures cause { HasPlainFault (H.state host.old) (H.state host.new) result }
     {

@@ -1,6 +1,7 @@
 use Rattle.std.proofs.Common.{rules, ◌≡◌, List, ℕ, ap, ◌∙◌, subst}
 use Rattle.pm_types.specs.declared.fault.StoreFault.{StoreFault}
 use Rattle.pm_types.specs.declared.fault.StoreFault.TheVariants.{Memory}
+use Rattle.pm_types.specs.declared.fault.Lack.TheVariants.{Bytes}
 use Rattle.pm_disk.specs.Moments.{Says}
 use Rattle.pm_disk.specs.Worlds.{with_said}
 use Rattle.pm_script.specs.Texts.{texts_of}
@@ -9,7 +10,7 @@ use Rattle.pm_top.proofs.run.Run.say.Goals as goal
 
 pub returns-in_err-write_replies-clause-says : goal.returns-in_err-write_replies-clause-says
 returns-in_err-write_replies-clause-says g c t =
-    let it = unsaid_yet {T = Unit {0}} {E = StoreFault} (g.H.Device.history c.args.host.now) Memory (texts_of c.args.replies.now.replies) in
+    let it = unsaid_yet {T = Unit {0}} {E = StoreFault} (g.H.Device.history c.args.host.now) (Memory Bytes) (texts_of c.args.replies.now.replies) in
     record { time = it.time; ok = search rules; part = it.part }
 
 pub returns-in_err-print_replies-clause-says : goal.returns-in_err-print_replies-clause-says
