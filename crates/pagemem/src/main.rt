@@ -4,6 +4,7 @@
 
 use pm_disk_fs::FsHost;
 use pm_top::top;
+use pm_types::Lack;
 use std::env;
 use std::io::ErrorKind;
 use std::process::ExitCode;
@@ -25,19 +26,19 @@ fn main(rt: HostRuntime) -> ExitCode {
 fn run(rt: &HostRuntime, waiting: &(impl AllocGlobal + Wait)) -> u8 {
     let words = match read_words(rt) {
         Ok(words) => words,
-        Err(status) => return explained(rt, status),
+        Err(status) => return explained(rt, status, Lack::Bytes),
     };
     let Ok(outside) = rt.clone() else {
-        return explained(rt, OUT_OF_MEMORY);
+        return explained(rt, OUT_OF_MEMORY, Lack::Bytes);
     };
     let mut host = FsHost::new(outside);
-    let status = top(waiting, &words, &mut host).status;
+    let report = top(waiting, &words, &mut host);
     match host.first_failure() {
-        Some(failure) if status == FAILED => {
+        Some(failure) if report.status == FAILED => {
             let _ = eprintln!(rt; "pagemem: {failure}");
-            status
+            report.status
         }
-        _ => explained(rt, status),
+        _ => explained(rt, report.status, report.lack),
     }
 }
 
@@ -56,15 +57,15 @@ fn read_words(rt: &HostRuntime) -> Result<Vec<String>, u8> {
 
 // The status, once standard error has a line that says why the program ends with it. What can't be
 // written there is lost.
-fn explained(rt: &HostRuntime, status: u8) -> u8 {
-    if let Some(reason) = reason(status) {
+fn explained(rt: &HostRuntime, status: u8, lack: Lack) -> u8 {
+    if let Some(reason) = reason(status, lack) {
         let _ = eprintln!(rt; "pagemem: {reason}");
     }
     status
 }
 
 // What a status means, where the work wasn't done.
-fn reason(status: u8) -> Option<&'static str> {
+fn reason(status: u8, lack: Lack) -> Option<&'static str> {
     match status {
         0 => None,
         USAGE => Some(
@@ -73,10 +74,19 @@ fn reason(status: u8) -> Option<&'static str> {
         ),
         2 => Some("the folder's configuration is refused: the field is named on standard output"),
         FAILED => Some("a call on the disk, the input or the output failed"),
-        OUT_OF_MEMORY => Some("memory ran out"),
+        OUT_OF_MEMORY => Some(lacking(lack)),
         5 => Some("the store has a bad record or page, named on standard output"),
         _ => Some(
             "the script passes 4,000,000 lines or 17,179,869,184 bytes; the lines before that are answered",
         ),
+    }
+}
+
+// What ran out, and what helps.
+fn lacking(lack: Lack) -> &'static str {
+    match lack {
+        Lack::Bytes => "memory ran out",
+        Lack::Frames => "page frames ran out: set `frames` higher in the folder's configuration",
+        Lack::Numbers => "the log has no numbers left for its segments: dump the store, and load it into a new folder",
     }
 }
