@@ -92,7 +92,7 @@ class HostError(RunEnded):
 
 
 class OutOfMemoryError(RunEnded):
-    """Status 4: the program's memory ran out. The line that met it has no effect. Reopen with more memory."""
+    """Status 4: memory, page frames or numbers ran out, as `said` says. The line that met it has no effect."""
 
 
 class DamagedError(RunEnded):
