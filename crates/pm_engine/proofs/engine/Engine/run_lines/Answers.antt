@@ -9,7 +9,7 @@ use Rattle.pm_engine.proofs.RoundLines.{number_room, loses_lines, done_engine, d
 use Rattle.pm_engine.proofs.engine.Engine.run_lines.Goals as goal
 
 pub returns-then-is_err-clause-unchanged : goal.returns-then-is_err-clause-unchanged
-returns-then-is_err-clause-unchanged g c = λ _. record {
+returns-then-is_err-clause-unchanged g c = λ _ _. record {
   engine = (λ i. record { store = c.self.inside.pages; log = c.self.inside.log.value; ckpt = c.self.inside.ckpt; began = c.self.inside.began; order = c.reserve.ensures.items i }) ∙ c.self.view_is;
   replies = refl;
   world = λ t. record { world = refl; moments = started (g.H.Device.history c.args.host.now) (λ w. w ≡ (g.H.Device.history c.args.host.now).world) (g.H.Device.sound c.args.host.now t) refl };
