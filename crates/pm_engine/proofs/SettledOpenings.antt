@@ -1,10 +1,9 @@
 -- A store that was opened, and what a checkpoint at its opening's end leaves.
-use Rattle.std.proofs.Common.{◌≡◌, ◌⊎◌, inl, inr, ⊎_elim, ℕ, zero, suc, ◌+◌, ◌-◌, ◌<◌, ◌≤◌, List, [], ◌++◌, length, take, Option, Some, true, Result, Ok, Err, refl, sym, ◌∙◌, ap, subst, arith}
+use Rattle.std.proofs.Common.{◌≡◌, ◌⊎◌, inl, inr, ⊎_elim, ℕ, zero, suc, ◌+◌, ◌-◌, ◌<◌, ◌≤◌, List, [], ◌++◌, length, take, Option, Result, Ok, Err, refl, sym, ◌∙◌, ap, subst, arith}
 use Rattle.std.specs.Prelude.{◌^◌, OnOk}
 use Rattle.std.proofs.Math.Nat.{le_trans}
 use Rattle.pm_types.specs.declared.fault.StoreFault.{StoreFault}
-use Rattle.pm_types.specs.declared.fault.StoreFault.TheVariants.{Failed, BadPage, BadRecord}
-use Rattle.pm_types.specs.declared.page_id.PageId.{PageId}
+use Rattle.pm_types.specs.declared.fault.StoreFault.TheVariants.{Failed}
 use Rattle.pm_types.specs.declared.place.Place.{Place}
 use Rattle.pm_types.specs.declared.shape.Mark.{Mark}
 use Rattle.pm_types.specs.declared.shape.Shape.{Shape}
@@ -15,7 +14,6 @@ use Rattle.pm_disk.specs.Worlds.{World}
 use Rattle.pm_disk.proofs.Chain.{weaker}
 use Rattle.pm_model.specs.declared.line.Line.{Line}
 use Rattle.pm_model.specs.Eval.{Pairs}
-use Rattle.pm_model.specs.ReplyLists.{ReplyList}
 use Rattle.pm_locks.specs.Sight.{LockTable}
 use Rattle.pm_segments.specs.Ends.{LogEnd}
 use Rattle.pm_core.specs.BasePages.{Partitions}
@@ -25,7 +23,6 @@ use Rattle.pm_engine.specs.Batches.{StaysOpen}
 use Rattle.pm_engine.specs.Engines.{FrameRunning, HasDoneLines, counted_in}
 use Rattle.pm_engine.specs.FrameBatches.{EndsAtReplayIn, HasNumbersIn, RunsFrameBatch, SettlesEngine}
 use Rattle.pm_engine.specs.FrameOpenings.{CountsLog, IsFreshIn, IsReadyOver, OpensOverAny, OpensRestored, OpensRunningIn}
-use Rattle.pm_engine.specs.FrameStores.{pages_in_frames}
 use Rattle.pm_engine.specs.LogCounts.{CountsAtLeast, log_bytes}
 use Rattle.pm_engine.specs.Replays.{CrashHoldsMap}
 use Rattle.pm_engine.specs.RunningLines.{CrashHoldsLines}

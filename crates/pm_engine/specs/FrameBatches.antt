@@ -1,5 +1,5 @@
 -- What calls leave of an engine over page frames, where they run a batch of lines and make checkpoints.
-use Rattle.std.specs.Prelude.{◌≡◌, ◌≤◌, ◌<◌, ◌+◌, ◌-◌, ◌*◌, ◌^◌, ◌↔◌, ◌||◌, nat_lt, ℕ, List, [], ◌++◌, length, take}
+use Rattle.std.specs.Prelude.{◌≡◌, ◌≤◌, ◌<◌, ◌+◌, ◌*◌, ◌^◌, ◌↔◌, ◌||◌, nat_lt, ℕ, List, [], ◌++◌, length, take}
 use Rattle.std.specs.Prelude.{◌⊎◌, Bool, true, false, Some, Result, Ok, Err, IfOk, IfErr, OnOk, IsErrOf, All, slice_get}
 use Rattle.pm_types.specs.declared.fault.PageFault.{PageFault}
 use Rattle.pm_types.specs.declared.fault.StoreFault.{StoreFault}

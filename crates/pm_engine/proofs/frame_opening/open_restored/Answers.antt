@@ -1,4 +1,4 @@
-use Rattle.std.proofs.Common.{◌+◌, ◌≡◌, Ok, Err, sym, ap, ◌∙◌, subst}
+use Rattle.std.proofs.Common.{◌+◌, ◌≡◌, Ok, sym, subst}
 use Rattle.std.specs.Prelude.{IfErr, IfOk}
 use Rattle.pm_types.specs.declared.fault.OpenFault.TheVariants as opening
 use Rattle.pm_types.specs.declared.fault.StoreFault.TheVariants.{Failed}
@@ -6,7 +6,6 @@ use Rattle.pm_disk.proofs.Chain.{joined}
 use Rattle.pm_records.specs.LogFiles.{contents}
 use Rattle.pm_core.proofs.OnlyDisk.{then_disk}
 use Rattle.pm_engine.specs.Engines.{FrameRunning}
-use Rattle.pm_engine.specs.FrameBatches.{SettlesEngine}
 use Rattle.pm_engine.specs.FrameOpenings.{IsFreshIn, IsReadyOver, OpensRestored, OpensRunningIn}
 use Rattle.pm_engine.specs.LogCounts.{CountsAtLeast, log_bytes}
 use Rattle.pm_engine.specs.Openings.{IsPlainOpen}

@@ -5,7 +5,7 @@ use Rattle.pm_records.specs.FirstRecords.{restart_frame}
 use Rattle.pm_records.specs.LogSteps.{Step, world_after}
 use Rattle.pm_segments.specs.Ends.{EndsThere}
 use Rattle.pm_engine.specs.AppendRuns.{append_all_steps}
-use Rattle.pm_engine.proofs.LogCounts.{after_read, only_read, same_world}
+use Rattle.pm_engine.proofs.LogCounts.{after_read, same_world}
 use Rattle.pm_engine.proofs.frame_opening.start_counted.Goals as goal
 
 pub start_engine-requires-clause-there : goal.start_engine-requires-clause-there

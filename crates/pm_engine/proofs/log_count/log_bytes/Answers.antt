@@ -1,4 +1,4 @@
-use Rattle.std.proofs.Common.{◌≡◌, ◌+◌, ◌-◌, ◌≤◌, ◌∙◌, length, inr, ap, sym, arith}
+use Rattle.std.proofs.Common.{◌∙◌, length, inr, ap, arith}
 use Rattle.pm_disk.specs.Worlds.{World}
 use Rattle.pm_disk.proofs.Chain.{does}
 use Rattle.pm_records.specs.LogFiles.{contents}
