@@ -1,7 +1,7 @@
 -- Which folder is bound once a command is done, and that one was made only where the command makes it.
 use Rattle.std.proofs.Common.{◌≡◌, ◌≤◌, ◌∙◌, inl, inr, ℕ, List, refl, ap, subst, sym, arith}
 use Rattle.std.proofs.lemmas.Bool.{false≢true}
-use Rattle.std.specs.Prelude.{Option, Some, None, is_some, true, false, Ok, Err}
+use Rattle.std.specs.Prelude.{Some, None, is_some, true, false, Ok, Err}
 use Rattle.pm_disk.specs.States.{Access, Binds, DeviceState}
 use Rattle.pm_top.specs.declared.status.Status.{Status}
 use Rattle.pm_top.specs.declared.status.Status.TheVariants.{Failed, Memory}

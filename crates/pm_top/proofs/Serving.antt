@@ -11,9 +11,7 @@ use Rattle.pm_disk.proofs.Chain.{at_last, weaker}
 use Rattle.pm_model.specs.declared.line.Line.{Line}
 use Rattle.pm_model.specs.Eval.{Pairs}
 use Rattle.pm_script.specs.Reading.{Unread}
-use Rattle.pm_core.specs.BasePages.{Partitions}
 use Rattle.pm_core.specs.Calls.{ChangesDisk}
-use Rattle.pm_core.specs.Held.{pairs_in}
 use Rattle.pm_model.specs.ReplyLists.{ReplyList}
 use Rattle.pm_engine.specs.Engines.{AllLastIn, HasDoneLines, map_in}
 use Rattle.pm_engine.specs.Batches.{StaysOpen}

@@ -50,7 +50,7 @@ returns-clause-answered g c t wanted last number start same can =
           (script_failed wanted last number start shape pairs old mid served.0 (subst (λ r. IsServed wanted last number start shape pairs old mid served.0 r) (w.in-Err-Failed.is ∙ ap Err (rw w.in-Err-Failed.is at w.in-Err-Failed.field-0-is)) its)))
       | in-Err-Memory w ↦
           subst (λ s. ScriptIsAnswered wanted last number start shape pairs old (g.H.Device.history c.match-served.host) s lines order) (sym w.status-is) (subst (λ h. ScriptIsAnswered wanted last number start shape pairs old (g.H.Device.history h) Status.Memory lines order) (sym w.host-is)
-          (script_memory wanted last number start shape pairs old mid served.0 w.in-Err-Memory.lack (subst (λ r. IsServed wanted last number start shape pairs old mid served.0 r) (w.in-Err-Memory.is ∙ ap Err (rw w.in-Err-Memory.is at w.in-Err-Memory.field-0-is)) its)))
+          (script_memory wanted last number start shape pairs old mid served.0 w.in-Err-Memory._lack (subst (λ r. IsServed wanted last number start shape pairs old mid served.0 r) (w.in-Err-Memory.is ∙ ap Err (rw w.in-Err-Memory.is at w.in-Err-Memory.field-0-is)) its)))
       | in-Err-BadPage w ↦ absurd (its.sound w.in-Err-BadPage.page (w.in-Err-BadPage.is ∙ ap Err (rw w.in-Err-BadPage.is at w.in-Err-BadPage.field-0-is)))
     ] in
     let new = g.H.Device.history c.match-served.host in

@@ -221,8 +221,8 @@ returns-in-Err-Store-Memory-clause-run g c t =
     let wanted = c.args.config.now.shape in
     let asks = c.requires.asked t in
     let only = at_last old mid (ChangesDisk old.world) (g.H.Device.sound c.open_store.new.host t) (c.open_store.ensures.disk t) in
-    let outcome = c.lacking-in-Err-Store-Memory.result in
-    idle_run old mid outcome.status outcome.lines outcome.order.items (inr c.lacking-in-Err-Store-Memory.ensures.status) only.said c.lacking-in-Err-Store-Memory.ensures.lines c.lacking-in-Err-Store-Memory.ensures.order
+    let outcome = c.lacking.result in
+    idle_run old mid outcome.status outcome.lines outcome.order.items (inr c.lacking.ensures.status) only.said c.lacking.ensures.lines c.lacking.ensures.order
     (λ field differs. same_disk old mid ((c.in-Err-Store-Memory.ensures.compared t).differing field (sym asks.fault_is ∙ differs)))
 
 pub returns-in-Err-Store-Memory-clause-crash : goal.returns-in-Err-Store-Memory-clause-crash
@@ -232,7 +232,7 @@ returns-in-Err-Store-Memory-clause-crash g c t =
     let wanted = c.args.config.now.shape in
     let asks = c.requires.asked t in
     let only = at_last old mid (ChangesDisk old.world) (g.H.Device.sound c.open_store.new.host t) (c.open_store.ensures.disk t) in
-    let order = c.lacking-in-Err-Store-Memory.result.order.items in
+    let order = c.lacking.result.order.items in
     let keeps : HoldsAtEachMoment old mid order =
     subst (λ (s : Shape). (shape : Shape) (pairs : Pairs) (start : IsStart s old.world shape pairs) → AllMoments old mid (CrashHoldsAcknowledged s (last_after start) (number_after start) old.world shape pairs order)) (sym asks.wanted_is)
     (λ shape pairs start. opening_moments wanted old mid shape pairs start order (c.open_store.ensures.within t says_nothing shape pairs (can_begin wanted old.world shape pairs start) (few_numbers wanted old.world shape pairs start)) (c.open_store.ensures.disk t)) in

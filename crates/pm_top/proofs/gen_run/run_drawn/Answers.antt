@@ -7,7 +7,7 @@ use Rattle.pm_types.specs.declared.fault.StoreFault.TheVariants.{BadPage}
 use Rattle.pm_types.specs.declared.limits.TheConstants.{LINES_MAX}
 use Rattle.pm_model.specs.declared.line.Line.{Line}
 use Rattle.pm_model.specs.Eval.{replies_to}
-use Rattle.pm_engine.specs.Engines.{FrameRunning, HasLastingLinesIn, map_in}
+use Rattle.pm_engine.specs.Engines.{map_in}
 use Rattle.pm_engine.specs.FrameStores.{pages_in_frames}
 use Rattle.pm_engine.specs.MetPages.{AllowsLine, KeepsPagesBut}
 use Rattle.pm_engine.specs.Batches.{StaysOpen}
