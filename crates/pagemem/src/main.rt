@@ -87,6 +87,7 @@ fn lacking(lack: Lack) -> &'static str {
     match lack {
         Lack::Bytes => "memory ran out",
         Lack::Frames => "page frames ran out: set `frames` higher in the folder's configuration",
-        Lack::Numbers => "the log has no numbers left for its segments: dump the store, and load it into a new folder",
+        Lack::Numbers =>
+            "the log has no numbers left for its segments: dump the store, and load it into a new folder",
     }
 }

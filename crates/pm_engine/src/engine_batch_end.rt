@@ -23,11 +23,7 @@ impl Engine {
     /// as the engine.
     ///
     /// After `Failed` the engine is closed, and the store on the disk holds what it held.
-    pub fn end_run<H: Host>(
-        &mut self,
-        host: &mut H,
-        config: &Config,
-    ) -> Result<(), StoreFault>
+    pub fn end_run<H: Host>(&mut self, host: &mut H, config: &Config) -> Result<(), StoreFault>
         requires usable { IsUsable (H.Device.state host.old) }
         requires is_open { self.old.store.is_open ≡ true }
         requires frames { config.now.frames ≡ length self.old.store.locks.ranges }

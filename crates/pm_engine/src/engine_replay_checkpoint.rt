@@ -13,9 +13,9 @@ ghost use Rattle.pm_engine.specs.FrameStores.{HasCleanPages};
 ghost use Rattle.pm_engine.specs.Openings.{CountsFaults};
 
 use crate::engine::Engine;
-use crate::log_count::LogCount;
 use crate::engine_checkpoint::begin_place;
 use crate::engine_replay::Applied;
+use crate::log_count::LogCount;
 use pm_disk::Host;
 use pm_model::Replies;
 use pm_types::{Lack, Place, StoreFault};

@@ -1,9 +1,7 @@
 //! Stores over which many short runs are made: how long their log is.
 
 use crate::looks::{holds, same, same_bytes};
-use crate::runs::{
-    Disk, add, file_bytes, look_at_reply, look_at_status, no_files, run_configured,
-};
+use crate::runs::{Disk, add, file_bytes, look_at_reply, look_at_status, no_files, run_configured};
 use pm_disk::segment_name;
 use pm_disk_mem::Pick;
 use std::process::Abort;
@@ -38,7 +36,9 @@ fn log_len(rt: &impl Abort, disk: &Disk) -> u64 {
 fn puts(rt: &(impl Abort + AllocGlobal)) -> Vec<u8> {
     let mut script = Vec::new(rt.alloc());
     for key in 100..500u32 {
-        let line = format!(in rt.alloc(); "put 0 k{key} some_value_of_{key}\n").expect(rt, "a line");
+        let line = format!(in rt.alloc(); "put 0 k{key} some_value_of_{key}\n").expect(
+            rt, "a line",
+        );
         add(rt, &mut script, line.as_bytes());
     }
     script
@@ -71,8 +71,20 @@ fn a_run_without_a_line_after_a_checkpoint_adds_a_restart(rt: HostRuntime) {
     for run in 0..10 {
         let pages = copy(&rt, file_bytes(&disk, "part-000.pages"));
         disk = left_by(&rt, b"", b"", disk);
-        same(&rt, "the log", log_len(&rt, &disk), len.saturating_add(RESTART_LEN), &run);
-        same_bytes(&rt, "the pages", file_bytes(&disk, "part-000.pages"), &pages, &run);
+        same(
+            &rt,
+            "the log",
+            log_len(&rt, &disk),
+            len.saturating_add(RESTART_LEN),
+            &run,
+        );
+        same_bytes(
+            &rt,
+            "the pages",
+            file_bytes(&disk, "part-000.pages"),
+            &pages,
+            &run,
+        );
         len = log_len(&rt, &disk);
     }
 }

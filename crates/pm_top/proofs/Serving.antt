@@ -108,7 +108,6 @@ take_no_line n = take_none n
     take_none zero = refl
     take_none (suc n) = refl
 
-
 module _ (wanted : Shape) (last number lines : ℕ) (mid new : History) (run later : Run) (left : List Line) (can : MayRun wanted last number lines run.engine mid.world) (sound : IsHistory new) (lines_is : later.lines ≡ run.lines)
     (disk : AllMoments mid new (ChangesDisk mid.world))
     (some : 1 ≤ lines) {tells : Type 0} (t : tells) {r : Result (Unit {0}) StoreFault} (runs : RunsFrameBatch tells mid new 1 [] 1 1 run.engine later.engine none_said none_said r) (order_is : later.engine.order ≡ run.engine.order) where
