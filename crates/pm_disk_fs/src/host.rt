@@ -24,6 +24,7 @@ ghost use Rattle.pm_disk.specs.Worlds.{page_at, slot_at};
 ghost use Rattle.pm_disk_fs.specs.Parts.{state_of_part, state_of_reader};
 
 use crate::calls::{FileCalls, PathCalls, ReadCalls, SameCalls};
+use crate::counts::{Counts, pages_of};
 use crate::failure::{Failure, Object, SystemCall, named};
 use crate::faults::Faults;
 use crate::folder::Folder;
@@ -32,7 +33,7 @@ use crate::part::FsPart;
 use crate::paths::IfMissing;
 use crate::reader::FsReader;
 use crate::reading::read_some;
-use crate::split::join_readers;
+use crate::split::{join_readers, pages_read_by};
 use crate::store::Store;
 use pm_disk::{
     Device, Failed, Host, Lent, LogFile, LogReader, MarkFile, PageReader, PageWriter, SLOT_LEN,
@@ -58,6 +59,8 @@ pub struct FsHost<R: Files + Input + Drop> {
     is_lent: bool,
     // The open folder, locked for as long as it is bound.
     lock: Option<R::File>,
+    // What its own calls did, besides those of the store.
+    counts: Counts,
 }
 
 impl<R: Files + Input + Drop> Model for FsHost<R> {
@@ -101,6 +104,7 @@ impl<R: Files + Input + Print + AllocGlobal + Clone + Send + Drop> FsHost<R> {
             faults: Faults::new(),
             is_lent: false,
             lock: None,
+            counts: Counts::new(),
         }
     }
 }
@@ -112,6 +116,13 @@ impl<R: Files + Input + Drop> FsHost<R> {
         ensures none { IsNone result ↔ (self.now.faults ≡ 0) }
     {
         self.faults.first()
+    }
+
+    /// What its calls did, and those of its parts that are back.
+    pub fn counts(&self) -> Counts {
+        let mut counts = self.counts.plus(self.store.counts());
+        counts.add_forces(self.folder.forces);
+        counts
     }
 
     // What a call made, a failure of it counted.
@@ -254,6 +265,7 @@ impl<R: PathCalls<File: FileCalls + ReadCalls> + Input + AllocGlobal + Drop> Pag
         let at = page.index() as u64 * into.len() as u64;
         let name = StoreFile::Pages(page.part());
         let is_whole = self.folder.read_whole(name, at, into);
+        self.counts.add_pages_read(pages_of(&is_whole));
         self.counted(is_whole)
     }
 }
@@ -418,6 +430,7 @@ impl<
         ensures writes { self.new.writes ≡ self.old.writes }
     {
         let taken = read_some(&mut self.input, into);
+        self.counts.add_input_read();
         self.counted(named(SystemCall::Read, Object::Input, taken))
     }
 
@@ -433,6 +446,7 @@ impl<
             return self.counted(Err(Failure::Lent));
         }
         let said = self.folder.rt.write_all(bytes);
+        self.counts.add_output_write();
         self.counted(named(SystemCall::Write, Object::Output, said))
     }
 
@@ -488,6 +502,7 @@ impl<
         self.faults.join(&log.faults);
         self.faults.join(&writer.faults);
         join_readers(&mut self.faults, &readers);
+        self.counts.add_pages_read(pages_read_by(&readers));
         self.store.join(log.store, writer.store);
         self.is_lent = false;
     }

@@ -2,6 +2,7 @@
 #![tactic(auto)]
 
 mod calls;
+mod counts;
 mod failure;
 mod faults;
 mod folder;
@@ -19,6 +20,7 @@ mod write_buffer;
 mod writes;
 
 pub use calls::{FileCalls, PathCalls, ReadCalls, SameCalls};
+pub use counts::Counts;
 pub use failure::{Failure, Object, SystemCall};
 pub use host::FsHost;
 pub use lock::Lockable;
