@@ -2,12 +2,16 @@
 //! that isn't done, a line on standard error says why.
 #![tactic(auto)]
 
+mod counts;
+
+use crate::counts::{Run, write_counts};
 use pm_disk_fs::FsHost;
-use pm_top::top;
+use pm_top::{Report, top};
 use std::env;
 use std::io::ErrorKind;
 use std::process::ExitCode;
 use std::sync::Wait;
+use std::time::Instant;
 
 // The statuses that `main` itself gives, as `top` does.
 const USAGE: u8 = 1;
@@ -31,7 +35,19 @@ fn run(rt: &HostRuntime, waiting: &(impl AllocGlobal + Wait)) -> u8 {
         return explained(rt, OUT_OF_MEMORY);
     };
     let mut host = FsHost::new(outside);
-    let status = top(waiting, &words, &mut host).status;
+    let began = Instant::now(rt).ok();
+    let Report {
+        status,
+        lines,
+        order,
+    } = top(waiting, &words, &mut host);
+    let run = Run {
+        lines,
+        accepted: order.len() as u64,
+        counts: host.counts(),
+        time: began.and_then(|began| began.elapsed(rt).ok()),
+    };
+    write_counts(rt, &run);
     match host.first_failure() {
         Some(failure) if status == FAILED => {
             let _ = eprintln!(rt; "pagemem: {failure}");
