@@ -88,11 +88,17 @@ fn json(alloc: Global, run: &Run) -> Result<String, AllocError> {
 fn metrics(alloc: Global, run: &Run) -> Result<String, AllocError> {
     let mut text = String::new(alloc);
     for (name, number) in numbers(run) {
-        write!(text, "# TYPE pagemem_{name}_total counter\npagemem_{name}_total {number}\n")?;
+        write!(
+            text,
+            "# TYPE pagemem_{name}_total counter\npagemem_{name}_total {number}\n"
+        )?;
     }
     if let Some(time) = run.time {
         let (seconds, micros) = (time.as_secs(), time.subsec_micros());
-        write!(text, "# TYPE pagemem_run_seconds gauge\npagemem_run_seconds {seconds}.{micros:06}\n")?;
+        write!(
+            text,
+            "# TYPE pagemem_run_seconds gauge\npagemem_run_seconds {seconds}.{micros:06}\n"
+        )?;
     }
     Ok(text)
 }

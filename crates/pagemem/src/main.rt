@@ -35,6 +35,9 @@ fn run(rt: &HostRuntime, waiting: &(impl AllocGlobal + Wait)) -> u8 {
         return explained(rt, OUT_OF_MEMORY);
     };
     let mut host = FsHost::new(outside);
+    if is_read_first(&words) {
+        host.show_progress(rt);
+    }
     let began = Instant::now(rt).ok();
     let Report {
         status,
@@ -54,6 +57,14 @@ fn run(rt: &HostRuntime, waiting: &(impl AllocGlobal + Wait)) -> u8 {
             status
         }
         _ => explained(rt, status),
+    }
+}
+
+// Whether the command reads a store before it does anything else.
+fn is_read_first(words: &[String]) -> bool {
+    match words.first() {
+        Some(word) => word == "run" || word == "verify",
+        None => false,
     }
 }
 

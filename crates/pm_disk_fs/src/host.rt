@@ -31,6 +31,7 @@ use crate::folder::Folder;
 use crate::lock::Lockable;
 use crate::part::FsPart;
 use crate::paths::IfMissing;
+use crate::progress::{Progress, add_read};
 use crate::reader::FsReader;
 use crate::reading::read_some;
 use crate::split::{join_readers, pages_read_by};
@@ -42,7 +43,7 @@ use pm_disk::{
 use pm_types::PageId;
 use std::alloc::AllocError;
 use std::marker::Model;
-use std::rt::Files;
+use std::rt::{Files, HostRuntime};
 
 /// Disk and console of the process, whose content no contract can observe. A clause sees how often a call
 /// has failed and the first failure, which folder is bound, whether a change or a force of a file has
@@ -61,6 +62,8 @@ pub struct FsHost<R: Files + Input + Drop> {
     lock: Option<R::File>,
     // What its own calls did, besides those of the store.
     counts: Counts,
+    // Who is told how much was read, until the input is read.
+    progress: Option<Progress>,
 }
 
 impl<R: Files + Input + Drop> Model for FsHost<R> {
@@ -105,6 +108,7 @@ impl<R: Files + Input + Print + AllocGlobal + Clone + Send + Drop> FsHost<R> {
             is_lent: false,
             lock: None,
             counts: Counts::new(),
+            progress: None,
         }
     }
 }
@@ -116,6 +120,14 @@ impl<R: Files + Input + Drop> FsHost<R> {
         ensures none { IsNone result ↔ (self.now.faults ≡ 0) }
     {
         self.faults.first()
+    }
+
+    /// From now on, and until the input is read, a line on standard error says each second how much of the
+    /// store was read, from the second one on. Where standard error is no terminal nothing is said.
+    pub fn show_progress(&mut self, rt: &HostRuntime)
+        ensures unchanged { self.new ≡ self.old }
+    {
+        self.progress = Progress::begin(rt);
     }
 
     /// What its calls did, and those of its parts that are back.
@@ -200,6 +212,7 @@ impl<R: PathCalls<File: FileCalls + ReadCalls> + Input + AllocGlobal + Drop> Log
         ensures writes { FlushesBuffer self.old.writes self.new.writes result }
     {
         let count = self.store.read_log(&self.folder, seg, at, into);
+        add_read(&mut self.progress, into.len() as u64);
         self.counted(count)
     }
 }
@@ -266,6 +279,7 @@ impl<R: PathCalls<File: FileCalls + ReadCalls> + Input + AllocGlobal + Drop> Pag
         let name = StoreFile::Pages(page.part());
         let is_whole = self.folder.read_whole(name, at, into);
         self.counts.add_pages_read(pages_of(&is_whole));
+        add_read(&mut self.progress, into.len() as u64);
         self.counted(is_whole)
     }
 }
@@ -429,6 +443,7 @@ impl<
         ensures taken { ReadConsumes self.old.input self.new.input result into.new }
         ensures writes { self.new.writes ≡ self.old.writes }
     {
+        self.progress = None;
         let taken = read_some(&mut self.input, into);
         self.counts.add_input_read();
         self.counted(named(SystemCall::Read, Object::Input, taken))

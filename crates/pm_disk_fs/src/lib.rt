@@ -12,6 +12,7 @@ mod open_files;
 mod opened;
 mod part;
 mod paths;
+mod progress;
 mod reader;
 mod reading;
 mod split;
