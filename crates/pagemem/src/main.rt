@@ -63,7 +63,7 @@ fn run(rt: &HostRuntime, waiting: &(impl AllocGlobal + Wait)) -> u8 {
 // Whether the command reads a store before it does anything else.
 fn is_read_first(words: &[String]) -> bool {
     match words.first() {
-        Some(word) => word == "run" || word == "verify",
+        Some(word) => matches!(word.as_str(), "run" | "verify"),
         None => false,
     }
 }
