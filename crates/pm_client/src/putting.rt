@@ -10,7 +10,7 @@ ghost use Rattle.pm_model.specs.declared.reply.Reply.TheVariants.{Done};
 ghost use Rattle.pm_model.specs.Eval.{Pairs};
 ghost use Rattle.pm_engine.specs.Batches.{StaysOpen};
 ghost use Rattle.pm_engine.specs.Engines.{HasDoneLines, HasLastingLinesIn};
-ghost use Rattle.pm_engine.specs.FrameBatches.{HasNumbersIn, MayGoOn};
+ghost use Rattle.pm_engine.specs.FrameBatches.{HasNumbersIn, MayGoOn, TakesNumbersIn};
 ghost use Rattle.pm_client.specs.OpenEngines.{IsOpenOver};
 ghost use Rattle.pm_client.specs.Rows.{HasRow, put_line, without_answer};
 
@@ -41,6 +41,8 @@ pub fn put<Q: Wait, H: Host>(
     ensures usable { IsUsable (H.Device.state host.new) }
     ensures open { StaysOpen (without_answer result.1)
         → IsOpenOver H.Device.tells config.now (H.Device.history host.new).world result.0 }
+
+    ensures numbers { StaysOpen (without_answer result.1) → TakesNumbersIn engine result.0 35 2 }
 
     // Once it is put the map has the row, and whatever the store had done before, it has done the put too, and all of
     // that lasts. There have to be numbers for 35 segments and 2 checkpoints more.
