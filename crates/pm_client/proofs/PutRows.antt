@@ -6,8 +6,6 @@ use Rattle.pm_types.specs.declared.shape.Shape.{Shape}
 use Rattle.pm_disk.specs.Moments.{History}
 use Rattle.pm_model.proofs.CacheKeys.{cache_keys_total}
 use Rattle.pm_model.specs.declared.cache_key.CacheKey.{CacheKey}
-use Rattle.pm_model.specs.declared.line.Cmd.TheVariants.{Put}
-use Rattle.pm_model.specs.declared.line.Line.TheVariants.{Good}
 use Rattle.pm_model.specs.declared.reply.Reply.{Reply}
 use Rattle.pm_model.specs.declared.reply.Reply.TheVariants.{Done, Full}
 use Rattle.pm_model.specs.Eval.{Pairs, after, reply_to, cache_key, is_full}
