@@ -1,0 +1,2 @@
+pub mod OpenEngines
+pub mod Rows
