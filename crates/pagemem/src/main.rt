@@ -2,9 +2,6 @@
 //! that isn't done, a line on standard error says why.
 #![tactic(auto)]
 
-mod counts;
-
-use crate::counts::{Run, write_counts};
 use pm_disk_fs::FsHost;
 use pm_top::top;
 use pm_types::Lack;
@@ -12,7 +9,6 @@ use std::env;
 use std::io::ErrorKind;
 use std::process::ExitCode;
 use std::sync::Wait;
-use std::time::Instant;
 
 // The statuses that `main` itself gives, as `top` does.
 const USAGE: u8 = 1;
@@ -36,32 +32,13 @@ fn run(rt: &HostRuntime, waiting: &(impl AllocGlobal + Wait)) -> u8 {
         return explained(rt, OUT_OF_MEMORY, Lack::Bytes);
     };
     let mut host = FsHost::new(outside);
-    if is_read_first(&words) {
-        host.show_progress(rt);
-    }
-    let began = Instant::now(rt).ok();
     let report = top(waiting, &words, &mut host);
-    let run = Run {
-        lines: report.lines,
-        accepted: report.order.len() as u64,
-        counts: host.counts(),
-        time: began.and_then(|began| began.elapsed(rt).ok()),
-    };
-    write_counts(rt, &run);
     match host.first_failure() {
         Some(failure) if report.status == FAILED => {
             let _ = eprintln!(rt; "pagemem: {failure}");
             report.status
         }
         _ => explained(rt, report.status, report.lack),
-    }
-}
-
-// Whether the command reads a store before it does anything else.
-fn is_read_first(words: &[String]) -> bool {
-    match words.first() {
-        Some(word) => matches!(word.as_str(), "run" | "verify"),
-        None => false,
     }
 }
 

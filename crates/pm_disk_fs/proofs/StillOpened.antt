@@ -1,6 +1,6 @@
 -- Files that were opened to be read are still so when others come and go.
-use Rattle.std.proofs.Common.{◌≡◌, ◌<◌, ◌∙◌, take, length-take, ℕ, List, ◌∷◌, ◌++◌, [], length, inl, inr, refl, sym, subst, arith}
-use Rattle.std.specs.Prelude.{Option, None, Some, MatchOption, Bool, true, false, Contains, remove, slice_index_or}
+use Rattle.std.proofs.Common.{◌≡◌, ◌+◌, ◌<◌, ◌∙◌, take, length-take, ℕ, List, ◌∷◌, ◌++◌, [], length, inl, inr, refl, sym, subst, arith}
+use Rattle.std.specs.Prelude.{Option, None, Some, MatchOption, Bool, true, false, All, Contains, remove, slice_index_or}
 use Rattle.std.specs.declared.fs.options.OpenOptions.{OpenOptions}
 use Rattle.std.proofs.lemmas.List.{nil_from_length}
 use Rattle.std.proofs.lemmas.List.Elements.{All-contains, All-contains_itself, Contains-append_left, Contains-append_right, Contains-append_cases, All-push}

@@ -33,8 +33,6 @@ pub struct Folder<R: Drop> {
     pub dir: Option<String>,
     // How many folders were made for a store.
     pub made: u64,
-    // How often the system was asked to make the name of such a folder lasting.
-    pub forces: u64,
 }
 
 impl<R: PathCalls<File: Lockable + FileCalls + SameCalls> + AllocGlobal + Drop> Folder<R> {
@@ -63,9 +61,9 @@ impl<R: PathCalls<File: Lockable + FileCalls + SameCalls> + AllocGlobal + Drop> 
     {
         let store = Path::new(dir);
         let name = String::from_str(self.rt.alloc(), dir)?;
-        let folder = open_folder(&self.rt, store, missing, &mut self.made, &mut self.forces)?;
+        let folder = open_folder(&self.rt, store, missing, &mut self.made)?;
         let lock = lock_folder(folder, at_hand)?;
-        sync_name(&self.rt, store, missing, &mut self.forces)?;
+        sync_name(&self.rt, store, missing)?;
         self.dir = Some(name);
         Ok(lock)
     }
@@ -81,7 +79,6 @@ impl<R: PathCalls<File: FileCalls> + AllocGlobal + Drop> Folder<R> {
             rt,
             dir: None,
             made: 0,
-            forces: 0,
         }
     }
 
@@ -100,7 +97,6 @@ impl<R: PathCalls<File: FileCalls> + AllocGlobal + Drop> Folder<R> {
             rt: self.rt.clone()?,
             dir,
             made: 0,
-            forces: 0,
         })
     }
 
@@ -170,14 +166,13 @@ impl<R: PathCalls<File: FileCalls> + AllocGlobal + Drop> Folder<R> {
         Ok(())
     }
 
-    /// Makes the names of all files lasting, also of those that were removed. The call of the system is
-    /// counted.
-    pub fn sync_names(&self, forces: &mut u64) -> Result<(), Failure>
+    /// Makes the names of all files lasting, also of those that were removed.
+    pub fn sync_names(&self) -> Result<(), Failure>
         ensures synced { OnOk result (IsSomeAnd (option_map string_bytes self.now.dir)
             (AreNamesSynced R.opened R.File.synced)) }
         ensures failed { IfErr result (IsFailureOn (IsOn Object.Folder) (self.now.dir ≡ None) ⊥) }
     {
-        sync_folder(&self.rt, Path::new(self.name()?), Object::Folder, forces)
+        sync_folder(&self.rt, Path::new(self.name()?), Object::Folder)
     }
 
     /// The folder's name.

@@ -24,17 +24,15 @@ ghost use Rattle.pm_disk.specs.Worlds.{page_at, slot_at};
 ghost use Rattle.pm_disk_fs.specs.Parts.{state_of_part, state_of_reader};
 
 use crate::calls::{FileCalls, PathCalls, ReadCalls, SameCalls};
-use crate::counts::{Counts, pages_of};
 use crate::failure::{Failure, Object, SystemCall, named};
 use crate::faults::Faults;
 use crate::folder::Folder;
 use crate::lock::Lockable;
 use crate::part::FsPart;
 use crate::paths::IfMissing;
-use crate::progress::{Progress, add_read};
 use crate::reader::FsReader;
 use crate::reading::read_some;
-use crate::split::{join_readers, pages_read_by};
+use crate::split::join_readers;
 use crate::store::Store;
 use pm_disk::{
     Device, Failed, Host, Lent, LogFile, LogReader, MarkFile, PageReader, PageWriter, SLOT_LEN,
@@ -43,7 +41,7 @@ use pm_disk::{
 use pm_types::PageId;
 use std::alloc::AllocError;
 use std::marker::Model;
-use std::rt::{Files, HostRuntime};
+use std::rt::Files;
 
 /// Disk and console of the process, whose content no contract can observe. A clause sees how often a call
 /// has failed and the first failure, which folder is bound, whether a change or a force of a file has
@@ -60,10 +58,6 @@ pub struct FsHost<R: Files + Input + Drop> {
     is_lent: bool,
     // The open folder, locked for as long as it is bound.
     lock: Option<R::File>,
-    // What its own calls did, besides those of the store.
-    counts: Counts,
-    // Who is told how much was read, until the input is read.
-    progress: Option<Progress>,
 }
 
 impl<R: Files + Input + Drop> Model for FsHost<R> {
@@ -107,8 +101,6 @@ impl<R: Files + Input + Print + AllocGlobal + Clone + Send + Drop> FsHost<R> {
             faults: Faults::new(),
             is_lent: false,
             lock: None,
-            counts: Counts::new(),
-            progress: None,
         }
     }
 }
@@ -120,21 +112,6 @@ impl<R: Files + Input + Drop> FsHost<R> {
         ensures none { IsNone result ↔ (self.now.faults ≡ 0) }
     {
         self.faults.first()
-    }
-
-    /// From now on, and until the input is read, a line on standard error says each second how much of the
-    /// store was read, from the second one on. Where standard error is no terminal nothing is said.
-    pub fn show_progress(&mut self, rt: &HostRuntime)
-        ensures unchanged { self.new ≡ self.old }
-    {
-        self.progress = Progress::begin(rt);
-    }
-
-    /// What its calls did, and those of its parts that are back.
-    pub fn counts(&self) -> Counts {
-        let mut counts = self.counts.plus(self.store.counts());
-        counts.add_forces(self.folder.forces);
-        counts
     }
 
     // What a call made, a failure of it counted.
@@ -212,7 +189,6 @@ impl<R: PathCalls<File: FileCalls + ReadCalls> + Input + AllocGlobal + Drop> Log
         ensures writes { FlushesBuffer self.old.writes self.new.writes result }
     {
         let count = self.store.read_log(&self.folder, seg, at, into);
-        add_read(&mut self.progress, into.len() as u64);
         self.counted(count)
     }
 }
@@ -278,8 +254,6 @@ impl<R: PathCalls<File: FileCalls + ReadCalls> + Input + AllocGlobal + Drop> Pag
         let at = page.index() as u64 * into.len() as u64;
         let name = StoreFile::Pages(page.part());
         let is_whole = self.folder.read_whole(name, at, into);
-        self.counts.add_pages_read(pages_of(&is_whole));
-        add_read(&mut self.progress, into.len() as u64);
         self.counted(is_whole)
     }
 }
@@ -443,9 +417,7 @@ impl<
         ensures taken { ReadConsumes self.old.input self.new.input result into.new }
         ensures writes { self.new.writes ≡ self.old.writes }
     {
-        self.progress = None;
         let taken = read_some(&mut self.input, into);
-        self.counts.add_input_read();
         self.counted(named(SystemCall::Read, Object::Input, taken))
     }
 
@@ -461,7 +433,6 @@ impl<
             return self.counted(Err(Failure::Lent));
         }
         let said = self.folder.rt.write_all(bytes);
-        self.counts.add_output_write();
         self.counted(named(SystemCall::Write, Object::Output, said))
     }
 
@@ -517,7 +488,6 @@ impl<
         self.faults.join(&log.faults);
         self.faults.join(&writer.faults);
         join_readers(&mut self.faults, &readers);
-        self.counts.add_pages_read(pages_read_by(&readers));
         self.store.join(log.store, writer.store);
         self.is_lent = false;
     }

@@ -2,7 +2,6 @@
 #![tactic(auto)]
 
 mod calls;
-mod counts;
 mod failure;
 mod faults;
 mod folder;
@@ -12,7 +11,6 @@ mod open_files;
 mod opened;
 mod part;
 mod paths;
-mod progress;
 mod reader;
 mod reading;
 mod split;
@@ -21,7 +19,6 @@ mod write_buffer;
 mod writes;
 
 pub use calls::{FileCalls, PathCalls, ReadCalls, SameCalls};
-pub use counts::Counts;
 pub use failure::{Failure, Object, SystemCall};
 pub use host::FsHost;
 pub use lock::Lockable;

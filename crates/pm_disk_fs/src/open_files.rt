@@ -24,8 +24,6 @@ pub const OPEN_MAX: usize = 128;
 #[derive(Drop)]
 pub struct OpenFiles<F: Drop> {
     pub files: Vec<Opened<F>>,
-    /// How often the system was asked to make a file lasting that was to be closed.
-    pub forces: u64,
 }
 
 impl<F: Write + Seek + FileCalls + Drop> OpenFiles<F> {
@@ -37,7 +35,6 @@ impl<F: Write + Seek + FileCalls + Drop> OpenFiles<F> {
     {
         OpenFiles {
             files: Vec::new(alloc),
-            forces: 0,
         }
     }
 
@@ -82,7 +79,7 @@ impl<F: Write + Seek + FileCalls + Drop> OpenFiles<F> {
         if self.files.len() != OPEN_MAX {
             return Ok(());
         }
-        self.files.remove(0).sync(&mut self.forces)
+        self.files.remove(0).sync()
     }
 
     /// Takes the file in that was changed last.
@@ -115,7 +112,7 @@ impl<F: Write + Seek + FileCalls + Drop> OpenFiles<F> {
         ensures kept { length self.new.files.items ≡ length self.old.files.items }
         ensures failed { IfErr result (IsSystemFailure IsSync) }
     {
-        force_all(&mut self.files, &mut self.forces)
+        force_all(&mut self.files)
     }
 
     /// Moves the segments, and the partitions' files, to lists of their own. Out of memory moves none.
@@ -173,16 +170,13 @@ impl<F: Write + Seek + FileCalls + Drop> OpenFiles<F> {
 }
 
 // Forces each of the files.
-fn force_all<F: Write + Seek + FileCalls + Drop>(
-    files: &mut [Opened<F>],
-    forces: &mut u64,
-) -> Result<(), Failure>
+fn force_all<F: Write + Seek + FileCalls + Drop>(files: &mut [Opened<F>]) -> Result<(), Failure>
     ensures forced { OnOk result (AreForced files.new) }
     ensures synced { OnOk result (AreSynced F.synced files.old) }
     ensures failed { IfErr result (IsSystemFailure IsSync) }
 {
     for file in files.iter_mut() {
-        file.force(forces)?;
+        file.force()?;
     }
     Ok(())
 }

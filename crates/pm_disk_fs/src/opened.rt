@@ -5,7 +5,6 @@ ghost use Rattle.std.specs.Prelude.{None, Some};
 ghost use Rattle.pm_disk_fs.specs.Failures.{IsSystemFailure, IsOnFile, IsCallOn};
 
 use crate::calls::{FileCalls, ReadCalls};
-use crate::counts::add_one;
 use crate::failure::{Failure, Object, SystemCall, named};
 use crate::reading::{fill, whole_or_zeros};
 use pm_disk::StoreFile;
@@ -88,8 +87,8 @@ impl<F: Write + Seek + FileCalls + Drop> Opened<F> {
         )
     }
 
-    /// Makes its bytes and its length lasting, and notes that. A call of the system is counted.
-    pub fn force(&mut self, forces: &mut u64) -> Result<(), Failure>
+    /// Makes its bytes and its length lasting, and notes that.
+    pub fn force(&mut self) -> Result<(), Failure>
         ensures name { self.new.name ≡ self.old.name }
         ensures forced { OnOk result (IsTrue self.new.is_forced) }
         ensures same { self.new.file ≡ self.old.file }
@@ -98,14 +97,14 @@ impl<F: Write + Seek + FileCalls + Drop> Opened<F> {
         ensures failed { IfErr result (IsSystemFailure
             (IsCallOn SystemCall.Sync (Object.File self.old.name))) }
     {
-        self.sync(forces)?;
+        self.sync()?;
         self.is_forced = true;
         Ok(())
     }
 
     /// Makes its bytes and its length lasting. Where it wasn't changed since it was forced, they last, and
-    /// the system isn't asked. A call of the system is counted.
-    pub fn sync(&self, forces: &mut u64) -> Result<(), Failure>
+    /// the system isn't asked.
+    pub fn sync(&self) -> Result<(), Failure>
         ensures synced { OnOk result (IsTrue self.now.is_forced ⊎ F.synced self.now.file) }
         ensures lasts { IsTrue self.now.is_forced → IsOk result }
         ensures failed { IfErr result (IsSystemFailure
@@ -114,7 +113,6 @@ impl<F: Write + Seek + FileCalls + Drop> Opened<F> {
         if self.is_forced {
             return Ok(());
         }
-        add_one(forces);
         named(SystemCall::Sync, Object::File(self.name), self.file.sync())
     }
 }

@@ -11,7 +11,6 @@ ghost use Rattle.pm_disk_fs.specs.Calls.{AreNamesSynced, folder_path, to_read};
 ghost use Rattle.std.specs.Path.{path_bytes, path_join};
 
 use crate::calls::{FileCalls, PathCalls};
-use crate::counts::add_one;
 use crate::failure::{Failure, Object, SystemCall, named};
 use pm_disk::{MarkFile, StoreFile, partition_name, segment_name};
 use pm_types::PARTITIONS_MAX;
@@ -31,21 +30,19 @@ pub enum IfMissing {
     Fail,
 }
 
-/// Opens the folder. Each folder that it makes is counted, also where it fails in the end, and each force of a
-/// name.
+/// Opens the folder. Each folder that it makes is counted, also where it fails in the end.
 pub fn open_folder<R: PathCalls<File: FileCalls> + AllocGlobal>(
     rt: &R,
     store: Path<'_>,
     missing: IfMissing,
     made: &mut u64,
-    forces: &mut u64,
 ) -> Result<R::File, Failure>
     ensures opened { IfOk result (R.opened to_read (folder_path (path_bytes store.entry))) }
     ensures counted { made.old ≤ made.new }
     ensures none_made { missing ≡ IfMissing.Fail → made.new ≡ made.old }
     ensures failed { IfErr result (IsSystemFailure IsOnFolders) }
 {
-    see_to_folder(rt, store, missing, made, forces)?;
+    see_to_folder(rt, store, missing, made)?;
     open_names(rt, store, Object::Folder)
 }
 
@@ -55,14 +52,13 @@ fn see_to_folder<R: PathCalls<File: FileCalls> + AllocGlobal>(
     store: Path<'_>,
     missing: IfMissing,
     made: &mut u64,
-    forces: &mut u64,
 ) -> Result<(), Failure>
     ensures counted { made.old ≤ made.new }
     ensures none_made { missing ≡ IfMissing.Fail → made.new ≡ made.old }
     ensures failed { IfErr result (IsSystemFailure IsOnFolders) }
 {
     match missing {
-        IfMissing::Make => make_folder(rt, store, made, forces),
+        IfMissing::Make => make_folder(rt, store, made),
         IfMissing::Fail => find_folder(rt, store),
     }
 }
@@ -72,7 +68,6 @@ fn make_folder<R: PathCalls<File: FileCalls> + AllocGlobal>(
     rt: &R,
     store: Path<'_>,
     made: &mut u64,
-    forces: &mut u64,
 ) -> Result<(), Failure>
     ensures counted { made.old ≤ made.new }
     ensures failed { IfErr result (IsSystemFailure IsOnFolders) }
@@ -80,7 +75,7 @@ fn make_folder<R: PathCalls<File: FileCalls> + AllocGlobal>(
     if store.is_dir(rt) {
         return Ok(());
     }
-    make_missing(rt, store, made, forces)?;
+    make_missing(rt, store, made)?;
     if store.is_dir(rt) {
         Ok(())
     } else {
@@ -117,7 +112,6 @@ fn make_missing<R: PathCalls<File: FileCalls> + AllocGlobal>(
     rt: &R,
     store: Path<'_>,
     made: &mut u64,
-    forces: &mut u64,
 ) -> Result<(), Failure>
     ensures counted { made.old ≤ made.new }
     ensures failed { IfErr result (IsSystemFailure IsOnFolders) }
@@ -129,9 +123,9 @@ fn make_missing<R: PathCalls<File: FileCalls> + AllocGlobal>(
         folder.push(part.as_os_str())?;
         if make_one(rt, folder.as_path(), made)? {
             if !lasts {
-                sync_above(rt, above.as_path(), forces)?;
+                sync_above(rt, above.as_path())?;
             }
-            sync_folder(rt, above.as_path(), Object::FolderAbove, forces)?;
+            sync_folder(rt, above.as_path(), Object::FolderAbove)?;
             lasts = true;
         } else {
             lasts = false;
@@ -144,14 +138,13 @@ fn make_missing<R: PathCalls<File: FileCalls> + AllocGlobal>(
 fn sync_above<R: PathCalls<File: FileCalls> + AllocGlobal>(
     rt: &R,
     folder: Path<'_>,
-    forces: &mut u64,
 ) -> Result<(), Failure>
     ensures synced { OnOk result
         (AreNamesSynced R.opened R.File.synced (path_join (path_bytes folder.entry) (codes ".."))) }
     ensures failed { IfErr result (IsSystemFailure (IsOn Object.FolderAbove)) }
 {
     let above = folder.join(rt.alloc(), "..")?;
-    sync_folder(rt, above.as_path(), Object::FolderAbove, forces)
+    sync_folder(rt, above.as_path(), Object::FolderAbove)
 }
 
 /// Makes the name of a store's folder lasting, where the folder is one that would have been made.
@@ -159,30 +152,27 @@ pub fn sync_name<R: PathCalls<File: FileCalls> + AllocGlobal>(
     rt: &R,
     store: Path<'_>,
     missing: IfMissing,
-    forces: &mut u64,
 ) -> Result<(), Failure>
     ensures synced { missing ≡ IfMissing.Make → OnOk result
         (AreNamesSynced R.opened R.File.synced (path_join (path_bytes store.entry) (codes ".."))) }
     ensures failed { IfErr result (IsSystemFailure (IsOn Object.FolderAbove)) }
 {
     match missing {
-        IfMissing::Make => sync_above(rt, store, forces),
+        IfMissing::Make => sync_above(rt, store),
         IfMissing::Fail => Ok(()),
     }
 }
 
-/// Makes the names in the folder lasting. The call of the system is counted.
+/// Makes the names in the folder lasting.
 pub fn sync_folder<R: PathCalls<File: FileCalls>>(
     rt: &R,
     dir: Path<'_>,
     object: Object,
-    forces: &mut u64,
 ) -> Result<(), Failure>
     ensures synced { OnOk result (AreNamesSynced R.opened R.File.synced (path_bytes dir.entry)) }
     ensures failed { IfErr result (IsSystemFailure (IsOn object)) }
 {
     let opened = open_names(rt, dir, object)?;
-    add_one(forces);
     named(SystemCall::Sync, object, opened.sync())
 }
 

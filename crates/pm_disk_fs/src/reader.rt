@@ -17,7 +17,6 @@ ghost use Rattle.pm_disk_fs.specs.Faults.{KeepsFirst};
 ghost use Rattle.pm_disk_fs.specs.Parts.{state_of_reader, IsReaderFailure};
 
 use crate::calls::{FileCalls, PathCalls, ReadCalls};
-use crate::counts::pages_of;
 use crate::failure::Failure;
 use crate::faults::Faults;
 use crate::folder::Folder;
@@ -39,8 +38,6 @@ pub struct FsReader<R: PathCalls + Drop> {
     pub(crate) faults: Faults,
     // The pages that it may not read.
     pub(crate) due: Snapshot<Vec<PageId>>,
-    // How many pages it has read.
-    pub(crate) pages_read: u64,
 }
 
 impl<R: PathCalls + Drop> Model for FsReader<R> {
@@ -161,7 +158,6 @@ impl<R: PathCalls<File: FileCalls + ReadCalls> + AllocGlobal + Drop> PageReader 
             (λ whole. whole ≡ false → into.new ≡ replicate (length into.new) 0) }
     {
         let is_whole = self.read(page, into);
-        self.pages_read = self.pages_read.saturating_add(pages_of(&is_whole));
         self.faults.counted(is_whole)
     }
 }

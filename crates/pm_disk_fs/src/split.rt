@@ -43,7 +43,6 @@ impl<R: PathCalls<File: FileCalls> + Input + AllocGlobal + Clone + Drop> FsHost<
             open: OpenFiles::new(self.folder.rt.alloc()),
             faults: Faults::new(),
             due: Snapshot::of(due),
-            pages_read: 0,
         })
     }
 }
@@ -60,13 +59,4 @@ pub fn join_readers<R: PathCalls + Drop>(faults: &mut Faults, readers: &[FsReade
     for reader in readers {
         faults.join(&reader.faults);
     }
-}
-
-/// How many pages the readers have read.
-pub fn pages_read_by<R: PathCalls + Drop>(readers: &[FsReader<R>]) -> u64 {
-    let mut count: u64 = 0;
-    for reader in readers {
-        count = count.saturating_add(reader.pages_read);
-    }
-    count
 }

@@ -14,7 +14,6 @@ ghost use Rattle.pm_disk_fs.specs.Positions.{IsChangedLast, WasForced, IsWritten
 ghost use Rattle.pm_disk_fs.specs.Writes.{ChangesFile, FlushesBuffer};
 
 use crate::calls::{FileCalls, PathCalls};
-use crate::counts::Counts;
 use crate::failure::{Failure, Object, SystemCall};
 use crate::folder::Folder;
 use crate::open_files::OpenFiles;
@@ -37,16 +36,6 @@ pub struct Store<R: Files> {
     // Whether each name in the folder lasts. An earlier run may have ended before it saw to that.
     names_last: bool,
     pub writes: Writes,
-    counts: Counts,
-}
-
-impl<R: Files> Store<R> {
-    /// What its calls did.
-    pub fn counts(&self) -> Counts {
-        let mut counts = self.counts;
-        counts.add_forces(self.open.forces);
-        counts
-    }
 }
 
 impl<R: PathCalls<File: FileCalls> + AllocGlobal + Drop> Store<R> {
@@ -59,7 +48,6 @@ impl<R: PathCalls<File: FileCalls> + AllocGlobal + Drop> Store<R> {
             open: OpenFiles::new(alloc),
             names_last: true,
             writes: Writes::new(alloc),
-            counts: Counts::new(),
         }
     }
 
@@ -113,7 +101,6 @@ impl<R: PathCalls<File: FileCalls> + AllocGlobal + Drop> Store<R> {
                 is_poisoned,
                 buffer,
             },
-            counts: Counts::new(),
         };
         let pages = Store {
             open: pages,
@@ -122,12 +109,11 @@ impl<R: PathCalls<File: FileCalls> + AllocGlobal + Drop> Store<R> {
                 is_poisoned,
                 buffer: WriteBuffer::new(alloc),
             },
-            counts: Counts::new(),
         };
         Ok((log, pages))
     }
 
-    /// Takes the parts back, and adds what they did. It is poisoned where one of them is, or where a file of theirs can't be kept
+    /// Takes the parts back. It is poisoned where one of them is, or where a file of theirs can't be kept
     /// open.
     pub fn join(&mut self, log: Store<R>, pages: Store<R>)
         ensures buffer { self.new.writes.buffer ≡ log.writes.buffer }
@@ -141,7 +127,6 @@ impl<R: PathCalls<File: FileCalls> + AllocGlobal + Drop> Store<R> {
         ensures pages_poisoned { IsTrue pages.writes.is_poisoned
             → IsTrue self.new.writes.is_poisoned }
     {
-        self.counts = self.counts.plus(log.counts()).plus(pages.counts());
         let are_kept = self.open.join(log.open, pages.open).is_ok();
         self.names_last = log.names_last && pages.names_last;
         let was_poisoned = self.writes.is_poisoned
@@ -236,7 +221,6 @@ impl<R: PathCalls<File: FileCalls> + AllocGlobal + Drop> Store<R> {
         self.names_last = false;
         self.open.close(name);
         folder.remove(name)?;
-        self.counts.add_removed(name);
         self.writes.is_poisoned = false;
         Ok(())
     }
@@ -262,7 +246,6 @@ impl<R: PathCalls<File: FileCalls> + AllocGlobal + Drop> Store<R> {
     {
         let mut file = self.take(folder, name)?;
         file.write(at, bytes)?;
-        self.counts.add_write(name, bytes.len());
         self.open.keep(file);
         Ok(())
     }
@@ -279,9 +262,9 @@ impl<R: PathCalls<File: FileCalls> + AllocGlobal + Drop> Store<R> {
         ensures failed { IfErr result (IsFailureOn (IsOnFile name) (folder.now.dir ≡ None) ⊥) }
     {
         let Some(mut file) = self.open.take(name) else {
-            return sync_closed(folder, name, &mut self.counts.forces);
+            return sync_closed(folder, name);
         };
-        file.force(&mut self.counts.forces)?;
+        file.force()?;
         self.open.keep(file);
         Ok(())
     }
@@ -296,7 +279,7 @@ impl<R: PathCalls<File: FileCalls> + AllocGlobal + Drop> Store<R> {
         ensures failed { IfErr result (IsFailureOn (IsOn Object.Folder) (folder.now.dir ≡ None) ⊥) }
     {
         if !self.names_last {
-            folder.sync_names(&mut self.counts.forces)?;
+            folder.sync_names()?;
             self.names_last = true;
         }
         Ok(())
@@ -355,9 +338,7 @@ impl<R: PathCalls<File: FileCalls> + AllocGlobal + Drop> Store<R> {
             (folder.now.dir ≡ None) ⊥) }
     {
         self.names_last = false;
-        let file = folder.make(name)?;
-        self.counts.add_made(name);
-        Ok(file)
+        folder.make(name)
     }
 }
 
@@ -365,14 +346,13 @@ impl<R: PathCalls<File: FileCalls> + AllocGlobal + Drop> Store<R> {
 fn sync_closed<R: PathCalls<File: FileCalls> + AllocGlobal + Drop>(
     folder: &Folder<R>,
     name: StoreFile,
-    forces: &mut u64,
 ) -> Result<(), Failure>
     ensures synced { OnOk result (IsSyncedAt R.opened R.missing R.File.synced
         (option_map string_bytes folder.now.dir) name) }
     ensures failed { IfErr result (IsFailureOn (IsOnFile name) (folder.now.dir ≡ None) ⊥) }
 {
     match folder.open(name)? {
-        Some(file) => Opened::new(name, file).sync(forces),
+        Some(file) => Opened::new(name, file).sync(),
         None => Ok(()),
     }
 }

@@ -57,13 +57,6 @@ impl WriteBuffer {
         self.bytes.is_empty()
     }
 
-    /// How many bytes are buffered.
-    pub fn len(&self) -> usize
-        ensures { result ≡ length self.now.bytes }
-    {
-        self.bytes.len()
-    }
-
     /// The segment that the bytes belong to.
     pub fn seg(&self) -> u64
         ensures { result ≡ self.now.seg }

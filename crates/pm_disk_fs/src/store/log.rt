@@ -203,9 +203,7 @@ impl<R: PathCalls<File: FileCalls> + AllocGlobal + Drop> Store<R> {
         }
         let name = StoreFile::Segment(self.writes.buffer.seg());
         let mut file = self.take(folder, name)?;
-        let len = self.writes.buffer.len();
         self.writes.buffer.write_to(&mut file)?;
-        self.counts.add_write(name, len);
         self.open.keep(file);
         Ok(())
     }
